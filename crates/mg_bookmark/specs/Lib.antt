@@ -1,0 +1,2 @@
+pub mod Bookmark
+pub mod Seen

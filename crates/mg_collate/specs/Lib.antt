@@ -1,0 +1,4 @@
+pub mod Order
+pub mod Direction
+pub mod Row
+pub mod Sorted

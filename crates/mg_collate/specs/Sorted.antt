@@ -1,0 +1,25 @@
+-- Lists in an order: what it is to sort one.
+use Rattle.std.specs.Prelude.{List, [], ◌∷◌, if◌then◌else◌}
+use Rattle.std.specs.declared.cmp.Ordering.{Ordering}
+use Rattle.std.specs.Ordering.{is_gt}
+use Rattle.std.specs.List.Sorted.{IsSorted}
+use Rattle.mg_collate.specs.declared.direction.Direction.{Direction}
+use Rattle.mg_collate.specs.Row.{RowValue, directed_order}
+
+-- a list that is in order, with x put before the first element that is above it
+abbrev pub inserted : {X : Type 0} → (X → X → Ordering) → X → List X → List X
+inserted order x [] = x ∷ []
+inserted order x (y ∷ ys) = if is_gt (order x y) then y ∷ inserted order x ys else x ∷ y ∷ ys
+
+-- the elements of a list in order, each as often as it stands there
+abbrev pub sorted : {X : Type 0} → (X → X → Ordering) → List X → List X
+sorted order [] = []
+sorted order (x ∷ xs) = inserted order x (sorted order xs)
+
+-- rows sorted in a direction
+abbrev pub sorted_rows : Direction → List RowValue → List RowValue
+sorted_rows direction = sorted (directed_order direction)
+
+-- no row stands after one that the direction lists later
+abbrev pub IsInOrder : Direction → List RowValue → Type 0
+IsInOrder direction = IsSorted (directed_order direction)

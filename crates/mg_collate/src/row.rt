@@ -1,0 +1,93 @@
+use crate::order::compare_keys;
+use mg_value::{Json, NoMemory};
+use std::alloc::Global;
+use std::cmp::Ordering;
+
+/// A row of an index: the values of its columns, and the id of the document that has them.
+///
+/// Rows are ordered by key, as `compare_keys` orders them, and where keys tie by the bytes of the id.
+/// Two rows are equal exactly where their keys are the same values and their ids the same text.
+#[derive(Debug, Drop)]
+pub struct Row {
+    pub key: Vec<Json>,
+    pub id: String,
+}
+
+impl Row {
+    ghost use Rattle.std.specs.Prelude.{◌≡◌, IfOk};
+    ghost use Rattle.mg_collate.specs.Row.{row_view};
+
+    /// An equal row of its own.
+    ///
+    /// Errors: `NoMemory` where a growth was refused. Cost: the size of the row.
+    pub fn copy(&self, alloc: Global) -> Result<Row, NoMemory>
+        ensures { IfOk result (λ row. row_view row ≡ row_view self.now) }
+    {
+        Ok(Row {
+            key: copy_key(alloc, &self.key)?,
+            id: self.id.clone()?,
+        })
+    }
+}
+
+ghost use Rattle.std.specs.Prelude.{◌≡◌, IfOk};
+ghost use Rattle.mg_value.specs.View.{items_view};
+
+fn copy_key(alloc: Global, key: &[Json]) -> Result<Vec<Json>, NoMemory>
+    ensures { IfOk result (λ copy. items_view copy.items ≡ items_view key.now) }
+{
+    let mut copy = Vec::with_capacity(alloc, key.len())?;
+    for value in key {
+        copy.push(value.copy(alloc)?)?;
+    }
+    Ok(copy)
+}
+
+impl PartialEq for Row {
+    ghost use Rattle.std.specs.Ordering.{eq_by_cmp};
+    ghost use Rattle.mg_collate.specs.Row.{row_order, row_eq_laws};
+
+    ghost eq = { eq_by_cmp row_order };
+
+    ghost laws = { row_eq_laws };
+
+    fn eq(&self, other: &Row) -> bool {
+        self.cmp(other) == Ordering::Equal
+    }
+}
+
+impl Eq for Row {
+    ghost use Rattle.mg_collate.specs.Row.{row_equivalence};
+
+    ghost laws = { row_equivalence };
+}
+
+impl PartialOrd for Row {
+    ghost use Rattle.std.specs.Ordering.{as_partial_cmp};
+    ghost use Rattle.mg_collate.specs.Row.{row_order, row_partial_laws};
+
+    ghost partial_cmp = { as_partial_cmp row_order };
+
+    ghost laws = { row_partial_laws };
+
+    fn partial_cmp(&self, other: &Row) -> Option<Ordering> {
+        Some(self.cmp(other))
+    }
+}
+
+impl Ord for Row {
+    ghost use Rattle.std.proofs.Common.{refl};
+    ghost use Rattle.mg_collate.specs.Row.{row_order, row_order_total};
+
+    ghost cmp = { row_order };
+
+    ghost total = { row_order_total };
+
+    ghost matches_partial_cmp = { λ _ _. refl };
+
+    ghost matches_eq = { λ _ _. refl };
+
+    fn cmp(&self, other: &Row) -> Ordering {
+        compare_keys(&self.key, &other.key).then(self.id.as_str().cmp(other.id.as_str()))
+    }
+}

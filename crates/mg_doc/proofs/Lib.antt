@@ -1,0 +1,3 @@
+mod Edits
+mod Entries
+mod Readings

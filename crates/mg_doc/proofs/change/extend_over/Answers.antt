@@ -1,0 +1,16 @@
+use Rattle.std.proofs.Common.{option_copied, string_bytes, subst}
+use Rattle.mg_value.specs.Value.{Value}
+use Rattle.mg_value.specs.View.{view}
+use Rattle.mg_revtree.specs.Changes.{extension, with_path}
+use Rattle.mg_revtree.specs.Tree.{StandsFor}
+use Rattle.mg_doc.proofs.Edits.{made_over_base}
+use Rattle.mg_doc.proofs.change.extend_over.Goals as goal
+
+pub returns-clause-brings : goal.returns-clause-brings
+returns-clause-brings c = λ h stands.
+    let base = option_copied c.args.base in
+    let id = string_bytes c.in_ok-id.id in
+    let t = c.extend.new.self in
+    let P : Value → Type 0 = λ b. StandsFor t (with_path h (extension base id c.args.deleted b)) in
+    made_over_base h c.args.deleted (view c.args.body.now) base id (string_bytes c.in_ok-clone.field-0) c.position_over.result t c.in_ok-id.ensures c.in_ok-clone.ensures.cases (c.in_ok-extend.ensures.allowed h stands) c.position_over.ensures
+    (subst P c.in_ok-body.ensures (c.in_ok-extend.ensures.accepted h stands))

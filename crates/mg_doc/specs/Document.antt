@@ -1,0 +1,156 @@
+-- How a document of a bulk is read, after CouchDB's `_bulk_docs`: its own members, its id, its mark and its path.
+use Rattle.std.specs.Prelude.{◌≡◌, ℕ, pos, List, [], ◌∷◌, Bool, true, false, not, ◌||◌, ◌==◌, nat_le, codes, Option, Some, None, option_map, option_and_then, IsSome, Result, Ok, Err, if◌then◌else◌}
+use Rattle.std.specs.List.{list_all, list_any}
+use Rattle.std.specs.Str.{bytes_eq}
+use Rattle.mg_value.specs.Value.{Value, flag, whole, text, list, object, Items, no_items, item, Members, no_members, member, get_member, member_list}
+use Rattle.mg_revtree.specs.Revision.{Revision, revision_of, run_of}
+use Rattle.mg_revtree.specs.History.{newest_of}
+use Rattle.mg_revtree.specs.declared.error.RevError.{RevError}
+use Rattle.mg_revtree.specs.declared.error.RevError.TheVariants.{Bad, NoMemory as rev_refused}
+use Rattle.mg_doc.specs.declared.error.DocError.{DocError}
+use Rattle.mg_doc.specs.declared.error.DocError.TheVariants.{BadMember, BadId, BadRev, NoMemory}
+
+-- what a document of a bulk asks for: its id, if it has one; the path that it gives, newest first, or none;
+-- whether it is a deletion; its body; and whether it is a new edit or one that a replica made
+pub record Edit : Type 0 where
+  pub id : Option (List ℕ)
+  pub run : List Revision
+  pub deleted : Bool
+  pub body : Value
+  pub new_edit : Bool
+
+-- ---- members
+
+-- whether a name is reserved: it begins with an underscore
+abbrev pub is_reserved : List ℕ → Bool
+is_reserved [] = false
+is_reserved (b ∷ s) = b == 95
+
+-- whether a reserved name is one that a document may have
+abbrev pub is_special : List ℕ → Bool
+is_special k =
+    list_any (bytes_eq k)
+    (codes "_id" ∷ codes "_rev" ∷ codes "_revisions" ∷ codes "_deleted" ∷ codes "_conflicts" ∷ codes "_deleted_conflicts" ∷ codes "_revs_info" ∷ codes "_local_seq" ∷ [])
+
+-- whether each reserved name is one of those
+abbrev pub has_known_names : Members → Bool
+has_known_names ms = list_all (λ m. not (is_reserved m.0) || is_special m.0) (member_list ms)
+
+-- the body's members: those whose names are not reserved
+abbrev pub own_members : Members → Members
+own_members no_members = no_members
+own_members (member k v ms) = if is_reserved k then own_members ms else member k v (own_members ms)
+
+-- ---- the mark, the id and the path. None is a fault
+
+-- `_deleted`: true or false, and false where it is absent
+abbrev pub mark_of : Option Value → Option Bool
+mark_of None = Some false
+mark_of (Some (flag b)) = Some b
+mark_of (Some v) = None
+
+-- whether a text may be an id: it is not empty and does not begin with an underscore
+abbrev pub is_document_id : List ℕ → Bool
+is_document_id [] = false
+is_document_id (b ∷ s) = not (b == 95)
+
+-- `_id`: such a text, if it is there
+abbrev pub id_of : Option Value → Option (Option (List ℕ))
+id_of None = Some None
+id_of (Some (text s)) = if is_document_id s then Some (Some s) else None
+id_of (Some v) = None
+
+-- `_rev`: the text of a revision, if it is there
+abbrev pub rev_of : Option Value → Option (List Revision)
+rev_of None = Some []
+rev_of (Some (text s)) = option_map (λ r. r ∷ []) (revision_of s)
+rev_of (Some v) = None
+
+-- the ids of a path, each a text
+abbrev pub path_ids : Items → Option (List (List ℕ))
+path_ids no_items = Some []
+path_ids (item (text s) vs) = option_map (λ ids. s ∷ ids) (path_ids vs)
+path_ids (item v vs) = None
+
+-- the ids from a position down, the position at most 4,294,967,295
+abbrev pub run_at : Option Value → Option Value → Option (List Revision)
+run_at (Some (whole (pos start))) (Some (list ids)) = if nat_le start 4294967295 then option_and_then (run_of start) (path_ids ids) else None
+run_at start ids = None
+
+-- `_revisions`: `{"start":N,"ids":[..]}`, if it is there
+abbrev pub revisions_of : Option Value → Option (List Revision)
+revisions_of None = Some []
+revisions_of (Some (object ms)) = run_at (get_member (codes "start") ms) (get_member (codes "ids") ms)
+revisions_of (Some v) = None
+
+-- the path that is given: `_revisions` where it is there, else `_rev` alone
+abbrev pub given_run : List Revision → List Revision → List Revision
+given_run rev [] = rev
+given_run rev (r ∷ rs) = r ∷ rs
+
+-- the revisions of a path, if there is one
+abbrev pub run_in : Option (List Revision) → List Revision
+run_in None = []
+run_in (Some run) = run
+
+-- a path has a newest revision
+abbrev pub IsPath : List Revision → Type 0
+IsPath run = IsSome (newest_of run)
+
+-- a replica gives a path
+abbrev pub is_enough : Bool → List Revision → Bool
+is_enough new_edit [] = new_edit
+is_enough new_edit (r ∷ rs) = true
+
+abbrev pub checked_run : Bool → List Revision → Option (List Revision)
+checked_run new_edit run = if is_enough new_edit run then Some run else None
+
+abbrev pub run_given : Bool → Members → Option (List Revision)
+run_given new_edit ms =
+    option_and_then (λ rev. option_and_then (λ revisions. checked_run new_edit (given_run rev revisions)) (revisions_of (get_member (codes "_revisions") ms)))
+    (rev_of (get_member (codes "_rev") ms))
+
+-- ---- a document, or its first fault: a bad member, a bad id, a bad revision, in this order
+
+abbrev pub or_fault : {A : Type 0} → DocError → Option A → Result A DocError
+or_fault e None = Err e
+or_fault e (Some a) = Ok a
+
+abbrev pub then_read : {A B : Type 0} → Result A DocError → (A → Result B DocError) → Result B DocError
+then_read (Ok a) f = f a
+then_read (Err e) f = Err e
+
+abbrev pub mark_read : Members → Result Bool DocError
+mark_read ms = if has_known_names ms then or_fault BadMember (mark_of (get_member (codes "_deleted") ms)) else Err BadMember
+
+abbrev pub members_read : Bool → Members → Result Edit DocError
+members_read new_edit ms =
+    then_read (mark_read ms) (λ deleted.
+    then_read (or_fault BadId (id_of (get_member (codes "_id") ms))) (λ id.
+    then_read (or_fault BadRev (run_given new_edit ms)) (λ run.
+    Ok (record { id = id; run = run; deleted = deleted; body = object (own_members ms); new_edit = new_edit }))))
+
+-- a document that is an object; nothing else is one
+abbrev pub edit_of : Bool → Value → Result Edit DocError
+edit_of new_edit (object ms) = members_read new_edit ms
+edit_of new_edit v = Err BadMember
+
+-- ---- where memory may be refused
+
+-- what a reading gives: what the definition says, unless a growth was refused
+abbrev pub Gives : {A : Type 0} → Result A DocError → Result A DocError → Type 0
+Gives said (Ok a) = said ≡ Ok a
+Gives said (Err NoMemory) = Unit {0}
+Gives said (Err BadMember) = said ≡ Err BadMember
+Gives said (Err BadId) = said ≡ Err BadId
+Gives said (Err BadRev) = said ≡ Err BadRev
+
+-- the fault of a document whose revision was not read
+abbrev pub fault_of : RevError → DocError
+fault_of Bad = BadRev
+fault_of rev_refused = NoMemory
+
+-- whether a value is an object
+abbrev pub is_object : Value → Bool
+is_object (object ms) = true
+is_object v = false

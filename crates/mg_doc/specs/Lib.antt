@@ -1,0 +1,6 @@
+pub mod Document
+pub mod Digest
+pub mod Edit
+pub mod Applied
+pub mod Served
+pub mod Code

@@ -1,0 +1,51 @@
+ghost use Rattle.std.specs.Prelude.{◌≡◌, IfOk, option_map};
+ghost use Rattle.mg_value.specs.View.{view};
+ghost use Rattle.mg_revtree.specs.History.{History as Paths};
+ghost use Rattle.mg_revtree.specs.Tree.{StandsFor};
+ghost use Rattle.mg_doc.specs.Served.{served_form as form_of, served_of, with_member as put_in};
+
+use mg_revtree::{Leaf, NoMemory, RevTree};
+use mg_value::Json;
+use std::alloc::Global;
+
+/// The document that is served for an id: the winner's body with `_id` and `_rev`. None where the
+/// winner is deleted or there is none.
+///
+/// Cost: a copy of the body. Source: `GET` of a document in CouchDB's API reference.
+pub fn served(alloc: Global, id: &str, tree: &RevTree) -> Result<Option<Json>, NoMemory>
+    ensures { IfOk result
+        (λ o. (h : Paths) → StandsFor tree.now h → option_map view o ≡ served_of id.now h) }
+{
+    match tree.winner() {
+        None => Ok(None),
+        Some(leaf) => if leaf.deleted {
+            Ok(None)
+        } else {
+            Ok(Some(served_form(alloc, id, leaf)?))
+        },
+    }
+}
+
+// A leaf's body with the document's id and its revision.
+fn served_form(alloc: Global, id: &str, leaf: &Leaf) -> Result<Json, NoMemory>
+    ensures { IfOk result (λ form. view form ≡ form_of id.now leaf.now) }
+{
+    let rev = Json::Text(leaf.rev.text(alloc)?);
+    let id = Json::Text(String::from_str(alloc, id)?);
+    let body = with_member(alloc, "_rev", rev, leaf.body.copy(alloc)?)?;
+    with_member(alloc, "_id", id, body)
+}
+
+// An object with this member; what is no object stays as it is.
+fn with_member(alloc: Global, name: &str, member: Json, value: Json) -> Result<Json, NoMemory>
+    ensures { IfOk result (λ v. view v ≡ put_in name.now (view member) (view value)) }
+{
+    match value {
+        Json::Object(mut members) => {
+            let name = String::from_str(alloc, name)?;
+            drop(members.insert(name, member)?);
+            Ok(Json::Object(members))
+        }
+        value => Ok(value),
+    }
+}

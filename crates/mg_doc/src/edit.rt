@@ -1,0 +1,133 @@
+ghost use Rattle.std.specs.Prelude.{◌≡◌, None, OnErr, Some, option_map, string_bytes, true};
+ghost use Rattle.mg_value.specs.View.{view, members_view};
+ghost use Rattle.mg_revtree.specs.History.{History as Paths};
+ghost use Rattle.mg_revtree.specs.Tree.{StandsFor};
+ghost use Rattle.mg_doc.specs.Applied.{Applied};
+ghost use Rattle.mg_doc.specs.Document.{Gives, edit_of, is_object, members_read};
+
+use crate::change::{extend, merge};
+use crate::error::{DocError, EditError};
+use crate::members::{checked_mark, keep_own, take_id};
+use crate::path::take_path;
+use mg_revtree::{History, Rev, RevTree};
+use mg_value::Json;
+use std::alloc::Global;
+use std::collections::BTreeMap;
+use std::marker::Model;
+
+/// What a document of a bulk asks for: a new edit, or one that a replica made.
+#[derive(Debug, Drop)]
+pub struct Edit {
+    id: Option<String>,
+    path: Option<History>,
+    deleted: bool,
+    body: Json,
+    new_edit: bool,
+}
+
+impl Model for Edit {
+    ghost use Rattle.std.specs.Prelude.{option_map, string_bytes};
+    ghost use Rattle.mg_value.specs.View.{view as json_view};
+    ghost use Rattle.mg_doc.specs.Code.{edit_code};
+    ghost use Rattle.mg_doc.specs.Document.{Edit as EditValue, run_in};
+
+    ghost Value = { EditValue };
+
+    ghost coded = { edit_code };
+
+    ghost view = { λ e. record {
+      id = option_map string_bytes e.id;
+      run = run_in e.path;
+      deleted = e.deleted;
+      body = json_view e.body;
+      new_edit = e.new_edit;
+    } };
+}
+
+impl Edit {
+    /// Reads a document of a bulk, an object; its members are moved, none is copied.
+    ///
+    /// - `_id`: a text that is not empty and does not begin with an underscore. It may be absent.
+    /// - `_rev`: the text `N-id` of a revision; `_revisions`: `{"start":N,"ids":[..]}`, a path,
+    ///   newest first, which counts where both are there. A replica has to give one of them.
+    /// - `_deleted`: true or false, and false where it is absent.
+    /// - `_conflicts`, `_deleted_conflicts`, `_revs_info` and `_local_seq` are dropped.
+    /// - The members whose names do not begin with an underscore are the body.
+    ///
+    /// Errors, the first fault in this order: `BadMember` for another member that begins with an
+    /// underscore or for a bad `_deleted`, `BadId` for a bad `_id`, `BadRev` for a bad `_rev` or
+    /// `_revisions`, or for neither of them from a replica; `NoMemory` where a growth is refused.
+    /// Cost: the number of the members and the length of the path. Source: CouchDB's `_bulk_docs`.
+    pub fn read(alloc: Global, document: Json, new_edit: bool) -> Result<Edit, DocError>
+        requires { is_object (view document) ≡ true }
+        ensures { Gives (edit_of new_edit (view document)) result }
+    {
+        match document {
+            Json::Object(members) => edit_in(alloc, members, new_edit),
+            _ => Err(DocError::BadMember),
+        }
+    }
+
+    /// The id that the document gives, if it gives one. Takes no memory.
+    pub fn id(&self) -> Option<&str>
+        ensures { option_map (λ s. s.now) result ≡ self.now.id }
+    {
+        self.id.as_deref()
+    }
+
+    /// The edit with an id, where it has none. Takes no memory.
+    pub fn with_id(self, id: String) -> Edit
+        requires { self.id ≡ None }
+        ensures { result ≡ record self { id = Some (string_bytes id) } }
+    {
+        Edit {
+            id: Some(id),
+            ..self
+        }
+    }
+
+    /// Applies the edit to the tree of its document, and gives the revision that it brings.
+    ///
+    /// A new edit makes a revision over the one that it names, which has to be a leaf; with none
+    /// named, over a deleted winner, or at position 1 where the document is not there. The path of
+    /// a replica is merged.
+    ///
+    /// Errors: `Conflict` where the named revision is no leaf, where none is named and the document
+    /// is there, or where the made revision is known; `BadHistory` where the extended leaf has the
+    /// last position, 4,294,967,295, or where a replica's path does not fit; `NoMemory`. A refusal
+    /// leaves the tree as it was. Cost: a copy of the body, and a step of the tree.
+    /// Source: CouchDB's `_bulk_docs` with `new_edits` true and false.
+    pub fn apply(&self, alloc: Global, tree: &mut RevTree) -> Result<Rev, EditError>
+        ensures applied { (h : Paths) → StandsFor tree.old h → Applied h self.now result tree.new }
+        ensures unchanged { OnErr result (tree.new ≡ tree.old) }
+    {
+        if self.new_edit {
+            extend(alloc, tree, self.path.as_ref(), self.deleted, &self.body)
+        } else {
+            merge(alloc, tree, self.path.as_ref(), self.deleted, &self.body)
+        }
+    }
+}
+
+// The edit that a document with these members asks for.
+fn edit_in(
+    alloc: Global,
+    mut members: BTreeMap<String, Json>,
+    new_edit: bool,
+) -> Result<Edit, DocError>
+    ensures { Gives (members_read new_edit (members_view members.entries)) result }
+{
+    let deleted = checked_mark(&members)?;
+    let Some(id) = take_id(&mut members) else {
+        return Err(DocError::BadId);
+    };
+    let path = take_path(alloc, &mut members, new_edit)?;
+    keep_own(&mut members);
+    Ok(Edit {
+        id,
+        path,
+        deleted,
+        body: Json::Object(members),
+        new_edit,
+    })
+}

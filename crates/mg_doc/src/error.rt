@@ -1,0 +1,121 @@
+use mg_revtree::{MergeError, NoMemory, RevError, TreeError};
+use std::alloc::{AllocError, AllocFailed};
+use thiserror::Error;
+
+/// Why a document of a bulk was not read.
+#[derive(Clone, Copy, PartialEq, Eq, Debug, Drop, Error)]
+pub enum DocError {
+    /// A reserved name that no document may have, or a `_deleted` that is not true or false.
+    #[error("Bad special document member.")]
+    BadMember,
+    /// An `_id` that is not a text, is empty or begins with an underscore.
+    #[error("Bad document id.")]
+    BadId,
+    /// A `_rev` or `_revisions` that is none, or neither of them where a replica sends the document.
+    #[error("Invalid rev format.")]
+    BadRev,
+    /// A growth was refused.
+    #[error("out of memory")]
+    NoMemory,
+}
+
+/// Why an edit was refused.
+#[derive(Clone, Copy, PartialEq, Eq, Debug, Drop, Error)]
+pub enum EditError {
+    /// The revision that is edited is no leaf, or the document is there and none was named.
+    #[error("Document update conflict.")]
+    Conflict,
+    /// The path gives a known revision another parent, or no position is left.
+    #[error("Revision history does not fit the document.")]
+    BadHistory,
+    /// A growth was refused.
+    #[error("out of memory")]
+    NoMemory,
+}
+
+impl From<RevError> for DocError {
+    ghost use Rattle.std.specs.Prelude.{◌≡◌};
+    ghost use Rattle.mg_doc.specs.Document.{fault_of};
+
+    ghost from_gives = { λ error fault. fault ≡ fault_of error };
+
+    fn from(error: RevError) -> DocError {
+        match error {
+            RevError::Bad => DocError::BadRev,
+            RevError::NoMemory => DocError::NoMemory,
+        }
+    }
+}
+
+impl<T: Drop> From<AllocFailed<T>> for DocError {
+    ghost use Rattle.std.specs.Prelude.{◌≡◌};
+    ghost use Rattle.mg_doc.specs.declared.error.DocError.TheVariants.{NoMemory as refused};
+
+    ghost from_gives = { λ _ error. error ≡ refused };
+
+    fn from(_refused: AllocFailed<T>) -> DocError {
+        DocError::NoMemory
+    }
+}
+
+impl From<AllocError> for DocError {
+    ghost use Rattle.std.specs.Prelude.{◌≡◌};
+    ghost use Rattle.mg_doc.specs.declared.error.DocError.TheVariants.{NoMemory as refused};
+
+    ghost from_gives = { λ _ error. error ≡ refused };
+
+    fn from(_refused: AllocError) -> DocError {
+        DocError::NoMemory
+    }
+}
+
+impl From<NoMemory> for EditError {
+    ghost use Rattle.std.specs.Prelude.{◌≡◌};
+    ghost use Rattle.mg_doc.specs.declared.error.EditError.TheVariants.{NoMemory as refused};
+
+    ghost from_gives = { λ _ error. error ≡ refused };
+
+    fn from(_refused: NoMemory) -> EditError {
+        EditError::NoMemory
+    }
+}
+
+impl From<AllocError> for EditError {
+    ghost use Rattle.std.specs.Prelude.{◌≡◌};
+    ghost use Rattle.mg_doc.specs.declared.error.EditError.TheVariants.{NoMemory as refused};
+
+    ghost from_gives = { λ _ error. error ≡ refused };
+
+    fn from(_refused: AllocError) -> EditError {
+        EditError::NoMemory
+    }
+}
+
+impl From<MergeError> for EditError {
+    ghost use Rattle.std.specs.Prelude.{◌≡◌};
+    ghost use Rattle.mg_doc.specs.Applied.{merge_refusal};
+
+    ghost from_gives = { λ error refusal. refusal ≡ merge_refusal error };
+
+    fn from(error: MergeError) -> EditError {
+        match error {
+            MergeError::BadHistory => EditError::BadHistory,
+            MergeError::NoMemory => EditError::NoMemory,
+        }
+    }
+}
+
+impl From<TreeError> for EditError {
+    ghost use Rattle.std.specs.Prelude.{◌≡◌};
+    ghost use Rattle.mg_doc.specs.Applied.{tree_refusal};
+
+    ghost from_gives = { λ error refusal. refusal ≡ tree_refusal error };
+
+    fn from(error: TreeError) -> EditError {
+        match error {
+            TreeError::NotLeaf | TreeError::Known => EditError::Conflict,
+            TreeError::Full => EditError::BadHistory,
+            TreeError::NoMemory => EditError::NoMemory,
+        }
+    }
+}

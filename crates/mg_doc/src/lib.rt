@@ -1,0 +1,15 @@
+//! Documents of a bulk, their edits, and the form in which they are served.
+#![tactic(auto)]
+
+mod change;
+mod digest;
+mod document;
+mod edit;
+pub mod error;
+mod members;
+mod path;
+
+pub use digest::rev_id;
+pub use document::served;
+pub use edit::Edit;
+pub use error::{DocError, EditError};

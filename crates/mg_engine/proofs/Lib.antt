@@ -1,0 +1,5 @@
+pub mod Shown
+pub mod Standing
+pub mod Runs
+mod Pages
+mod Reading

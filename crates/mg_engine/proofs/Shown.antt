@@ -1,0 +1,111 @@
+-- A `BTreeMap` of documents beside the finite map that it shows.
+use lib.Dec.{T}
+use Rattle.std.proofs.Common.{◌≡◌, ℕ, Bool, true, false, ◌&&◌, List, [], ◌∷◌, ◌++◌, String, BTreeMap, Global, Ordering, Less, Equal, Greater, Option, Some, None, option_map, map, cond, string_bytes, string_cmp, nat_cmp, refl, ap, sym, ◌∙◌}
+use Rattle.std.proofs.lemmas.Cmp.{nat_list_cmp_total}
+use Rattle.std.specs.Arc.{arc_value}
+use Rattle.std.specs.Cmp.Lexicographic.{slice_cmp}
+use Rattle.std.specs.List.{AllByRecursion}
+use Rattle.std.specs.List.Sorted.{IsStrictlySortedBy}
+use Rattle.std.specs.Map.{keys_of, lookup}
+use Rattle.std.specs.Ordering.{match_ordering, ordering_reverse, is_eq, eq_by_cmp}
+use Rattle.std.specs.BTreeMap.{insert_entry, is_at}
+use Rattle.std.specs.FinMap.Entries.{by_order, find-put, below_all}
+use Rattle.std.specs.FinMap.{FinMap, from_entries, from_sorted, insert, get, entries, put, find, is_sorted, get-from_entries, get-insert, get-from_sorted, same_map, slice_cmp-IsAntisymmetric, nat_cmp-IsAntisymmetric, entries-from_sorted, IsAntisymmetric}
+use Rattle.std.specs.declared.sync.Arc.{Arc}
+use Rattle.mg_engine.specs.Documents.{Kept, kept_of, entry_of, shown}
+use Rattle.mg_engine.specs.declared.document.Document.{Document}
+
+abbrev pub Entry : Type 0
+Entry = String Global × Arc Document Global
+
+-- a shared document as it is kept
+abbrev pub kept_in : Arc Document Global → Kept
+kept_in a = kept_of (arc_value a)
+
+abbrev pub bytes_cmp : List ℕ → List ℕ → Ordering
+bytes_cmp = slice_cmp nat_cmp
+
+pub bytes_exact : IsAntisymmetric bytes_cmp
+bytes_exact = slice_cmp-IsAntisymmetric nat_cmp-IsAntisymmetric
+
+seen-match_ordering : (o : Ordering) (a b c : List Entry) → map entry_of (match_ordering o a b c) ≡ match_ordering o (map entry_of a) (map entry_of b) (map entry_of c)
+seen-match_ordering Less a b c = refl
+seen-match_ordering Equal a b c = refl
+seen-match_ordering Greater a b c = refl
+
+-- the entries with one more, as seen
+abbrev pub with_entry : List ℕ → Kept → List (List ℕ × Kept) → List (List ℕ × Kept)
+with_entry k h [] = (k, h) ∷ []
+with_entry k h (e ∷ es) = match_ordering (bytes_cmp k e.0) ((k, h) ∷ e ∷ es) ((e.0, h) ∷ es) (e ∷ with_entry k h es)
+
+pub seen-insert_entry : (es : List Entry) (k : String Global) (v : Arc Document Global) → map entry_of (insert_entry string_cmp es k v) ≡ with_entry (string_bytes k) (kept_in v) (map entry_of es)
+seen-insert_entry [] k v = refl
+seen-insert_entry (e ∷ es) k v = seen-match_ordering (string_cmp k e.0) _ _ _ ∙ rw (seen-insert_entry es k v)
+
+-- it is the finite map's own insertion
+with_entry-is : (k : List ℕ) (h : Kept) (es : List (List ℕ × Kept)) → with_entry k h es ≡ put bytes_cmp k h es
+with_entry-is k h [] = refl
+with_entry-is k h (e ∷ es) = rw (with_entry-is k h es) (turned (bytes_cmp k e.0) _ _ _)
+  where
+    turned : (o : Ordering) (a b c : List (List ℕ × Kept)) → match_ordering o a b c ≡ by_order o a b c
+    turned Less a b c = refl
+    turned Equal a b c = refl
+    turned Greater a b c = refl
+
+below_middle : (first : Entry) (es : List Entry) (e : Entry) (more : List Entry) → AllByRecursion (λ y. string_cmp first.0 y ≡ Less) (keys_of (es ++ e ∷ more)) → string_cmp first.0 e.0 ≡ Less
+below_middle first [] e more h = h.0
+below_middle first (x ∷ es) e more h = below_middle first es e more h.1
+
+-- an id that is above those before it goes last
+pub goes_last : (done : List Entry) (e : Entry) (more : List Entry) → IsStrictlySortedBy string_cmp (keys_of (done ++ e ∷ more))
+    → with_entry (string_bytes e.0) (kept_in e.1) (map entry_of done) ≡ map entry_of (done ++ e ∷ [])
+unfolding IsStrictlySortedBy
+goes_last [] e more h = refl
+goes_last (first ∷ done) e more h =
+    let above : bytes_cmp (string_bytes e.0) (string_bytes first.0) ≡ Greater =
+    nat_list_cmp_total.antisymm (string_bytes e.0) (string_bytes first.0) ∙ ap ordering_reverse (below_middle first done e more h.0) in
+    rw above (ap (λ es. entry_of first ∷ es) (goes_last done e more h.1))
+
+find-with_entry : (k : List ℕ) (h : Kept) (es : List (List ℕ × Kept)) (q : List ℕ) → find bytes_cmp q (with_entry k h es) ≡ cond (eq_by_cmp bytes_cmp q k) (Some h) (find bytes_cmp q es)
+find-with_entry k h es q = ap (find bytes_cmp q) (with_entry-is k h es) ∙ find-put bytes_cmp nat_list_cmp_total q k h es
+
+-- to put a document under an id is to insert it
+pub shown-insert : (es : List Entry) (k : String Global) (v : Arc Document Global) → shown (insert_entry string_cmp es k v) ≡ insert (shown es) (string_bytes k) (kept_in v)
+shown-insert es k v = same_map nat_list_cmp_total bytes_exact _ _ (λ q.
+    get-from_entries nat_list_cmp_total _ q ∙ ap (find bytes_cmp q) (seen-insert_entry es k v) ∙ find-with_entry _ _ _ q
+    ∙ sym (get-insert nat_list_cmp_total _ _ _ q ∙ ap (cond (eq_by_cmp bytes_cmp q (string_bytes k)) (Some (kept_in v))) (get-from_entries nat_list_cmp_total _ q)))
+
+found_or : (o : Ordering) (v : Arc Document Global) (rest : Option (Arc Document Global)) (d : Option Kept) → option_map kept_in rest ≡ d
+    → option_map kept_in (cond (is_eq o) (Some v) rest) ≡ cond (is_eq o) (Some (kept_in v)) d
+found_or Less v rest d e = e
+found_or Equal v rest d e = refl
+found_or Greater v rest d e = e
+
+find-seen : (q : List ℕ) (es : List Entry) → option_map kept_in (lookup (is_at (λ k. bytes_cmp q (string_bytes k))) es) ≡ find bytes_cmp q (map entry_of es)
+find-seen q [] = refl
+find-seen q (e ∷ es) = found_or (bytes_cmp q (string_bytes e.0)) e.1 _ _ (find-seen q es)
+
+-- a look-up in the map
+pub shown-lookup : (q : List ℕ) (es : List Entry) → option_map kept_in (lookup (is_at (λ k. bytes_cmp q (string_bytes k))) es) ≡ get (shown es) q
+shown-lookup q es = find-seen q es ∙ sym (get-from_entries nat_list_cmp_total _ q)
+
+below_seen : (e : Entry) (es : List Entry) → AllByRecursion (λ y. string_cmp e.0 y ≡ Less) (keys_of es) → T (below_all bytes_cmp (string_bytes e.0) (map entry_of es))
+below_seen e [] h = tt
+below_seen e (x ∷ es) h = rw h.0 (below_seen e es h.1)
+
+both : (a b : Bool) → T a → T b → T (a && b)
+both true b p q = q
+both false b p q = p
+
+sorted_seen : (es : List Entry) → IsStrictlySortedBy string_cmp (keys_of es) → T (is_sorted bytes_cmp (map entry_of es))
+unfolding IsStrictlySortedBy
+sorted_seen [] h = tt
+sorted_seen (e ∷ es) h = both _ _ (below_seen e es h.0) (sorted_seen es h.1)
+
+-- the entries of the map are those of the `BTreeMap`, in order
+pub entries-shown : (es : List Entry) → IsStrictlySortedBy string_cmp (keys_of es) → entries (shown es) ≡ map entry_of es
+entries-shown es h =
+    let sorted = sorted_seen es h in
+    ap entries (same_map nat_list_cmp_total bytes_exact (shown es) (from_sorted (map entry_of es)) (λ q.
+    get-from_entries nat_list_cmp_total _ q ∙ sym (get-from_sorted bytes_cmp (map entry_of es) q sorted)))
+    ∙ entries-from_sorted bytes_cmp (map entry_of es) sorted

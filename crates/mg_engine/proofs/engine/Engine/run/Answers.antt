@@ -1,0 +1,36 @@
+use Rattle.std.proofs.Common.{◌≡◌, ap, ◌+◌}
+use Rattle.mg_engine.specs.View.{asked, said}
+use Rattle.mg_engine.specs.Stands.{Stands}
+use Rattle.mg_engine.proofs.Runs.{world_then, ends_then, goes_on_after, ends_here}
+use Rattle.mg_engine.proofs.engine.Engine.run.Goals as goal
+
+pub loop-command-init : goal.loop-command-init
+loop-command-init g c =
+    let made = c.in_ok-replies.ensures in
+    record { room = made.exact; some = made.len; goes_on = λ w h. (w, h, λ rs after run. rw made.items run) }
+
+pub loop-command-preserved : goal.loop-command-preserved
+loop-command-preserved g c =
+    let stands = Stands g.P.Placement.place in
+    let l = c.loop-command in
+    let command = c.command-item.result in
+    let reply = c.step-reply.result in
+    let pushed = c.push_reserved.ensures in
+    record {
+      room = rw pushed.capacity l.invariant.room;
+      some = rw pushed.len (ap (λ n. n + 1) l.invariant.some);
+      goes_on = λ w h.
+          let now = l.invariant.goes_on w h in
+          let did = c.step-reply.ensures.answers now.0 now.1 in (
+            world_then now.0 (asked command) (said reply),
+            ends_then now.0 (asked command) (said reply) (stands c.step-reply.new.self) did,
+            λ rs after run. rw pushed.items (goes_on_after w now.0 c.args.commands.now l.command-index command l.replies.items reply (stands c.step-reply.new.self) (stands after) rs
+                c.loop-command-test.true c.command-item.is did (λ rest. now.2 rest after) run),
+          );
+    }
+
+pub returns-clause-run : goal.returns-clause-run
+returns-clause-run g c = λ w h.
+    let l = c.loop-command in
+    let now = l.invariant.goes_on w h in
+    ends_here w now.0 c.args.commands.now l.command-index l.replies.items (Stands g.P.Placement.place l.self) c.loop-command-test.false now.1 (λ rest. now.2 rest l.self)

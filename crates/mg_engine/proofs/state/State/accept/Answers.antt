@@ -1,0 +1,33 @@
+use Rattle.std.proofs.Common.{◌≡◌, Ok, Some, ap, ap₂, sym, ◌∙◌, subst}
+use Rattle.std.specs.Prelude.{List, ℕ}
+use Rattle.mg_value.specs.Value.{Items, list}
+use Rattle.mg_value.specs.View.{view, items_view}
+use Rattle.mg_value.proofs.Views.{view-List}
+use Rattle.mg_doc.specs.Document.{Edit}
+use Rattle.mg_engine.specs.Bodies.{line_of}
+use Rattle.mg_engine.specs.Bulk.{after_edits, entries_of, last_number, numbered, outcomes}
+use Rattle.mg_engine.specs.Commands.{Answer}
+use Rattle.mg_engine.specs.Documents.{KeptDocuments, shown, StandFor}
+use Rattle.mg_engine.specs.Stands.{Shown}
+use Rattle.mg_engine.proofs.state.State.accept.Goals as goal
+
+-- a bulk that was accepted
+abbrev accepted : List ℕ → Answer
+accepted b = record { status = 201; body = b }
+
+pub returns-clause-does : goal.returns-clause-does
+returns-clause-does c = λ w h.
+    let told = c.args.new_edits in
+    let before : shown c.in_ok-docs.docs.entries ≡ c.args.self.now.docs = c.in_ok-docs.ensures ∙ ap (λ (s : Shown). s.docs) c.self.view_is in
+    let counter = ap (λ (s : Shown). s.counter) c.self.view_is ∙ h.counter in
+    let edits = c.deref.ensures.value ∙ c.in_ok-edits.ensures.edits ∙ ap (λ n. numbered n c.args.edits.items) counter in
+    let did = c.in_ok-entries.ensures w.docs (subst (λ (m : KeptDocuments). StandFor m w.docs) (sym before) h.documents) in
+    let entries = did.1 ∙ ap (λ (es : List Edit). entries_of told (outcomes w.docs es)) edits in
+    let body = c.in_ok-body.ensures ∙ ap line_of (view-List c.in_ok-entries.entries ∙ ap list entries) in (
+      ap (λ b. Some (accepted b)) body,
+      record {
+        documents = subst (λ (es : List Edit). StandFor (shown c.apply_all.new.docs.entries) (after_edits w.docs es)) edits did.0;
+        indexes = h.indexes;
+        counter = c.in_ok-edits.ensures.last ∙ ap (λ n. last_number n c.args.edits.items) counter;
+      },
+    )

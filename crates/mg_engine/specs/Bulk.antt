@@ -1,0 +1,150 @@
+-- A bulk of edits, after CouchDB's `_bulk_docs`: how its body is read, what it does, and what it answers.
+use Rattle.std.specs.Prelude.{ℕ, ◌+◌, ◌%◌, ◌^◌, List, [], ◌∷◌, ◌++◌, Bool, true, false, ◌&&◌, codes, Option, Some, None, is_some, unwrap_or, Result, Ok, Err, if◌then◌else◌}
+use Rattle.std.specs.FinMap.{insert}
+use Rattle.std.specs.Int.{to_be_bytes, w64}
+use Rattle.hex.specs.Hex.{encode_lower}
+use Rattle.mg_value.specs.Value.{Value, null, flag, whole, text, list, object, Items, no_items, item, Members, no_members, member, get_member}
+use Rattle.mg_revtree.specs.Revision.{Revision, revision_text}
+use Rattle.mg_doc.specs.Document.{Edit, edit_of, is_object, then_read}
+use Rattle.mg_doc.specs.Edit.{edited, outcome_of}
+use Rattle.mg_doc.specs.declared.error.DocError.{DocError}
+use Rattle.mg_doc.specs.declared.error.DocError.TheVariants as document_fault
+use Rattle.mg_doc.specs.declared.error.EditError.{EditError}
+use Rattle.mg_doc.specs.declared.error.EditError.TheVariants.{Conflict, BadHistory, NoMemory}
+use Rattle.mg_engine.specs.declared.refusal.Refusal.{Refusal}
+use Rattle.mg_engine.specs.declared.refusal.Refusal.TheVariants.{WrongShape, BadMember, BadId, BadRev, OutOfMemory}
+use Rattle.mg_engine.specs.declared.refusal.TheConstants.{CONFLICT_ERROR, CONFLICT_REASON, BAD_HISTORY_ERROR, BAD_HISTORY_REASON}
+use Rattle.mg_engine.specs.World.{Histories, history_at}
+
+-- ---- reading the body
+
+-- whether each item is an object
+abbrev pub are_objects : Items → Bool
+are_objects no_items = true
+are_objects (item v vs) = is_object v && are_objects vs
+
+-- the documents of a bulk, and whether their edits are new
+pub record Bulk : Type 0 where
+  pub new_edits : Bool
+  pub documents : Items
+
+abbrev pub of_objects : Bool → Items → Option Bulk
+of_objects new_edits vs = if are_objects vs then Some (record { new_edits = new_edits; documents = vs }) else None
+
+-- `docs`, an array of objects, and `new_edits`, true or false, and true where it is absent
+abbrev pub shaped : Option Value → Option Value → Option Bulk
+shaped (Some (list vs)) None = of_objects true vs
+shaped (Some (list vs)) (Some (flag b)) = of_objects b vs
+shaped docs new_edits = None
+
+-- the bulk that a body is; anything else has the wrong shape
+abbrev pub bulk_of : Value → Option Bulk
+bulk_of (object ms) = shaped (get_member (codes "docs") ms) (get_member (codes "new_edits") ms)
+bulk_of v = None
+
+-- its edits, or the first fault of its documents
+abbrev pub edits_of : Bool → Items → Result (List Edit) DocError
+edits_of new_edits no_items = Ok []
+edits_of new_edits (item v vs) = then_read (edit_of new_edits v) (λ e. then_read (edits_of new_edits vs) (λ es. Ok (e ∷ es)))
+
+-- a document's fault as a refusal of the whole bulk
+abbrev pub refusal_of : DocError → Refusal
+refusal_of document_fault.BadMember = BadMember
+refusal_of document_fault.BadId = BadId
+refusal_of document_fault.BadRev = BadRev
+refusal_of document_fault.NoMemory = OutOfMemory
+
+abbrev pub edits_or_refusal : Result (List Edit) DocError → Result (List Edit) Refusal
+edits_or_refusal (Ok es) = Ok es
+edits_or_refusal (Err e) = Err (refusal_of e)
+
+-- the edits of a body that is read whole, or why the bulk is refused: its shape first, then its documents in order
+abbrev pub edits_read : Option Bulk → Result (List Edit) Refusal
+edits_read None = Err WrongShape
+edits_read (Some b) = edits_or_refusal (edits_of b.new_edits b.documents)
+
+-- ---- ids for documents without one
+
+-- the number after it, modulo 2^64
+abbrev pub number_after : ℕ → ℕ
+number_after n = (n + 1) % 2 ^ 64
+
+-- a number as an id: 32 lower hexadecimal digits, of which its own are the last 16
+abbrev pub number_text : ℕ → List ℕ
+number_text n = codes "0000000000000000" ++ encode_lower (to_be_bytes w64 n)
+
+-- an edit without an id takes the number after the last one
+abbrev pub named : ℕ → Edit → Edit
+named n e = if is_some e.id then e else record e { id = Some (number_text (number_after n)) }
+
+-- the number that was given last, after the edit
+abbrev pub number_with : ℕ → Edit → ℕ
+number_with n e = if is_some e.id then n else number_after n
+
+-- each edit without an id takes the counter's next number, in order
+abbrev pub numbered : ℕ → List Edit → List Edit
+numbered n [] = []
+numbered n (e ∷ es) = named n e ∷ numbered (number_with n e) es
+
+-- the number that was given last, after all of them
+abbrev pub last_number : ℕ → List Edit → ℕ
+last_number n [] = n
+last_number n (e ∷ es) = last_number (number_with n e) es
+
+-- ---- what the edits do, in order
+
+-- the id of an edit that has one
+abbrev pub id_in : Edit → List ℕ
+id_in e = unwrap_or e.id []
+
+abbrev pub history_put : Histories → Edit → Result Revision EditError → Histories
+history_put m e (Ok r) = insert m (id_in e) (edited (history_at m (id_in e)) e)
+history_put m e (Err refused) = m
+
+-- what becomes of an edit
+abbrev pub outcome_in : Histories → Edit → Result Revision EditError
+outcome_in m e = outcome_of (history_at m (id_in e)) e
+
+-- the histories after an edit: a refused one changes none
+abbrev pub after_edit : Histories → Edit → Histories
+after_edit m e = history_put m e (outcome_in m e)
+
+-- the histories after all of them
+abbrev pub after_edits : Histories → List Edit → Histories
+after_edits m [] = m
+after_edits m (e ∷ es) = after_edits (after_edit m e) es
+
+-- an edit's id, and what became of the edit
+abbrev pub Outcome : Type 0
+Outcome = List ℕ × Result Revision EditError
+
+abbrev pub outcomes : Histories → List Edit → List Outcome
+outcomes m [] = []
+outcomes m (e ∷ es) = (id_in e, outcome_in m e) ∷ outcomes (after_edit m e) es
+
+-- ---- the reply
+
+-- `{"id":..,"ok":true,"rev":..}`
+abbrev pub done_entry : List ℕ → Revision → Value
+done_entry id r = object (member (codes "id") (text id) (member (codes "ok") (flag true) (member (codes "rev") (text (revision_text r)) no_members)))
+
+-- `{"error":..,"id":..,"reason":..}`
+abbrev pub refused_entry : List ℕ → List ℕ → List ℕ → Value
+refused_entry error id reason = object (member (codes "error") (text error) (member (codes "id") (text id) (member (codes "reason") (text reason) no_members)))
+
+-- an edit that is done is told of where edits are new; one that is refused always. (No outcome is a want of memory.)
+abbrev pub entry_of : Bool → List ℕ → Result Revision EditError → Option Value
+entry_of true id (Ok r) = Some (done_entry id r)
+entry_of false id (Ok r) = None
+entry_of new_edits id (Err Conflict) = Some (refused_entry CONFLICT_ERROR.now id CONFLICT_REASON.now)
+entry_of new_edits id (Err BadHistory) = Some (refused_entry BAD_HISTORY_ERROR.now id BAD_HISTORY_REASON.now)
+entry_of new_edits id (Err NoMemory) = None
+
+abbrev pub entry_before : Option Value → Items → Items
+entry_before None vs = vs
+entry_before (Some v) vs = item v vs
+
+-- the entries of the reply, in the order of the documents
+abbrev pub entries_of : Bool → List Outcome → Items
+entries_of new_edits [] = no_items
+entries_of new_edits (o ∷ os) = entry_before (entry_of new_edits o.0 o.1) (entries_of new_edits os)

@@ -1,0 +1,14 @@
+pub mod Refusals
+pub mod World
+pub mod Bulk
+pub mod Commands
+pub mod Bodies
+pub mod ObjectCode
+pub mod View
+pub mod BulkView
+pub mod Documents
+pub mod Found
+pub mod Stands
+pub mod StateView
+pub mod Run
+pub mod Faults

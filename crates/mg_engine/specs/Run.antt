@@ -1,0 +1,28 @@
+-- One command, and a whole run of commands. `ends` says of a world that it is the one in the end.
+use Rattle.std.specs.Prelude.{◌≡◌, List, [], ◌∷◌, Option, Some, None, length}
+use Rattle.mg_engine.specs.World.{World}
+use Rattle.mg_engine.specs.Commands.{Asked, Answer, reply_of, next, replies_of, world_after}
+
+-- at w, the command is answered, or memory was refused and nothing changed
+abbrev pub Answers : World → Asked → Option Answer → (World → Type 0) → Type 0
+Answers w c None ends = ends w
+Answers w c (Some a) ends = (a ≡ reply_of w c) × ends (next w c)
+
+-- the commands that were answered: those whose reply is not a want of memory
+abbrev pub kept : List Asked → List (Option Answer) → List Asked
+kept [] rs = []
+kept (c ∷ cs) [] = c ∷ cs
+kept (c ∷ cs) (None ∷ rs) = kept cs rs
+kept (c ∷ cs) (Some a ∷ rs) = c ∷ kept cs rs
+
+-- the replies that are not a want of memory
+abbrev pub told : List (Option Answer) → List Answer
+told [] = []
+told (None ∷ rs) = told rs
+told (Some a ∷ rs) = a ∷ told rs
+
+-- from w the commands have these replies: where memory was refused, the command changed nothing and counts as not given
+pub record IsRun (w : World) (cs : List Asked) (rs : List (Option Answer)) (ends : World → Type 0) : Type 0 where
+  pub one_each : length rs ≡ length cs
+  pub replies : told rs ≡ replies_of w (kept cs rs)
+  pub world : ends (world_after w (kept cs rs))

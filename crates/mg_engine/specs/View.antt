@@ -1,0 +1,25 @@
+-- What the program's commands and replies stand for.
+use Rattle.std.specs.Prelude.{Option, Some, None, string_bytes}
+use Rattle.mg_value.specs.View.{view}
+use Rattle.mg_engine.specs.Commands.{Asked, bulk, find, get, Answer, refused}
+use Rattle.mg_engine.specs.declared.command.Command.{Command}
+use Rattle.mg_engine.specs.declared.command.Command.TheVariants.{Bulk, Find, Get}
+use Rattle.mg_engine.specs.declared.reply.Reply.{Reply}
+use Rattle.mg_engine.specs.declared.reply.Reply.TheVariants.{Full, NoMemory}
+use Rattle.mg_engine.specs.declared.refusal.Refusal.TheVariants.{OutOfMemory}
+
+-- what a command asks
+abbrev pub asked : Command → Asked
+asked (Bulk body) = bulk (view body)
+asked (Find body) = find (view body)
+asked (Get id conflicts) = get (string_bytes id) conflicts
+
+-- a reply that was made whole, and none where memory was refused
+abbrev pub said : Reply → Option Answer
+said (Full status body) = Some (record { status = status; body = body.items })
+said NoMemory = None
+
+-- what a client is told: where memory was refused, that
+abbrev pub answer_in : Reply → Answer
+answer_in (Full status body) = record { status = status; body = body.items }
+answer_in NoMemory = refused OutOfMemory

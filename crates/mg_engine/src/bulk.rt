@@ -1,0 +1,142 @@
+//! How the body of a bulk is read.
+ghost use Rattle.std.specs.Prelude.{◌≡◌, codes, IfOk, is_some, option_map, string_bytes, true};
+ghost use Rattle.mg_value.specs.Value.{get_member};
+ghost use Rattle.mg_value.specs.View.{view, items_view, members_view};
+ghost use Rattle.mg_doc.specs.Document.{is_object};
+ghost use Rattle.mg_engine.specs.Bulk.{are_objects, bulk_of, edits_of, edits_or_refusal, last_number, named, number_text, number_with, numbered, of_objects, shaped};
+ghost use Rattle.mg_engine.specs.BulkView.{bulk_seen};
+ghost use Rattle.mg_engine.specs.Faults.{Gives};
+
+use crate::fault::Fault;
+use mg_doc::Edit;
+use mg_value::{Json, NoMemory};
+use std::alloc::Global;
+use std::collections::BTreeMap;
+
+/// The documents of a bulk, each an object, and whether their edits are new.
+#[derive(Clone, Copy)]
+pub(crate) struct Bulk<'a> {
+    pub(crate) new_edits: bool,
+    pub(crate) documents: &'a [Json],
+}
+
+/// The bulk that a body is, if it has the shape of one.
+pub(crate) fn read_bulk(body: &Json) -> Option<Bulk<'_>>
+    ensures { option_map bulk_seen result ≡ bulk_of (view body.now) }
+{
+    match body {
+        Json::Object(members) => shaped(member(members, "docs"), member(members, "new_edits")),
+        _ => None,
+    }
+}
+
+fn shaped<'a>(docs: Option<&'a Json>, new_edits: Option<&Json>) -> Option<Bulk<'a>>
+    ensures { option_map bulk_seen result ≡ shaped (option_map (λ j. view j.now) docs.entry) (option_map (λ j. view j.now) new_edits.entry) }
+{
+    match (docs, new_edits) {
+        (Some(Json::List(documents)), None) => of_objects(true, documents),
+        (Some(Json::List(documents)), Some(Json::Flag(new_edits))) => {
+            of_objects(*new_edits, documents)
+        }
+        _ => None,
+    }
+}
+
+fn of_objects(new_edits: bool, documents: &[Json]) -> Option<Bulk<'_>>
+    ensures { option_map bulk_seen result ≡ of_objects new_edits (items_view documents.now) }
+{
+    if are_objects(documents) {
+        Some(Bulk {
+            new_edits,
+            documents,
+        })
+    } else {
+        None
+    }
+}
+
+fn are_objects(documents: &[Json]) -> bool
+    ensures { result ≡ are_objects (items_view documents.now) }
+{
+    for document in documents {
+        if !is_object(document) {
+            return false;
+        }
+    }
+    true
+}
+
+fn is_object(value: &Json) -> bool
+    ensures { result ≡ is_object (view value.now) }
+{
+    match value {
+        Json::Object(_) => true,
+        _ => false,
+    }
+}
+
+// The member of that name.
+fn member<'a>(members: &'a BTreeMap<String, Json>, name: &str) -> Option<&'a Json>
+    ensures { option_map (λ j. view j.now) result ≡ get_member name.now (members_view members.now.entries) }
+{
+    members.get(name)
+}
+
+/// The edits of documents, or the first fault of them.
+pub(crate) fn read_edits(
+    alloc: Global,
+    new_edits: bool,
+    documents: &[Json],
+) -> Result<Vec<Edit>, Fault>
+    requires { are_objects (items_view documents.now) ≡ true }
+    ensures { Gives (λ v. v.items) result (edits_or_refusal (edits_of new_edits (items_view documents.now))) }
+{
+    let mut edits = Vec::with_capacity(alloc, documents.len())?;
+    for document in documents {
+        let edit = Edit::read(alloc, document.copy(alloc)?, new_edits)?;
+        edits.push(edit)?;
+    }
+    Ok(edits)
+}
+
+/// The edits, of which each without an id takes the number after `last`, and the number that was given last.
+pub(crate) fn numbered(
+    alloc: Global,
+    edits: Vec<Edit>,
+    last: u64,
+) -> Result<(Vec<Edit>, u64), NoMemory>
+    ensures edits { IfOk result (λ r. r.0.items ≡ numbered last edits.items) }
+    ensures last { IfOk result (λ r. r.1 ≡ last_number last edits.items) }
+{
+    let mut found = Vec::with_capacity(alloc, edits.len())?;
+    let mut number = last;
+    for edit in edits {
+        let (edit, given) = named(alloc, edit, number)?;
+        found.push(edit)?;
+        number = given;
+    }
+    Ok((found, number))
+}
+
+// The edit with an id, and the number that was given last.
+fn named(alloc: Global, edit: Edit, last: u64) -> Result<(Edit, u64), NoMemory>
+    ensures edit { IfOk result (λ r. r.0 ≡ named last edit) }
+    ensures last { IfOk result (λ r. r.1 ≡ number_with last edit) }
+{
+    if edit.id().is_some() {
+        return Ok((edit, last));
+    }
+    let number = last.wrapping_add(1);
+    let id = number_text(alloc, number)?;
+    Ok((edit.with_id(id), number))
+}
+
+// A number as an id.
+fn number_text(alloc: Global, number: u64) -> Result<String, NoMemory>
+    ensures { IfOk result (λ t. string_bytes t ≡ number_text number) }
+{
+    let mut text = String::from_str(alloc, "0000000000000000")?;
+    let digits = hex::encode(alloc, number.to_be_bytes())?;
+    text.push_str(digits.as_str())?;
+    Ok(text)
+}

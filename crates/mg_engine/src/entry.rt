@@ -1,0 +1,56 @@
+//! The entries of the reply to a bulk.
+ghost use Rattle.std.specs.Prelude.{◌≡◌, IfOk, option_map};
+ghost use Rattle.mg_value.specs.View.{view};
+ghost use Rattle.mg_engine.specs.Bulk.{entry_of, done_entry, refused_entry};
+
+use crate::object::Members;
+use crate::refusal::{BAD_HISTORY_ERROR, BAD_HISTORY_REASON, CONFLICT_ERROR, CONFLICT_REASON};
+use mg_doc::EditError;
+use mg_revtree::Rev;
+use mg_value::{Json, NoMemory};
+use std::alloc::Global;
+
+/// The entry of an edit, by its id and by what became of it, if it is told of.
+pub(crate) fn entry(
+    alloc: Global,
+    new_edits: bool,
+    id: &str,
+    outcome: &Result<Rev, EditError>,
+) -> Result<Option<Json>, NoMemory>
+    ensures { IfOk result (λ o. option_map view o ≡ entry_of new_edits id.now outcome.now) }
+{
+    match outcome {
+        Ok(rev) => if new_edits {
+            Ok(Some(done_entry(alloc, id, rev)?))
+        } else {
+            Ok(None)
+        },
+        Err(EditError::Conflict) => {
+            Ok(Some(refused_entry(alloc, CONFLICT_ERROR, id, CONFLICT_REASON)?))
+        }
+        Err(EditError::BadHistory) => {
+            Ok(Some(refused_entry(alloc, BAD_HISTORY_ERROR, id, BAD_HISTORY_REASON)?))
+        }
+        Err(EditError::NoMemory) => Ok(None),
+    }
+}
+
+fn done_entry(alloc: Global, id: &str, rev: &Rev) -> Result<Json, NoMemory>
+    ensures { IfOk result (λ v. view v ≡ done_entry id.now rev.now) }
+{
+    let mut members = Members::new(alloc);
+    members.put("id", Json::Text(String::from_str(alloc, id)?))?;
+    members.put("ok", Json::Flag(true))?;
+    members.put("rev", Json::Text(rev.text(alloc)?))?;
+    Ok(members.object())
+}
+
+fn refused_entry(alloc: Global, error: &str, id: &str, reason: &str) -> Result<Json, NoMemory>
+    ensures { IfOk result (λ v. view v ≡ refused_entry error.now id.now reason.now) }
+{
+    let mut members = Members::new(alloc);
+    members.put("error", Json::Text(String::from_str(alloc, error)?))?;
+    members.put("id", Json::Text(String::from_str(alloc, id)?))?;
+    members.put("reason", Json::Text(String::from_str(alloc, reason)?))?;
+    Ok(members.object())
+}

@@ -1,0 +1,77 @@
+use crate::refusal::Refusal;
+use mg_doc::DocError;
+use mg_query::QueryError;
+use mg_value::NoMemory;
+use std::alloc::{AllocError, AllocFailed};
+
+/// Why a body was not read: the request is refused, or a growth was.
+#[derive(Clone, Copy, PartialEq, Eq, Debug, Drop)]
+pub(crate) enum Fault {
+    Refused(Refusal),
+    NoMemory,
+}
+
+impl From<NoMemory> for Fault {
+    ghost use Rattle.std.specs.Prelude.{◌≡◌};
+    ghost use Rattle.mg_engine.specs.declared.fault.Fault.TheVariants.{NoMemory as want};
+
+    ghost from_gives = { λ _ e. e ≡ want };
+
+    fn from(_refused: NoMemory) -> Fault {
+        Fault::NoMemory
+    }
+}
+
+impl From<AllocError> for Fault {
+    ghost use Rattle.std.specs.Prelude.{◌≡◌};
+    ghost use Rattle.mg_engine.specs.declared.fault.Fault.TheVariants.{NoMemory as want};
+
+    ghost from_gives = { λ _ e. e ≡ want };
+
+    fn from(_refused: AllocError) -> Fault {
+        Fault::NoMemory
+    }
+}
+
+impl<T: Drop> From<AllocFailed<T>> for Fault {
+    ghost use Rattle.std.specs.Prelude.{◌≡◌};
+    ghost use Rattle.mg_engine.specs.declared.fault.Fault.TheVariants.{NoMemory as want};
+
+    ghost from_gives = { λ _ e. e ≡ want };
+
+    fn from(_refused: AllocFailed<T>) -> Fault {
+        Fault::NoMemory
+    }
+}
+
+impl From<DocError> for Fault {
+    ghost use Rattle.std.specs.Prelude.{◌≡◌};
+    ghost use Rattle.mg_engine.specs.Faults.{of_document};
+
+    ghost from_gives = { λ d e. e ≡ of_document d };
+
+    fn from(fault: DocError) -> Fault {
+        match fault {
+            DocError::BadMember => Fault::Refused(Refusal::BadMember),
+            DocError::BadId => Fault::Refused(Refusal::BadId),
+            DocError::BadRev => Fault::Refused(Refusal::BadRev),
+            DocError::NoMemory => Fault::NoMemory,
+        }
+    }
+}
+
+impl From<QueryError> for Fault {
+    ghost use Rattle.std.specs.Prelude.{◌≡◌};
+    ghost use Rattle.mg_engine.specs.Faults.{of_query};
+
+    ghost from_gives = { λ q e. e ≡ of_query q };
+
+    fn from(fault: QueryError) -> Fault {
+        match fault {
+            QueryError::Shape => Fault::Refused(Refusal::WrongShape),
+            QueryError::InvalidOperator => Fault::Refused(Refusal::InvalidOperator),
+            QueryError::BadArg => Fault::Refused(Refusal::BadArg),
+            QueryError::NoMemory => Fault::NoMemory,
+        }
+    }
+}

@@ -1,0 +1,95 @@
+ghost use Rattle.std.specs.Prelude.{◌≡◌};
+ghost use Rattle.mg_engine.specs.Refusals.{status_of, refusal_body};
+
+/// The body of `InvalidJson`.
+pub const INVALID_JSON: &str = "{\"error\":\"bad_request\",\"reason\":\"Invalid JSON.\"}\n";
+/// The body of `WrongShape`.
+pub const WRONG_SHAPE: &str = "{\"error\":\"bad_request\",\"reason\":\"Wrong shape.\"}\n";
+/// The body of `InvalidOperator`.
+pub const INVALID_OPERATOR: &str =
+    "{\"error\":\"invalid_operator\",\"reason\":\"Unknown operator.\"}\n";
+/// The body of `BadArg`.
+pub const BAD_ARG: &str = "{\"error\":\"bad_arg\",\"reason\":\"Bad argument for an operator.\"}\n";
+/// The body of `BadMember`.
+pub const BAD_MEMBER: &str =
+    "{\"error\":\"doc_validation\",\"reason\":\"Bad special document member.\"}\n";
+/// The body of `BadId`.
+pub const BAD_ID: &str = "{\"error\":\"doc_validation\",\"reason\":\"Bad document id.\"}\n";
+/// The body of `BadRev`.
+pub const BAD_REV: &str = "{\"error\":\"doc_validation\",\"reason\":\"Invalid rev format.\"}\n";
+/// The body of `Missing`.
+pub const MISSING: &str = "{\"error\":\"not_found\",\"reason\":\"missing\"}\n";
+/// The body of `Deleted`.
+pub const DELETED: &str = "{\"error\":\"not_found\",\"reason\":\"deleted\"}\n";
+/// The body of `OutOfMemory`.
+pub const OUT_OF_MEMORY: &str = "{\"error\":\"out_of_memory\",\"reason\":\"Out of memory.\"}\n";
+/// The body of `BadHead`.
+pub const BAD_HEAD: &str = "{\"error\":\"bad_head\",\"reason\":\"Bad request head.\"}\n";
+
+/// The `error` of an edit whose revision is no leaf.
+pub const CONFLICT_ERROR: &str = "conflict";
+/// The `reason` of an edit whose revision is no leaf.
+pub const CONFLICT_REASON: &str = "Document update conflict.";
+/// The `error` of an edit whose path does not fit.
+pub const BAD_HISTORY_ERROR: &str = "bad_history";
+/// The `reason` of an edit whose path does not fit.
+pub const BAD_HISTORY_REASON: &str = "Revision history does not fit the document.";
+
+/// Why a request is refused. The texts stand here once, for the definitions and for the code.
+#[derive(Clone, Copy, PartialEq, Eq, Debug, Drop)]
+pub enum Refusal {
+    /// The body is no JSON text, or has a number that is no 64-bit integer.
+    InvalidJson,
+    /// The body has another shape than the request takes.
+    WrongShape,
+    /// A selector has an operator that is not known.
+    InvalidOperator,
+    /// An operator of a selector has an argument that it does not take.
+    BadArg,
+    /// A document has a reserved member that is not known.
+    BadMember,
+    /// A document has an id that is none.
+    BadId,
+    /// A document has a revision that is none, or has none where it needs one.
+    BadRev,
+    /// There is no such document.
+    Missing,
+    /// The document is deleted.
+    Deleted,
+    /// A growth was refused.
+    OutOfMemory,
+    /// The bytes begin with no head that is served.
+    BadHead,
+}
+
+impl Refusal {
+    /// The status of the reply.
+    pub fn status(self) -> u16
+        ensures { result ≡ status_of self }
+    {
+        match self {
+            Refusal::Missing | Refusal::Deleted => 404,
+            Refusal::OutOfMemory => 503,
+            _ => 400,
+        }
+    }
+
+    /// The body of the reply: the compact text of `{"error":..,"reason":..}` and a line feed.
+    pub fn body(self) -> &'static str
+        ensures { result.now ≡ refusal_body self }
+    {
+        match self {
+            Refusal::InvalidJson => INVALID_JSON,
+            Refusal::WrongShape => WRONG_SHAPE,
+            Refusal::InvalidOperator => INVALID_OPERATOR,
+            Refusal::BadArg => BAD_ARG,
+            Refusal::BadMember => BAD_MEMBER,
+            Refusal::BadId => BAD_ID,
+            Refusal::BadRev => BAD_REV,
+            Refusal::Missing => MISSING,
+            Refusal::Deleted => DELETED,
+            Refusal::OutOfMemory => OUT_OF_MEMORY,
+            Refusal::BadHead => BAD_HEAD,
+        }
+    }
+}

@@ -1,0 +1,75 @@
+-- One write after another.
+use Rattle.std.proofs.Common.{◌≡◌, ℕ, suc, List, [], ◌∷◌, ◌++◌, length, take, drop, Option, Result, Ok, Err, refl, append-nil, sym, ap, ◌∙◌, append_assoc, take-append-drop, get_or, subst, ◌<◌, ◌+◌, drop-cons}
+use Rattle.std.specs.List.{flat_map}
+use Rattle.std.proofs.lemmas.Grind.{flat_map-append}
+use Rattle.std.proofs.Math.Seq.{take-suc}
+use Rattle.std.proofs.KnownBytes.{Appends-trans}
+use Rattle.std.specs.Io.KnownBytes.{Appends}
+use Rattle.mg_http.specs.declared.device.Fault.{Fault}
+use Rattle.mg_http.specs.Device.{IsPrefix, WritesPart, Writes, Gathers}
+
+-- a part of what follows what was written
+pub part_then : (x y z : Option (List ℕ)) (front rest : List ℕ) → Appends x y front → WritesPart y z rest → WritesPart x z (front ++ rest)
+part_then x y z front rest p q =
+    (front ++ q.0, (q.1.0, append_assoc front q.0 q.1.0 ∙ ap (λ (t : List ℕ). front ++ t) q.1.1), Appends-trans x y z front q.0 p q.2)
+
+-- a part of the front is a part of the whole
+pub part_cut : (x z : Option (List ℕ)) (front rest : List ℕ) → WritesPart x z front → WritesPart x z (front ++ rest)
+part_cut x z front rest q =
+    (q.0, (q.1.0 ++ rest, sym (append_assoc q.0 q.1.0 rest) ∙ ap (λ (t : List ℕ). t ++ rest) q.1.1), q.2)
+
+-- a front of what was left is sent too
+pub more_sent : (x y z : Option (List ℕ)) (bytes sent left after : List ℕ) (n : ℕ) → bytes ≡ sent ++ left → Appends x y sent → Appends y z (take n left)
+    → after ≡ drop n left → (sent : List ℕ) × (bytes ≡ sent ++ after) × Appends x z sent
+more_sent x y z bytes sent left after n is p q rest = (
+  sent ++ take n left,
+  is ∙ ap (λ (t : List ℕ). sent ++ t) (sym (take-append-drop n left) ∙ ap (λ (t : List ℕ). take n left ++ t) (sym rest)) ∙ sym (append_assoc sent (take n left) after),
+  Appends-trans x y z sent (take n left) p q,
+)
+
+-- what was held and the piece behind it, both written
+pub gather_both : {A : Type 0} (x y z : Option (List ℕ)) (held piece left : List ℕ) (r : Result A Fault) → left ≡ []
+    → Appends x y held → Writes y z piece r → Gathers x z held piece left r
+gather_both x y z held piece left (Ok a) none p q =
+    (held ++ piece, rw none (sym (append-nil (held ++ piece))), Appends-trans x y z held piece p q)
+gather_both x y z held piece left (Err e) none p q = part_then x y z held piece p q
+
+-- what is left on the page, written behind what was sent
+pub page_last : {A : Type 0} (x y z : Option (List ℕ)) (sent page whole : List ℕ) (r : Result A Fault) → sent ++ page ≡ whole
+    → Appends x y sent → Writes y z page r → Writes x z whole r
+page_last x y z sent page whole (Ok a) e p q = rw (← e) (Appends-trans x y z sent page p q)
+page_last x y z sent page whole (Err f) e p q = rw (← e) (part_then x y z sent page p q)
+
+module _ {P : Type 0} (text : P → List ℕ) (pieces : List P) (at : ℕ) (d : P) (within : at < length pieces) (x y z : Option (List ℕ)) where
+  -- the piece stands behind those before it
+  pieces_cut : flat_map text pieces ≡ flat_map text (take at pieces) ++ (text (get_or pieces at d) ++ flat_map text (drop (suc at) pieces))
+  pieces_cut =
+      ap (flat_map text) (sym (take-append-drop at pieces)) ∙ flat_map-append text (take at pieces) (drop at pieces)
+      ∙ ap (λ (t : List _). flat_map text (take at pieces) ++ flat_map text t) (drop-cons pieces at d within)
+
+  -- a part of the page and one piece, after what was sent
+  pub part_of_page : (sent page : List ℕ) → sent ++ page ≡ flat_map text (take at pieces) → Appends x y sent
+      → WritesPart y z (page ++ text (get_or pieces at d)) → WritesPart x z (flat_map text pieces)
+  part_of_page sent page e p q =
+      let after = flat_map text (drop (suc at) pieces) in
+      let piece = text (get_or pieces at d) in
+      let whole : flat_map text pieces ≡ sent ++ ((page ++ piece) ++ after) =
+      pieces_cut ∙ ap (λ (t : List ℕ). t ++ (piece ++ after)) (sym e) ∙ append_assoc sent page (piece ++ after) ∙ ap (λ (t : List ℕ). sent ++ t) (sym (append_assoc page piece after)) in
+      rw whole (part_then x y z sent _ p (part_cut y z _ after q))
+
+  -- one piece more
+  pieces_more : flat_map text (take (suc at) pieces) ≡ flat_map text (take at pieces) ++ text (get_or pieces at d)
+  pieces_more =
+      ap (flat_map text) (take-suc pieces at d within) ∙ flat_map-append text (take at pieces) (get_or pieces at d ∷ [])
+      ∙ ap (λ (t : List ℕ). flat_map text (take at pieces) ++ t) (append-nil (text (get_or pieces at d)))
+
+  -- one piece more is sent or on the page
+  pub one_gathered : (sent page left : List ℕ) → sent ++ page ≡ flat_map text (take at pieces) → Appends x y sent
+      → ((more : List ℕ) × (page ++ text (get_or pieces at d) ≡ more ++ left) × Appends y z more)
+      → (sent : List ℕ) × (sent ++ left ≡ flat_map text (take (suc at) pieces)) × Appends x z sent
+  one_gathered sent page left e p q = (
+    sent ++ q.0,
+    append_assoc sent q.0 left ∙ ap (λ (t : List ℕ). sent ++ t) (sym q.1) ∙ sym (append_assoc sent page _)
+        ∙ ap (λ (t : List ℕ). t ++ text (get_or pieces at d)) e ∙ sym pieces_more,
+    Appends-trans x y z sent q.0 p q.2,
+  )

@@ -1,0 +1,6 @@
+pub mod DeviceLemmas
+pub mod HeadLemmas
+pub mod ListLemmas
+pub mod MessageLemmas
+pub mod ReplyLemmas
+pub mod SessionLemmas

@@ -1,0 +1,70 @@
+-- A head that is read in a window of the bytes, and two readings of the same bytes.
+use Rattle.std.proofs.Common.{◌≡◌, ℕ, ◌+◌, ◌-◌, ◌<◌, ◌≤◌, List, [], ◌∷◌, ◌++◌, length, take, drop, Some, refl, sym, ap, ◌∙◌, subst, append_assoc, append-nil, take-append-drop, drop-drop, arith, length-append, length-take, length-drop, codes, map, inl, inr}
+use Rattle.std.specs.Prelude.{slice_range}
+use Rattle.std.proofs.lemmas.Grind.{common_steps}
+use Rattle.std.proofs.lemmas.List.{append_cancel_left, drop-append-le}
+use Rattle.std.proofs.Math.Seq.{take-append_seam, drop-append_seam}
+use Rattle.httparse.specs.Grammar.{RequestHead, print_request, ReadsRequest, HasNoRequest, NeverHasRequest}
+use Rattle.httparse.proofs.GrammarLemmas.{request_unique, ReadsRequest-append}
+use Rattle.httparse.specs.Spans.{name_and_value}
+use Rattle.mg_http.specs.declared.head.Route.{Route}
+use Rattle.mg_http.specs.declared.head.Route.TheVariants.{BulkDocs, Find}
+use Rattle.mg_http.specs.declared.head.HeadRead.TheVariants.{Framed}
+use Rattle.mg_http.specs.Fields.{body_length}
+use Rattle.mg_http.specs.Head.{target_of, IsFramed, IsHeadRead}
+use Rattle.mg_http.specs.Message.{Begins, IsPartHead, IsWaiting, HasOther}
+
+-- a part, and what follows it
+cut : (xs : List ℕ) (i n : ℕ) → drop i xs ≡ slice_range xs i (i + n) ++ drop (i + n) xs
+cut xs i n = let e : i + n - i ≡ n = omega arith in rw e (sym (take-append-drop n (drop i xs)) ∙ ap (λ (t : List ℕ). take n (drop i xs) ++ t) (drop-drop n i xs))
+
+module _ (bytes : List ℕ) (k : ℕ) where
+  -- a head of the window is one of the bytes
+  pub widen : (h : RequestHead) (r : List ℕ) → ReadsRequest (take k bytes) h r → ReadsRequest bytes h (r ++ drop k bytes)
+  widen h r x = subst (λ (t : List ℕ). ReadsRequest t h (r ++ drop k bytes)) (take-append-drop k bytes) (ReadsRequest-append (take k bytes) h r (drop k bytes) x)
+
+  -- and is no longer than the window
+  pub head_fits : (h : RequestHead) (r : List ℕ) → ReadsRequest (take k bytes) h r → length (print_request h) ≤ k
+  head_fits h r x = omega (arith, ap length x.1, length-append (print_request h) r, length-take k bytes)
+
+  -- what can become no head in the window can become none
+  pub never_widen : NeverHasRequest (take k bytes) → NeverHasRequest bytes
+  never_widen never = λ more h r x.
+      let e : bytes ++ more ≡ take k bytes ++ (drop k bytes ++ more) =
+      ap (λ (t : List ℕ). t ++ more) (sym (take-append-drop k bytes)) ∙ append_assoc (take k bytes) (drop k bytes) more in
+      never (drop k bytes ++ more) h r (subst (λ (t : List ℕ). ReadsRequest t h r) e x)
+
+  module _ (db : List ℕ) (route : Route) (start n : ℕ) (small : k ≤ 16384) (read : IsHeadRead db (take k bytes) (Framed route start n)) where
+    after_head : ReadsRequest bytes read.2 (drop start bytes)
+    after_head =
+        let e : drop start (take k bytes) ++ drop k bytes ≡ drop start bytes =
+        sym (drop-append-le start (take k bytes) (drop k bytes) read.0) ∙ ap (drop start) (take-append-drop k bytes) in
+        subst (ReadsRequest bytes read.2) e (widen read.2 _ read.3)
+
+    pub within : start ≤ length bytes
+    within = omega (arith, read.0, length-take k bytes)
+
+    -- a body that is there
+    pub whole : start + n ≤ length bytes → Begins db bytes route (slice_range bytes start (start + n)) (drop (start + n) bytes)
+    whole there =
+        let long : length (slice_range bytes start (start + n)) ≡ n = grind (arith, common_steps) in
+        record {
+          head = read.2;
+          after = drop start bytes;
+          reads = after_head;
+          fits = omega (arith, head_fits read.2 _ read.3);
+          framed = rw long read.4;
+          joined = cut bytes start n;
+        }
+
+    -- a body that is not there yet
+    pub waits : (more : List ℕ) → length (bytes ++ more) < start + n → IsWaiting db (bytes ++ more)
+    waits more short =
+        let size : length (drop start bytes ++ more) < n =
+        simp (length-append, length-drop) (omega (arith, within, simp length-append at short)) in
+        inr (read.2, drop start bytes ++ more, route, n, ReadsRequest-append bytes read.2 (drop start bytes) more after_head, omega (arith, head_fits read.2 _ read.3), read.4, size)
+
+-- a head that is not whole yet, and no byte more
+pub part_head : (db bytes more : List ℕ) → IsPartHead bytes → length (bytes ++ more) < length bytes + 1 → IsWaiting db (bytes ++ more)
+part_head db bytes [] h short = rw append-nil (inl h)
+part_head db bytes (b ∷ more) h short = absurd (omega (arith, simp length-append at short))

@@ -1,0 +1,18 @@
+-- The parts of a reply's text.
+use Rattle.std.proofs.Common.{◌≡◌, ℕ, List, Option, Some, None, refl}
+use Rattle.std.specs.Prelude.{option_map, unwrap_or}
+use Rattle.mg_engine.specs.declared.reply.Reply.{Reply}
+use Rattle.mg_engine.specs.declared.reply.Reply.TheVariants.{Full, NoMemory}
+use Rattle.mg_engine.specs.View.{said, answer_in}
+use Rattle.mg_http.specs.Reply.{text_of, reply_text}
+
+-- what is found, or a default that shows as nothing
+pub found_or_nothing : {X : Type 0} (f : X → List ℕ) (r : Option X) (d : X) (o : Option (List ℕ)) (none : List ℕ) → option_map f r ≡ o
+    → f d ≡ none → f (unwrap_or r d) ≡ unwrap_or o none
+found_or_nothing f None d o none e z = rw (← e) z
+found_or_nothing f (Some x) d o none e z = rw (← e) refl
+
+-- a reply's status and body are those of its text
+pub said_text : (r : Reply) → text_of (answer_in r) ≡ reply_text (said r)
+said_text (Full status body) = refl
+said_text NoMemory = refl

@@ -1,0 +1,24 @@
+-- The text of a reply (RFC 9112, section 4): a status line, the type and the length of the body, and the body.
+use Rattle.std.specs.Prelude.{ℕ, List, [], ◌++◌, length, codes, decimal, Option, Some, None, unwrap_or, nat_le, nat_lt, ◌&&◌, if◌then◌else◌}
+use Rattle.http.specs.StatusCode.{reason_phrase}
+use Rattle.mg_engine.specs.declared.refusal.Refusal.TheVariants.{OutOfMemory}
+use Rattle.mg_engine.specs.Commands.{Answer, refused}
+
+-- the standard phrase of a status of three digits; empty where there is none
+abbrev pub phrase_of : ℕ → List ℕ
+phrase_of status =
+    if nat_le 100 status && nat_lt status 1000 then unwrap_or (reason_phrase status) [] else []
+
+-- the status line, the fields and the body, from their parts
+unfoldable pub text_with : List ℕ → List ℕ → List ℕ → List ℕ → List ℕ
+text_with code phrase size body =
+    codes "HTTP/1.1 " ++ (code ++ (codes " " ++ (phrase
+    ++ (codes "\r\nContent-Type: application/json\r\nContent-Length: " ++ (size ++ (codes "\r\n\r\n" ++ body))))))
+
+-- the bytes of a reply
+abbrev pub text_of : Answer → List ℕ
+text_of a = text_with (decimal a.status) (phrase_of a.status) (decimal (length a.body)) a.body
+
+-- the bytes of what a service answered; none is for want of memory
+abbrev pub reply_text : Option Answer → List ℕ
+reply_text reply = text_of (unwrap_or reply (refused OutOfMemory))

@@ -1,0 +1,11 @@
+-- An engine that answers one command after another.
+use Rattle.std.specs.Prelude.{ℕ, List, Option}
+use Rattle.mg_engine.specs.Commands.{Asked, Answer}
+use Rattle.mg_engine.specs.Run.{Answers}
+use Rattle.mg_engine.specs.Stands.{Shown, Stands}
+use Rattle.mg_engine.specs.World.{World}
+
+-- at each world that the first engine stands for, the command is answered so, and the second one stands for what it leaves
+abbrev pub Steps
+    : {P : Type 0} → (P → List ℕ → ℕ → ℕ) → P × Shown → Asked → Option Answer → P × Shown → Type 0
+Steps place old command answer new = (w : World) → Stands place old w → Answers w command answer (Stands place new)

@@ -1,0 +1,136 @@
+ghost use Rattle.std.specs.Prelude.{◌≡◌, ℕ, ◌<◌, ◌≤◌, List, [], ◌++◌, length, take, true, false, OnErr, is_ok, if◌then◌else◌};
+ghost use Rattle.std.specs.List.{flat_map};
+ghost use Rattle.std.specs.Io.KnownBytes.{Consumes, IsAtEnd, Keeps};
+
+use std::io::{Read, Write};
+
+/// The most bytes that are gathered for one write.
+const MAX_PAGE: usize = 65_536;
+
+/// A reader or a writer that remembers whether it failed: whether a call of it answered an error, or a write of some
+/// bytes took none of them.
+#[derive(Drop)]
+pub struct Device<T> {
+    inner: T,
+    failed: bool,
+}
+
+/// A call of the device failed.
+#[derive(Clone, Copy)]
+pub(crate) struct Fault;
+
+impl<T> Device<T> {
+    ghost use Rattle.mg_http.specs.Device.{inner_of, has_failed};
+
+    /// Wraps a reader or a writer, which has not failed yet.
+    pub fn new(inner: T) -> Device<T>
+        ensures inner { inner_of result ≡ inner }
+        ensures working { has_failed result ≡ false }
+    {
+        Device {
+            inner,
+            failed: false,
+        }
+    }
+
+    /// The reader or the writer.
+    pub fn into_inner(self) -> T
+        ensures { result ≡ inner_of self }
+    {
+        let Device { inner, failed: _ } = self;
+        inner
+    }
+
+    /// Whether a call of it has failed.
+    pub fn failed(&self) -> bool
+        ensures { result ≡ has_failed self.now }
+    {
+        self.failed
+    }
+}
+
+impl<R: Read> Device<R> {
+    ghost use Rattle.mg_http.specs.Device.{inner_of, has_failed};
+
+    /// Reads once, at most as many bytes as the piece has room for; none only at the end of the input.
+    ///
+    /// Errors: where the reader answers an error; then it gave no byte, and the device has failed.
+    pub(crate) fn fetch(&mut self, piece: &mut [u8]) -> Result<usize, Fault>
+        requires { 0 < length piece.old }
+        ensures within { (n : ℕ) → result ≡ Ok n → n ≤ length piece.new }
+        ensures bytes { (n : ℕ) → result ≡ Ok n
+            → Consumes (R.remaining (inner_of self.old)) (R.remaining (inner_of self.new)) (take n piece.new) }
+        ensures end { result ≡ Ok 0 → IsAtEnd (R.remaining (inner_of self.new)) }
+        ensures none { OnErr result (Keeps (R.remaining (inner_of self.old)) (R.remaining (inner_of self.new))) }
+        ensures failed { has_failed self.new ≡ (if is_ok result then has_failed self.old else true) }
+    {
+        match self.inner.read(piece) {
+            Ok(n) => Ok(n),
+            Err(_) => {
+                self.failed = true;
+                Err(Fault)
+            }
+        }
+    }
+}
+
+impl<W: Write> Device<W> {
+    ghost use Rattle.mg_http.specs.Device.{inner_of, has_failed, Writes, Gathers};
+
+    /// Writes the bytes.
+    ///
+    /// Errors: where the writer answers an error or takes nothing; then it took a front of the bytes, and the device
+    /// has failed.
+    pub(crate) fn put(&mut self, bytes: &[u8]) -> Result<(), Fault>
+        ensures bytes { Writes (W.contents (inner_of self.old)) (W.contents (inner_of self.new)) bytes.now result }
+        ensures failed { has_failed self.new ≡ (if is_ok result then has_failed self.old else true) }
+    {
+        let mut rest = bytes;
+        while !rest.is_empty() {
+            match self.inner.write(rest) {
+                Ok(n) if n > 0 => rest = &rest[n..],
+                _ => {
+                    self.failed = true;
+                    return Err(Fault);
+                }
+            }
+        }
+        Ok(())
+    }
+
+    /// Writes the pieces in order, with one write where the writer takes them so and the page has room for them.
+    ///
+    /// The page is room to gather them in; where it is refused memory, a piece is written by itself. Errors as `put`.
+    pub(crate) fn put_all(&mut self, page: &mut Vec<u8>, pieces: &[&[u8]]) -> Result<(), Fault>
+        ensures bytes { Writes (W.contents (inner_of self.old)) (W.contents (inner_of self.new))
+            (flat_map (λ piece. piece.now) pieces.now) result }
+        ensures failed { has_failed self.new ≡ (if is_ok result then has_failed self.old else true) }
+    {
+        page.clear();
+        for piece in pieces {
+            self.gather(page, piece)?;
+        }
+        self.put(page)
+    }
+
+    /// Puts the piece behind what the page holds, or writes both where the page has no room for it.
+    fn gather(&mut self, page: &mut Vec<u8>, piece: &[u8]) -> Result<(), Fault>
+        ensures bytes { Gathers (W.contents (inner_of self.old)) (W.contents (inner_of self.new))
+            page.old.items piece.now page.new.items result }
+        ensures failed { has_failed self.new ≡ (if is_ok result then has_failed self.old else true) }
+    {
+        if fits(page, piece) {
+            return Ok(());
+        }
+        self.put(page)?;
+        page.clear();
+        self.put(piece)
+    }
+}
+
+/// Puts the piece behind what the page holds, if the page has room for it.
+fn fits(page: &mut Vec<u8>, piece: &[u8]) -> bool
+    ensures { page.new.items ≡ (if result then page.old.items ++ piece.now else page.old.items) }
+{
+    piece.len() <= MAX_PAGE.saturating_sub(page.len()) && page.extend_from_slice(piece).is_ok()
+}

@@ -1,0 +1,15 @@
+//! HTTP sessions: requests come in from any reader, and their replies go out to any writer.
+#![tactic(auto)]
+
+pub mod device;
+mod fields;
+pub mod head;
+mod inbox;
+pub mod message;
+mod reply;
+pub mod service;
+pub mod sessions;
+
+pub use device::Device;
+pub use service::{Service, Solo};
+pub use sessions::{SessionEnd, session};

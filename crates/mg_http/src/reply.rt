@@ -1,0 +1,98 @@
+ghost use Rattle.std.specs.Prelude.{◌≡◌, true, is_ok, if◌then◌else◌};
+ghost use Rattle.mg_engine.specs.Commands.{refused};
+ghost use Rattle.mg_engine.specs.View.{said};
+ghost use Rattle.mg_http.specs.Device.{inner_of, has_failed, Writes};
+ghost use Rattle.mg_http.specs.Reply.{phrase_of, text_with, text_of, reply_text};
+
+use crate::device::{Device, Fault};
+use http::StatusCode;
+use itoa::Buffer;
+use mg_engine::{Refusal, Reply};
+use std::io::Write;
+
+/// The standard phrase of the status; empty where it has none.
+fn phrase(status: u16) -> &'static str
+    ensures { result.now ≡ phrase_of status }
+{
+    match StatusCode::from_u16(status) {
+        Ok(code) => code.canonical_reason().unwrap_or(""),
+        Err(_) => "",
+    }
+}
+
+/// Writes the parts of a reply's text, gathered in the page.
+fn write_parts<'a, W: Write>(
+    writer: &mut Device<W>,
+    page: &mut Vec<u8>,
+    code: &'a [u8],
+    phrase: &'a [u8],
+    length: &'a [u8],
+    body: &'a [u8],
+) -> Result<(), Fault>
+    ensures bytes { Writes (W.contents (inner_of writer.old)) (W.contents (inner_of writer.new))
+        (text_with code.now phrase.now length.now body.now) result }
+    ensures failed { has_failed writer.new ≡ (if is_ok result then has_failed writer.old else true) }
+{
+    writer.put_all(
+        page,
+        &[
+            b"HTTP/1.1 ",
+            code,
+            b" ",
+            phrase,
+            b"\r\nContent-Type: application/json\r\nContent-Length: ",
+            length,
+            b"\r\n\r\n",
+            body,
+        ],
+    )
+}
+
+/// Writes a status and a body as a reply's text, gathered in the page. Errors as those of the writer.
+fn write_text<W: Write>(
+    writer: &mut Device<W>,
+    page: &mut Vec<u8>,
+    status: u16,
+    body: &[u8],
+) -> Result<(), Fault>
+    ensures bytes { Writes (W.contents (inner_of writer.old)) (W.contents (inner_of writer.new))
+        (text_of (record { status = status; body = body.now })) result }
+    ensures failed { has_failed writer.new ≡ (if is_ok result then has_failed writer.old else true) }
+{
+    let mut code = Buffer::new();
+    let mut length = Buffer::new();
+    write_parts(
+        writer,
+        page,
+        code.format(status).as_bytes(),
+        phrase(status).as_bytes(),
+        length.format(body.len()).as_bytes(),
+        body,
+    )
+}
+
+/// Writes a reply of the service.
+pub(crate) fn write_reply<W: Write>(
+    writer: &mut Device<W>,
+    page: &mut Vec<u8>,
+    reply: &Reply,
+) -> Result<(), Fault>
+    ensures bytes { Writes (W.contents (inner_of writer.old)) (W.contents (inner_of writer.new))
+        (reply_text (said reply.now)) result }
+    ensures failed { has_failed writer.new ≡ (if is_ok result then has_failed writer.old else true) }
+{
+    write_text(writer, page, reply.status(), reply.body())
+}
+
+/// Writes a refusal as a reply. Takes no memory but for the page.
+pub(crate) fn write_refusal<W: Write>(
+    writer: &mut Device<W>,
+    page: &mut Vec<u8>,
+    refusal: Refusal,
+) -> Result<(), Fault>
+    ensures bytes { Writes (W.contents (inner_of writer.old)) (W.contents (inner_of writer.new))
+        (text_of (refused refusal)) result }
+    ensures failed { has_failed writer.new ≡ (if is_ok result then has_failed writer.old else true) }
+{
+    write_text(writer, page, refusal.status(), refusal.body().as_bytes())
+}

@@ -1,0 +1,38 @@
+ghost use Rattle.std.specs.Prelude.{◌≡◌, Option, IfNone};
+ghost use Rattle.mg_engine.specs.Commands.{Asked, Answer};
+ghost use Rattle.mg_engine.specs.View.{asked, said};
+ghost use Rattle.mg_http.specs.Solo.{Steps};
+
+use mg_engine::{Command, Engine, Reply};
+use mg_shard::Placement;
+use std::alloc::Global;
+use std::sync::Wait;
+use std::thread::Threads;
+
+/// Answers one command after another.
+pub trait Service {
+    // From the first state the command is answered so, or for want of memory not, and the second state is left.
+    ghost answers: { Self → Asked → Option Answer → Self → Type 0 };
+
+    /// Answers the command.
+    fn ask<H: Wait + Threads>(&mut self, rt: &H, alloc: Global, command: &Command) -> Reply
+        ensures { answers self.old (asked command.now) (said result) self.new };
+}
+
+/// An engine for one caller. It answers with one worker for now.
+#[derive(Drop)]
+pub struct Solo<P> {
+    pub engine: Engine<P>,
+    pub workers: usize,
+    ghost one_worker: { workers ≡ 1 },
+}
+
+impl<P: Placement + Drop> Service for Solo<P> {
+    // At each world that the engine stands for the answer is the engine's, or memory was refused and nothing changed.
+    ghost answers = { λ old command answer new.
+        Steps P.place old.engine command answer new.engine × IfNone answer (new.engine ≡ old.engine) };
+
+    fn ask<H: Wait + Threads>(&mut self, rt: &H, alloc: Global, command: &Command) -> Reply {
+        self.engine.step(rt, alloc, command, self.workers)
+    }
+}

@@ -1,0 +1,2 @@
+//! Index definitions.
+#![tactic(auto)]

@@ -1,0 +1,25 @@
+//! The law of the merge: it does not matter how documents are dealt to lists.
+ghost use Rattle.std.specs.Prelude.{◌≡◌, ℕ, List, take};
+ghost use Rattle.std.specs.List.Sorted.{IsPermutation};
+ghost use Rattle.mg_collate.specs.Row.{RowValue};
+ghost use Rattle.mg_collate.specs.Sorted.{sorted_rows};
+ghost use Rattle.mg_merge.specs.Merged.{joined, merged};
+ghost use Rattle.mg_merge.specs.Sharding.{Document, rows_of, lists_of};
+
+use mg_collate::Direction;
+
+/// However documents are dealt to shards, and whatever rows each of them has, the rows of the
+/// shards' lists, joined and sorted, are the rows of all documents, each as often; so
+/// a merge of the lists gives the first rows of all documents.
+pub fn any_sharding()
+    ensures joined_and_sorted { (direction : Direction) (rows : Document → List RowValue)
+        (documents : List Document) (shards : List (List Document))
+        → IsPermutation documents (joined shards)
+        → sorted_rows direction (joined (lists_of direction rows shards))
+        ≡ rows_of direction rows documents }
+    ensures first_rows { (direction : Direction) (rows : Document → List RowValue)
+        (documents : List Document) (shards : List (List Document)) (count : ℕ)
+        → IsPermutation documents (joined shards)
+        → merged direction count (lists_of direction rows shards)
+        ≡ take count (rows_of direction rows documents) }
+{}

@@ -1,0 +1,10 @@
+//! The ordered merge of rows, as CouchDB's coordinator merges what shards list: the first of all.
+#![tactic(auto)]
+
+pub mod laws;
+pub mod merging;
+pub mod order;
+mod rests;
+
+pub use merging::merge;
+pub use order::are_in_order;

@@ -1,0 +1,87 @@
+-- Paths and the parts of a value, after the field syntax of CouchDB's `_find`: a clause sees a `Path` as the list of
+-- its steps, and a step as its bytes.
+use Rattle.std.specs.Prelude.{ℕ, Bool, true, false, not, ◌&&◌, ◌||◌, ◌==◌, if◌then◌else◌, List, [], ◌∷◌, Option, Some, None, option_and_then, slice_get}
+use Rattle.std.specs.List.{list_any, fold}
+use Rattle.std.specs.Option.{option_map_or, unwrap_or}
+use Rattle.std.specs.Str.{all_ascii_digits}
+use Rattle.std.specs.Str.Parse.{digits_value}
+use Rattle.mg_value.specs.Value.{Value, null, flag, whole, text, list, object, Items, no_items, item, Members, no_members, member, put, get_member, item_list}
+
+-- the character is a dot
+abbrev pub is_dot : ℕ → Bool
+is_dot c = c == 46
+
+-- the character is a backslash
+abbrev pub is_backslash : ℕ → Bool
+is_backslash c = c == 92
+
+abbrev pub is_empty : List ℕ → Bool
+is_empty [] = true
+is_empty (c ∷ cs) = false
+
+abbrev pub starts_with_dot : List ℕ → Bool
+starts_with_dot [] = false
+starts_with_dot (c ∷ cs) = is_dot c
+
+-- the steps, with the character before those of the first
+abbrev pub before_first_step : ℕ → List (List ℕ) → List (List ℕ)
+before_first_step c [] = (c ∷ []) ∷ []
+before_first_step c (step ∷ steps) = (c ∷ step) ∷ steps
+
+-- one character, with the pieces that come after it. A dot that is not escaped cuts, a backslash right before a dot is
+-- dropped, and all else stands for itself.
+abbrev pub with_character : Bool → Bool → ℕ → List (List ℕ) → List (List ℕ)
+with_character escaped before_dot c pieces =
+    if is_dot c && not escaped then [] ∷ pieces else if is_backslash c && before_dot then pieces else before_first_step c pieces
+
+-- what stands between the dots of the rest of a text; `escaped` says whether a backslash stands right before that rest
+abbrev pub pieces_after : Bool → List ℕ → List (List ℕ)
+pieces_after escaped [] = [] ∷ []
+pieces_after escaped (c ∷ cs) = with_character escaped (starts_with_dot cs) c (pieces_after (is_backslash c) cs)
+
+-- what stands between the dots of a text, empty pieces too
+abbrev pub pieces_of : List ℕ → List (List ℕ)
+pieces_of t = pieces_after false t
+
+-- the steps of a text: its pieces, none of which may be empty
+abbrev pub steps_of : List ℕ → Option (List (List ℕ))
+steps_of t = if list_any is_empty (pieces_of t) then None else Some (pieces_of t)
+
+-- the step is `0`, or decimal digits without a leading zero
+abbrev pub is_place : List ℕ → Bool
+is_place [] = false
+is_place (c ∷ cs) = if c == 48 then is_empty cs else all_ascii_digits (c ∷ cs)
+
+-- the place in an array that a step names, from 0, however large the number
+abbrev pub place_of : List ℕ → Option ℕ
+place_of step = if is_place step then Some (digits_value 10 step) else None
+
+-- the part one step into a value: the member of that name, or the item at that place
+abbrev pub part_at : List ℕ → Value → Option Value
+part_at step (object ms) = get_member step ms
+part_at step (list vs) = option_and_then (λ n. slice_get (item_list vs) n) (place_of step)
+part_at step _ = None
+
+-- the part of a value that the steps lead to
+abbrev pub part_of : List (List ℕ) → Value → Option Value
+part_of [] v = Some v
+part_of (step ∷ steps) v = option_and_then (part_of steps) (part_at step v)
+
+-- the value with the part under the steps, as nested objects' names, in place of what stands there;
+-- a way through a value that is not an object adds nothing
+abbrev pub placed : List (List ℕ) → Value → Value → Value
+placed [] part v = part
+placed (step ∷ steps) part (object ms) = object (put step (placed steps part (unwrap_or (get_member step ms) (object no_members))) ms)
+placed (step ∷ steps) part v = v
+
+-- the members with the part under the name and the steps below it
+abbrev pub with_member : List ℕ → List (List ℕ) → Value → Members → Members
+with_member name steps part ms = put name (placed steps part (unwrap_or (get_member name ms) (object no_members))) ms
+
+-- what is projected so far, with the part at one more path, where it is there
+abbrev pub with_part : Value → Value → List (List ℕ) → Value
+with_part v projected steps = option_map_or (λ part. placed steps part projected) (part_of steps v) projected
+
+-- the parts of a value at the paths, in order, in an object that is empty at first
+abbrev pub projection_of : List (List (List ℕ)) → Value → Value
+projection_of paths v = fold (with_part v) (object no_members) paths

@@ -1,0 +1,11 @@
+//! Paths into JSON values, the part of a value at a path, and projections.
+#![tactic(auto)]
+
+mod error;
+mod part;
+mod path;
+mod projection;
+
+pub use error::PathError;
+pub use path::Path;
+pub use projection::project;

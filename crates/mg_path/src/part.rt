@@ -1,0 +1,39 @@
+ghost use Rattle.std.specs.Prelude.{◌≡◌, ◌≤◌, ◌^◌, ℕ, Some, option_map, MatchOption, slice_get};
+ghost use Rattle.std.specs.Option.{option_and_then};
+ghost use Rattle.mg_value.specs.Value.{item_list};
+ghost use Rattle.mg_value.specs.View.{view, items_view};
+ghost use Rattle.mg_path.specs.Part.{part_at as part_of_step, place_of as place_named};
+
+use mg_value::Json;
+
+/// The part of the value one step in.
+pub(crate) fn part_at<'a>(step: &str, value: &'a Json) -> Option<&'a Json>
+    ensures { option_map (λ part. view part.now) result ≡ part_of_step step.now (view value.now) }
+{
+    match value {
+        Json::Object(members) => members.get(step),
+        Json::List(items) => item_at(step, items),
+        _ => None,
+    }
+}
+
+fn item_at<'a>(step: &str, items: &'a [Json]) -> Option<&'a Json>
+    ensures { option_map (λ part. view part.now) result
+        ≡ option_and_then (λ n. slice_get (item_list (items_view items.now)) n)
+        (place_named step.now) }
+{
+    items.get(place_of(step)?)
+}
+
+/// The place that the step names; none too where no array is that long.
+fn place_of(step: &str) -> Option<usize>
+    ensures { MatchOption result
+        ((n : ℕ) → place_named step.now ≡ Some n → 2 ^ 64 ≤ n)
+        (λ n. place_named step.now ≡ Some n) }
+{
+    match step.as_bytes().first()? {
+        b'0' if step.len() == 1 => Some(0),
+        b'1'..=b'9' => step.parse().ok(),
+        _ => None,
+    }
+}

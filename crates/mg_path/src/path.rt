@@ -1,0 +1,108 @@
+ghost use Rattle.std.specs.Prelude.{◌≡◌, ℕ, List, map, string_bytes, Some, None, Err, IfOk, option_map};
+ghost use Rattle.std.specs.Coded.{coded_ℕ, coded_list};
+ghost use Rattle.mg_value.specs.View.{view as json_view};
+ghost use Rattle.mg_path.specs.Part.{steps_of, part_of};
+
+use crate::error::PathError;
+use crate::part::part_at;
+use mg_value::{Json, NoMemory};
+use std::alloc::Global;
+use std::marker::Model;
+
+/// A way into a JSON value: one or more steps, none of them empty.
+#[derive(Debug, Drop)]
+pub struct Path {
+    steps: Vec<String>,
+}
+
+impl Model for Path {
+    ghost Value = { List (List ℕ) };
+
+    ghost coded = { coded_list (coded_list coded_ℕ) };
+
+    ghost view = { λ path. map string_bytes path.steps.items };
+}
+
+impl PartialEq for Path {
+    ghost use Rattle.mg_path.specs.Equal.{path_eq, path_eq_laws};
+
+    ghost eq = { path_eq };
+
+    ghost laws = { path_eq_laws };
+
+    fn eq(&self, other: &Path) -> bool {
+        self.steps == other.steps
+    }
+}
+
+impl Eq for Path {
+    ghost use Rattle.mg_path.specs.Equal.{path_eq_equivalence};
+
+    ghost laws = { path_eq_equivalence };
+}
+
+impl Path {
+    /// Reads a text such as `a.b.0`: steps between dots. `\.` is a dot within a step; any other
+    /// backslash stands for itself.
+    ///
+    /// Errors: `Empty` where a step is empty, `NoMemory` where a growth is refused.
+    /// Cost: the length of the text. Source: the field syntax of CouchDB's `_find`.
+    pub fn parse(alloc: Global, text: &str) -> Result<Path, PathError>
+        ensures ok { IfOk result (λ path. steps_of text.now ≡ Some path) }
+        ensures empty { result ≡ Err PathError.Empty → steps_of text.now ≡ None }
+    {
+        let mut steps = Vec::new(alloc);
+        let mut step = String::new(alloc);
+        for letter in text.chars() {
+            if letter != '.' {
+                step.push(letter)?;
+            } else if step.ends_with('\\') {
+                step.pop();
+                step.push('.')?;
+            } else if step.is_empty() {
+                return Err(PathError::Empty);
+            } else {
+                steps.push(step)?;
+                step = String::new(alloc);
+            }
+        }
+        if step.is_empty() {
+            return Err(PathError::Empty);
+        }
+        steps.push(step)?;
+        Ok(Path { steps })
+    }
+
+    /// The steps, in order.
+    pub fn steps(&self) -> &[String]
+        ensures { map string_bytes result.now ≡ self.now }
+    {
+        &self.steps
+    }
+
+    /// The part of the value at this path: the member that a step names, in an array the item at
+    /// its place, from 0. None where it is missing. It is lent; no memory is taken.
+    ///
+    /// Cost: each step once, with a look-up in an object or an array.
+    pub fn get<'a>(&self, value: &'a Json) -> Option<&'a Json>
+        ensures { option_map (λ part. json_view part.now) result
+            ≡ part_of self.now (json_view value.now) }
+    {
+        let mut part = value;
+        for step in &self.steps {
+            part = part_at(step.as_str(), part)?;
+        }
+        Some(part)
+    }
+
+    /// An equal path.
+    pub fn copy(&self, alloc: Global) -> Result<Path, NoMemory>
+        ensures { IfOk result (λ path. path ≡ self.now) }
+    {
+        let mut steps = Vec::with_capacity(alloc, self.steps.len())?;
+        for step in &self.steps {
+            steps.push(step.clone()?)?;
+        }
+        Ok(Path { steps })
+    }
+}

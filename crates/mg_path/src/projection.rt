@@ -1,0 +1,67 @@
+ghost use Rattle.std.specs.Prelude.{◌≡◌, IfOk, map, string_bytes};
+ghost use Rattle.mg_value.specs.View.{view, members_view};
+ghost use Rattle.mg_path.specs.Part.{placed, with_member, projection_of};
+
+use crate::path::Path;
+use mg_value::{Json, NoMemory};
+use std::alloc::Global;
+use std::collections::BTreeMap;
+use std::mem;
+
+/// The parts of the value at the paths, in an object: each stands under its steps, as the names of
+/// nested objects, and a later path replaces what an earlier one put there. A path whose part is
+/// missing adds nothing, nor does one that leads through a value that is not an object.
+///
+/// Errors: `NoMemory` where a growth is refused.
+/// Cost: for each path its steps, and the size of its part. Source: `fields` of CouchDB's `_find`.
+pub fn project(alloc: Global, value: &Json, paths: &[Path]) -> Result<Json, NoMemory>
+    ensures { IfOk result (λ projected. view projected ≡ projection_of paths.now (view value.now)) }
+{
+    let mut projected = Json::Object(BTreeMap::new(alloc));
+    for path in paths {
+        if let Some(part) = path.get(value) {
+            let part = part.copy(alloc)?;
+            projected = place(alloc, projected, path.steps(), part)?;
+        }
+    }
+    Ok(projected)
+}
+
+/// The value with the part under the steps.
+#[cycle(place)]
+fn place(alloc: Global, value: Json, steps: &[String], part: Json) -> Result<Json, NoMemory>
+    ensures { IfOk result (λ filled. view filled
+        ≡ placed (map string_bytes steps.now) (view part) (view value)) }
+{
+    let Some((name, deeper)) = steps.split_first() else {
+        return Ok(part);
+    };
+    match value {
+        Json::Object(members) => {
+            Ok(Json::Object(place_member(alloc, members, name, deeper, part)?))
+        }
+        other => Ok(other),
+    }
+}
+
+#[cycle(place)]
+fn place_member(
+    alloc: Global,
+    mut members: BTreeMap<String, Json>,
+    name: &String,
+    deeper: &[String],
+    part: Json,
+) -> Result<BTreeMap<String, Json>, NoMemory>
+    ensures { IfOk result (λ filled. members_view filled.entries
+        ≡ with_member (string_bytes name.now) (map string_bytes deeper.now) (view part)
+        (members_view members.entries)) }
+{
+    if let Some(there) = members.get_mut(name.as_str()) {
+        let filled = place(alloc, mem::replace(there, Json::Null), deeper, part)?;
+        drop(mem::replace(there, filled));
+        return Ok(members);
+    }
+    let filled = place(alloc, Json::Object(BTreeMap::new(alloc)), deeper, part)?;
+    drop(members.insert(name.clone()?, filled)?);
+    Ok(members)
+}

@@ -1,0 +1,50 @@
+-- The page that answers a query, after CouchDB's `_find`: of the documents that the selector holds of, in the order of the
+-- index that serves them, the first of them, and the bookmark of the last.
+use Rattle.std.specs.Prelude.{ℕ, List, [], ◌∷◌, Bool, codes, Option, Some, None, filter, take, map, length, ◌-◌, slice_get}
+use Rattle.std.specs.Option.{option_map_or}
+use Rattle.mg_value.specs.Value.{Value, text, item, no_items}
+use Rattle.mg_collate.specs.declared.direction.Direction.TheVariants.{Asc}
+use Rattle.mg_selector.specs.Meaning.{holds_in}
+use Rattle.mg_selector.specs.declared.sense.Sense.TheVariants.{Plain}
+use Rattle.mg_bookmark.specs.Bookmark.{spelled}
+use Rattle.mg_query.specs.Query.{Query}
+
+-- a document's id and the form in which it is served
+abbrev pub Row : Type 0
+Row = List ℕ × Value
+
+-- how many documents a page has at most
+abbrev pub page_limit : ℕ
+page_limit = 25
+
+-- whether the query's selector holds of the document
+abbrev pub is_asked : Query → Row → Bool
+is_asked q r = holds_in q.selector Plain (Some r.1)
+
+-- the page's rows, of rows in the order of their ids
+abbrev pub page_rows : Query → List Row → List Row
+page_rows q rows = take page_limit (filter (is_asked q) rows)
+
+-- the bookmark of a document in `_all_docs`, where its key is its id
+abbrev pub bookmark_at : List ℕ → List ℕ
+bookmark_at id = spelled (record { ddoc = None; name = codes "_all_docs"; direction = Asc; key = item (text id) no_items; id = id })
+
+abbrev pub bookmark_of : Row → List ℕ
+bookmark_of r = bookmark_at r.0
+
+-- the bookmark of the last row, and `nil` where there is none
+abbrev pub bookmark_after : List Row → List ℕ
+bookmark_after rows = option_map_or bookmark_of (slice_get rows (length rows - 1)) (codes "nil")
+
+-- a page: its documents and its bookmark
+pub record Page : Type 0 where
+  pub docs : List Value
+  pub bookmark : List ℕ
+
+-- the page of these rows
+abbrev pub page_of : List Row → Page
+page_of rows = record { docs = map (λ r. r.1) rows; bookmark = bookmark_after rows }
+
+-- the answer to a query, over all served documents in the order of their ids
+abbrev pub answer_of : Query → List Row → Page
+answer_of q rows = page_of (page_rows q rows)

@@ -1,0 +1,22 @@
+-- The query that a `Query` stands for, and what a call that reads one returns.
+use Rattle.std.specs.Prelude.{◌≡◌, Result, Ok, Err}
+use Rattle.mg_selector.specs.View.{selector_of}
+use Rattle.mg_query.specs.Query.{Query}
+use Rattle.mg_query.specs.declared.error.QueryError.{QueryError}
+use Rattle.mg_query.specs.declared.error.QueryError.TheVariants.{Shape, InvalidOperator, BadArg, NoMemory}
+use Rattle.mg_query.specs.declared.query.Query as code
+
+abbrev pub query_seen : code.Query → Query
+query_seen q = record { selector = selector_of q.selector }
+
+-- the fault is the definition's, but for a want of memory
+abbrev pub Fails : QueryError → Result Query QueryError → Type 0
+Fails NoMemory r = Unit {0}
+Fails Shape r = r ≡ Err Shape
+Fails InvalidOperator r = r ≡ Err InvalidOperator
+Fails BadArg r = r ≡ Err BadArg
+
+-- the query that was read is the definition's
+abbrev pub Gives : Result code.Query QueryError → Result Query QueryError → Type 0
+Gives (Ok q) r = r ≡ Ok (query_seen q)
+Gives (Err e) r = Fails e r

@@ -1,0 +1,14 @@
+pub mod Positions
+pub mod Same
+pub mod Runs
+pub mod Find
+pub mod Links
+pub mod Leaves
+pub mod Ranks
+pub mod Winners
+pub mod Losers
+pub mod Step
+pub mod Extend
+pub mod Fits
+pub mod Best
+pub mod Replicas

@@ -1,0 +1,107 @@
+-- Leaves in their order.
+use Rattle.std.proofs.Common.{◌≡◌, ℕ, zero, suc, ◌+◌, ◌<◌, Bool, true, false, not, Option, Some, None, List, [], ◌∷◌, ◌++◌, take, drop, length, get_or, filter, inl, inr, refl, ap, sym, ◌∙◌, subst, arith}
+use Rattle.std.specs.declared.cmp.Ordering.{Ordering}
+use Rattle.std.specs.declared.cmp.Ordering.TheVariants.{Less, Equal, Greater}
+use Rattle.std.specs.Ordering.{is_lt, is_eq, bool_cmp, ordering_reverse, ordering_then}
+use Rattle.std.specs.Cmp.{IsTotalOrder, then_total, bool_cmp_total}
+use Rattle.std.proofs.lemmas.Cmp.{on_total}
+use Rattle.mg_value.specs.Value.{Value}
+use Rattle.mg_revtree.specs.Revision.{same_revision, revision_order}
+use Rattle.mg_revtree.specs.History.{Leaf, leaf_order}
+use Rattle.mg_revtree.specs.Tree.{leaf_in, BeforeAll, AreRanked}
+use Rattle.mg_revtree.specs.Steps.{ranked}
+use Rattle.mg_revtree.proofs.Same.{two, same_is, revision_total}
+
+pub leaf_total : IsTotalOrder leaf_order
+leaf_total = then_total (on_total (λ (l : Leaf). not l.deleted) bool_cmp_total) (on_total (λ (l : Leaf). l.rev) revision_total)
+
+is_lt_is : (o : Ordering) → is_lt o ≡ true → o ≡ Less
+is_lt_is Less h = refl
+is_lt_is Equal h = cc
+is_lt_is Greater h = cc
+
+then_eq : (o p : Ordering) → ordering_then o p ≡ Equal → p ≡ Equal
+then_eq Less p h = cc
+then_eq Equal p h = h
+then_eq Greater p h = cc
+
+pub tied_same : (l m : Leaf) → leaf_order l m ≡ Equal → same_revision l.rev m.rev ≡ true
+tied_same l m h = ap is_eq (then_eq (bool_cmp (not l.deleted) (not m.deleted)) (revision_order l.rev m.rev) h)
+
+-- leaves of other revisions that are not less are greater
+other : (l m : Leaf) → same_revision l.rev m.rev ≡ false → (o : Ordering) → leaf_order m l ≡ o → is_lt o ≡ false → leaf_order l m ≡ Less
+other l m f Less e h = cc
+other l m f Equal e h = absurd (let t : leaf_order l m ≡ Equal = leaf_total.antisymm l m ∙ ap ordering_reverse e in let g : true ≡ false = sym (tied_same l m t) ∙ f in cc)
+other l m f Greater e h = leaf_total.antisymm l m ∙ ap ordering_reverse e
+
+before_all_less : (l m : Leaf) (ls : List Leaf) → leaf_order m l ≡ Less → BeforeAll m ls → BeforeAll l ls
+before_all_less l m [] lt h = tt
+before_all_less l m (x ∷ ls) lt h = (leaf_total.trans x m l h.0 lt, before_all_less l m ls lt h.1)
+
+before_all-ranked : (m l : Leaf) (ls : List Leaf) → leaf_order l m ≡ Less → BeforeAll m ls → BeforeAll m (ranked l ls)
+before_all-ranked m l [] lt h = (lt, tt)
+before_all-ranked m l (x ∷ ls) lt h = elim (two (is_lt (leaf_order x l))) [
+  | inl b ↦ rw b (lt, (h.0, h.1))
+  | inr b ↦ rw b (h.0, before_all-ranked m l ls lt h.1)
+]
+
+pub are_ranked-ranked : (l : Leaf) (ls : List Leaf) → AreRanked ls → leaf_in l.rev ls ≡ None → AreRanked (ranked l ls)
+are_ranked-ranked l [] h none = (tt, tt)
+are_ranked-ranked l (m ∷ ls) h none =
+    let p : same_revision l.rev m.rev ≡ false = grind arith in
+    let n : leaf_in l.rev ls ≡ None = rw p at none in
+    elim (two (is_lt (leaf_order m l))) [
+      | inl b ↦ let lt : leaf_order m l ≡ Less = is_lt_is (leaf_order m l) b in rw b ((lt, before_all_less l m ls lt h.0), (h.0, h.1))
+      | inr b ↦ rw b (before_all-ranked m l ls (other l m p (leaf_order m l) refl b) h.0, are_ranked-ranked l ls h.1 n)
+    ]
+
+before_all-filter : (p : Leaf → Bool) (m : Leaf) (ls : List Leaf) → BeforeAll m ls → BeforeAll m (filter p ls)
+before_all-filter p m [] h = tt
+before_all-filter p m (x ∷ ls) h = elim (two (p x)) [
+  | inl b ↦ rw b (h.0, before_all-filter p m ls h.1)
+  | inr b ↦ rw b (before_all-filter p m ls h.1)
+]
+
+pub are_ranked-filter : (p : Leaf → Bool) (ls : List Leaf) → AreRanked ls → AreRanked (filter p ls)
+are_ranked-filter p [] h = tt
+are_ranked-filter p (x ∷ ls) h = elim (two (p x)) [
+  | inl b ↦ rw b (before_all-filter p x ls h.0, are_ranked-filter p ls h.1)
+  | inr b ↦ rw b (are_ranked-filter p ls h.1)
+]
+
+-- ---- the place of a leaf
+
+pub ranked_here : (l : Leaf) (ls : List Leaf) (i : ℕ) (x : Leaf) → i < length ls → x ≡ get_or ls i x → is_lt (leaf_order x l) ≡ true → ranked l (drop i ls) ≡ l ∷ drop i ls
+ranked_here l [] i x lt is b = absurd (omega arith)
+ranked_here l (y ∷ ls) zero x lt is b = let c : is_lt (leaf_order y l) ≡ true = subst (λ (z : Leaf). is_lt (leaf_order z l) ≡ true) is b in rw c refl
+ranked_here l (y ∷ ls) (suc i) x lt is b = ranked_here l ls i x (omega arith) is b
+
+pub ranked_step : (l : Leaf) (ls : List Leaf) (i : ℕ) (x : Leaf) → i < length ls → x ≡ get_or ls i x → is_lt (leaf_order x l) ≡ false → take i ls ++ ranked l (drop i ls) ≡ take (i + 1) ls ++ ranked l (drop (i + 1) ls)
+ranked_step l [] i x lt is b = absurd (omega arith)
+ranked_step l (y ∷ ls) zero x lt is b = let c : is_lt (leaf_order y l) ≡ false = subst (λ (z : Leaf). is_lt (leaf_order z l) ≡ false) is b in rw c refl
+ranked_step l (y ∷ ls) (suc i) x lt is b = let n : suc i + 1 ≡ suc (i + 1) = omega arith in rw n (ap (λ zs. y ∷ zs) (ranked_step l ls i x (omega arith) is b))
+
+-- ---- a leaf in a list
+
+mark_part : Option (Bool × Value) → Bool
+mark_part None = false
+mark_part (Some p) = p.0
+
+pub unpair : (a c : Bool) (b d : Value) → ◌≡◌ {A = Option (Bool × Value)} (Some (a, b)) (Some (c, d)) → a ≡ c
+unfolding mark_part
+unpair a c b d h = ap mark_part h
+
+-- a leaf in a list is less than what is before the list
+pub in_less : (l m : Leaf) (ls : List Leaf) → BeforeAll l ls → leaf_in m.rev ls ≡ Some (m.deleted, m.body) → leaf_order m l ≡ Less
+in_less l m [] h e = cc
+in_less l m (x ∷ ls) h e = elim (two (same_revision m.rev x.rev)) [
+  | inl t ↦
+      let f : ◌≡◌ {A = Option (Bool × Value)} (Some (x.deleted, x.body)) (Some (m.deleted, m.body)) = rw t at e in
+      let d : m.deleted ≡ x.deleted = sym (unpair x.deleted m.deleted x.body m.body f) in
+      let r : m.rev ≡ x.rev = same_is m.rev x.rev t in
+      rw (d, r) (h.0)
+  | inr g ↦ let f : leaf_in m.rev ls ≡ Some (m.deleted, m.body) = rw g at e in in_less l m ls h.1 f
+]
+
+pub irreflexive : (x : Leaf) → leaf_order x x ≡ Less → ⊥
+irreflexive x a = let b : leaf_order x x ≡ Greater = leaf_total.antisymm x x ∙ ap ordering_reverse a in cc

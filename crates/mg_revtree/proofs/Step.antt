@@ -1,0 +1,154 @@
+-- What a tree stands for after one more path.
+use Rattle.std.proofs.Common.{◌≡◌, ℕ, Bool, true, false, not, ◌||◌, if◌then◌else◌, Option, Some, None, is_some, Result, Ok, Err, is_ok, IfOk, IfErr, zero, suc, ◌<◌, ◌≤◌, length, get_or, List, [], ◌∷◌, ◌++◌, append-nil, filter, inl, inr, refl, ap, sym, ◌∙◌, subst, arith}
+use Rattle.mg_value.specs.Value.{Value}
+use Rattle.mg_revtree.specs.Revision.{Revision, same_revision}
+use Rattle.mg_revtree.specs.History.{Link, Leaf, Path, History, is_known, has_child, is_at, newest_of, links, all_links, marked, leaf_at, or_else}
+use Rattle.mg_revtree.specs.Tree.{StandsFor, AreNodes, AreSorted, node, find, leaf_in}
+use Rattle.mg_revtree.specs.Changes.{path_of, with_path, knows, found_of}
+use Rattle.mg_revtree.specs.declared.error.Merged.TheVariants.{New, Known}
+use Rattle.mg_revtree.specs.Steps.{ranked, IsPlace, IsGap, IsRun}
+use Rattle.mg_revtree.proofs.Same.{two, same_is}
+use Rattle.mg_revtree.proofs.Find.{gap_none}
+use Rattle.mg_revtree.proofs.Links.{has_child-append, all_links-append}
+use Rattle.mg_revtree.proofs.Ranks.{are_ranked-filter, are_ranked-ranked}
+use Rattle.mg_revtree.proofs.Leaves.{apart-filter, apart-ranked, leaf_in-filter, leaf_in-ranked, child_known, unknown_unmarked, leaf_marked}
+
+-- what the newest path says, if no other does
+abbrev pub mark_of : Revision → Path → Option (Bool × Value)
+mark_of r p = if is_at r (newest_of p.revs) then Some (p.deleted, p.body) else None
+
+marked-append : (r : Revision) (h : History) (p : Path) → marked r (h ++ p ∷ []) ≡ or_else (marked r h) (mark_of r p)
+marked-append r [] p = refl
+marked-append r (q ∷ h) p = elim (two (is_at r (newest_of q.revs))) [ inl t ↦ rw t refl | inr f ↦ rw f (marked-append r h p) ]
+
+pub all_links-one : (h : History) (p : Path) → all_links (h ++ p ∷ []) ≡ all_links h ++ links p.revs
+all_links-one h p = all_links-append h (p ∷ []) ∙ ap (λ ls. all_links h ++ ls) (append-nil (links p.revs))
+
+pub leaf_at-append : (r : Revision) (h : History) (p : Path) → leaf_at r (h ++ p ∷ []) ≡ (if has_child r (all_links h) || has_child r (links p.revs) then None else or_else (marked r h) (mark_of r p))
+leaf_at-append r h p = rw (all_links-one h p, has_child-append r (all_links h) (links p.revs), marked-append r h p) refl
+
+or_else_some : {A : Type 0} (a b : Option A) → is_some a ≡ true → a ≡ or_else a b
+or_else_some None b h = cc
+or_else_some (Some x) b h = refl
+
+or_else_none : {A : Type 0} (a : Option A) → a ≡ or_else a None
+or_else_none None = refl
+or_else_none (Some x) = refl
+
+is_at_is : (r q : Revision) (o : Option Revision) → o ≡ Some q → is_at r o ≡ true → r ≡ q
+is_at_is r q None e h = cc
+is_at_is r q (Some s) e h = let f : s ≡ q = cc in same_is r s h ∙ f
+
+module _ (h : History) (p : Path) (q : Revision) (newest : newest_of p.revs ≡ Some q) (ls : List Leaf) (leaves : (r : Revision) → leaf_in r ls ≡ leaf_at r h) where
+  kept : List Leaf
+  kept = filter (λ l. not (has_child l.rev (links p.revs))) ls
+
+  kept_leaf : (r : Revision) → leaf_in r (filter (λ l. not (has_child l.rev (links p.revs))) ls) ≡ (if has_child r (links p.revs) then None else leaf_at r h)
+  kept_leaf r = leaf_in-filter r (links p.revs) ls ∙ ap (λ o. if has_child r (links p.revs) then None else o) (leaves r)
+
+  -- the newest was known
+  pub leaves-known : is_known q (all_links h) ≡ true → (r : Revision) → leaf_in r (filter (λ l. not (has_child l.rev (links p.revs))) ls) ≡ leaf_at r (h ++ p ∷ [])
+  leaves-known k r = rw (kept_leaf r, leaf_at-append r h p) (elim (two (has_child r (links p.revs))) [
+    | inl t ↦ elim (two (has_child r (all_links h))) [ inl u ↦ rw (t, u) refl | inr u ↦ rw (t, u) refl ]
+    | inr f ↦ elim (two (has_child r (all_links h))) [
+      | inl u ↦ rw (f, u) refl
+      | inr u ↦ rw (f, u) (elim (two (is_at r (newest_of p.revs))) [
+        | inl n ↦
+            let e : q ≡ r = sym (is_at_is r q (newest_of p.revs) newest n) in
+            or_else_some (marked r h) (mark_of r p) (leaf_marked r h (subst (λ (x : Revision). is_known x (all_links h) ≡ true) e k) u)
+        | inr n ↦ rw n (or_else_none (marked r h))
+      ])
+    ]
+  ])
+
+  -- the newest was unknown: no leaf, and then one
+  pub unknown_no_leaf : is_known q (all_links h) ≡ false → leaf_in q (filter (λ l. not (has_child l.rev (links p.revs))) ls) ≡ None
+  unknown_no_leaf k = rw (kept_leaf q, unknown_unmarked q h k) (elim (two (has_child q (links p.revs))) [
+    | inl t ↦ rw t refl
+    | inr f ↦ rw f (elim (two (has_child q (all_links h))) [ inl u ↦ rw u refl | inr u ↦ rw u refl ])
+  ])
+
+  pub leaves-new : IsRun p.revs → is_known q (all_links h) ≡ false → (r : Revision) → (if same_revision r q then Some (p.deleted, p.body) else leaf_in r (filter (λ l. not (has_child l.rev (links p.revs))) ls)) ≡ leaf_at r (h ++ p ∷ [])
+  leaves-new run k r = rw (kept_leaf r, leaf_at-append r h p) (elim (two (same_revision r q)) [
+    | inl t ↦
+        let e : q ≡ r = sym (same_is r q t) in
+        let n : is_at r (newest_of p.revs) ≡ true = rw newest t in
+        let v : is_known r (all_links h) ≡ false = subst (λ (x : Revision). is_known x (all_links h) ≡ false) e k in
+        let c : has_child r (all_links h) ≡ false = elim (two (has_child r (all_links h))) [
+          | inl u ↦ absurd (let g : true ≡ false = sym (child_known r h u) ∙ v in cc)
+          | inr u ↦ u
+        ] in
+        rw (t, c, run r n, unknown_unmarked r h v, n) refl
+    | inr f ↦
+        let n : is_at r (newest_of p.revs) ≡ false = rw newest f in
+        elim (two (has_child r (links p.revs))) [
+          | inl t ↦ elim (two (has_child r (all_links h))) [ inl u ↦ rw (f, t, u) refl | inr u ↦ rw (f, t, u) refl ]
+          | inr g ↦ elim (two (has_child r (all_links h))) [
+            | inl u ↦ rw (f, g, u) refl
+            | inr u ↦ rw (f, g, u, n) (or_else_none (marked r h))
+          ]
+        ]
+  ])
+
+-- ---- a merge
+
+pub found_known : (q : Revision) (ls ks : List Link) → find q ks ≡ node q ls → is_some (find q ks) ≡ is_known q ls
+found_known q ls ks e = rw e (elim (two (is_known q ls)) [ inl t ↦ rw t refl | inr f ↦ rw f refl ])
+
+place_some : (r : Revision) (ls : List Link) (i : ℕ) → IsPlace r ls i → is_some (find r ls) ≡ true
+place_some r [] i place = absurd place
+place_some r (y ∷ ls) zero place = rw place refl
+place_some r (y ∷ ls) (suc i) place = rw (place.0) (place_some r ls i place.1)
+
+-- a search says whether the revision is found
+pub place_ok : (r : Revision) (ls : List Link) (o : Result ℕ ℕ) → AreSorted ls → IfOk o (λ i. (i < length ls) × (AreSorted ls → IsPlace r ls i)) → IfErr o (λ i. (i ≤ length ls) × (AreSorted ls → IsGap r ls i)) → is_ok o ≡ is_some (find r ls)
+place_ok r ls (Ok i) s found absent = sym (place_some r ls i (found.1 s))
+place_ok r ls (Err i) s found absent = rw (gap_none r ls i (absent.1 s)) refl
+
+-- the first link is that of the newest
+pub head_links : (rs : List Revision) (ms : List Link) (x : Link) → ms ≡ links rs → 0 < length ms → x ≡ get_or ms 0 x → newest_of rs ≡ Some x.rev
+head_links [] ms x e lt is = absurd (let n : length ms ≡ 0 = ap length e in omega arith)
+head_links (q ∷ qs) ms x e lt is = let f = rw e at is in ap Some (sym (ap (λ (z : Link). z.rev) f))
+
+module _ (h : History) (rs : List Revision) (d : Bool) (b : Value) (q : Revision) (kept ms : List Link) (leaves : List Leaf) (is : ms ≡ links rs) (newest : newest_of rs ≡ Some q) (stands : StandsFor (record { links = kept; leaves = leaves }) h) (nodes : List Link) (joined : AreNodes kept (all_links h) → AreNodes nodes (all_links h ++ ms)) (left : List Leaf) (unleafed : left ≡ filter (λ l. not (has_child l.rev ms)) leaves) where
+  nodes_next : AreNodes nodes (all_links (h ++ path_of rs d b ∷ []))
+  nodes_next = subst (λ (ls : List Link). AreNodes nodes ls) (ap (λ ls. all_links h ++ ls) is ∙ sym (all_links-one h (path_of rs d b))) (joined stands.nodes)
+
+  left_is : left ≡ filter (λ l. not (has_child l.rev (links rs))) leaves
+  left_is = subst (λ (k : List Link). left ≡ filter (λ l. not (has_child l.rev k)) leaves) is unleafed
+
+  pub stands_known : is_some (find q kept) ≡ true → StandsFor (record { links = nodes; leaves = left }) (with_path h (path_of rs d b))
+  stands_known k = record {
+    nodes = nodes_next;
+    leaves = record {
+      same = λ r. rw left_is (leaves-known h (path_of rs d b) q newest leaves stands.leaves.same (sym (found_known q (all_links h) kept (stands.nodes.same q)) ∙ k) r);
+      apart = rw unleafed (apart-filter (λ l. not (has_child l.rev ms)) leaves stands.leaves.apart);
+      ranked = rw unleafed (are_ranked-filter (λ l. not (has_child l.rev ms)) leaves stands.leaves.ranked);
+    };
+  }
+
+  pub stands_new : is_some (find q kept) ≡ false → IsRun rs → (more : List Leaf) → more ≡ ranked (record { rev = q; deleted = d; body = b }) left → StandsFor (record { links = nodes; leaves = more }) (with_path h (path_of rs d b))
+  stands_new k run more is_more =
+      let l : Leaf = record { rev = q; deleted = d; body = b } in
+      let u : is_known q (all_links h) ≡ false = sym (found_known q (all_links h) kept (stands.nodes.same q)) ∙ k in
+      let none : leaf_in q left ≡ None = rw left_is (unknown_no_leaf h (path_of rs d b) q newest leaves stands.leaves.same u) in
+      record {
+        nodes = nodes_next;
+        leaves = record {
+          same = λ r. rw is_more (leaf_in-ranked l left none r ∙ rw left_is (leaves-new h (path_of rs d b) q newest leaves stands.leaves.same run u r));
+          apart = rw is_more (apart-ranked l left (rw unleafed (apart-filter (λ x. not (has_child x.rev ms)) leaves stands.leaves.apart)) none);
+          ranked = rw is_more (are_ranked-ranked l left (rw unleafed (are_ranked-filter (λ x. not (has_child x.rev ms)) leaves stands.leaves.ranked)) none);
+        };
+      }
+
+-- ---- what a merge finds
+
+module _ (h : History) (rs : List Revision) (q : Revision) (kept : List Link) (leaves : List Leaf) (newest : newest_of rs ≡ Some q) (stands : StandsFor (record { links = kept; leaves = leaves }) h) where
+  newest_known : knows h (newest_of rs) ≡ is_some (find q kept)
+  newest_known = ap (knows h) newest ∙ sym (found_known q (all_links h) kept (stands.nodes.same q))
+
+  pub found_is_known : is_some (find q kept) ≡ true → Known ≡ found_of h rs
+  found_is_known k = let e : knows h (newest_of rs) ≡ true = newest_known ∙ k in rw e refl
+
+  pub found_is_new : is_some (find q kept) ≡ false → New ≡ found_of h rs
+  found_is_new k = let e : knows h (newest_of rs) ≡ false = newest_known ∙ k in rw e refl

@@ -1,0 +1,65 @@
+-- How a history grows, after the replication and conflict model of CouchDB: by a path of a replica, or by a new revision.
+use Rattle.std.specs.Prelude.{◌==◌, ℕ, ◌+◌, List, [], ◌∷◌, ◌++◌, Bool, false, not, is_none, is_some, if◌then◌else◌, Option, Some, None}
+use Rattle.mg_value.specs.Value.{Value}
+use Rattle.mg_revtree.specs.Revision.{Revision}
+use Rattle.mg_revtree.specs.History.{Path, History, all_links, is_known, leaf_at, newest_of, winner_of}
+use Rattle.mg_revtree.specs.declared.error.Merged.{Merged}
+use Rattle.mg_revtree.specs.declared.error.Merged.TheVariants.{New, Known as Known_already}
+use Rattle.mg_revtree.specs.declared.error.TreeError.{TreeError}
+use Rattle.mg_revtree.specs.declared.error.TreeError.TheVariants.{NotLeaf, Full, Known, NoMemory}
+
+abbrev pub path_of : List Revision → Bool → Value → Path
+path_of rs d b = record { revs = rs; deleted = d; body = b }
+
+-- a history with one more path
+abbrev pub with_path : History → Path → History
+with_path h p = h ++ p ∷ []
+
+-- ---- a path of a replica
+
+-- whether the newest revision of a run is known
+abbrev pub knows : History → Option Revision → Bool
+knows h None = false
+knows h (Some r) = is_known r (all_links h)
+
+-- what a merge finds of the newest revision
+abbrev pub found_of : History → List Revision → Merged
+found_of h rs = if knows h (newest_of rs) then Known_already else New
+
+-- ---- a new revision
+
+-- where a new revision may be made: over a leaf, or with no parent where there is no leaf
+abbrev pub may_extend : History → Option Revision → Bool
+may_extend h None = is_none (winner_of h)
+may_extend h (Some r) = is_some (leaf_at r h)
+
+-- the position below a new revision
+abbrev pub position_below : Option Revision → ℕ
+position_below None = 0
+position_below (Some r) = r.0
+
+abbrev pub next_revision : Option Revision → List ℕ → Revision
+next_revision base id = (position_below base + 1, id)
+
+-- a new revision, followed by the leaf that it extends
+abbrev pub run_over : Revision → Option Revision → List Revision
+run_over r None = r ∷ []
+run_over r (Some q) = r ∷ q ∷ []
+
+-- the path of a new revision over a leaf
+abbrev pub extension : Option Revision → List ℕ → Bool → Value → Path
+extension base id d b = path_of (run_over (next_revision base id) base) d b
+
+-- why a new revision is not made, in the order in which that is asked
+abbrev pub refusal_of : History → Option Revision → List ℕ → Option TreeError
+refusal_of h base id =
+    if not (may_extend h base) then Some NotLeaf
+    else (if position_below base == 4294967295 then Some Full
+    else (if is_known (next_revision base id) (all_links h) then Some Known else None))
+
+-- the refusal that an error names: want of memory is none
+abbrev pub named : TreeError → Option TreeError
+named NotLeaf = Some NotLeaf
+named Full = Some Full
+named Known = Some Known
+named NoMemory = None

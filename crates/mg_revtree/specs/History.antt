@@ -1,0 +1,126 @@
+-- Revision histories, after the replication and conflict model of CouchDB: the paths that a document accepted, in order.
+use Rattle.std.specs.Prelude.{◌≡◌, List, [], ◌∷◌, ◌++◌, Bool, true, false, not, ◌||◌, if◌then◌else◌, Option, Some, None, option_and_then, option_map}
+use Rattle.std.specs.List.{filter_map}
+use Rattle.std.specs.Ordering.{on, then_cmp, bool_cmp, is_lt}
+use Rattle.std.specs.declared.cmp.Ordering.{Ordering}
+use Rattle.mg_value.specs.Value.{Value}
+use Rattle.mg_revtree.specs.Revision.{Revision, revision_order, same_revision}
+
+-- an accepted path: revisions, newest first, with the mark and the body of the newest
+pub record Path : Type 0 where
+  pub revs : List Revision
+  pub deleted : Bool
+  pub body : Value
+
+-- the accepted paths, oldest first
+abbrev pub History : Type 0
+History = List Path
+
+-- ---- known revisions and their parents
+
+-- a revision with the one after it in a path
+pub record Link : Type 0 where
+  pub rev : Revision
+  pub parent : Option Revision
+
+-- the newest revision of a run
+abbrev pub newest_of : List Revision → Option Revision
+newest_of [] = None
+newest_of (r ∷ rs) = Some r
+
+-- each revision of a run with the one after it
+abbrev pub links : List Revision → List Link
+links [] = []
+links (r ∷ rs) = record { rev = r; parent = newest_of rs } ∷ links rs
+
+-- those of all paths
+abbrev pub all_links : History → List Link
+all_links [] = []
+all_links (p ∷ h) = links p.revs ++ all_links h
+
+-- whether a revision stands in some path
+abbrev pub is_known : Revision → List Link → Bool
+is_known r [] = false
+is_known r (l ∷ ls) = same_revision r l.rev || is_known r ls
+
+abbrev pub or_else : {A : Type 0} → Option A → Option A → Option A
+or_else None b = b
+or_else (Some a) b = Some a
+
+-- the revision after it in some path
+abbrev pub parent_of : Revision → List Link → Option Revision
+parent_of r [] = None
+parent_of r (l ∷ ls) = if same_revision r l.rev then or_else l.parent (parent_of r ls) else parent_of r ls
+
+-- whether a place that may be empty has this revision
+abbrev pub is_at : Revision → Option Revision → Bool
+is_at r None = false
+is_at r (Some q) = same_revision r q
+
+-- whether a revision is the parent of another
+abbrev pub has_child : Revision → List Link → Bool
+has_child r [] = false
+has_child r (l ∷ ls) = is_at r l.parent || has_child r ls
+
+-- ---- leaves and the winner
+
+-- a leaf with its mark and body
+pub record Leaf : Type 0 where
+  pub rev : Revision
+  pub deleted : Bool
+  pub body : Value
+
+-- the mark and body of the first path of which r is the newest
+abbrev pub marked : Revision → History → Option (Bool × Value)
+marked r [] = None
+marked r (p ∷ h) = if is_at r (newest_of p.revs) then Some (p.deleted, p.body) else marked r h
+
+-- the mark and body of a leaf: a known revision that is nobody's parent
+abbrev pub leaf_at : Revision → History → Option (Bool × Value)
+leaf_at r h = if has_child r (all_links h) then None else marked r h
+
+abbrev pub leaf_of : History → Revision → Option Leaf
+leaf_of h r = option_map (λ m. record { rev = r; deleted = m.0; body = m.1 }) (leaf_at r h)
+
+abbrev pub IsLeaf : History → Leaf → Type 0
+IsLeaf h l = leaf_at l.rev h ≡ Some (l.deleted, l.body)
+
+-- the better is the greater: not deleted, then the higher position, then the greater id
+abbrev pub leaf_order : Leaf → Leaf → Ordering
+leaf_order = then_cmp (on (λ l. not l.deleted) bool_cmp) (on (λ l. l.rev) revision_order)
+
+abbrev pub better_of : Leaf → Leaf → Leaf
+better_of l m = if is_lt (leaf_order l m) then m else l
+
+abbrev pub best_from : Leaf → List Leaf → Leaf
+best_from l [] = l
+best_from l (m ∷ ms) = best_from (better_of l m) ms
+
+-- the best of some leaves
+abbrev pub best_of : List Leaf → Option Leaf
+best_of [] = None
+best_of (l ∷ ls) = Some (best_from l ls)
+
+-- the leaf that a path ends in, if its newest revision is one
+abbrev pub tip_of : History → Path → Option Leaf
+tip_of h p = option_and_then (leaf_of h) (newest_of p.revs)
+
+-- the winner is the best leaf
+abbrev pub winner_of : History → Option Leaf
+winner_of h = best_of (filter_map (tip_of h) h)
+
+-- ---- when a path is accepted
+
+-- whether a parent that is known and one that is given are not two different ones
+abbrev pub agrees : Option Revision → Option Revision → Bool
+agrees None q = true
+agrees (Some p) None = true
+agrees (Some p) (Some q) = same_revision p q
+
+abbrev pub fit : List Link → List Link → Bool
+fit known [] = true
+fit known (l ∷ ls) = if agrees (parent_of l.rev known) l.parent then fit known ls else false
+
+-- whether a path gives no known revision a parent other than its known one
+abbrev pub fits : History → Path → Bool
+fits h p = fit (all_links h) (links p.revs)

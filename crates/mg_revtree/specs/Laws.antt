@@ -1,0 +1,79 @@
+-- What holds of histories, as replicas meet them: CouchDB's replication and conflict model in the subject's own words.
+use Rattle.std.specs.Prelude.{◌≡◌, List, [], ◌∷◌, ◌++◌, ◌⊎◌, true, false, Some}
+use Rattle.mg_revtree.specs.Revision.{Revision}
+use Rattle.mg_revtree.specs.History.{Path, History, Link, Leaf, newest_of, is_at, links, all_links, is_known, parent_of, leaf_at, leaf_order, winner_of, fits, IsLeaf}
+use Rattle.mg_revtree.specs.Changes.{with_path}
+use Rattle.std.specs.declared.cmp.Ordering.TheVariants.{Less}
+
+-- ---- replicas agree
+
+abbrev pub Among : Path → History → Type 0
+Among p [] = ⊥
+Among p (q ∷ h) = (p ≡ q) ⊎ Among p h
+
+-- each path of one is a path of the other, in any order and any number of times
+pub record SamePaths (h g : History) : Type 0 where
+  pub there : (p : Path) → Among p h → Among p g
+  pub back : (p : Path) → Among p g → Among p h
+
+-- paths with the same newest revision have the same mark and body
+abbrev pub SameMarks : History → Type 0
+SameMarks h = (r : Revision) (p q : Path) → Among p h → Among q h → is_at r (newest_of p.revs) ≡ true → is_at r (newest_of q.revs) ≡ true → (p.deleted ≡ q.deleted) × (p.body ≡ q.body)
+
+abbrev pub AmongLinks : Link → List Link → Type 0
+AmongLinks l [] = ⊥
+AmongLinks l (m ∷ ls) = (l ≡ m) ⊎ AmongLinks l ls
+
+-- no revision is given two parents
+abbrev pub OneParent : List Link → Type 0
+OneParent ls = (l m : Link) (a b : Revision) → AmongLinks l ls → AmongLinks m ls → l.rev ≡ m.rev → l.parent ≡ Some a → m.parent ≡ Some b → a ≡ b
+
+-- the same revisions are known, with the same parents, and the leaves and the winner are the same
+pub record Agree (h g : History) : Type 0 where
+  pub known : (r : Revision) → is_known r (all_links h) ≡ is_known r (all_links g)
+  pub parents : (r : Revision) → parent_of r (all_links h) ≡ parent_of r (all_links g)
+  pub leaves : (r : Revision) → leaf_at r h ≡ leaf_at r g
+  pub winners : winner_of h ≡ winner_of g
+
+-- replicas that exchanged all they have agree
+abbrev pub ReplicasAgree : Type 0
+ReplicasAgree = (h g : History) → SamePaths h g → SameMarks g → OneParent (all_links g) → Agree h g
+
+-- ---- acceptance
+
+-- each path fits those before it
+abbrev pub AllFit : History → List Path → Type 0
+AllFit h [] = Unit {0}
+AllFit h (p ∷ ps) = (fits h p ≡ true) × AllFit (with_path h p) ps
+
+-- where no revision is given two parents, paths are accepted in every order
+abbrev pub AcceptedInEveryOrder : Type 0
+AcceptedInEveryOrder = (h ps : List Path) → OneParent (all_links (h ++ ps)) → AllFit h ps
+
+-- ---- what a path changes
+
+-- each revision of a path is known, with the parent that the path gives it
+abbrev pub IsKnownWhole : History → Path → Type 0
+IsKnownWhole h p = (l : Link) → AmongLinks l (links p.revs) → (is_known l.rev (all_links h) ≡ true) × ((q : Revision) → l.parent ≡ Some q → parent_of l.rev (all_links h) ≡ Some q)
+
+-- a path that is known whole changes nothing
+abbrev pub KnownChangesNothing : Type 0
+KnownChangesNothing = (h : History) (p : Path) → IsKnownWhole h p → Agree (with_path h p) h
+
+-- no revision is ever lost, nor its parent
+pub record Keeps (h g : History) : Type 0 where
+  pub revisions : (r : Revision) → is_known r (all_links h) ≡ true → is_known r (all_links g) ≡ true
+  pub parents : (r q : Revision) → parent_of r (all_links h) ≡ Some q → parent_of r (all_links g) ≡ Some q
+
+abbrev pub NothingIsLost : Type 0
+NothingIsLost = (h : History) (ps : List Path) → Keeps h (h ++ ps)
+
+-- ---- the winner
+
+-- the winner is one of the leaves, and no leaf is better
+abbrev pub WinnerIsBest : Type 0
+WinnerIsBest = (h : History) (w : Leaf) → winner_of h ≡ Some w → IsLeaf h w × ((l : Leaf) → IsLeaf h l → leaf_order w l ≡ Less → ⊥)
+
+-- no deleted leaf wins while another is not deleted
+abbrev pub DeletedDoNotWin : Type 0
+DeletedDoNotWin = (h : History) (w l : Leaf) → winner_of h ≡ Some w → IsLeaf h l → l.deleted ≡ false → w.deleted ≡ false

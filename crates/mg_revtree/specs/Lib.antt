@@ -1,0 +1,6 @@
+pub mod Revision
+pub mod History
+pub mod Tree
+pub mod Changes
+pub mod Steps
+pub mod Laws

@@ -1,0 +1,47 @@
+-- What a tree changes when it takes in one link or one leaf.
+use Rattle.std.specs.Prelude.{◌≡◌, ℕ, zero, suc, List, [], ◌∷◌, Bool, true, false, is_some, if◌then◌else◌, Option, Some, None}
+use Rattle.std.specs.Ordering.{is_lt}
+use Rattle.std.specs.declared.cmp.Ordering.TheVariants.{Less}
+use Rattle.mg_revtree.specs.Revision.{Revision, revision_order, same_revision}
+use Rattle.mg_revtree.specs.History.{Link, Leaf, links, newest_of, is_at, has_child, or_else, agrees, leaf_order}
+use Rattle.mg_revtree.specs.Tree.{IsBelow, leaf_in}
+
+-- what is kept of a revision after one more link of it
+abbrev pub joined : Option (Option Revision) → Option Revision → Option (Option Revision)
+joined None q = Some q
+joined (Some p) q = Some (or_else p q)
+
+abbrev pub put : Link → Revision → Option (Option Revision) → Option (Option Revision)
+put l r o = if same_revision r l.rev then joined o l.parent else o
+
+-- place i is that of r
+abbrev pub IsPlace : Revision → List Link → ℕ → Type 0
+IsPlace r [] i = ⊥
+IsPlace r (l ∷ ls) zero = same_revision r l.rev ≡ true
+IsPlace r (l ∷ ls) (suc i) = (same_revision r l.rev ≡ false) × IsPlace r ls i
+
+-- r goes before place i
+abbrev pub IsGap : Revision → List Link → ℕ → Type 0
+IsGap r ls zero = IsBelow r ls
+IsGap r [] (suc i) = ⊥
+IsGap r (l ∷ ls) (suc i) = (revision_order l.rev r ≡ Less) × IsGap r ls i
+
+-- whether what is kept of a revision gives it no other parent
+abbrev pub agrees_found : Option (Option Revision) → Option Revision → Bool
+agrees_found None q = true
+agrees_found (Some p) q = agrees p q
+
+-- a leaf put before the first that is worse
+abbrev pub ranked : Leaf → List Leaf → List Leaf
+ranked l [] = l ∷ []
+ranked l (m ∷ ms) = if is_lt (leaf_order m l) then l ∷ m ∷ ms else m ∷ ranked l ms
+
+-- the newest of a run is no parent in it
+abbrev pub IsRun : List Revision → Type 0
+IsRun rs = (r : Revision) → is_at r (newest_of rs) ≡ true → has_child r (links rs) ≡ false
+
+-- whether there are no leaves, or the revision is one
+abbrev pub base_in : List Leaf → Option Revision → Bool
+base_in [] None = true
+base_in (l ∷ ls) None = false
+base_in ls (Some q) = is_some (leaf_in q ls)

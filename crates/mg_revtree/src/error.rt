@@ -1,0 +1,84 @@
+pub use mg_value::NoMemory;
+use std::alloc::AllocError;
+use thiserror::Error;
+
+/// Why a text was not read as a revision.
+#[derive(Clone, Copy, PartialEq, Eq, Debug, Drop, Error)]
+pub enum RevError {
+    /// The text is no revision.
+    #[error("invalid revision")]
+    Bad,
+    /// A growth was refused.
+    #[error("out of memory")]
+    NoMemory,
+}
+
+impl From<AllocError> for RevError {
+    ghost use Rattle.std.specs.Prelude.{◌≡◌};
+    ghost use Rattle.mg_revtree.specs.declared.error.RevError.TheVariants.{NoMemory as want};
+
+    ghost from_gives = { λ _ e. e ≡ want };
+
+    fn from(_refused: AllocError) -> RevError {
+        RevError::NoMemory
+    }
+}
+
+/// What a merge found of the newest revision of the path.
+#[derive(Clone, Copy, PartialEq, Eq, Debug, Drop)]
+pub enum Merged {
+    /// The tree did not know it.
+    New,
+    /// The tree knew it, and keeps its mark and body.
+    Known,
+}
+
+/// Why a path was not merged.
+#[derive(Clone, Copy, PartialEq, Eq, Debug, Drop, Error)]
+pub enum MergeError {
+    /// The path gives a known revision a parent other than its known one.
+    #[error("revision history does not fit the document")]
+    BadHistory,
+    /// A growth was refused.
+    #[error("out of memory")]
+    NoMemory,
+}
+
+impl From<NoMemory> for MergeError {
+    ghost use Rattle.std.specs.Prelude.{◌≡◌};
+    ghost use Rattle.mg_revtree.specs.declared.error.MergeError.TheVariants.{NoMemory as want};
+
+    ghost from_gives = { λ _ e. e ≡ want };
+
+    fn from(_refused: NoMemory) -> MergeError {
+        MergeError::NoMemory
+    }
+}
+
+/// Why a revision was not extended.
+#[derive(Clone, Copy, PartialEq, Eq, Debug, Drop, Error)]
+pub enum TreeError {
+    /// The revision is no leaf; or none is named, and the tree has leaves.
+    #[error("the revision is no leaf")]
+    NotLeaf,
+    /// The revision has the last position, 4,294,967,295.
+    #[error("the revision has the last position")]
+    Full,
+    /// The new revision is known.
+    #[error("the new revision is known")]
+    Known,
+    /// A growth was refused.
+    #[error("out of memory")]
+    NoMemory,
+}
+
+impl From<NoMemory> for TreeError {
+    ghost use Rattle.std.specs.Prelude.{◌≡◌};
+    ghost use Rattle.mg_revtree.specs.declared.error.TreeError.TheVariants.{NoMemory as want};
+
+    ghost from_gives = { λ _ e. e ≡ want };
+
+    fn from(_refused: NoMemory) -> TreeError {
+        TreeError::NoMemory
+    }
+}

@@ -1,0 +1,90 @@
+ghost use Rattle.std.specs.Prelude.{◌≡◌, ◌<◌, ◌≤◌, ◌+◌, IfOk, OnOk, length, map, string_bytes};
+ghost use Rattle.std.specs.List.{list_all};
+ghost use Rattle.mg_revtree.specs.Revision.{Revision, is_revision_id, run_of};
+ghost use Rattle.mg_revtree.specs.History.{links, newest_of};
+ghost use Rattle.mg_revtree.specs.Steps.{IsRun};
+
+use crate::error::NoMemory;
+use crate::link::Link;
+use crate::revision::{Rev, is_id};
+use std::alloc::Global;
+use std::marker::Model;
+
+/// A path as a replica gives it: a run of revisions, newest first, each at the position below the one before.
+/// Contracts see it as the list of those revisions.
+#[derive(Debug, Drop)]
+pub struct History {
+    start: u32,
+    ids: Vec<String>,
+}
+
+impl Model for History {
+    ghost use Rattle.std.specs.Prelude.{◌<◌, ◌≤◌, List, length, map, string_bytes};
+    ghost use Rattle.mg_revtree.specs.Revision.{Revision, run_from};
+
+    ghost Value = { List Revision };
+
+    ghost view = { λ h. run_from h.start (map string_bytes h.ids.items) };
+
+    ghost invariant = { λ h. (0 < length h.ids.items) × (length h.ids.items ≤ h.start) };
+}
+
+impl History {
+    /// The run that starts at a position, if there are 1 to `start` ids, each the id of a revision.
+    /// Takes no memory. Cost: the length of the ids. Source: `_revisions` of CouchDB's API reference.
+    pub fn new(start: u32, ids: Vec<String>) -> Option<History>
+        ensures { result ≡ run_of start (map string_bytes ids.items) }
+    {
+        if ids.is_empty() || ids.len() > start as usize || !are_ids(&ids) {
+            return None;
+        }
+        Some(History { start, ids })
+    }
+
+    /// The newest revision.
+    pub fn newest(&self) -> Result<Rev, NoMemory>
+        ensures { IfOk result (λ rev. newest_of self.now ≡ Some rev) }
+    {
+        Ok(Rev {
+            pos: self.start,
+            id: self.ids[0].clone()?,
+        })
+    }
+
+    /// Each revision with the one after it.
+    pub(crate) fn links(&self, alloc: Global) -> Result<Vec<Link>, NoMemory>
+        ensures links { IfOk result (λ made. made.items ≡ links self.now) }
+        ensures some { OnOk result (0 < length (links self.now)) }
+        ensures run { OnOk result (IsRun self.now) }
+    {
+        let ids = &self.ids;
+        let mut made = Vec::with_capacity(alloc, ids.len())?;
+        let mut pos = self.start;
+        for (i, id) in ids.iter().enumerate() {
+            let above = pos.saturating_sub(1);
+            let parent = match ids.get(i + 1) {
+                Some(parent) => Some(Rev {
+                    pos: above,
+                    id: parent.clone()?,
+                }),
+                None => None,
+            };
+            made.push(Link {
+                rev: Rev {
+                    pos,
+                    id: id.clone()?,
+                },
+                parent,
+            })?;
+            pos = above;
+        }
+        Ok(made)
+    }
+}
+
+// Whether each text is the id of a revision.
+fn are_ids(ids: &[String]) -> bool
+    ensures { result ≡ list_all (λ id. is_revision_id (string_bytes id)) ids.now }
+{
+    ids.iter().all(|id| is_id(id))
+}

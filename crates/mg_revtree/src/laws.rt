@@ -1,0 +1,33 @@
+ghost use Rattle.mg_revtree.specs.Laws.{AcceptedInEveryOrder, DeletedDoNotWin, KnownChangesNothing, NothingIsLost, ReplicasAgree, WinnerIsBest};
+
+/// Replicas that exchanged all they have agree: histories with the same set of paths, in any order and with any
+/// repetition, have the same known revisions with the same parents, the same leaves and the same winner, where paths
+/// with the same newest revision have the same mark and body, and no revision is given two parents.
+pub fn replicas_agree()
+    ensures { ReplicasAgree }
+{}
+
+/// Paths that give no revision two parents are accepted in every order.
+pub fn accepted_in_every_order()
+    ensures { AcceptedInEveryOrder }
+{}
+
+/// A path that is known whole changes nothing.
+pub fn known_changes_nothing()
+    ensures { KnownChangesNothing }
+{}
+
+/// No revision is ever lost, nor its parent.
+pub fn nothing_is_lost()
+    ensures { NothingIsLost }
+{}
+
+/// The winner is one of the leaves, and no leaf is better.
+pub fn winner_is_best()
+    ensures { WinnerIsBest }
+{}
+
+/// No deleted leaf wins while another leaf is not deleted.
+pub fn deleted_do_not_win()
+    ensures { DeletedDoNotWin }
+{}

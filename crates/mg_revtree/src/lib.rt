@@ -1,0 +1,16 @@
+//! Revision histories of documents, after the replication and conflict model of CouchDB.
+#![tactic(auto)]
+
+pub mod error;
+pub mod history;
+pub mod laws;
+pub mod leaf;
+mod link;
+pub mod revision;
+pub mod tree;
+
+pub use error::{MergeError, Merged, NoMemory, RevError, TreeError};
+pub use history::History;
+pub use leaf::Leaf;
+pub use revision::{Rev, is_id};
+pub use tree::RevTree;

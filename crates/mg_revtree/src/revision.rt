@@ -1,0 +1,121 @@
+ghost use Rattle.std.specs.Prelude.{◌≡◌, Err, IfOk, IsSome, None, Some, string_bytes};
+ghost use Rattle.std.specs.Char.{is_ascii_digit};
+ghost use Rattle.std.specs.List.{list_all};
+ghost use Rattle.mg_revtree.specs.Revision.{is_id_byte, is_revision_id, position_of, revision_of, revision_order, revision_text, same_revision};
+
+use crate::error::{NoMemory, RevError};
+use std::alloc::Global;
+use std::cmp::Ordering;
+use std::marker::Model;
+
+/// A revision of a document, written `N-id`: its position, counted from 1, and its id, one or more
+/// ASCII characters that are no space and no control character. Contracts see it as the pair of both.
+#[derive(Debug, Drop)]
+pub struct Rev {
+    /// The position, 1 to 4,294,967,295.
+    pub pos: u32,
+    /// The id, as written.
+    pub id: String,
+}
+
+impl Model for Rev {
+    ghost use Rattle.std.specs.Prelude.{string_bytes};
+    ghost use Rattle.mg_revtree.specs.Revision.{Revision};
+
+    ghost Value = { Revision };
+
+    ghost view = { λ r. (r.pos, string_bytes r.id) };
+}
+
+impl Rev {
+    /// Reads `N-id`, cut at the first hyphen: N in decimal with no leading zero, 1 to 4,294,967,295.
+    ///
+    /// Errors: `Bad` for exactly the texts that are no revision. Cost: the length of the text.
+    /// Source: revisions of CouchDB's API reference.
+    pub fn parse(alloc: Global, text: &str) -> Result<Rev, RevError>
+        ensures ok { IfOk result (λ rev. revision_of text.now ≡ Some rev) }
+        ensures bad { result ≡ Err RevError.Bad → revision_of text.now ≡ None }
+        ensures no_memory { result ≡ Err RevError.NoMemory → IsSome (revision_of text.now) }
+    {
+        let Some((number, id)) = text.split_once('-') else {
+            return Err(RevError::Bad);
+        };
+        if !is_id(id) {
+            return Err(RevError::Bad);
+        }
+        let Some(pos) = position(number) else {
+            return Err(RevError::Bad);
+        };
+        Ok(Rev {
+            pos,
+            id: String::from_str(alloc, id)?,
+        })
+    }
+
+    /// The text `N-id`. Cost: the length of the id.
+    pub fn text(&self, alloc: Global) -> Result<String, NoMemory>
+        ensures { IfOk result (λ text. string_bytes text ≡ revision_text self.now) }
+    {
+        let pos = self.pos;
+        let id = self.id.as_str();
+        Ok(format!(in alloc; "{pos}-{id}")?)
+    }
+
+    /// By the position, then by the bytes of the id.
+    pub fn order(&self, other: &Rev) -> Ordering
+        ensures { result ≡ revision_order self.now other.now }
+    {
+        self.pos
+            .cmp(&other.pos)
+            .then(self.id.as_str().cmp(other.id.as_str()))
+    }
+
+    /// Whether both are the same revision.
+    pub fn is(&self, other: &Rev) -> bool
+        ensures { result ≡ same_revision self.now other.now }
+    {
+        self.order(other).is_eq()
+    }
+
+    /// An equal revision. Cost: the length of the id.
+    pub fn copy(&self) -> Result<Rev, NoMemory>
+        ensures { IfOk result (λ rev. rev ≡ self.now) }
+    {
+        Ok(Rev {
+            pos: self.pos,
+            id: self.id.clone()?,
+        })
+    }
+}
+
+/// Whether a text is the id of a revision: one or more characters `!` to `~`. Cost: its length.
+pub fn is_id(id: &str) -> bool
+    ensures { result ≡ is_revision_id id.now }
+{
+    !id.is_empty() && are_id_bytes(id.as_bytes())
+}
+
+// Whether all bytes are characters of an id.
+fn are_id_bytes(bytes: &[u8]) -> bool
+    ensures { result ≡ list_all is_id_byte bytes.now }
+{
+    bytes.iter().all(|byte| 33 <= *byte && *byte <= 126)
+}
+
+// Whether all bytes are decimal digits.
+fn are_digits(bytes: &[u8]) -> bool
+    ensures { result ≡ list_all is_ascii_digit bytes.now }
+{
+    bytes.iter().all(|byte| byte.is_ascii_digit())
+}
+
+// The number of a position.
+fn position(number: &str) -> Option<u32>
+    ensures { result ≡ position_of number.now }
+{
+    let digits = number.as_bytes();
+    if digits.is_empty() || digits[0] == b'0' || !are_digits(digits) {
+        return None;
+    }
+    number.parse().ok()
+}

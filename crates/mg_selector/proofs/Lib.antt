@@ -1,0 +1,2 @@
+mod Arms
+mod Elements

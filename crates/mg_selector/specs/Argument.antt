@@ -1,0 +1,70 @@
+-- The arguments of the operators, after the operator tables of the CouchDB 3.x API reference.
+use Rattle.std.specs.Prelude.{ℕ, pos, List, codes, Option, Some, None, Result, Ok, Err, ◌==◌, unsigned_abs, if◌then◌else◌}
+use Rattle.std.specs.Str.{bytes_eq}
+use Rattle.std.specs.Option.{option_map_or}
+use Rattle.mg_value.specs.Value.{Value, flag, whole, text, list, Items, no_items, item}
+use Rattle.mg_selector.specs.Fault.{fmap}
+use Rattle.mg_selector.specs.Selector.{Operator, less, at_most, equal, unequal, at_least, greater, exists, of_type, among, not_among, size, modulo, containing}
+use Rattle.mg_selector.specs.declared.error.SelError.{SelError}
+use Rattle.mg_selector.specs.declared.error.SelError.TheVariants.{BadArg}
+use Rattle.mg_selector.specs.declared.json_type.JsonType.{JsonType}
+use Rattle.mg_selector.specs.declared.json_type.JsonType.TheVariants as json_type
+use Rattle.mg_selector.specs.declared.word.Test.{Test}
+use Rattle.mg_selector.specs.declared.word.Test.TheVariants as test
+
+-- the type of this name
+abbrev pub type_named : List ℕ → Option JsonType
+type_named k =
+    if bytes_eq k (codes "null") then Some json_type.Null
+    else if bytes_eq k (codes "boolean") then Some json_type.Boolean
+    else if bytes_eq k (codes "number") then Some json_type.Number
+    else if bytes_eq k (codes "string") then Some json_type.String
+    else if bytes_eq k (codes "array") then Some json_type.Array
+    else if bytes_eq k (codes "object") then Some json_type.Object
+    else None
+
+-- `$exists` takes true or false
+abbrev pub exists_of : Value → Result Operator SelError
+exists_of (flag there) = Ok (exists there)
+exists_of v = Err BadArg
+
+-- `$type` takes the name of a type
+abbrev pub type_of : Value → Result Operator SelError
+type_of (text name) = option_map_or (λ t. Ok (of_type t)) (type_named name) (Err BadArg)
+type_of v = Err BadArg
+
+-- `$size` takes a whole number that is not negative
+abbrev pub size_of : Value → Result Operator SelError
+size_of (whole (pos n)) = Ok (size n)
+size_of v = Err BadArg
+
+-- the divisor and the remainder of `$mod`: whole numbers, the first not 0
+abbrev pub modulo_by : Value → Value → Result Operator SelError
+modulo_by (whole d) (whole r) = if unsigned_abs d == 0 then Err BadArg else Ok (modulo d r)
+modulo_by d r = Err BadArg
+
+-- `$mod` takes an array of the two
+abbrev pub modulo_of : Value → Result Operator SelError
+modulo_of (list (item d (item r no_items))) = modulo_by d r
+modulo_of v = Err BadArg
+
+-- `$in`, `$nin` and `$all` take an array
+abbrev pub array_of : Value → Result Items SelError
+array_of (list vs) = Ok vs
+array_of v = Err BadArg
+
+-- an operator whose argument is a value, or the fault of the value
+abbrev pub operator_with : Test → Value → Result Operator SelError
+operator_with test.Lt v = Ok (less v)
+operator_with test.Lte v = Ok (at_most v)
+operator_with test.Eq v = Ok (equal v)
+operator_with test.Ne v = Ok (unequal v)
+operator_with test.Gte v = Ok (at_least v)
+operator_with test.Gt v = Ok (greater v)
+operator_with test.Exists v = exists_of v
+operator_with test.Type v = type_of v
+operator_with test.In v = fmap among (array_of v)
+operator_with test.Nin v = fmap not_among (array_of v)
+operator_with test.Size v = size_of v
+operator_with test.Mod v = modulo_of v
+operator_with test.All v = fmap containing (array_of v)

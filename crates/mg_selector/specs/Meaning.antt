@@ -1,0 +1,75 @@
+-- When a selector holds, after the selector syntax of the CouchDB 3.x API reference: of a part that may be missing, and in a sense.
+-- Negation, missing parts and empty lists of arms are this project's own choice: `$not` turns the sense of all below it, so that
+-- it is no complement. A missing part meets no operator in either sense but `$exists`, and no arms hold in both senses.
+use Rattle.std.specs.Prelude.{Bool, true, false, not, ◌&&◌, ◌||◌, Option, Some, None, option_and_then, is_some, if◌then◌else◌}
+use Rattle.std.specs.Ordering.{is_lt, is_le, is_eq, is_ne, is_ge, is_gt}
+use Rattle.mg_value.specs.Value.{Value}
+use Rattle.mg_collate.specs.Order.{value_order}
+use Rattle.mg_path.specs.Part.{part_of}
+use Rattle.mg_selector.specs.Entry.{has_type, meets_some, has_size, has_remainder, contains_all, has_element, has_only_elements}
+use Rattle.mg_selector.specs.Selector.{Selector, members, every, some, none, opposite, at, asks, Arms, no_arms, arm, Operator, less, at_most, equal, unequal, at_least, greater, exists, of_type, among, not_among, size, modulo, containing, some_element, each_element}
+use Rattle.mg_selector.specs.declared.sense.Sense.{Sense}
+use Rattle.mg_selector.specs.declared.sense.Sense.TheVariants.{Plain, Negated}
+
+-- the other sense
+abbrev pub flip : Sense → Sense
+flip Plain = Negated
+flip Negated = Plain
+
+-- the answer, turned in the negated sense
+abbrev pub in_sense : Sense → Bool → Bool
+in_sense Plain b = b
+in_sense Negated b = not b
+
+-- the answer of an operator that asks `entry` of a part that is there
+abbrev pub on_part : (Value → Bool) → Sense → Option Value → Bool
+on_part entry sense None = false
+on_part entry sense (Some v) = in_sense sense (entry v)
+
+-- there is no arm
+abbrev pub is_no_arms : Arms → Bool
+is_no_arms no_arms = true
+is_no_arms (arm s ss) = false
+
+abbrev mutual
+  -- the selector holds, in the sense, of the part, where it is there
+  pub holds_in : Selector → Sense → Option Value → Bool
+  holds_in (members ss) Plain x = every_arm ss Plain x
+  holds_in (members ss) Negated x = is_no_arms ss || some_arm ss Negated x
+  holds_in (every ss) Plain x = every_arm ss Plain x
+  holds_in (every ss) Negated x = is_no_arms ss || some_arm ss Negated x
+  holds_in (some ss) Plain x = is_no_arms ss || some_arm ss Plain x
+  holds_in (some ss) Negated x = every_arm ss Negated x
+  holds_in (none ss) Plain x = every_arm ss Negated x
+  holds_in (none ss) Negated x = is_no_arms ss || some_arm ss Plain x
+  holds_in (opposite s) sense x = holds_in s (flip sense) x
+  holds_in (at steps s) sense x = holds_in s sense (option_and_then (part_of steps) x)
+  holds_in (asks o) sense x = operator_holds o sense x
+
+  -- each arm holds
+  pub every_arm : Arms → Sense → Option Value → Bool
+  every_arm no_arms sense x = true
+  every_arm (arm s ss) sense x = holds_in s sense x && every_arm ss sense x
+
+  -- some arm holds
+  pub some_arm : Arms → Sense → Option Value → Bool
+  some_arm no_arms sense x = false
+  some_arm (arm s ss) sense x = holds_in s sense x || some_arm ss sense x
+
+  -- the operator holds; inside an element the sense is plain again
+  pub operator_holds : Operator → Sense → Option Value → Bool
+  operator_holds (less w) sense x = on_part (λ v. is_lt (value_order v w)) sense x
+  operator_holds (at_most w) sense x = on_part (λ v. is_le (value_order v w)) sense x
+  operator_holds (equal w) sense x = on_part (λ v. is_eq (value_order v w)) sense x
+  operator_holds (unequal w) sense x = on_part (λ v. is_ne (value_order v w)) sense x
+  operator_holds (at_least w) sense x = on_part (λ v. is_ge (value_order v w)) sense x
+  operator_holds (greater w) sense x = on_part (λ v. is_gt (value_order v w)) sense x
+  operator_holds (exists there) sense x = in_sense sense (if there then is_some x else not (is_some x))
+  operator_holds (of_type t) sense x = on_part (has_type t) sense x
+  operator_holds (among ws) sense x = on_part (meets_some ws) sense x
+  operator_holds (not_among ws) sense x = on_part (λ v. not (meets_some ws v)) sense x
+  operator_holds (size n) sense x = on_part (has_size n) sense x
+  operator_holds (modulo d r) sense x = on_part (has_remainder d r) sense x
+  operator_holds (containing ws) sense x = on_part (contains_all ws) sense x
+  operator_holds (some_element s) sense x = on_part (has_element (λ v. holds_in s Plain (Some v))) sense x
+  operator_holds (each_element s) sense x = on_part (has_only_elements (λ v. holds_in s Plain (Some v))) sense x

@@ -1,0 +1,115 @@
+-- Which selector a value spells, or its first fault, after the selector syntax of the CouchDB 3.x API reference. Members are
+-- read in the order of their names, arms in their order, and what is inside before what follows; the first fault decides.
+use Rattle.std.specs.Prelude.{◌≡◌, ℕ, List, [], ◌∷◌, codes, Result, Ok, Err, if◌then◌else◌}
+use Rattle.std.specs.Str.{bytes_eq}
+use Rattle.std.specs.Option.{option_map_or}
+use Rattle.mg_value.specs.Value.{Value, null, flag, whole, text, list, object, Items, no_items, item, Members, no_members, member}
+use Rattle.mg_path.specs.Part.{steps_of}
+use Rattle.mg_selector.specs.Argument.{operator_with}
+use Rattle.mg_selector.specs.Fault.{◌>>=◌, fmap}
+use Rattle.mg_selector.specs.Selector.{Selector, members, every, some, none, opposite, at, asks, Arms, no_arms, arm, equal, some_element, each_element}
+use Rattle.mg_selector.specs.declared.error.SelError.{SelError}
+use Rattle.mg_selector.specs.declared.error.SelError.TheVariants.{InvalidOperator, BadArg, Shape, NoMemory}
+use Rattle.mg_selector.specs.declared.word.Word.{Word}
+use Rattle.mg_selector.specs.declared.word.Word.TheVariants as word
+use Rattle.mg_selector.specs.declared.word.Test.TheVariants as test
+
+-- the result is the fault, or anything where a growth was refused
+abbrev pub Fails : {Y : Type 0} → SelError → Result Y SelError → Type 0
+Fails NoMemory r = Unit {0}
+Fails InvalidOperator r = r ≡ Err InvalidOperator
+Fails BadArg r = r ≡ Err BadArg
+Fails Shape r = r ≡ Err Shape
+
+-- what a call returned is what is read, unless a growth was refused
+abbrev pub Gives : {X Y : Type 0} → (X → Y) → Result X SelError → Result Y SelError → Type 0
+Gives seen (Ok x) r = r ≡ Ok (seen x)
+Gives seen (Err e) r = Fails e r
+
+-- a name that is no operator's: unknown where it begins with `$`, and else a path
+abbrev pub other_word : List ℕ → Word
+other_word [] = word.Path
+other_word (c ∷ k) = if bytes_eq (c ∷ []) (codes "$") then word.Unknown else word.Path
+
+-- what the name of a member asks for
+abbrev pub word_of : List ℕ → Word
+word_of k =
+    if bytes_eq k (codes "$and") then word.And
+    else if bytes_eq k (codes "$or") then word.Or
+    else if bytes_eq k (codes "$nor") then word.Nor
+    else if bytes_eq k (codes "$not") then word.Not
+    else if bytes_eq k (codes "$elemMatch") then word.ElemMatch
+    else if bytes_eq k (codes "$allMatch") then word.AllMatch
+    else if bytes_eq k (codes "$lt") then word.Test test.Lt
+    else if bytes_eq k (codes "$lte") then word.Test test.Lte
+    else if bytes_eq k (codes "$eq") then word.Test test.Eq
+    else if bytes_eq k (codes "$ne") then word.Test test.Ne
+    else if bytes_eq k (codes "$gte") then word.Test test.Gte
+    else if bytes_eq k (codes "$gt") then word.Test test.Gt
+    else if bytes_eq k (codes "$exists") then word.Test test.Exists
+    else if bytes_eq k (codes "$type") then word.Test test.Type
+    else if bytes_eq k (codes "$in") then word.Test test.In
+    else if bytes_eq k (codes "$nin") then word.Test test.Nin
+    else if bytes_eq k (codes "$size") then word.Test test.Size
+    else if bytes_eq k (codes "$mod") then word.Test test.Mod
+    else if bytes_eq k (codes "$all") then word.Test test.All
+    else other_word k
+
+-- the argument of a path, where `inner` is what it is as a selector: an object with members is one, and all else is compared
+abbrev pub argument : Value → Result Selector SelError → Result Selector SelError
+argument (object (member k v ms)) inner = inner
+argument v inner = Ok (asks (equal v))
+
+-- the selector on the part at a path; the path is read before its argument
+abbrev pub path_named : List ℕ → Value → Result Selector SelError → Result Selector SelError
+path_named k v inner = option_map_or (λ steps. fmap (at steps) (argument v inner)) (steps_of k) (Err BadArg)
+
+-- a member by what its name asks for, where `inner` is what its value is as a selector, and `arms` what it is as an array of selectors
+abbrev pub by_word : Word → List ℕ → Value → Result Selector SelError → Result Arms SelError → Result Selector SelError
+by_word word.And k v inner arms = fmap every arms
+by_word word.Or k v inner arms = fmap some arms
+by_word word.Nor k v inner arms = fmap none arms
+by_word word.Not k v inner arms = fmap opposite inner
+by_word word.ElemMatch k v inner arms = fmap (λ s. asks (some_element s)) inner
+by_word word.AllMatch k v inner arms = fmap (λ s. asks (each_element s)) inner
+by_word (word.Test o) k v inner arms = fmap asks (operator_with o v)
+by_word word.Unknown k v inner arms = Err InvalidOperator
+by_word word.Path k v inner arms = path_named k v inner
+
+-- a member by its name
+abbrev pub named : List ℕ → Value → Result Selector SelError → Result Arms SelError → Result Selector SelError
+named k v inner arms = by_word (word_of k) k v inner arms
+
+abbrev mutual
+  -- a selector inside another, which has to be an object
+  pub of_object : Value → Result Selector SelError
+  of_object null = Err BadArg
+  of_object (flag b) = Err BadArg
+  of_object (whole z) = Err BadArg
+  of_object (text s) = Err BadArg
+  of_object (list vs) = Err BadArg
+  of_object (object ms) = fmap members (of_members ms)
+
+  -- the arms of `$and`, `$or` and `$nor`, which have to be an array
+  pub of_arms : Value → Result Arms SelError
+  of_arms null = Err BadArg
+  of_arms (flag b) = Err BadArg
+  of_arms (whole z) = Err BadArg
+  of_arms (text s) = Err BadArg
+  of_arms (list vs) = of_items vs
+  of_arms (object ms) = Err BadArg
+
+  -- the arms one after another
+  pub of_items : Items → Result Arms SelError
+  of_items no_items = Ok no_arms
+  of_items (item v vs) = of_object v >>= λ s. fmap (arm s) (of_items vs)
+
+  -- the members one after another
+  pub of_members : Members → Result Arms SelError
+  of_members no_members = Ok no_arms
+  of_members (member k v ms) = named k v (of_object v) (of_arms v) >>= λ s. fmap (arm s) (of_members ms)
+
+-- the selector that the value spells, or its first fault
+abbrev pub reading : Value → Result Selector SelError
+reading (object ms) = fmap members (of_members ms)
+reading v = Err Shape

@@ -1,0 +1,105 @@
+ghost use Rattle.std.specs.Prelude.{◌≡◌};
+ghost use Rattle.mg_value.specs.Value.{list};
+ghost use Rattle.mg_value.specs.View.{view, items_view};
+ghost use Rattle.mg_selector.specs.Argument.{operator_with, exists_of, type_of, size_of, modulo_of, modulo_by, array_of};
+ghost use Rattle.mg_selector.specs.Reading.{Gives};
+ghost use Rattle.mg_selector.specs.View.{operator_of};
+
+use crate::copy;
+use crate::error::SelError;
+use crate::json_type::JsonType;
+use crate::operator::Op;
+use crate::word::Test;
+use mg_value::Json;
+use std::alloc::Global;
+use std::num::NonZeroI64;
+
+/// The operator with the value as its argument.
+pub(crate) fn read_operator(alloc: Global, test: Test, value: &Json) -> Result<Op, SelError>
+    ensures { Gives operator_of result (operator_with test (view value.now)) }
+{
+    match test {
+        Test::Lt => Ok(Op::Lt(value.copy(alloc)?)),
+        Test::Lte => Ok(Op::Lte(value.copy(alloc)?)),
+        Test::Eq => Ok(Op::Eq(value.copy(alloc)?)),
+        Test::Ne => Ok(Op::Ne(value.copy(alloc)?)),
+        Test::Gte => Ok(Op::Gte(value.copy(alloc)?)),
+        Test::Gt => Ok(Op::Gt(value.copy(alloc)?)),
+        Test::Exists => read_exists(value),
+        Test::Type => read_type(value),
+        Test::In => Ok(Op::In(read_array(alloc, value)?)),
+        Test::Nin => Ok(Op::Nin(read_array(alloc, value)?)),
+        Test::Size => read_size(value),
+        Test::Mod => read_mod(value),
+        Test::All => Ok(Op::All(read_array(alloc, value)?)),
+    }
+}
+
+fn read_exists(value: &Json) -> Result<Op, SelError>
+    ensures { Gives operator_of result (exists_of (view value.now)) }
+{
+    match value {
+        Json::Flag(there) => Ok(Op::Exists(*there)),
+        _ => Err(SelError::BadArg),
+    }
+}
+
+fn read_type(value: &Json) -> Result<Op, SelError>
+    ensures { Gives operator_of result (type_of (view value.now)) }
+{
+    match value {
+        Json::Text(name) => match JsonType::named(name.as_str()) {
+            Some(json_type) => Ok(Op::Type(json_type)),
+            None => Err(SelError::BadArg),
+        },
+        _ => Err(SelError::BadArg),
+    }
+}
+
+fn read_size(value: &Json) -> Result<Op, SelError>
+    ensures { Gives operator_of result (size_of (view value.now)) }
+{
+    match value {
+        Json::Whole(size) if *size >= 0 => Ok(Op::Size(size.unsigned_abs())),
+        _ => Err(SelError::BadArg),
+    }
+}
+
+fn read_mod(value: &Json) -> Result<Op, SelError>
+    ensures { Gives operator_of result (modulo_of (view value.now)) }
+{
+    match value {
+        Json::List(items) => modulo_of(items),
+        _ => Err(SelError::BadArg),
+    }
+}
+
+fn modulo_of(items: &[Json]) -> Result<Op, SelError>
+    ensures { Gives operator_of result (modulo_of (list (items_view items.now))) }
+{
+    if items.len() != 2 {
+        return Err(SelError::BadArg);
+    }
+    modulo(&items[0], &items[1])
+}
+
+fn modulo(divisor: &Json, remainder: &Json) -> Result<Op, SelError>
+    ensures { Gives operator_of result (modulo_by (view divisor.now) (view remainder.now)) }
+{
+    match (divisor, remainder) {
+        (Json::Whole(divisor), Json::Whole(remainder)) => match NonZeroI64::new(*divisor) {
+            Some(divisor) => Ok(Op::Mod(divisor, *remainder)),
+            None => Err(SelError::BadArg),
+        },
+        _ => Err(SelError::BadArg),
+    }
+}
+
+fn read_array(alloc: Global, value: &Json) -> Result<Vec<Json>, SelError>
+    ensures { Gives (λ v. items_view v.items) result (array_of (view value.now)) }
+{
+    match value {
+        Json::List(items) => Ok(copy::copied_values(alloc, items)?),
+        _ => Err(SelError::BadArg),
+    }
+}

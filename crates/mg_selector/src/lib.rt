@@ -1,0 +1,20 @@
+//! Selectors: the conditions of CouchDB's `_find` on a JSON document.
+#![tactic(auto)]
+
+mod argument;
+mod copy;
+mod entry;
+mod error;
+mod json_type;
+mod meaning;
+mod operator;
+mod reader;
+mod selector;
+mod sense;
+mod word;
+
+pub use error::SelError;
+pub use json_type::JsonType;
+pub use operator::Op;
+pub use selector::Sel;
+pub use sense::Sense;

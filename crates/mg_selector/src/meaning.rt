@@ -1,0 +1,146 @@
+ghost use Rattle.std.specs.Prelude.{◌≡◌, ◌||◌, Some, None, option_map};
+ghost use Rattle.mg_value.specs.View.{view, items_view};
+ghost use Rattle.mg_selector.specs.Entry.{some_item, every_of_some};
+ghost use Rattle.mg_selector.specs.Meaning.{holds_in, every_arm, some_arm, is_no_arms, operator_holds};
+ghost use Rattle.mg_selector.specs.View.{selector_of, operator_of, arms_view};
+
+use crate::entry;
+use crate::operator::Op;
+use crate::selector::Sel;
+use crate::sense::Sense;
+use mg_collate::compare;
+use mg_value::Json;
+
+/// Whether the selector holds of the part, which may be missing, in the sense.
+#[cycle(holds)]
+pub(crate) fn holds_in(sel: &Sel, sense: Sense, part: Option<&Json>) -> bool
+    ensures { result ≡ holds_in (selector_of sel.now) sense (option_map (λ j. view j.now) part.entry) }
+{
+    match sel {
+        Sel::Members(arms) | Sel::And(arms) => match sense {
+            Sense::Plain => every_arm(arms, sense, part),
+            Sense::Negated => some_arm(arms, sense, part),
+        },
+        Sel::Or(arms) => match sense {
+            Sense::Plain => some_arm(arms, sense, part),
+            Sense::Negated => every_arm(arms, sense, part),
+        },
+        Sel::Nor(arms) => match sense {
+            Sense::Plain => every_arm(arms, Sense::Negated, part),
+            Sense::Negated => some_arm(arms, Sense::Plain, part),
+        },
+        Sel::Not(inner) => holds_in(inner, sense.flipped(), part),
+        Sel::At(path, inner) => {
+            let part = match part {
+                Some(value) => path.get(value),
+                None => None,
+            };
+            holds_in(inner, sense, part)
+        }
+        Sel::Ask(op) => operator_holds(op, sense, part),
+    }
+}
+
+#[cycle(holds)]
+fn every_arm(arms: &[Sel], sense: Sense, part: Option<&Json>) -> bool
+    ensures { result ≡ every_arm (arms_view arms.now) sense (option_map (λ j. view j.now) part.entry) }
+{
+    for arm in arms {
+        if !holds_in(arm, sense, part) {
+            return false;
+        }
+    }
+    true
+}
+
+// Or there is none.
+#[cycle(holds)]
+fn some_arm(arms: &[Sel], sense: Sense, part: Option<&Json>) -> bool
+    ensures { result ≡ (is_no_arms (arms_view arms.now)
+        || some_arm (arms_view arms.now) sense (option_map (λ j. view j.now) part.entry)) }
+{
+    for arm in arms {
+        if holds_in(arm, sense, part) {
+            return true;
+        }
+    }
+    arms.is_empty()
+}
+
+/// Whether the operator holds of the part, which may be missing, in the sense.
+#[cycle(holds)]
+pub(crate) fn operator_holds(op: &Op, sense: Sense, part: Option<&Json>) -> bool
+    ensures { result ≡ operator_holds (operator_of op.now) sense
+        (option_map (λ j. view j.now) part.entry) }
+{
+    match part {
+        Some(value) => sense.of(holds_on(op, value)),
+        None => holds_on_missing(op, sense),
+    }
+}
+
+fn holds_on_missing(op: &Op, sense: Sense) -> bool
+    ensures { result ≡ operator_holds (operator_of op.now) sense None }
+{
+    match op {
+        Op::Exists(there) => sense.of(!*there),
+        _ => false,
+    }
+}
+
+// In the plain sense.
+#[cycle(holds)]
+fn holds_on(op: &Op, value: &Json) -> bool
+    ensures { result ≡ operator_holds (operator_of op.now) Sense.Plain (Some (view value.now)) }
+{
+    match op {
+        Op::Lt(bound) => compare(value, bound).is_lt(),
+        Op::Lte(bound) => compare(value, bound).is_le(),
+        Op::Eq(bound) => compare(value, bound).is_eq(),
+        Op::Ne(bound) => compare(value, bound).is_ne(),
+        Op::Gte(bound) => compare(value, bound).is_ge(),
+        Op::Gt(bound) => compare(value, bound).is_gt(),
+        Op::Exists(there) => *there,
+        Op::Type(json_type) => json_type.is_of(value),
+        Op::In(arguments) => entry::meets_some(arguments, value),
+        Op::Nin(arguments) => !entry::meets_some(arguments, value),
+        Op::Size(size) => entry::has_size(*size, value),
+        Op::Mod(divisor, remainder) => entry::has_remainder(*divisor, *remainder, value),
+        Op::All(arguments) => entry::contains_all(arguments, value),
+        Op::ElemMatch(inner) => match value {
+            Json::List(items) => some_element(inner, items),
+            _ => false,
+        },
+        Op::AllMatch(inner) => match value {
+            Json::List(items) => each_element(inner, items),
+            _ => false,
+        },
+    }
+}
+
+#[cycle(holds)]
+fn some_element(inner: &Sel, items: &[Json]) -> bool
+    ensures { result ≡ some_item (λ v. holds_in (selector_of inner.now) Sense.Plain (Some v))
+        (items_view items.now) }
+{
+    for item in items {
+        if holds_in(inner, Sense::Plain, Some(item)) {
+            return true;
+        }
+    }
+    false
+}
+
+// There are items, and the selector holds of each.
+#[cycle(holds)]
+fn each_element(inner: &Sel, items: &[Json]) -> bool
+    ensures { result ≡ every_of_some (λ v. holds_in (selector_of inner.now) Sense.Plain (Some v))
+        (items_view items.now) }
+{
+    for item in items {
+        if !holds_in(inner, Sense::Plain, Some(item)) {
+            return false;
+        }
+    }
+    !items.is_empty()
+}

@@ -1,0 +1,67 @@
+ghost use Rattle.std.specs.Prelude.{◌≡◌, IfOk, option_map};
+ghost use Rattle.mg_value.specs.View.{view};
+
+use crate::json_type::JsonType;
+use crate::selector::Sel;
+use crate::sense::Sense;
+use crate::{copy, meaning};
+use mg_value::{Json, NoMemory};
+use std::alloc::Global;
+use std::num::NonZeroI64;
+
+/// An operator that is no combinator, with its argument. What it asks of a part is written beside it.
+#[cycle(selector)]
+#[derive(Debug, Drop)]
+pub enum Op {
+    /// `$lt`: below the value, in the collation order.
+    Lt(Json),
+    /// `$lte`: below the value, or equal to it.
+    Lte(Json),
+    /// `$eq`: equal to the value.
+    Eq(Json),
+    /// `$ne`: not equal to the value.
+    Ne(Json),
+    /// `$gte`: above the value, or equal to it.
+    Gte(Json),
+    /// `$gt`: above the value.
+    Gt(Json),
+    /// `$exists`: there, or missing.
+    Exists(bool),
+    /// `$type`: of the type.
+    Type(JsonType),
+    /// `$in`: of an array some element equals some argument; any other value does.
+    In(Vec<Json>),
+    /// `$nin`: `$in` does not hold.
+    Nin(Vec<Json>),
+    /// `$size`: an array of that length.
+    Size(u64),
+    /// `$mod`: a number whose truncated remainder by the first, with its own sign, is the second.
+    Mod(NonZeroI64, i64),
+    /// `$all`: an array that has every argument, of which there are some, or that equals the only one.
+    All(Vec<Json>),
+    /// `$elemMatch`: an array, some element of which satisfies the selector.
+    ElemMatch(Box<Sel>),
+    /// `$allMatch`: an array that is not empty, each element of which satisfies the selector.
+    AllMatch(Box<Sel>),
+}
+
+impl Op {
+    ghost use Rattle.mg_selector.specs.Meaning.{operator_holds};
+    ghost use Rattle.mg_selector.specs.View.{operator_of};
+
+    /// Whether the operator holds of the part in the sense. On a missing part none does, in either
+    /// sense, but `$exists`. No memory is taken.
+    pub fn holds_in(&self, sense: Sense, part: Option<&Json>) -> bool
+        ensures { result ≡ operator_holds (operator_of self.now) sense
+            (option_map (λ j. view j.now) part.entry) }
+    {
+        meaning::operator_holds(self, sense, part)
+    }
+
+    /// An equal operator. Errors: `NoMemory` where a growth is refused. Cost: its size.
+    pub fn copy(&self, alloc: Global) -> Result<Op, NoMemory>
+        ensures { IfOk result (λ copy. operator_of copy ≡ operator_of self.now) }
+    {
+        copy::copied_operator(alloc, self)
+    }
+}

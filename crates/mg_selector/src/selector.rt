@@ -1,0 +1,66 @@
+ghost use Rattle.std.specs.Prelude.{◌≡◌, Some, IfOk};
+ghost use Rattle.mg_value.specs.View.{view};
+
+use crate::error::SelError;
+use crate::operator::Op;
+use crate::sense::Sense;
+use crate::{copy, meaning, reader};
+use mg_path::Path;
+use mg_value::{Json, NoMemory};
+use std::alloc::Global;
+
+/// A selector: what `_find` asks of a document, or of a part of one.
+#[cycle(selector)]
+#[derive(Debug, Drop)]
+pub enum Sel {
+    /// The members of an object, which all have to hold.
+    Members(Vec<Sel>),
+    /// `$and`: all arms.
+    And(Vec<Sel>),
+    /// `$or`: some arm.
+    Or(Vec<Sel>),
+    /// `$nor`: no arm.
+    Nor(Vec<Sel>),
+    /// `$not`: the negation; it turns the sense of all below it.
+    Not(Box<Sel>),
+    /// A selector on the part at the path.
+    At(Path, Box<Sel>),
+    /// An operator on the current part.
+    Ask(Op),
+}
+
+impl Sel {
+    ghost use Rattle.mg_selector.specs.Meaning.{holds_in};
+    ghost use Rattle.mg_selector.specs.Reading.{Gives, reading};
+    ghost use Rattle.mg_selector.specs.View.{selector_of};
+
+    /// Reads a selector such as `{"a":{"$gt":1},"b.c":2}`. A name that begins with `$` is an operator
+    /// on the current part; any other is a path, with a selector or a value that it equals.
+    ///
+    /// Errors: `Shape` where the value is not an object; else the first fault, members in the order
+    /// of their names, depth first: `InvalidOperator` for an unknown operator, `BadArg` for a wrong
+    /// argument or a path with an empty step. `NoMemory` where a growth is refused.
+    /// Cost: the size of the value. Source: the selector syntax of CouchDB's `_find`.
+    pub fn read(alloc: Global, value: &Json) -> Result<Sel, SelError>
+        ensures { Gives selector_of result (reading (view value.now)) }
+    {
+        reader::read(alloc, value)
+    }
+
+    /// Whether the selector holds of the document. No memory is taken.
+    ///
+    /// Cost: each operator once, with the way to its part, and once more for each element that
+    /// `$elemMatch` and `$allMatch` look at. Source: the operators of CouchDB's `_find`.
+    pub fn holds(&self, value: &Json) -> bool
+        ensures { result ≡ holds_in (selector_of self.now) Sense.Plain (Some (view value.now)) }
+    {
+        meaning::holds_in(self, Sense::Plain, Some(value))
+    }
+
+    /// An equal selector. Errors: `NoMemory` where a growth is refused. Cost: its size.
+    pub fn copy(&self, alloc: Global) -> Result<Sel, NoMemory>
+        ensures { IfOk result (λ copy. selector_of copy ≡ selector_of self.now) }
+    {
+        copy::copied(alloc, self)
+    }
+}

@@ -1,0 +1,31 @@
+ghost use Rattle.std.specs.Prelude.{◌≡◌};
+ghost use Rattle.mg_selector.specs.Meaning.{flip, in_sense};
+
+/// Whether a selector is asked, or its negation.
+#[derive(Clone, Copy, PartialEq, Eq, Debug, Drop)]
+pub enum Sense {
+    Plain,
+    Negated,
+}
+
+impl Sense {
+    /// The other sense.
+    pub fn flipped(self) -> Sense
+        ensures { result ≡ flip self }
+    {
+        match self {
+            Sense::Plain => Sense::Negated,
+            Sense::Negated => Sense::Plain,
+        }
+    }
+
+    /// The answer in this sense, where `plain` is the answer in the plain one.
+    pub fn of(self, plain: bool) -> bool
+        ensures { result ≡ in_sense self plain }
+    {
+        match self {
+            Sense::Plain => plain,
+            Sense::Negated => !plain,
+        }
+    }
+}

@@ -1,0 +1,6 @@
+//! Shards: where documents are kept.
+#![tactic(auto)]
+
+pub mod placement;
+
+pub use placement::Placement;

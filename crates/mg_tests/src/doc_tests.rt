@@ -1,0 +1,337 @@
+use mg_doc::{DocError, Edit, EditError, rev_id, served};
+use mg_revtree::{Rev, RevTree};
+use mg_value::{Json, read, write};
+use std::alloc::Global;
+use std::test::Fail;
+
+// What a reading of the document answers; none where the text is no object.
+fn reading(
+    alloc: Global,
+    text: &str,
+    new_edit: bool,
+) -> Result<Option<Result<Edit, DocError>>, Fail> {
+    match read(alloc, text.as_bytes())? {
+        Json::Object(members) => Ok(Some(Edit::read(alloc, Json::Object(members), new_edit))),
+        _ => Ok(None),
+    }
+}
+
+fn fault(alloc: Global, text: &str, new_edit: bool) -> Result<Option<DocError>, Fail> {
+    match reading(alloc, text, new_edit)? {
+        Some(Err(error)) => Ok(Some(error)),
+        _ => Ok(None),
+    }
+}
+
+// The revision that the document brings to the tree, or its refusal.
+fn outcome(
+    alloc: Global,
+    tree: &mut RevTree,
+    text: &str,
+    new_edit: bool,
+) -> Result<Option<Result<Rev, EditError>>, Fail> {
+    match reading(alloc, text, new_edit)? {
+        Some(Ok(edit)) => Ok(Some(edit.apply(alloc, tree))),
+        _ => Ok(None),
+    }
+}
+
+// Whether the document brings this revision.
+fn brings(
+    alloc: Global,
+    tree: &mut RevTree,
+    text: &str,
+    new_edit: bool,
+    wanted: &str,
+) -> Result<bool, Fail> {
+    match outcome(alloc, tree, text, new_edit)? {
+        Some(Ok(rev)) => Ok(rev.text(alloc)?.as_str() == wanted),
+        _ => Ok(false),
+    }
+}
+
+fn refusal(
+    alloc: Global,
+    tree: &mut RevTree,
+    text: &str,
+    new_edit: bool,
+) -> Result<Option<EditError>, Fail> {
+    match outcome(alloc, tree, text, new_edit)? {
+        Some(Err(error)) => Ok(Some(error)),
+        _ => Ok(None),
+    }
+}
+
+// Whether this text is served for the id `w`; the empty text where nothing is.
+fn serves(alloc: Global, tree: &RevTree, wanted: &str) -> Result<bool, Fail> {
+    match served(alloc, "w", tree)? {
+        Some(document) => Ok(write(alloc, &document)?.as_slice() == wanted.as_bytes()),
+        None => Ok(wanted.is_empty()),
+    }
+}
+
+// Whether a new revision of this mark, parent and body has this id.
+fn digests(
+    alloc: Global,
+    deleted: bool,
+    parent: Option<&Rev>,
+    body: &str,
+    wanted: &str,
+) -> Result<bool, Fail> {
+    let body = read(alloc, body.as_bytes())?;
+    Ok(rev_id(alloc, deleted, parent, &body)?.as_str() == wanted)
+}
+
+// The expected digests are those of MD5 over the compact texts, from another implementation.
+#[test]
+fn digests_of_new_revisions(rt: HostRuntime) -> Result<(), Fail> {
+    let alloc = rt.alloc();
+    let first = Rev::parse(alloc, "1-46932c080c85cb88184bff630205817d")?;
+    let second = Rev::parse(alloc, "2-13a335b24394ea04fcf9a0ac5c9af0c5")?;
+    let quoted = Rev::parse(alloc, "1-a\"\\b")?;
+    assert!(rt;
+        digests(
+            alloc,
+            false,
+            None,
+            "{\"v\":1}",
+            "46932c080c85cb88184bff630205817d"
+        )?
+    );
+    assert!(rt;
+        digests(
+            alloc,
+            false,
+            None,
+            "{\"v\":3}",
+            "ee9ec2d746c8050b10a1d9d68ba0b047"
+        )?
+    );
+    assert!(rt;
+        digests(
+            alloc,
+            true,
+            Some(&first),
+            "{}",
+            "13a335b24394ea04fcf9a0ac5c9af0c5"
+        )?
+    );
+    assert!(rt;
+        digests(
+            alloc,
+            false,
+            Some(&second),
+            "{\"v\":4}",
+            "0b04d9b5016a0cfec679f7d2b0cdb951"
+        )?
+    );
+    assert!(rt;
+        digests(
+            alloc,
+            false,
+            Some(&quoted),
+            "{\"b\":[null,true,-1,\"\u{e9}\\n\"],\"a\":{\"_x\":1}}",
+            "4ab6960e527394f0da3286edd7be29da"
+        )?
+    );
+    Ok(())
+}
+
+#[test]
+fn new_edits(rt: HostRuntime) -> Result<(), Fail> {
+    let alloc = rt.alloc();
+    let mut tree = RevTree::new(alloc);
+    let first = "1-46932c080c85cb88184bff630205817d";
+    let deletion =
+        "{\"_id\":\"w\",\"_rev\":\"1-46932c080c85cb88184bff630205817d\",\"_deleted\":true}";
+    assert!(rt;
+        brings(
+            alloc,
+            &mut tree,
+            "{\"_id\":\"w\",\"v\":1,\"_local_seq\":7}",
+            true,
+            first
+        )?
+    );
+    assert!(rt; refusal(alloc, &mut tree, "{\"v\":2}", true)? == Some(EditError::Conflict));
+    assert!(rt;
+        refusal(alloc, &mut tree, "{\"_rev\":\"1-a\"}", true)? == Some(EditError::Conflict)
+    );
+    assert!(rt;
+        brings(
+            alloc,
+            &mut tree,
+            deletion,
+            true,
+            "2-13a335b24394ea04fcf9a0ac5c9af0c5"
+        )?
+    );
+    assert!(rt; serves(alloc, &tree, "")?);
+    assert!(rt; refusal(alloc, &mut tree, deletion, true)? == Some(EditError::Conflict));
+    assert!(rt;
+        brings(
+            alloc,
+            &mut tree,
+            "{\"v\":4}",
+            true,
+            "3-0b04d9b5016a0cfec679f7d2b0cdb951"
+        )?
+    );
+    assert!(rt;
+        serves(
+            alloc,
+            &tree,
+            "{\"_id\":\"w\",\"_rev\":\"3-0b04d9b5016a0cfec679f7d2b0cdb951\",\"v\":4}"
+        )?
+    );
+    Ok(())
+}
+
+#[test]
+fn winner(rt: HostRuntime) -> Result<(), Fail> {
+    let alloc = rt.alloc();
+    let mut tree = RevTree::new(alloc);
+    let b = "{\"_id\":\"w\",\"_revisions\":{\"start\":2,\"ids\":[\"b\",\"a\"]},\"x\":1}";
+    let c = "{\"_id\":\"w\",\"_revisions\":{\"start\":2,\"ids\":[\"c\",\"a\"]},\"x\":2}";
+    let d = "{\"_deleted\":true,\"_revisions\":{\"start\":3,\"ids\":[\"d\",\"c\",\"a\"]}}";
+    assert!(rt; serves(alloc, &tree, "")?);
+    assert!(rt; brings(alloc, &mut tree, b, false, "2-b")?);
+    assert!(rt; brings(alloc, &mut tree, c, false, "2-c")?);
+    assert!(rt; serves(alloc, &tree, "{\"_id\":\"w\",\"_rev\":\"2-c\",\"x\":2}")?);
+    assert!(rt; brings(alloc, &mut tree, d, false, "3-d")?);
+    assert!(rt; serves(alloc, &tree, "{\"_id\":\"w\",\"_rev\":\"2-b\",\"x\":1}")?);
+    let last = "{\"_rev\":\"2-b\",\"_deleted\":true}";
+    assert!(rt;
+        brings(
+            alloc,
+            &mut tree,
+            last,
+            true,
+            "3-e32a1498161a5ff3541a8810a1745b2f"
+        )?
+    );
+    assert!(rt; serves(alloc, &tree, "")?);
+    Ok(())
+}
+
+#[test]
+fn replication(rt: HostRuntime) -> Result<(), Fail> {
+    let alloc = rt.alloc();
+    let mut tree = RevTree::new(alloc);
+    let path = "{\"_rev\":\"2-b\",\"_revisions\":{\"start\":2,\"ids\":[\"b\",\"a\"]}}";
+    let other_root = "{\"_revisions\":{\"start\":3,\"ids\":[\"c\",\"b\",\"z\"]}}";
+    let other_parent = "{\"_revisions\":{\"start\":2,\"ids\":[\"b\",\"z\"]}}";
+    assert!(rt; brings(alloc, &mut tree, path, false, "2-b")?);
+    assert!(rt; brings(alloc, &mut tree, path, false, "2-b")?);
+    assert!(rt; refusal(alloc, &mut tree, other_root, false)? == Some(EditError::BadHistory));
+    assert!(rt; refusal(alloc, &mut tree, other_parent, false)? == Some(EditError::BadHistory));
+    let mut tree = RevTree::new(alloc);
+    let joined = "{\"_revisions\":{\"start\":3,\"ids\":[\"s\",\"q\",\"p\"]},\"y\":1}";
+    assert!(rt; brings(alloc, &mut tree, "{\"_rev\":\"2-q\"}", false, "2-q")?);
+    assert!(rt; brings(alloc, &mut tree, joined, false, "3-s")?);
+    assert!(rt;
+        refusal(alloc, &mut tree, "{\"_rev\":\"2-q\"}", true)? == Some(EditError::Conflict)
+    );
+    assert!(rt; serves(alloc, &tree, "{\"_id\":\"w\",\"_rev\":\"3-s\",\"y\":1}")?);
+    Ok(())
+}
+
+#[test]
+fn nothing_over_the_last_position(rt: HostRuntime) -> Result<(), Fail> {
+    let alloc = rt.alloc();
+    let mut tree = RevTree::new(alloc);
+    let last = "{\"_rev\":\"4294967295-a\"}";
+    assert!(rt; brings(alloc, &mut tree, last, false, "4294967295-a")?);
+    assert!(rt; refusal(alloc, &mut tree, last, true)? == Some(EditError::BadHistory));
+    Ok(())
+}
+
+#[test]
+fn bad_documents(rt: HostRuntime) -> Result<(), Fail> {
+    let alloc = rt.alloc();
+    let faults = [
+        ("{\"_foo\":1}", DocError::BadMember),
+        ("{\"_\":1}", DocError::BadMember),
+        ("{\"_attachments\":{}}", DocError::BadMember),
+        ("{\"_deleted\":null}", DocError::BadMember),
+        ("{\"_deleted\":1}", DocError::BadMember),
+        (
+            "{\"_foo\":1,\"_id\":\"_x\",\"_rev\":1}",
+            DocError::BadMember,
+        ),
+        (
+            "{\"_deleted\":0,\"_id\":\"\",\"_rev\":\"1\"}",
+            DocError::BadMember,
+        ),
+        ("{\"_id\":\"_x\"}", DocError::BadId),
+        ("{\"_id\":\"\"}", DocError::BadId),
+        ("{\"_id\":null}", DocError::BadId),
+        ("{\"_id\":7,\"_rev\":\"0-a\"}", DocError::BadId),
+        ("{\"_rev\":null}", DocError::BadRev),
+        ("{\"_rev\":\"a\"}", DocError::BadRev),
+        ("{\"_rev\":\"01-a\"}", DocError::BadRev),
+        ("{\"_rev\":\"4294967296-a\"}", DocError::BadRev),
+        ("{\"_revisions\":[]}", DocError::BadRev),
+        ("{\"_revisions\":{\"start\":1}}", DocError::BadRev),
+        (
+            "{\"_revisions\":{\"start\":1,\"ids\":[]}}",
+            DocError::BadRev,
+        ),
+        (
+            "{\"_revisions\":{\"start\":1,\"ids\":[\"a\",\"b\"]}}",
+            DocError::BadRev,
+        ),
+        (
+            "{\"_revisions\":{\"start\":1,\"ids\":[1]}}",
+            DocError::BadRev,
+        ),
+        (
+            "{\"_revisions\":{\"start\":1,\"ids\":[\"a b\"]}}",
+            DocError::BadRev,
+        ),
+        (
+            "{\"_revisions\":{\"start\":-1,\"ids\":[\"a\"]}}",
+            DocError::BadRev,
+        ),
+        (
+            "{\"_revisions\":{\"start\":4294967296,\"ids\":[\"a\"]}}",
+            DocError::BadRev,
+        ),
+        (
+            "{\"_rev\":\"1\",\"_revisions\":{\"start\":1,\"ids\":[\"a\"]}}",
+            DocError::BadRev,
+        ),
+        (
+            "{\"_rev\":\"1-a\",\"_revisions\":{\"start\":0,\"ids\":[\"a\"]}}",
+            DocError::BadRev,
+        ),
+    ];
+    for (text, wanted) in faults {
+        assert!(rt; fault(alloc, text, true)? == Some(wanted));
+        assert!(rt; fault(alloc, text, false)? == Some(wanted));
+    }
+    // What a replica has to give.
+    assert!(rt; fault(alloc, "{\"_id\":\"a\"}", false)? == Some(DocError::BadRev));
+    assert!(rt; fault(alloc, "{\"_id\":\"a\"}", true)?.is_none());
+    // Each of the names that a document may have, and two revisions that are not the same.
+    let whole =
+        "{\"_id\":\"\\u0000\",\"_rev\":\"1-a\",\"_revisions\":{\"start\":2,\"ids\":[\"b\"],\"x\":0},\"_deleted\":false,\"_conflicts\":1,\"_deleted_conflicts\":1,\"_revs_info\":1,\"_local_seq\":1}";
+    assert!(rt; fault(alloc, whole, false)?.is_none());
+    Ok(())
+}
+
+#[test]
+fn an_id_is_given(rt: HostRuntime) -> Result<(), Fail> {
+    let alloc = rt.alloc();
+    if let Some(Ok(edit)) = reading(alloc, "{\"_id\":\"a\",\"v\":1}", true)? {
+        assert!(rt; edit.id() == Some("a"));
+    }
+    if let Some(Ok(edit)) = reading(alloc, "{\"v\":1}", true)? {
+        assert!(rt; edit.id().is_none());
+        if edit.id().is_none() {
+            let edit = edit.with_id(String::from_str(alloc, "b")?);
+            assert!(rt; edit.id() == Some("b"));
+        }
+    }
+    Ok(())
+}

@@ -1,0 +1,249 @@
+//! HTTP sessions over an engine of one shard. Input and output of each conversation are those of the worked rows.
+ghost use Rattle.std.specs.Prelude.{Some};
+
+use mg_engine::Engine;
+use mg_http::{Device, SessionEnd, Solo, session};
+use mg_shard::Placement;
+use std::alloc::Global;
+use std::io;
+use std::io::{ErrorKind, Read, Write};
+use std::sync::Wait;
+use std::test::Fail;
+use std::thread::Threads;
+
+const FIND: &[u8] = b"POST /db/_find HTTP/1.1\r\nContent-Length: 15\r\n\r\n{\"selector\":{}}";
+
+const EMPTY_PAGE: &[u8] =
+    b"HTTP/1.1 200 OK\r\nContent-Type: application/json\r\nContent-Length: 29\r\n\r\n{\"bookmark\":\"nil\",\"docs\":[]}\n";
+
+const WRITE_AND_FIND: &[u8] =
+    b"POST /db/_bulk_docs HTTP/1.1\r\nContent-Length: 60\r\n\r\n{\"docs\":[{\"_id\":\"d1\",\"_rev\":\"1-a\",\"v\":1}],\"new_edits\":false}POST /db/_find HTTP/1.1\r\nContent-Length: 20\r\n\r\n{\"selector\":{\"v\":1}}";
+
+const CREATED: &[u8] =
+    b"HTTP/1.1 201 Created\r\nContent-Type: application/json\r\nContent-Length: 3\r\n\r\n[]\n";
+
+const ONE_FOUND: &[u8] =
+    b"HTTP/1.1 200 OK\r\nContent-Type: application/json\r\nContent-Length: 105\r\n\r\n{\"bookmark\":\"W251bGwsIl9hbGxfZG9jcyIsImFzYyIsWyJkMSJdLCJkMSJd\",\"docs\":[{\"_id\":\"d1\",\"_rev\":\"1-a\",\"v\":1}]}\n";
+
+const BAD_HEAD: &[u8] =
+    b"HTTP/1.1 400 Bad Request\r\nContent-Type: application/json\r\nContent-Length: 50\r\n\r\n{\"error\":\"bad_head\",\"reason\":\"Bad request head.\"}\n";
+
+const INVALID_JSON: &[u8] =
+    b"HTTP/1.1 400 Bad Request\r\nContent-Type: application/json\r\nContent-Length: 49\r\n\r\n{\"error\":\"bad_request\",\"reason\":\"Invalid JSON.\"}\n";
+
+/// The placement of a database of one shard.
+#[derive(Clone, Copy, Drop)]
+struct OneShard;
+
+impl Placement for OneShard {
+    ghost place = { λ _ _ _. 0 };
+
+    fn shard_of(&self, _id: &str, _shards: usize) -> usize {
+        0
+    }
+}
+
+/// Gives its bytes in pieces of at most so many, and fails after so many reads.
+#[derive(Drop)]
+struct Pieces<'a> {
+    bytes: &'a [u8],
+    most: usize,
+    turns: u64,
+    reads: u64,
+}
+
+impl Read for Pieces<'_> {
+    ghost remaining = { λ r. Some r.bytes.now };
+
+    fn read(&mut self, buf: &mut [u8]) -> io::Result<usize> {
+        if self.turns == 0 {
+            return Err(ErrorKind::Other.into());
+        }
+        self.turns -= 1;
+        self.reads = self.reads.saturating_add(1);
+        let room = buf.len().min(self.most);
+        self.bytes.read(&mut buf[..room])
+    }
+}
+
+/// Takes so many bytes, and then none.
+#[derive(Drop)]
+struct Sink {
+    taken: Vec<u8>,
+    room: usize,
+    writes: u64,
+}
+
+impl Write for Sink {
+    ghost contents = { λ w. Some w.taken.items };
+
+    fn write(&mut self, buf: &[u8]) -> io::Result<usize> {
+        let n = buf.len().min(self.room);
+        self.taken.extend_from_slice(&buf[..n])?;
+        self.room -= n;
+        self.writes = self.writes.saturating_add(1);
+        Ok(n)
+    }
+
+    fn flush(&mut self) -> io::Result<()> {
+        Ok(())
+    }
+}
+
+/// What a session of a new database did.
+#[derive(Drop)]
+struct Ran {
+    end: SessionEnd,
+    text: Vec<u8>,
+    reads: u64,
+    writes: u64,
+    failed: bool,
+}
+
+const ALL: usize = 1 << 20;
+
+fn run(
+    rt: &(impl Wait + Threads),
+    alloc: Global,
+    bytes: &[u8],
+    most: usize,
+    turns: u64,
+    room: usize,
+) -> Result<Ran, Fail> {
+    let mut reader = Device::new(Pieces {
+        bytes,
+        most,
+        turns,
+        reads: 0,
+    });
+    let mut writer = Device::new(Sink {
+        taken: Vec::new(alloc),
+        room,
+        writes: 0,
+    });
+    let mut service = Solo {
+        engine: Engine::new(alloc, OneShard, 1)?,
+        workers: 1,
+    };
+    let end = session(rt, alloc, "db", &mut reader, &mut writer, &mut service);
+    let failed = reader.failed() || writer.failed();
+    let Pieces { reads, .. } = reader.into_inner();
+    let Sink { taken, writes, .. } = writer.into_inner();
+    Ok(Ran {
+        end,
+        text: taken,
+        reads,
+        writes,
+        failed,
+    })
+}
+
+fn whole(
+    rt: &(impl Wait + Threads),
+    alloc: Global,
+    bytes: &[u8],
+    most: usize,
+) -> Result<Ran, Fail> {
+    run(rt, alloc, bytes, most, 99_999, ALL)
+}
+
+#[test]
+fn first_query(rt: HostRuntime) -> Result<(), Fail> {
+    for most in [ALL, 1, 7] {
+        let ran = whole(&rt, rt.alloc(), FIND, most)?;
+        assert_eq!(rt; ran.end, SessionEnd::Eof);
+        assert_eq!(rt; ran.text.as_slice(), EMPTY_PAGE);
+        assert!(rt; !ran.failed);
+    }
+    for end in 0..FIND.len() {
+        let ran = whole(&rt, rt.alloc(), &FIND[..end], ALL)?;
+        assert_eq!(rt; ran.end, SessionEnd::Eof);
+        assert!(rt; ran.text.is_empty());
+    }
+    Ok(())
+}
+
+#[test]
+fn first_write_and_query(rt: HostRuntime) -> Result<(), Fail> {
+    let mut out = Vec::from_slice(rt.alloc(), CREATED)?;
+    out.extend_from_slice(ONE_FOUND)?;
+    for most in [ALL, 1] {
+        let ran = whole(&rt, rt.alloc(), WRITE_AND_FIND, most)?;
+        assert_eq!(rt; ran.end, SessionEnd::Eof);
+        assert_eq!(rt; ran.text.as_slice(), out.as_slice());
+        assert_eq!(rt; ran.writes, 2);
+    }
+    for end in 0..WRITE_AND_FIND.len() {
+        let ran = whole(&rt, rt.alloc(), &WRITE_AND_FIND[..end], ALL)?;
+        assert_eq!(rt; ran.end, SessionEnd::Eof);
+        assert!(rt; ran.text.is_empty() || ran.text.as_slice() == CREATED);
+    }
+    Ok(())
+}
+
+#[test]
+fn pipelined_messages_cost_no_extra_read(rt: HostRuntime) -> Result<(), Fail> {
+    let ran = whole(&rt, rt.alloc(), WRITE_AND_FIND, ALL)?;
+    assert_eq!(rt; ran.reads, 2);
+    Ok(())
+}
+
+#[test]
+fn bytes_after_a_finished_message(rt: HostRuntime) -> Result<(), Fail> {
+    let mut bytes = Vec::from_slice(rt.alloc(), FIND)?;
+    bytes.extend_from_slice(b"GET /db/x HT")?;
+    for most in [ALL, 1] {
+        let ran = whole(&rt, rt.alloc(), &bytes, most)?;
+        assert_eq!(rt; ran.end, SessionEnd::Eof);
+        assert_eq!(rt; ran.text.as_slice(), EMPTY_PAGE);
+    }
+    Ok(())
+}
+
+#[test]
+fn heads_that_are_refused(rt: HostRuntime) -> Result<(), Fail> {
+    let heads: [&[u8]; 6] = [
+        b"X\r\n",
+        b"GET /db/x HTTP/1.1\r\n\r\n",
+        b"POST /other/_find HTTP/1.1\r\nContent-Length: 2\r\n\r\n{}",
+        b"POST /db/_find HTTP/1.1\r\nContent-Length: 2\r\nContent-Length: 3\r\n\r\n{}",
+        b"POST /db/_find HTTP/1.1\r\nContent-Length: 8388609\r\n\r\n",
+        b"POST /db/_find HTTP/1.1\r\nConnection: close\r\nContent-Length: 2\r\n\r\n{}",
+    ];
+    for head in heads {
+        for most in [ALL, 1] {
+            let ran = whole(&rt, rt.alloc(), head, most)?;
+            assert_eq!(rt; ran.end, SessionEnd::Refused);
+            assert_eq!(rt; ran.text.as_slice(), BAD_HEAD);
+        }
+    }
+    Ok(())
+}
+
+#[test]
+fn body_that_is_no_json_is_answered_and_the_session_goes_on(rt: HostRuntime) -> Result<(), Fail> {
+    let mut bytes = Vec::from_slice(
+        rt.alloc(),
+        b"POST /db/_find HTTP/1.1\r\nContent-Length: 5\r\n\r\n[1.5]",
+    )?;
+    bytes.extend_from_slice(FIND)?;
+    let mut out = Vec::from_slice(rt.alloc(), INVALID_JSON)?;
+    out.extend_from_slice(EMPTY_PAGE)?;
+    let ran = whole(&rt, rt.alloc(), &bytes, ALL)?;
+    assert_eq!(rt; ran.end, SessionEnd::Eof);
+    assert_eq!(rt; ran.text.as_slice(), out.as_slice());
+    Ok(())
+}
+
+#[test]
+fn devices_that_fail_in_mid_stream(rt: HostRuntime) -> Result<(), Fail> {
+    let ran = run(&rt, rt.alloc(), WRITE_AND_FIND, 130, 1, ALL)?;
+    assert_eq!(rt; ran.end, SessionEnd::ReadFault);
+    assert_eq!(rt; ran.text.as_slice(), CREATED);
+    assert!(rt; ran.failed);
+    let ran = run(&rt, rt.alloc(), WRITE_AND_FIND, ALL, 99, CREATED.len() + 5)?;
+    assert_eq!(rt; ran.end, SessionEnd::WriteFault);
+    assert_eq!(rt; ran.text.len(), CREATED.len() + 5);
+    assert!(rt; ran.failed);
+    Ok(())
+}

@@ -1,0 +1,21 @@
+//! Tests of the libraries, a module for each crate.
+#![tactic(auto)]
+
+#[cfg(test)]
+mod collate_tests;
+#[cfg(test)]
+mod doc_tests;
+#[cfg(test)]
+mod engine_tests;
+#[cfg(test)]
+mod http_tests;
+#[cfg(test)]
+mod merge_tests;
+#[cfg(test)]
+mod path_tests;
+#[cfg(test)]
+mod revtree_tests;
+#[cfg(test)]
+mod selector_tests;
+#[cfg(test)]
+mod value_tests;

@@ -1,0 +1,6 @@
+pub mod Views
+pub mod Lookup
+mod Whole
+mod Texts
+mod Written
+mod Trees

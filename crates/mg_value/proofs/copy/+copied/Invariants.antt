@@ -1,0 +1,11 @@
+use Rattle.std.proofs.Common.{◌≡◌, List, ◌++◌, take, map}
+use Rattle.mg_value.specs.View.{view, members_view}
+use Rattle.mg_value.proofs.Views.{Entry}
+use Rattle.mg_value.proofs.copy.+copied.Given as goal
+
+abbrev pub invariant-copied_items-loop-item : goal.invariant-copied_items-loop-item
+invariant-copied_items-loop-item l = map view l.copies.items ≡ map view (take l.item-index l.items)
+
+abbrev pub invariant-copied_members-loop-name : goal.invariant-copied_members-loop-name
+invariant-copied_members-loop-name l =
+    (done : List Entry) × (l.members.entries ≡ done ++ l.name-iterator) × (members_view l.copies.entries ≡ members_view done)

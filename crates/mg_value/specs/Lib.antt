@@ -1,0 +1,6 @@
+pub mod Value
+pub mod View
+pub mod Text
+pub mod Code
+pub mod Held
+pub mod Borrowed

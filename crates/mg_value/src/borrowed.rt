@@ -1,0 +1,113 @@
+// The first reading of a text: over a tree that borrows its strings, for texts all of whose numbers are whole.
+ghost use Rattle.std.specs.Prelude.{◌≡◌, ◌<◌, ◌==◌, true, false, length, slice_index, Some, IsTrue, IfSome, option_and_then};
+ghost use Rattle.json.specs.Value.{value_view, items_view as tree_items, members_view as tree_members};
+ghost use Rattle.serde_json.specs.Find.{as_i64};
+ghost use Rattle.serde_json.specs.Read.{number_from};
+ghost use Rattle.mg_value.specs.Borrowed.{whole_number_of, IsWhole, AreWholeItems, AreWholeMembers};
+ghost use Rattle.mg_value.specs.Text.{Reads};
+ghost use Rattle.mg_value.specs.View.{view, items_view, members_view};
+
+use crate::value::Json;
+use fast_float::Numeral;
+use json::{Reader, Scratch, Value as Tree};
+use std::alloc::Global;
+use std::collections::BTreeMap;
+
+// How deep arrays and objects nest at most, as `serde_json` reads them.
+const MAX_DEPTH: usize = 127;
+
+// The value, where the bytes are a text all of whose numbers are held as an `i64`.
+pub(crate) fn read_whole(alloc: Global, bytes: &[u8]) -> Option<Json>
+    ensures { IfSome result (λ v. Reads bytes.now (view v)) }
+{
+    let Ok(text) = simdutf8::compat::from_utf8(bytes) else {
+        return None;
+    };
+    let mut scratch = Scratch::new(alloc);
+    let Ok(mut reader) = Reader::new(text, &mut scratch) else {
+        return None;
+    };
+    let Ok(tree) = Tree::read(alloc, &mut reader, MAX_DEPTH) else {
+        return None;
+    };
+    if reader.next().is_some() {
+        return None;
+    }
+    whole(alloc, &tree)
+}
+
+#[cycle(whole)]
+#[inline(always)]
+fn whole(alloc: Global, tree: &Tree<'_>) -> Option<Json>
+    ensures { IfSome result (λ v. IsWhole (value_view tree.now) (view v)) }
+{
+    match tree {
+        Tree::Null => Some(Json::Null),
+        Tree::Bool(flag) => Some(Json::Flag(*flag)),
+        Tree::Number(text) => Some(Json::Whole(whole_number(text)?)),
+        Tree::String(text) => Some(Json::Text(String::from_str(alloc, text).ok()?)),
+        Tree::Array(items) => Some(Json::List(whole_items(alloc, items)?)),
+        Tree::Object(members) => Some(Json::Object(whole_members(alloc, members)?)),
+    }
+}
+
+#[cycle(whole)]
+#[inline(never)]
+fn whole_items(alloc: Global, items: &[Tree<'_>]) -> Option<Vec<Json>>
+    ensures { IfSome result (λ vs. AreWholeItems (tree_items items.now) (items_view vs.items)) }
+{
+    let mut found = Vec::with_capacity(alloc, items.len()).ok()?;
+    for item in items {
+        found.push(whole(alloc, item)?).ok()?;
+    }
+    Some(found)
+}
+
+#[cycle(whole)]
+#[inline(never)]
+fn whole_members(alloc: Global, members: &[(&str, Tree<'_>)]) -> Option<BTreeMap<String, Json>>
+    ensures { IfSome result
+        (λ m. AreWholeMembers (tree_members members.now) (members_view m.entries)) }
+{
+    let mut found = BTreeMap::new(alloc);
+    for member in members {
+        let name = String::from_str(alloc, member.0).ok()?;
+        let value = whole(alloc, &member.1)?;
+        drop(found.insert(name, value).ok()?);
+    }
+    Some(found)
+}
+
+fn whole_number(text: &str) -> Option<i64>
+    ensures { IfSome result (λ z. whole_number_of text.now ≡ Some z) }
+{
+    let bytes = text.as_bytes();
+    if has_minus(bytes) {
+        negative(&Numeral::scan(&bytes[1..]))
+    } else {
+        unsigned(&Numeral::scan(bytes))
+    }
+}
+
+fn has_minus(bytes: &[u8]) -> bool
+    ensures value { result ≡ (slice_index bytes.now 0 == 45) }
+    ensures len { IsTrue result → 0 < length bytes.now }
+{
+    !bytes.is_empty() && bytes[0] == b'-'
+}
+
+fn unsigned(numeral: &Numeral<'_>) -> Option<i64>
+    ensures { IfSome result
+        (λ z. option_and_then as_i64 (number_from false numeral.now) ≡ Some z) }
+{
+    numeral.to_i64(false)
+}
+
+// `-0` is a float.
+fn negative(numeral: &Numeral<'_>) -> Option<i64>
+    ensures { IfSome result
+        (λ z. option_and_then as_i64 (number_from true numeral.now) ≡ Some z) }
+{
+    let number = numeral.to_i64(true)?;
+    if number < 0 { Some(number) } else { None }
+}

@@ -1,0 +1,48 @@
+ghost use Rattle.std.specs.Prelude.{◌≡◌, IfOk};
+ghost use Rattle.mg_value.specs.View.{view, items_view, members_view};
+
+use crate::error::NoMemory;
+use crate::value::Json;
+use std::alloc::Global;
+use std::collections::BTreeMap;
+
+// An equal value, each text and list of it in memory of its own.
+#[cycle(copied)]
+pub(crate) fn copied(alloc: Global, value: &Json) -> Result<Json, NoMemory>
+    ensures { IfOk result (λ v. view v ≡ view value.now) }
+{
+    match value {
+        Json::Null => Ok(Json::Null),
+        Json::Flag(flag) => Ok(Json::Flag(*flag)),
+        Json::Whole(number) => Ok(Json::Whole(*number)),
+        Json::Text(text) => Ok(Json::Text(text.clone()?)),
+        Json::List(items) => Ok(Json::List(copied_items(alloc, items)?)),
+        Json::Object(members) => Ok(Json::Object(copied_members(alloc, members)?)),
+    }
+}
+
+#[cycle(copied)]
+fn copied_items(alloc: Global, items: &[Json]) -> Result<Vec<Json>, NoMemory>
+    ensures { IfOk result (λ v. items_view v.items ≡ items_view items.now) }
+{
+    let mut copies = Vec::with_capacity(alloc, items.len())?;
+    for item in items {
+        copies.push(copied(alloc, item)?)?;
+    }
+    Ok(copies)
+}
+
+#[cycle(copied)]
+fn copied_members(
+    alloc: Global,
+    members: &BTreeMap<String, Json>,
+) -> Result<BTreeMap<String, Json>, NoMemory>
+    ensures { IfOk result (λ m. members_view m.entries ≡ members_view members.now.entries) }
+{
+    let mut copies = BTreeMap::new(alloc);
+    for (name, member) in members.iter() {
+        let copied_name = name.clone()?;
+        drop(copies.insert(copied_name, copied(alloc, member)?)?);
+    }
+    Ok(copies)
+}

@@ -1,0 +1,105 @@
+ghost use Rattle.std.specs.Prelude.{◌≡◌, None, Some, Err, IfOk, option_map};
+ghost use Rattle.serde_json.specs.Data.{Data};
+ghost use Rattle.serde_json.specs.View.{view as data_view, items_view as data_items_view, members_view as data_members_view};
+ghost use Rattle.mg_value.specs.Text.{Reads, IsText, whole_of, whole_items, whole_members};
+ghost use Rattle.mg_value.specs.View.{view, items_view, members_view};
+
+use crate::borrowed::read_whole;
+use crate::error::ReadError;
+use crate::value::Json;
+use serde_json::{Map, Value};
+use std::alloc::Global;
+use std::collections::BTreeMap;
+
+/// Reads the value that the bytes are: a JSON text by RFC 8259 in UTF-8, with spaces as they come.
+///
+/// Arrays and objects nest at most 127 deep, as `serde_json` reads them. Of a member that comes
+/// twice in an object the last one counts, so `{"a":1.5,"a":1}` is `{"a":1}`.
+///
+/// Errors: `NotJson` where the bytes are no such text, or a number is too large for a 64-bit float;
+/// `NotWhole` where they are one and some number of the value is not held as an `i64`, as `1.5`,
+/// `1.0`, `1e2`, `-0` or `9223372036854775808`; `NoMemory` where a growth was refused.
+/// Cost: the length of the text, and for each object its members times the logarithm of their count.
+pub fn read(alloc: Global, bytes: &[u8]) -> Result<Json, ReadError>
+    ensures ok { IfOk result (λ v. Reads bytes.now (view v)) }
+    ensures not_json { result ≡ Err ReadError.NotJson → (d : Data) → ¬ IsText bytes.now d }
+    ensures not_whole { result ≡ Err ReadError.NotWhole
+        → (d : Data) × IsText bytes.now d × (whole_of d ≡ None) }
+{
+    match read_whole(alloc, bytes) {
+        Some(value) => Ok(value),
+        None => read_again(alloc, bytes),
+    }
+}
+
+// The same over a tree that has each number's value. It says why a text was refused, and reads those
+// in which a later member of the same name stands for one whose number is not whole.
+fn read_again(alloc: Global, bytes: &[u8]) -> Result<Json, ReadError>
+    ensures ok { IfOk result (λ v. Reads bytes.now (view v)) }
+    ensures not_json { result ≡ Err ReadError.NotJson → (d : Data) → ¬ IsText bytes.now d }
+    ensures not_whole { result ≡ Err ReadError.NotWhole
+        → (d : Data) × IsText bytes.now d × (whole_of d ≡ None) }
+{
+    match Value::from_slice(alloc, bytes) {
+        Ok(value) => whole(alloc, value),
+        Err(error) => if error.is_memory() {
+            Err(ReadError::NoMemory)
+        } else {
+            Err(ReadError::NotJson)
+        },
+    }
+}
+
+// The texts and the names move: none is copied.
+#[cycle(whole)]
+fn whole(alloc: Global, value: Value) -> Result<Json, ReadError>
+    ensures ok { IfOk result (λ v. whole_of (data_view value) ≡ Some (view v)) }
+    ensures json { result ≡ Err ReadError.NotJson → ⊥ }
+    ensures not_whole { result ≡ Err ReadError.NotWhole → whole_of (data_view value) ≡ None }
+{
+    match value {
+        Value::Null => Ok(Json::Null),
+        Value::Bool(flag) => Ok(Json::Flag(flag)),
+        Value::Number(number) => match number.as_i64() {
+            Some(number) => Ok(Json::Whole(number)),
+            None => Err(ReadError::NotWhole),
+        },
+        Value::String(text) => Ok(Json::Text(text)),
+        Value::Array(items) => Ok(Json::List(items_whole(alloc, items)?)),
+        Value::Object(members) => Ok(Json::Object(members_whole(alloc, members)?)),
+    }
+}
+
+#[cycle(whole)]
+fn items_whole(alloc: Global, items: Vec<Value>) -> Result<Vec<Json>, ReadError>
+    ensures ok { IfOk result
+        (λ v. whole_items (data_items_view items.items) ≡ Some (items_view v.items)) }
+    ensures json { result ≡ Err ReadError.NotJson → ⊥ }
+    ensures not_whole { result ≡ Err ReadError.NotWhole
+        → whole_items (data_items_view items.items) ≡ None }
+{
+    let mut found = Vec::with_capacity(alloc, items.len())?;
+    for item in items {
+        found.push(whole(alloc, item)?)?;
+    }
+    Ok(found)
+}
+
+#[cycle(whole)]
+fn members_whole(
+    alloc: Global,
+    members: Map<String, Value>,
+) -> Result<BTreeMap<String, Json>, ReadError>
+    ensures ok { IfOk result
+        (λ m. whole_members (data_members_view members.entries) ≡ Some (members_view m.entries)) }
+    ensures json { result ≡ Err ReadError.NotJson → ⊥ }
+    ensures not_whole { result ≡ Err ReadError.NotWhole
+        → whole_members (data_members_view members.entries) ≡ None }
+{
+    let mut found = BTreeMap::new(alloc);
+    for (name, member) in members {
+        let member = whole(alloc, member)?;
+        drop(found.insert(name, member)?);
+    }
+    Ok(found)
+}
