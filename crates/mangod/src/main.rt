@@ -13,7 +13,7 @@ use crate::config::Settings;
 use crate::ends::ending;
 use crate::placement::OneShard;
 use mg_engine::Engine;
-use mg_http::{Device, Solo, session};
+use mg_http::{Device, Solo};
 use std::env::{self, Env};
 use std::io::{ErrorKind, Read, Write};
 use std::process::ExitCode;
@@ -44,14 +44,7 @@ fn serve<R: Wait + Threads + AllocGlobal, I: Read + Drop, O: Write + Drop>(
     };
     let mut reader = Device::new(input);
     let mut writer = Device::new(output);
-    ending(&session(
-        rt,
-        alloc,
-        settings.db,
-        &mut reader,
-        &mut writer,
-        &mut service,
-    ))
+    ending(&service.serve(rt, alloc, settings.db, &mut reader, &mut writer))
 }
 
 /// The program's arguments, without its name.

@@ -4,3 +4,4 @@ pub mod ListLemmas
 pub mod MessageLemmas
 pub mod ReplyLemmas
 pub mod SessionLemmas
+pub mod TalkLemmas

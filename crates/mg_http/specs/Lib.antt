@@ -6,3 +6,4 @@ pub mod Message
 pub mod Reply
 pub mod Session
 pub mod Solo
+pub mod Talk

@@ -9,6 +9,7 @@ pub mod message;
 mod reply;
 pub mod service;
 pub mod sessions;
+mod talks;
 
 pub use device::Device;
 pub use service::{Service, Solo};

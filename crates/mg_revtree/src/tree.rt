@@ -281,8 +281,8 @@ impl RevTree {
     /// newest was known, its mark and body stay.
     ///
     /// Errors: `BadHistory` where the path gives a known revision a parent other than its known one. A refusal leaves
-    /// the tree as it was. Cost: the length of the path times the logarithm of the known revisions, and the number
-    /// of the leaves. Source: the replication model of CouchDB.
+    /// the tree as it was. Cost: the length of the path times the logarithm of the known revisions, and times the
+    /// number of the leaves; unknown revisions are inserted into a sorted vector. Source: the replication model of CouchDB.
     pub fn merge(&mut self, path: &History, deleted: bool, body: Json) -> Result<Merged, MergeError>
         ensures accepted { OnOk result ((h : Paths) → StandsFor self.old h → StandsFor self.new (with_path h (path_of path.now deleted (view body)))) }
         ensures found { IfOk result (λ m. (h : Paths) → StandsFor self.old h → m ≡ found_of h path.now) }

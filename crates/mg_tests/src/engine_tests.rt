@@ -21,8 +21,16 @@ const BULK: &str = "bulk";
 
 const FIND: &str = "find";
 
-// A command by its kind and body.
+const GET: &str = "get";
+
+// A command by its kind and its body, or the id that is asked for.
 fn command(alloc: Global, kind: &str, body: &str) -> Result<Command, Fail> {
+    if kind == GET {
+        return Ok(Command::Get {
+            id: String::from_str(alloc, body)?,
+            conflicts: false,
+        });
+    }
     let body = read(alloc, body.as_bytes())?;
     if kind == BULK {
         Ok(Command::Bulk(body))
@@ -112,6 +120,7 @@ fn winner(rt: HostRuntime) -> Result<(), Fail> {
                 200,
                 r#"{"bookmark":"W251bGwsIl9hbGxfZG9jcyIsImFzYyIsWyJ3Il0sInciXQ","docs":[{"_id":"w","_rev":"2-c","x":2}]}"#,
             ),
+            (GET, "w", 200, r#"{"_id":"w","_rev":"2-c","x":2}"#),
             (
                 BULK,
                 r#"{"docs":[{"_id":"w","_rev":"3-d","_revisions":{"start":3,"ids":["d","c","a"]},"_deleted":true}],"new_edits":false}"#,
@@ -124,6 +133,7 @@ fn winner(rt: HostRuntime) -> Result<(), Fail> {
                 200,
                 r#"{"bookmark":"W251bGwsIl9hbGxfZG9jcyIsImFzYyIsWyJ3Il0sInciXQ","docs":[{"_id":"w","_rev":"2-b","x":1}]}"#,
             ),
+            (GET, "w", 200, r#"{"_id":"w","_rev":"2-b","x":1}"#),
             (
                 BULK,
                 r#"{"docs":[{"_id":"w","_rev":"2-b","_deleted":true}]}"#,
@@ -136,6 +146,8 @@ fn winner(rt: HostRuntime) -> Result<(), Fail> {
                 200,
                 r#"{"bookmark":"nil","docs":[]}"#,
             ),
+            (GET, "w", 404, r#"{"error":"not_found","reason":"deleted"}"#),
+            (GET, "v", 404, r#"{"error":"not_found","reason":"missing"}"#),
         ],
     )
 }
@@ -227,6 +239,12 @@ fn bad_documents(rt: HostRuntime) -> Result<(), Fail> {
                 r#"{"docs":[{"_id":"ok1"},{"_id":"_x"}]}"#,
                 400,
                 r#"{"error":"doc_validation","reason":"Bad document id."}"#,
+            ),
+            (
+                GET,
+                "ok1",
+                404,
+                r#"{"error":"not_found","reason":"missing"}"#,
             ),
             (
                 FIND,

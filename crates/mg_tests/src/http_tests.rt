@@ -197,6 +197,25 @@ fn bytes_after_a_finished_message(rt: HostRuntime) -> Result<(), Fail> {
         assert_eq!(rt; ran.end, SessionEnd::Eof);
         assert_eq!(rt; ran.text.as_slice(), EMPTY_PAGE);
     }
+    for end in FIND.len()..bytes.len() {
+        let ran = whole(&rt, rt.alloc(), &bytes[..end], ALL)?;
+        assert_eq!(rt; ran.end, SessionEnd::Eof);
+        assert_eq!(rt; ran.text.as_slice(), EMPTY_PAGE);
+    }
+    Ok(())
+}
+
+// A head that is cut short is waited for, or refused as soon as nothing can make it one.
+#[test]
+fn head_that_is_none_is_cut(rt: HostRuntime) -> Result<(), Fail> {
+    for head in [b"".as_slice(), b"X"] {
+        let ran = whole(&rt, rt.alloc(), head, ALL)?;
+        assert_eq!(rt; ran.end, SessionEnd::Eof);
+        assert!(rt; ran.text.is_empty());
+    }
+    let ran = whole(&rt, rt.alloc(), b"X\r", ALL)?;
+    assert_eq!(rt; ran.end, SessionEnd::Refused);
+    assert_eq!(rt; ran.text.as_slice(), BAD_HEAD);
     Ok(())
 }
 

@@ -1,0 +1,60 @@
+-- A session of a service that stands for worlds is the talk of the world that it stands for.
+use Rattle.std.proofs.Common.{◌≡◌, ◌⊎◌, ℕ, List, [], ◌∷◌, Option, Some, None, refl, inl, inr, subst, sym}
+use Rattle.mg_engine.specs.Commands.{Asked, Answer, next}
+use Rattle.mg_engine.specs.Run.{Answers}
+use Rattle.mg_engine.specs.World.{World}
+use Rattle.mg_http.specs.declared.head.Route.{Route}
+use Rattle.mg_http.specs.declared.sessions.SessionEnd.{SessionEnd}
+use Rattle.mg_http.specs.declared.sessions.SessionEnd.TheVariants.{Eof, Closed, Refused, ReadFault, WriteFault, Limit}
+use Rattle.mg_http.specs.Message.{Begins}
+use Rattle.mg_http.specs.Session.{Call, Handles, Serves, Answered, Ends, Converses}
+use Rattle.mg_http.specs.Talk.{AtWorld, Talks}
+
+-- a command that is answered at a world leaves one for which the service stands
+pub at_world : (ends : World → Type 0) (w : World) (c : Asked) (r : Option Answer) → Answers w c r ends → (u : World) × AtWorld w c r u × ends u
+at_world ends w c None h = (w, refl, h)
+at_world ends w c (Some a) h = (next w c, (h.0, refl), h.1)
+
+module _ {S : Type 0} (answers : S → Asked → Option Answer → S → Type 0) (stands : S → World → Type 0) (db : List ℕ)
+    (steps : (old : S) (c : Asked) (r : Option Answer) (new : S) (w : World) → answers old c r new → stands old w → (u : World) × AtWorld w c r u × stands new u) where
+  same : (old new : S) (w : World) → new ≡ old → stands old w → stands new w
+  same old new w e h = subst (λ (s : S). stands s w) (sym e) h
+
+  handled : (old : S) (route : Route) (body : List ℕ) (reply : Option Answer) (new : S) (w : World) → Handles answers old route body reply new → stands old w
+      → (u : World) × Handles AtWorld w route body reply u × stands new u
+  handled old route body reply new w (inl asked) h =
+      let s = steps old _ reply new w asked.2 h in
+      (s.0, inl (asked.0, asked.1, s.1), s.2)
+  handled old route body reply new w (inr (inl none)) h = (w, inr (inl (none.0, none.1, refl)), same old new w none.2 h)
+  handled old route body reply new w (inr (inr refused)) h = (w, inr (inr (refused.0, refl)), same old new w refused.1 h)
+
+  served : (old : S) (bytes : List ℕ) (calls : List Call) (text rest : List ℕ) (new : S) (w : World) → Serves answers db old bytes calls text rest new → stands old w
+      → (u : World) × Serves AtWorld db w bytes calls text rest u × stands new u
+  served old bytes [] text rest new w h st = (w, (h.0, h.1, refl), same old new w h.2 st)
+  served old bytes (call ∷ calls) text rest new w h st =
+      let one = handled old call.route call.body call.reply h.2 w h.4 st in
+      let more = served h.2 h.0 calls h.1 rest new one.0 h.6 one.2 in
+      (more.0, (h.0, h.1, one.0, h.3, one.1, h.5, more.1), more.2)
+
+  ended : (end : SessionEnd) (old : S) (rest last : List ℕ) (new : S) (w : World) → Ends answers db end old rest last new → stands old w
+      → (u : World) × Ends AtWorld db end w rest last u × stands new u
+  ended Eof old rest last new w h st = (w, (h.0, h.1, refl), same old new w h.2 st)
+  ended ReadFault old rest last new w h st = (w, (h.0, h.1, refl), same old new w h.2 st)
+  ended Limit old rest last new w h st = (w, (h.0, refl), same old new w h.1 st)
+  ended Closed old rest last new w h st = absurd h
+  ended Refused old rest last new w h st = (w, (h.0, refl), same old new w h.1 st)
+  ended WriteFault old rest last new w (whole, prefix, inl answered) st =
+      let one = handled old answered.0.route answered.0.body answered.0.reply new w answered.3 st in
+      (one.0, (whole, prefix, inl (answered.0, answered.1, answered.2, one.1, answered.4)), one.2)
+  ended WriteFault old rest last new w (whole, prefix, inr refused) st =
+      (w, (whole, prefix, inr (refused.0, refl)), same old new w refused.1 st)
+
+  pub talks : (old : S) (bytes written : List ℕ) (new : S) (end : SessionEnd) (w : World) → Converses answers db old bytes written new end → stands old w
+      → (u : World) × Talks db w bytes written u end × stands new u
+  talks old bytes written new end w h st =
+      let first = served old bytes h.calls h.text h.rest h.mid w h.served st in
+      let last = ended end h.mid h.rest h.last new first.0 h.ended first.2 in (
+        last.0,
+        record { calls = h.calls; text = h.text; rest = h.rest; mid = first.0; served = first.1; last = h.last; ended = last.1; written_is = h.written_is },
+        last.2,
+      )

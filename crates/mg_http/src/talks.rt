@@ -1,0 +1,43 @@
+ghost use Rattle.std.specs.Prelude.{◌≡◌, ◌↔◌, ℕ, List, false, IsTrue};
+ghost use Rattle.std.specs.Io.KnownBytes.{Appends, Consumes, IsAtEnd};
+ghost use Rattle.mg_engine.specs.Stands.{Stands};
+ghost use Rattle.mg_engine.specs.World.{World};
+ghost use Rattle.mg_http.specs.Device.{inner_of, has_failed};
+ghost use Rattle.mg_http.specs.Talk.{Talks};
+
+use crate::device::Device;
+use crate::service::Solo;
+use crate::sessions::{SessionEnd, session};
+use mg_shard::Placement;
+use std::alloc::Global;
+use std::io::{Read, Write};
+use std::sync::Wait;
+use std::thread::Threads;
+
+impl<P: Placement + Drop> Solo<P> {
+    /// Serves one session of the database `db`: what is written is the talk of the engine's world and the bytes that
+    /// were read, and the engine then stands for the world that they leave.
+    ///
+    /// Errors are ends: see `SessionEnd`. Cost: that of the commands, and one pass over the bytes.
+    pub fn serve<H: Wait + Threads, R: Read, W: Write>(
+        &mut self,
+        rt: &H,
+        alloc: Global,
+        db: &str,
+        reader: &mut Device<R>,
+        writer: &mut Device<W>,
+    ) -> SessionEnd
+        requires reading { has_failed reader.old ≡ false }
+        requires writing { has_failed writer.old ≡ false }
+        ensures talk { (w : World) → Stands P.place self.old.engine w
+            → (bytes : List ℕ) × (written : List ℕ) × (u : World)
+            × Consumes (R.remaining (inner_of reader.old)) (R.remaining (inner_of reader.new)) bytes
+            × Appends (W.contents (inner_of writer.old)) (W.contents (inner_of writer.new)) written
+            × Talks db.now w bytes written u result × Stands P.place self.new.engine u }
+        ensures eof { result ≡ SessionEnd.Eof → IsAtEnd (R.remaining (inner_of reader.new)) }
+        ensures read_fault { IsTrue (has_failed reader.new) ↔ (result ≡ SessionEnd.ReadFault) }
+        ensures write_fault { IsTrue (has_failed writer.new) ↔ (result ≡ SessionEnd.WriteFault) }
+    {
+        session(rt, alloc, db, reader, writer, self)
+    }
+}
