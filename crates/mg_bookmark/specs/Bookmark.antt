@@ -1,10 +1,9 @@
 -- Bookmarks of a page, as in CouchDB's `_find`: the base64url (RFC 4648, without padding) of the compact text of
 -- `[ddoc, name, direction, key, id]`.
-use Rattle.std.specs.Prelude.{ℕ, List, codes, Option, Some, None, map, string_bytes}
+use Rattle.std.specs.Prelude.{ℕ, List, codes, Option, Some, None}
 use Rattle.base64.specs.GeneralPurpose.{encode_of}
 use Rattle.base64.specs.Engines.{url_safe_no_pad}
 use Rattle.mg_value.specs.Value.{Value, null, text, list, Items, item, no_items}
-use Rattle.mg_value.specs.View.{items_view}
 use Rattle.mg_value.specs.Text.{compact}
 use Rattle.mg_collate.specs.declared.direction.Direction.{Direction}
 use Rattle.mg_collate.specs.declared.direction.Direction.TheVariants.{Asc, Desc}

@@ -1,5 +1,5 @@
 -- Pages that are filled row by row.
-use Rattle.std.proofs.Common.{◌≡◌, ℕ, ◌+◌, ◌-◌, ◌<◌, ◌≤◌, zero, suc, Bool, true, false, List, [], ◌∷◌, ◌++◌, Option, Some, None, length, map, take, filter, refl, ap, sym, ◌∙◌, append-nil, append_assoc, length-append, arith}
+use Rattle.std.proofs.Common.{◌≡◌, ℕ, ◌+◌, ◌-◌, ◌<◌, ◌≤◌, zero, suc, Bool, true, false, List, [], ◌∷◌, ◌++◌, Option, Some, None, length, take, filter, refl, sym, append-nil, append_assoc, length-append, arith}
 use Rattle.std.specs.List.{filter_map}
 use Rattle.mg_value.specs.Value.{Value}
 use Rattle.mg_revtree.specs.Tree.{Tree}

@@ -1,8 +1,7 @@
 -- Edits that are read one after another.
-use Rattle.std.proofs.Common.{◌≡◌, List, [], ◌∷◌, ◌++◌, Bool, true, false, ◌&&◌, Result, Ok, Err, refl, sym, ap, ◌∙◌, append-nil, append_assoc}
+use Rattle.std.proofs.Common.{◌≡◌, List, [], ◌∷◌, ◌++◌, Bool, true, false, ◌&&◌, Result, Ok, Err, refl, sym, ap, append-nil, append_assoc}
 use Rattle.mg_doc.specs.Document.{Edit, then_read}
 use Rattle.mg_doc.specs.declared.error.DocError.{DocError}
-use Rattle.mg_engine.specs.Bulk.{edits_or_refusal, refusal_of}
 
 -- what was read, before the rest
 abbrev pub edits_before : List Edit → Result (List Edit) DocError → Result (List Edit) DocError

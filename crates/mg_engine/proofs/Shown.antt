@@ -1,6 +1,6 @@
 -- A `BTreeMap` of documents beside the finite map that it shows.
 use lib.Dec.{T}
-use Rattle.std.proofs.Common.{◌≡◌, ℕ, Bool, true, false, ◌&&◌, List, [], ◌∷◌, ◌++◌, String, BTreeMap, Global, Ordering, Less, Equal, Greater, Option, Some, None, option_map, map, cond, string_bytes, string_cmp, nat_cmp, refl, ap, sym, ◌∙◌}
+use Rattle.std.proofs.Common.{◌≡◌, ℕ, Bool, true, false, ◌&&◌, List, [], ◌∷◌, ◌++◌, String, Global, Ordering, Less, Equal, Greater, Option, Some, option_map, map, cond, string_bytes, string_cmp, nat_cmp, refl, ap, sym, ◌∙◌}
 use Rattle.std.proofs.lemmas.Cmp.{nat_list_cmp_total}
 use Rattle.std.specs.Arc.{arc_value}
 use Rattle.std.specs.Cmp.Lexicographic.{slice_cmp}
@@ -10,7 +10,7 @@ use Rattle.std.specs.Map.{keys_of, lookup}
 use Rattle.std.specs.Ordering.{match_ordering, ordering_reverse, is_eq, eq_by_cmp}
 use Rattle.std.specs.BTreeMap.{insert_entry, is_at}
 use Rattle.std.specs.FinMap.Entries.{by_order, find-put, below_all}
-use Rattle.std.specs.FinMap.{FinMap, from_entries, from_sorted, insert, get, entries, put, find, is_sorted, get-from_entries, get-insert, get-from_sorted, same_map, slice_cmp-IsAntisymmetric, nat_cmp-IsAntisymmetric, entries-from_sorted, IsAntisymmetric}
+use Rattle.std.specs.FinMap.{from_sorted, insert, get, entries, put, find, is_sorted, get-from_entries, get-insert, get-from_sorted, same_map, slice_cmp-IsAntisymmetric, nat_cmp-IsAntisymmetric, entries-from_sorted, IsAntisymmetric}
 use Rattle.std.specs.declared.sync.Arc.{Arc}
 use Rattle.mg_engine.specs.Documents.{Kept, kept_of, entry_of, shown}
 use Rattle.mg_engine.specs.declared.document.Document.{Document}

@@ -1,6 +1,6 @@
 -- Documents that stand for histories: look-ups, insertions, and what is served of all.
 use lib.Dec.{T}
-use Rattle.std.proofs.Common.{◌≡◌, ℕ, Bool, true, false, ◌&&◌, List, [], ◌∷◌, ◌++◌, Result, Ok, Err, Ordering, Less, Equal, Greater, Option, Some, None, option_map, unwrap_or, map, cond, nat_cmp, refl, ap, sym, ◌∙◌, subst}
+use Rattle.std.proofs.Common.{◌≡◌, ℕ, Bool, true, false, ◌&&◌, List, [], ◌∷◌, ◌++◌, Ok, Err, Ordering, Less, Equal, Greater, Option, Some, None, option_map, unwrap_or, map, cond, refl, ap, sym, ◌∙◌, subst}
 use Rattle.std.proofs.lemmas.Cmp.{nat_list_cmp_total}
 use Rattle.std.specs.List.{filter_map}
 use Rattle.std.specs.Ordering.{is_lt, is_eq, eq_by_cmp}

@@ -1,6 +1,6 @@
 -- The bodies of replies: the compact text of a value and a line feed.
 use Rattle.std.specs.Prelude.{ℕ, List, [], ◌∷◌, ◌++◌, codes}
-use Rattle.mg_value.specs.Value.{Value, text, list, object, Items, item, Members, member, no_members}
+use Rattle.mg_value.specs.Value.{Value, text, list, object, Items, item, member, no_members}
 use Rattle.mg_value.specs.View.{view, items_of}
 use Rattle.mg_value.specs.declared.value.Json.{Json}
 use Rattle.mg_value.specs.Text.{compact}

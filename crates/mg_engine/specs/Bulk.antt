@@ -3,7 +3,7 @@ use Rattle.std.specs.Prelude.{ℕ, ◌+◌, ◌%◌, ◌^◌, List, [], ◌∷�
 use Rattle.std.specs.FinMap.{insert}
 use Rattle.std.specs.Int.{to_be_bytes, w64}
 use Rattle.hex.specs.Hex.{encode_lower}
-use Rattle.mg_value.specs.Value.{Value, null, flag, whole, text, list, object, Items, no_items, item, Members, no_members, member, get_member}
+use Rattle.mg_value.specs.Value.{Value, flag, text, list, object, Items, no_items, item, no_members, member, get_member}
 use Rattle.mg_revtree.specs.Revision.{Revision, revision_text}
 use Rattle.mg_doc.specs.Document.{Edit, edit_of, is_object, then_read}
 use Rattle.mg_doc.specs.Edit.{edited, outcome_of}

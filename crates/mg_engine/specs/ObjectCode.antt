@@ -1,7 +1,7 @@
 -- How the logic stores the members of an object: as the object.
 use Rattle.std.specs.Prelude.{refl}
 use Rattle.std.specs.Coded.{Coded, code_by}
-use Rattle.mg_value.specs.Value.{Value, null, flag, whole, text, list, object, Members, no_members}
+use Rattle.mg_value.specs.Value.{Value, object, Members, no_members}
 use Rattle.mg_value.specs.Code.{value_code}
 
 abbrev pub members_in : Value → Members

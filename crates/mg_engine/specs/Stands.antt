@@ -1,5 +1,5 @@
 -- Which world an engine stands for.
-use Rattle.std.specs.Prelude.{◌≡◌, ℕ, List, [], Bool, Option, refl}
+use Rattle.std.specs.Prelude.{◌≡◌, ℕ, List, [], refl}
 use Rattle.std.specs.Coded.{Coded, code_by, coded×, coded_ℕ, coded_list, coded_option}
 use Rattle.std.specs.FinMap as finite
 use Rattle.mg_value.specs.Code.{value_code}

@@ -1,5 +1,5 @@
 -- The world: what a database holds, with no mention of how it is kept.
-use Rattle.std.specs.Prelude.{ℕ, List, [], ◌∷◌, Option, Some, None, option_map, unwrap_or, refl}
+use Rattle.std.specs.Prelude.{ℕ, List, [], Option, option_map, unwrap_or}
 use Rattle.std.specs.Cmp.Lexicographic.{slice_cmp}
 use Rattle.std.specs.FinMap as finite
 use Rattle.std.specs.FinMap.{FinMap, entries}

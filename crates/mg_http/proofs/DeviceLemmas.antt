@@ -1,12 +1,12 @@
 -- One write after another.
-use Rattle.std.proofs.Common.{◌≡◌, ℕ, suc, List, [], ◌∷◌, ◌++◌, length, take, drop, Option, Result, Ok, Err, refl, append-nil, sym, ap, ◌∙◌, append_assoc, take-append-drop, get_or, subst, ◌<◌, ◌+◌, drop-cons}
+use Rattle.std.proofs.Common.{◌≡◌, ℕ, suc, List, [], ◌∷◌, ◌++◌, length, take, drop, Option, Result, Ok, Err, append-nil, sym, ap, ◌∙◌, append_assoc, take-append-drop, get_or, ◌<◌, drop-cons}
 use Rattle.std.specs.List.{flat_map}
 use Rattle.std.proofs.lemmas.Grind.{flat_map-append}
 use Rattle.std.proofs.Math.Seq.{take-suc}
 use Rattle.std.proofs.KnownBytes.{Appends-trans}
 use Rattle.std.specs.Io.KnownBytes.{Appends}
 use Rattle.mg_http.specs.declared.device.Fault.{Fault}
-use Rattle.mg_http.specs.Device.{IsPrefix, WritesPart, Writes, Gathers}
+use Rattle.mg_http.specs.Device.{WritesPart, Writes, Gathers}
 
 -- a part of what follows what was written
 pub part_then : (x y z : Option (List ℕ)) (front rest : List ℕ) → Appends x y front → WritesPart y z rest → WritesPart x z (front ++ rest)

@@ -1,18 +1,14 @@
 -- A head that is read in a window of the bytes, and two readings of the same bytes.
-use Rattle.std.proofs.Common.{◌≡◌, ℕ, ◌+◌, ◌-◌, ◌<◌, ◌≤◌, List, [], ◌∷◌, ◌++◌, length, take, drop, Some, refl, sym, ap, ◌∙◌, subst, append_assoc, append-nil, take-append-drop, drop-drop, arith, length-append, length-take, length-drop, codes, map, inl, inr}
+use Rattle.std.proofs.Common.{◌≡◌, ℕ, ◌+◌, ◌-◌, ◌<◌, ◌≤◌, List, [], ◌∷◌, ◌++◌, length, take, drop, sym, ap, ◌∙◌, subst, append_assoc, append-nil, take-append-drop, drop-drop, arith, length-append, length-take, length-drop, inl, inr}
 use Rattle.std.specs.Prelude.{slice_range}
 use Rattle.std.proofs.lemmas.Grind.{common_steps}
-use Rattle.std.proofs.lemmas.List.{append_cancel_left, drop-append-le}
-use Rattle.std.proofs.Math.Seq.{take-append_seam, drop-append_seam}
-use Rattle.httparse.specs.Grammar.{RequestHead, print_request, ReadsRequest, HasNoRequest, NeverHasRequest}
-use Rattle.httparse.proofs.GrammarLemmas.{request_unique, ReadsRequest-append}
-use Rattle.httparse.specs.Spans.{name_and_value}
+use Rattle.std.proofs.lemmas.List.{drop-append-le}
+use Rattle.httparse.specs.Grammar.{RequestHead, print_request, ReadsRequest, NeverHasRequest}
+use Rattle.httparse.proofs.GrammarLemmas.{ReadsRequest-append}
 use Rattle.mg_http.specs.declared.head.Route.{Route}
-use Rattle.mg_http.specs.declared.head.Route.TheVariants.{BulkDocs, Find}
 use Rattle.mg_http.specs.declared.head.HeadRead.TheVariants.{Framed}
-use Rattle.mg_http.specs.Fields.{body_length}
-use Rattle.mg_http.specs.Head.{target_of, IsFramed, IsHeadRead}
-use Rattle.mg_http.specs.Message.{Begins, IsPartHead, IsWaiting, HasOther}
+use Rattle.mg_http.specs.Head.{IsHeadRead}
+use Rattle.mg_http.specs.Message.{Begins, IsPartHead, IsWaiting}
 
 -- a part, and what follows it
 cut : (xs : List ℕ) (i n : ℕ) → drop i xs ≡ slice_range xs i (i + n) ++ drop (i + n) xs

@@ -7,9 +7,9 @@ use Rattle.mg_engine.specs.Commands.{Asked, Answer}
 use Rattle.mg_http.specs.declared.device.Fault.{Fault}
 use Rattle.mg_http.specs.declared.head.Route.{Route}
 use Rattle.mg_http.specs.declared.sessions.SessionEnd.{SessionEnd}
-use Rattle.mg_http.specs.declared.sessions.SessionEnd.TheVariants.{Eof, Closed, Refused, ReadFault, WriteFault, Limit}
+use Rattle.mg_http.specs.declared.sessions.SessionEnd.TheVariants.{Refused, WriteFault}
 use Rattle.mg_http.specs.Device.{Writes, WritesPart}
-use Rattle.mg_http.specs.Message.{Begins, IsWaiting}
+use Rattle.mg_http.specs.Message.{Begins}
 use Rattle.mg_http.specs.Reply.{reply_text}
 use Rattle.mg_http.specs.Session.{Call, Handles, Serves, Refuses, Ends, Converses}
 

@@ -1,13 +1,12 @@
 -- A session of a service that stands for worlds is the talk of the world that it stands for.
-use Rattle.std.proofs.Common.{◌≡◌, ◌⊎◌, ℕ, List, [], ◌∷◌, Option, Some, None, refl, inl, inr, subst, sym}
+use Rattle.std.proofs.Common.{◌≡◌, ℕ, List, [], ◌∷◌, Option, Some, None, refl, inl, inr, subst, sym}
 use Rattle.mg_engine.specs.Commands.{Asked, Answer, next}
 use Rattle.mg_engine.specs.Run.{Answers}
 use Rattle.mg_engine.specs.World.{World}
 use Rattle.mg_http.specs.declared.head.Route.{Route}
 use Rattle.mg_http.specs.declared.sessions.SessionEnd.{SessionEnd}
 use Rattle.mg_http.specs.declared.sessions.SessionEnd.TheVariants.{Eof, Closed, Refused, ReadFault, WriteFault, Limit}
-use Rattle.mg_http.specs.Message.{Begins}
-use Rattle.mg_http.specs.Session.{Call, Handles, Serves, Answered, Ends, Converses}
+use Rattle.mg_http.specs.Session.{Call, Handles, Serves, Ends, Converses}
 use Rattle.mg_http.specs.Talk.{AtWorld, Talks}
 
 -- a command that is answered at a world leaves one for which the service stands

@@ -1,5 +1,5 @@
 -- The text of a reply (RFC 9112, section 4): a status line, the type and the length of the body, and the body.
-use Rattle.std.specs.Prelude.{ℕ, List, [], ◌++◌, length, codes, decimal, Option, Some, None, unwrap_or, nat_le, nat_lt, ◌&&◌, if◌then◌else◌}
+use Rattle.std.specs.Prelude.{ℕ, List, [], ◌++◌, length, codes, decimal, Option, unwrap_or, nat_le, nat_lt, ◌&&◌, if◌then◌else◌}
 use Rattle.http.specs.StatusCode.{reason_phrase}
 use Rattle.mg_engine.specs.declared.refusal.Refusal.TheVariants.{OutOfMemory}
 use Rattle.mg_engine.specs.Commands.{Answer, refused}

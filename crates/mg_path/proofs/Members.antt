@@ -1,19 +1,17 @@
 -- A part that is placed under a name among members.
-use Rattle.std.proofs.Common.{◌≡◌, ℕ, List, [], ◌∷◌, ◌++◌, String, Global, Bool, true, false, Option, Some, None, option_map, map, string_bytes, string_cmp, nat_cmp, BTreeMap, Ordering, Less, Equal, Greater, is_eq, cond, refl, ap, ◌∙◌, sym}
+use Rattle.std.proofs.Common.{◌≡◌, ℕ, List, [], ◌∷◌, String, Global, Bool, Some, None, option_map, string_bytes, string_cmp, nat_cmp, Ordering, Less, Equal, Greater, refl, ap, ◌∙◌, sym}
 use Rattle.std.specs.Option.{unwrap_or}
 use Rattle.std.specs.Map.{set_value, lookup, keys_of}
 use Rattle.std.specs.List.{AllByRecursion}
 use Rattle.std.specs.List.Sorted.{IsStrictlySortedBy}
 use Rattle.std.specs.BTreeMap.{is_at, insert_entry}
 use Rattle.std.specs.Cmp.Lexicographic.{slice_cmp}
-use Rattle.std.specs.Ordering.{match_ordering, ordering_reverse}
 use Rattle.std.proofs.lemmas.Cmp.{nat_list_cmp_total}
 use Rattle.mg_value.specs.Value as value
 use Rattle.mg_value.specs.Value.{Value, Members, put, get_member}
 use Rattle.mg_value.specs.View.{view, members_view}
 use Rattle.mg_value.specs.declared.value.Json.{Json}
-use Rattle.mg_value.specs.declared.value.Json as made
-use Rattle.mg_value.proofs.Views.{Entry, view-Object, members_view-insert_entry}
+use Rattle.mg_value.proofs.Views.{Entry, members_view-insert_entry}
 use Rattle.mg_value.proofs.Lookup.{view-lookup}
 use Rattle.mg_path.specs.Part.{placed, with_member}
 

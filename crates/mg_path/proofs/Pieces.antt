@@ -1,11 +1,10 @@
 -- The pieces of a text as they are found from left to right.
-use Rattle.std.proofs.Common.{◌≡◌, ◌⊎◌, inl, inr, ℕ, ◌+◌, ◌-◌, ◌/◌, ◌%◌, ◌≤◌, ◌<◌, List, [], ◌∷◌, ◌++◌, Option, Some, None, Bool, true, false, cond, eqb, ltb, get_or, length, take, ◌≢◌, refl, ap, ap₂, ◌∙◌, sym, append_assoc, append-nil, arith}
+use Rattle.std.proofs.Common.{◌≡◌, ◌⊎◌, inl, inr, ℕ, ◌+◌, ◌-◌, ◌/◌, ◌%◌, ◌<◌, List, [], ◌∷◌, ◌++◌, Some, None, Bool, true, false, cond, eqb, ltb, get_or, length, take, ◌≢◌, refl, ap, ap₂, ◌∙◌, sym, append_assoc, append-nil, arith}
 use Rattle.std.proofs.lemmas.Grind.{common_steps}
 use Rattle.std.specs.List.{AllByRecursion, list_any}
 use Rattle.std.proofs.lemmas.Bool.{eqb-true, ne_eqb}
 use Rattle.std.proofs.Math.Utf8.{encode}
-use Rattle.std.proofs.lemmas.Str.{encode_ascii}
-use Rattle.mg_path.specs.Part.{pieces_after, pieces_of, with_character, before_first_step, starts_with_dot, is_empty, steps_of}
+use Rattle.mg_path.specs.Part.{pieces_after, pieces_of, before_first_step, is_empty, steps_of}
 
 abbrev pub ends_in_backslash : List ℕ → Bool
 ends_in_backslash step = eqb (get_or step (length step - 1) 0) 92

@@ -1,5 +1,5 @@
 -- The place that a step names, and the item there.
-use Rattle.std.proofs.Common.{◌≡◌, ℕ, ◌+◌, ◌<◌, ◌≤◌, ◌^◌, List, [], ◌∷◌, Bool, true, false, Option, Some, None, option_map, map, length, get_or, Bor, Result, Ok, Err, MatchOption, refl, ap, ◌∙◌, sym, arith, eqb, cond}
+use Rattle.std.proofs.Common.{◌≡◌, ℕ, ◌<◌, ◌≤◌, ◌^◌, List, [], ◌∷◌, Bool, true, false, Option, Some, None, option_map, map, length, Bor, Result, Ok, Err, MatchOption, refl, ap, ◌∙◌, sym, arith, eqb, cond}
 use Rattle.std.specs.Option.{option_and_then}
 use Rattle.std.specs.List.{slice_get}
 use Rattle.std.specs.Slice.{IsItemAt}
@@ -8,7 +8,6 @@ use Rattle.std.specs.Str.{all_ascii_digits}
 use Rattle.std.specs.Str.Parse.{ParsesUnsigned, digits_value}
 use Rattle.std.proofs.lemmas.Str.Parse.{IsNumeralModel, numerals_by_value, tells_all_ascii_digits, parse_plain}
 use Rattle.std.proofs.lemmas.Option.{slice_get-map, slice_get_past, slice_get-get_or}
-use Rattle.std.proofs.lemmas.Grind.{common_steps}
 use Rattle.mg_value.specs.Value.{Value, item_list}
 use Rattle.mg_value.specs.View.{view, items_of, items_view}
 use Rattle.mg_value.specs.declared.value.Json.{Json}

@@ -1,11 +1,11 @@
 -- Paths and the parts of a value, after the field syntax of CouchDB's `_find`: a clause sees a `Path` as the list of
 -- its steps, and a step as its bytes.
-use Rattle.std.specs.Prelude.{ℕ, Bool, true, false, not, ◌&&◌, ◌||◌, ◌==◌, if◌then◌else◌, List, [], ◌∷◌, Option, Some, None, option_and_then, slice_get}
+use Rattle.std.specs.Prelude.{ℕ, Bool, true, false, not, ◌&&◌, ◌==◌, if◌then◌else◌, List, [], ◌∷◌, Option, Some, None, option_and_then, slice_get}
 use Rattle.std.specs.List.{list_any, fold}
 use Rattle.std.specs.Option.{option_map_or, unwrap_or}
 use Rattle.std.specs.Str.{all_ascii_digits}
 use Rattle.std.specs.Str.Parse.{digits_value}
-use Rattle.mg_value.specs.Value.{Value, null, flag, whole, text, list, object, Items, no_items, item, Members, no_members, member, put, get_member, item_list}
+use Rattle.mg_value.specs.Value.{Value, list, object, Members, no_members, put, get_member, item_list}
 
 -- the character is a dot
 abbrev pub is_dot : ℕ → Bool

@@ -1,6 +1,6 @@
 -- The page that answers a query, after CouchDB's `_find`: of the documents that the selector holds of, in the order of the
 -- index that serves them, the first of them, and the bookmark of the last.
-use Rattle.std.specs.Prelude.{ℕ, List, [], ◌∷◌, Bool, codes, Option, Some, None, filter, take, map, length, ◌-◌, slice_get}
+use Rattle.std.specs.Prelude.{ℕ, List, Bool, codes, Some, None, filter, take, map, length, ◌-◌, slice_get}
 use Rattle.std.specs.Option.{option_map_or}
 use Rattle.mg_value.specs.Value.{Value, text, item, no_items}
 use Rattle.mg_collate.specs.declared.direction.Direction.TheVariants.{Asc}

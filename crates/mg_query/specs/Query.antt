@@ -1,7 +1,7 @@
 -- How the body of a query is read, after CouchDB's `_find`.
 use Rattle.std.specs.Prelude.{List, [], ◌∷◌, ℕ, Bool, codes, Option, Some, None, is_some, Result, Ok, Err, if◌then◌else◌}
 use Rattle.std.specs.List.{list_any}
-use Rattle.mg_value.specs.Value.{Value, null, flag, whole, text, list, object, Members, get_member}
+use Rattle.mg_value.specs.Value.{Value, object, Members, get_member}
 use Rattle.mg_selector.specs.Selector.{Selector}
 use Rattle.mg_selector.specs.Reading.{reading}
 use Rattle.mg_selector.specs.declared.error.SelError.{SelError}

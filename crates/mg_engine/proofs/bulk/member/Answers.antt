@@ -1,4 +1,4 @@
-use Rattle.std.proofs.Common.{◌≡◌, option_map, ap, ◌∙◌}
+use Rattle.std.proofs.Common.{option_map, ap, ◌∙◌}
 use Rattle.mg_value.specs.View.{view}
 use Rattle.mg_value.proofs.Lookup.{view_of_ref, view-lookup}
 use Rattle.mg_engine.proofs.bulk.member.Goals as goal

@@ -1,4 +1,4 @@
-use Rattle.std.proofs.Common.{◌≡◌, Ok, Err, ap, sym, ◌∙◌, subst}
+use Rattle.std.proofs.Common.{◌≡◌, Ok, Err, sym, subst}
 use Rattle.std.specs.FinMap.{insert}
 use Rattle.mg_revtree.specs.Tree.{StandsFor}
 use Rattle.mg_doc.specs.Edit.{edited}

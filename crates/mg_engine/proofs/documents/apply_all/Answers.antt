@@ -1,8 +1,7 @@
 use Rattle.std.proofs.Common.{◌≡◌, ◌+◌, [], ◌∷◌, drop, refl, ap, sym, ◌∙◌, subst}
 use Rattle.std.proofs.Math.ListN.{drop_of_length-le}
-use Rattle.mg_value.specs.Value.{Items}
 use Rattle.mg_engine.specs.Bodies.{items_before}
-use Rattle.mg_engine.specs.Bulk.{after_edit, after_edits, id_in, outcome_in, outcomes, entries_of, entry_of, entry_before}
+use Rattle.mg_engine.specs.Bulk.{after_edit, after_edits, id_in, outcomes, entries_of, entry_of, entry_before}
 use Rattle.mg_engine.specs.Documents.{shown, StandFor}
 use Rattle.mg_engine.specs.World.{Histories}
 use Rattle.mg_engine.proofs.Runs.{drop_item}

@@ -2,7 +2,6 @@ use Rattle.std.proofs.Common.{◌≡◌, [], ◌∷◌, ◌++◌, map, string_by
 use Rattle.std.specs.List.Sorted.{IsStrictlySortedBy}
 use Rattle.std.specs.Map.{keys_of}
 use Rattle.mg_engine.specs.Documents.{entry_of, kept_of}
-use Rattle.std.specs.Arc.{arc_value}
 use Rattle.mg_engine.proofs.Shown.{Entry, kept_in, seen-insert_entry, goes_last}
 use Rattle.mg_engine.proofs.documents.copied.Goals as goal
 

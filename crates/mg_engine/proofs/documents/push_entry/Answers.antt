@@ -1,4 +1,4 @@
-use Rattle.std.proofs.Common.{◌≡◌, ap, sym, ◌∙◌, option_map}
+use Rattle.std.proofs.Common.{ap, sym, ◌∙◌, option_map}
 use Rattle.mg_value.specs.View.{view}
 use Rattle.mg_engine.specs.Bodies.{items_before}
 use Rattle.mg_engine.specs.Bulk.{entry_before}

@@ -1,7 +1,7 @@
-use Rattle.std.proofs.Common.{◌≡◌, ◌+◌, List, [], ◌∷◌, drop, map, ap, sym, ◌∙◌}
+use Rattle.std.proofs.Common.{◌+◌, List, drop, map, ap, sym, ◌∙◌}
 use Rattle.std.proofs.Math.ListN.{drop_of_length-le}
 use Rattle.mg_value.specs.Value.{Items, item}
-use Rattle.mg_value.specs.View.{view, items_of}
+use Rattle.mg_value.specs.View.{items_of}
 use Rattle.mg_engine.specs.Bodies.{items_before}
 use Rattle.mg_engine.specs.Found.{row_of}
 use Rattle.mg_engine.specs.declared.page.Found.{Found}

@@ -1,8 +1,7 @@
-use Rattle.std.proofs.Common.{◌≡◌, ◌-◌, ◌<◌, ◌≤◌, List, ◌∷◌, ◌++◌, length, map, take, string_bytes, option_map, ap, sym, ◌∙◌, arith}
+use Rattle.std.proofs.Common.{◌≡◌, ◌-◌, ◌<◌, ◌++◌, length, map, take, string_bytes, option_map, ap, sym, ◌∙◌, arith}
 use Rattle.std.proofs.lemmas.List.{length-map}
 use Rattle.std.specs.Arc.{arc_value}
 use Rattle.mg_value.specs.View.{view}
-use Rattle.mg_query.specs.Page.{Row}
 use Rattle.mg_query.specs.Seen.{query_seen}
 use Rattle.mg_engine.specs.Documents.{entry_of, kept_of}
 use Rattle.mg_engine.specs.Found.{asked_form, asked_rows, row_list, row_of}

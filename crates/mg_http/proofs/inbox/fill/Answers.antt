@@ -1,4 +1,4 @@
-use Rattle.std.proofs.Common.{◌≡◌, ℕ, List, [], ◌++◌, refl, sym, ap, ◌∙◌, append-nil, take}
+use Rattle.std.proofs.Common.{ℕ, List, [], ◌++◌, refl, sym, ap, ◌∙◌, append-nil}
 use Rattle.std.proofs.KnownBytes.{Consumes-trans}
 use Rattle.mg_http.proofs.inbox.fill.Goals as goal
 

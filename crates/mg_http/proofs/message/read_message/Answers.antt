@@ -1,6 +1,6 @@
-use Rattle.std.proofs.Common.{arith, ◌≡◌, ◌+◌, ◌≤◌, inl, inr, ◌++◌, drop, take, min, length}
+use Rattle.std.proofs.Common.{arith, ◌≡◌, inl, inr, ◌++◌, drop, take}
 use Rattle.std.proofs.lemmas.Grind.{common_steps}
-use Rattle.mg_http.proofs.MessageLemmas.{widen, head_fits, never_widen, within, whole, waits, part_head}
+use Rattle.mg_http.proofs.MessageLemmas.{widen, head_fits, never_widen, whole, waits, part_head}
 use Rattle.mg_http.proofs.message.read_message.Goals as goal
 
 pub returns-then-bytes-end : goal.returns-then-bytes-end

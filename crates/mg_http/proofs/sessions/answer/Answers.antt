@@ -1,4 +1,4 @@
-use Rattle.std.proofs.Common.{ap, Some, Err, inl, inr, refl, ◌∙◌}
+use Rattle.std.proofs.Common.{ap, Some, Err, inl, inr, refl}
 use Rattle.mg_value.specs.View.{view}
 use Rattle.mg_engine.specs.declared.refusal.Refusal.TheVariants.{InvalidJson}
 use Rattle.mg_engine.specs.Commands.{refused}

@@ -1,4 +1,4 @@
-use Rattle.std.proofs.Common.{◌≡◌, ◌<◌, ◌++◌, arith, inl, inr, refl, sym, ap, length, append-nil, drop-drop}
+use Rattle.std.proofs.Common.{◌<◌, ◌++◌, arith, inl, inr, refl, sym, ap, length, append-nil, drop-drop}
 use Rattle.std.proofs.KnownBytes.{Consumes-nil}
 use Rattle.mg_http.specs.Inbox.{unanswered}
 use Rattle.mg_http.proofs.SessionLemmas.{reply_fails, replied, refuses, stops, reads_on}

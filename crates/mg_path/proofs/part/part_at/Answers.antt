@@ -1,4 +1,4 @@
-use Rattle.std.proofs.Common.{◌≡◌, option_map, ap, ◌∙◌, sym}
+use Rattle.std.proofs.Common.{option_map, ap, ◌∙◌, sym}
 use Rattle.mg_value.specs.View.{view}
 use Rattle.mg_value.proofs.Views.{view-Object}
 use Rattle.mg_value.proofs.Lookup.{view_of_ref, view-lookup}

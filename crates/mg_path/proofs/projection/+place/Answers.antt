@@ -1,4 +1,4 @@
-use Rattle.std.proofs.Common.{◌≡◌, Some, None, string_bytes, string_cmp, map, ap, sym, ◌∙◌}
+use Rattle.std.proofs.Common.{string_bytes, string_cmp, map, ap, sym, ◌∙◌}
 use Rattle.std.specs.BTreeMap.{insert_entry}
 use Rattle.std.specs.Map.{lookup, set_value}
 use Rattle.mg_value.specs.Value as value

@@ -1,4 +1,4 @@
-use Rattle.std.proofs.Common.{◌≡◌, ap, ◌+◌}
+use Rattle.std.proofs.Common.{ap, ◌+◌}
 use Rattle.mg_engine.specs.View.{asked, said}
 use Rattle.mg_engine.specs.Stands.{Stands}
 use Rattle.mg_engine.proofs.Runs.{world_then, ends_then, goes_on_after, ends_here}

@@ -1,4 +1,4 @@
-use Rattle.std.proofs.Common.{◌≡◌, ap, ◌∙◌}
+use Rattle.std.proofs.Common.{ap, ◌∙◌}
 use Rattle.mg_value.specs.Value.{put}
 use Rattle.mg_value.specs.View.{view, members_view}
 use Rattle.mg_value.proofs.Views.{members_view-insert_entry}

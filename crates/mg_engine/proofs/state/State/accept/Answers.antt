@@ -1,7 +1,6 @@
-use Rattle.std.proofs.Common.{◌≡◌, Ok, Some, ap, ap₂, sym, ◌∙◌, subst}
+use Rattle.std.proofs.Common.{◌≡◌, Some, ap, sym, ◌∙◌, subst}
 use Rattle.std.specs.Prelude.{List, ℕ}
-use Rattle.mg_value.specs.Value.{Items, list}
-use Rattle.mg_value.specs.View.{view, items_view}
+use Rattle.mg_value.specs.Value.{list}
 use Rattle.mg_value.proofs.Views.{view-List}
 use Rattle.mg_doc.specs.Document.{Edit}
 use Rattle.mg_engine.specs.Bodies.{line_of}

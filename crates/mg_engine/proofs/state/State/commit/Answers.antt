@@ -1,4 +1,4 @@
-use Rattle.std.proofs.Common.{◌≡◌, unwrap_or}
+use Rattle.std.proofs.Common.{unwrap_or}
 use Rattle.mg_engine.specs.Stands.{Holds}
 use Rattle.mg_engine.specs.View.{asked, said}
 use Rattle.mg_engine.proofs.Runs.{answered}

@@ -1,11 +1,9 @@
-use Rattle.std.proofs.Common.{◌≡◌, Ok, Some, ap, sym, ◌∙◌}
-use Rattle.mg_value.specs.View.{view}
+use Rattle.std.proofs.Common.{◌≡◌, Some, ap, sym, ◌∙◌}
 use Rattle.mg_query.specs.Page.{Row, answer_of}
-use Rattle.mg_query.specs.Query.{query_of}
 use Rattle.mg_query.specs.Seen.{query_seen}
 use Rattle.mg_engine.specs.Bodies.{line_of, page_value}
 use Rattle.mg_engine.specs.Commands.{Answer, found}
-use Rattle.mg_engine.specs.Documents.{KeptDocuments, kept_rows, shown}
+use Rattle.mg_engine.specs.Documents.{kept_rows, shown}
 use Rattle.mg_engine.specs.Stands.{Shown}
 use Rattle.mg_engine.specs.World.{documents_of}
 use Rattle.mg_engine.proofs.Standing.{same_rows}

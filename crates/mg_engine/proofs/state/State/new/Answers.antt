@@ -1,4 +1,4 @@
-use Rattle.std.proofs.Common.{◌≡◌, refl}
+use Rattle.std.proofs.Common.{refl}
 use Rattle.mg_engine.proofs.Standing.{stand_empty}
 use Rattle.mg_engine.proofs.state.State.new.Goals as goal
 

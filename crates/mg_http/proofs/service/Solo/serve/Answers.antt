@@ -1,4 +1,3 @@
-use Rattle.std.proofs.Common.{◌≡◌}
 use Rattle.mg_engine.specs.Stands.{Stands}
 use Rattle.mg_http.proofs.TalkLemmas.{at_world, talks}
 use Rattle.mg_http.proofs.service.Solo.serve.Goals as goal
