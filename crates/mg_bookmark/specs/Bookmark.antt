@@ -16,14 +16,17 @@ pub record Place : Type 0 where
   pub key : Items
   pub id : List ℕ
 
+-- the design document as it is written, null for `_all_docs`
 abbrev pub ddoc_value : Option (List ℕ) → Value
 ddoc_value None = null
 ddoc_value (Some s) = text s
 
+-- the word for a direction
 abbrev pub direction_text : Direction → List ℕ
 direction_text Asc = codes "asc"
 direction_text Desc = codes "desc"
 
+-- the array that is spelled
 abbrev pub place_value : Place → Value
 place_value p = list (item (ddoc_value p.ddoc) (item (text p.name) (item (text (direction_text p.direction)) (item (list p.key) (item (text p.id) no_items)))))
 

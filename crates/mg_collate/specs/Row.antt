@@ -20,6 +20,7 @@ RowValue = Items × List ℕ
 abbrev pub row_view : Row → RowValue
 row_view r = (items_view r.key.items, string_bytes r.id)
 
+-- the rows that these stand for
 abbrev pub rows_view : List Row → List RowValue
 rows_view rows = map row_view rows
 
@@ -35,6 +36,7 @@ id_order = on (λ r. r.1) (slice_cmp nat_cmp)
 abbrev pub row_value_order : RowValue → RowValue → Ordering
 row_value_order = then_cmp key_order id_order
 
+-- the order of rows: by key, then by the bytes of the id
 abbrev pub row_order : Row → Row → Ordering
 row_order = on row_view row_value_order
 
@@ -44,17 +46,22 @@ directed_order direction a b = directed direction (row_value_order a b)
 
 -- ---- the laws that Rust's traits of comparison ask for
 
+-- it is a total order
 pub row_value_order_total : IsTotalOrder row_value_order
 row_value_order_total = then_total (on_total (λ r. flat (list r.0)) (lists_total int_cmp_total)) (on_total (λ r. r.1) nat_list_cmp_total)
 
+-- it is a total order of the code's rows
 pub row_order_total : IsTotalOrder row_order
 row_order_total = on_total row_view row_value_order_total
 
+-- rows that tie are alike
 pub row_equivalence : IsEquivalence (eq_by_cmp row_order)
 row_equivalence = eq_by_cmp_equiv row_order_total
 
+-- the laws of `==`
 pub row_eq_laws : IsPartialEquivalence (eq_by_cmp row_order)
 row_eq_laws = partial_equiv_from_equiv row_equivalence
 
+-- the laws of `<`
 pub row_partial_laws : IsPartialOrder (eq_by_cmp row_order) (as_partial_cmp row_order)
 row_partial_laws = partial_order_from_total row_order_total

@@ -7,6 +7,7 @@ use Rattle.mg_revtree.specs.Revision.{Revision}
 use Rattle.mg_revtree.specs.Tree.{revision_code}
 use Rattle.mg_doc.specs.Document.{Edit}
 
+-- how the logic stores an edit
 abbrev pub edit_code : Coded Edit
 edit_code =
     code_by (Option (List ℕ) × (List Revision × (Bool × (Value × Bool))))

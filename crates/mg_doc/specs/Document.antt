@@ -102,9 +102,11 @@ abbrev pub is_enough : Bool → List Revision → Bool
 is_enough new_edit [] = new_edit
 is_enough new_edit (r ∷ rs) = true
 
+-- the path, if there is enough of one
 abbrev pub checked_run : Bool → List Revision → Option (List Revision)
 checked_run new_edit run = if is_enough new_edit run then Some run else None
 
+-- the path that `_rev` and `_revisions` give: both have to be well formed where they are there
 abbrev pub run_given : Bool → Members → Option (List Revision)
 run_given new_edit ms =
     option_and_then (λ rev. option_and_then (λ revisions. checked_run new_edit (given_run rev revisions)) (revisions_of (get_member (codes "_revisions") ms)))
@@ -112,17 +114,21 @@ run_given new_edit ms =
 
 -- ---- a document, or its first fault: a bad member, a bad id, a bad revision, in this order
 
+-- what was found, or this fault
 abbrev pub or_fault : {A : Type 0} → DocError → Option A → Result A DocError
 or_fault e None = Err e
 or_fault e (Some a) = Ok a
 
+-- the first fault, or what the second reading gives
 abbrev pub then_read : {A B : Type 0} → Result A DocError → (A → Result B DocError) → Result B DocError
 then_read (Ok a) f = f a
 then_read (Err e) f = Err e
 
+-- whether the document is a deletion; a bad member is found before all else
 abbrev pub mark_read : Members → Result Bool DocError
 mark_read ms = if has_known_names ms then or_fault BadMember (mark_of (get_member (codes "_deleted") ms)) else Err BadMember
 
+-- the edit that the members ask for, or the first fault
 abbrev pub members_read : Bool → Members → Result Edit DocError
 members_read new_edit ms =
     then_read (mark_read ms) (λ deleted.

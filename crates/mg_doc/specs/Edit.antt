@@ -19,6 +19,7 @@ Accepted = Revision × List Revision
 abbrev pub made : Bool → Value → Option Revision → Revision
 made deleted body base = next_revision base (digest_of deleted base body)
 
+-- the revisions after the made one in its path
 abbrev pub older_of : Option Revision → List Revision
 older_of None = []
 older_of (Some r) = r ∷ []
@@ -40,6 +41,7 @@ abbrev pub base_of : History → Option Revision → Result (Option Revision) Ed
 base_of h None = base_unnamed (winner_of h)
 base_of h (Some r) = Ok (Some r)
 
+-- what is made over the base, if there is one
 abbrev pub over_base : History → Bool → Value → Result (Option Revision) EditError → Result Accepted EditError
 over_base h deleted body (Ok base) = made_over h deleted body base
 over_base h deleted body (Err refused) = Err refused
@@ -61,6 +63,7 @@ replicated h deleted body (r ∷ rs) = if fits h (path_of (r ∷ rs) deleted bod
 abbrev pub accepted_by : History → Edit → Result Accepted EditError
 accepted_by h e = if e.new_edit then extended h e.deleted e.body (newest_of e.run) else replicated h e.deleted e.body e.run
 
+-- the history with the accepted path
 abbrev pub history_after : History → Edit → Result Accepted EditError → History
 history_after h e (Ok a) = with_path h (path_of (a.0 ∷ a.1) e.deleted e.body)
 history_after h e (Err refused) = h
@@ -69,6 +72,7 @@ history_after h e (Err refused) = h
 abbrev pub edited : History → Edit → History
 edited h e = history_after h e (accepted_by h e)
 
+-- the newest revision of the accepted path
 abbrev pub newest_accepted : Result Accepted EditError → Result Revision EditError
 newest_accepted (Ok a) = Ok a.0
 newest_accepted (Err refused) = Err refused

@@ -13,6 +13,7 @@ with_member k v w = w
 abbrev pub served_form : List ℕ → Leaf → Value
 served_form id l = with_member (codes "_id") (text id) (with_member (codes "_rev") (text (revision_text l.rev)) l.body)
 
+-- a winner's form, none where it is deleted
 abbrev pub shown_leaf : List ℕ → Leaf → Option Value
 shown_leaf id l = if l.deleted then None else Some (served_form id l)
 

@@ -6,6 +6,7 @@ use Rattle.mg_value.specs.declared.value.Json.{Json}
 use Rattle.mg_value.specs.Text.{compact}
 use Rattle.mg_query.specs.Page.{Page}
 
+-- the compact text of a value and a line feed
 abbrev pub line_of : Value → List ℕ
 line_of v = compact v ++ 10 ∷ []
 

@@ -28,6 +28,7 @@ pub record Bulk : Type 0 where
   pub new_edits : Bool
   pub documents : Items
 
+-- a bulk of these documents, each of which has to be an object
 abbrev pub of_objects : Bool → Items → Option Bulk
 of_objects new_edits vs = if are_objects vs then Some (record { new_edits = new_edits; documents = vs }) else None
 
@@ -54,6 +55,7 @@ refusal_of document_fault.BadId = BadId
 refusal_of document_fault.BadRev = BadRev
 refusal_of document_fault.NoMemory = OutOfMemory
 
+-- the edits, or the first fault as a refusal
 abbrev pub edits_or_refusal : Result (List Edit) DocError → Result (List Edit) Refusal
 edits_or_refusal (Ok es) = Ok es
 edits_or_refusal (Err e) = Err (refusal_of e)
@@ -97,6 +99,7 @@ last_number n (e ∷ es) = last_number (number_with n e) es
 abbrev pub id_in : Edit → List ℕ
 id_in e = unwrap_or e.id []
 
+-- the histories with the one that an edit leaves
 abbrev pub history_put : Histories → Edit → Result Revision EditError → Histories
 history_put m e (Ok r) = insert m (id_in e) (edited (history_at m (id_in e)) e)
 history_put m e (Err refused) = m
@@ -118,6 +121,7 @@ after_edits m (e ∷ es) = after_edits (after_edit m e) es
 abbrev pub Outcome : Type 0
 Outcome = List ℕ × Result Revision EditError
 
+-- what becomes of each edit, in order
 abbrev pub outcomes : Histories → List Edit → List Outcome
 outcomes m [] = []
 outcomes m (e ∷ es) = (id_in e, outcome_in m e) ∷ outcomes (after_edit m e) es
@@ -140,6 +144,7 @@ entry_of new_edits id (Err Conflict) = Some (refused_entry CONFLICT_ERROR.now id
 entry_of new_edits id (Err BadHistory) = Some (refused_entry BAD_HISTORY_ERROR.now id BAD_HISTORY_REASON.now)
 entry_of new_edits id (Err NoMemory) = None
 
+-- an entry, if there is one, before others
 abbrev pub entry_before : Option Value → Items → Items
 entry_before None vs = vs
 entry_before (Some v) vs = item v vs

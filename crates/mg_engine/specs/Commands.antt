@@ -28,19 +28,23 @@ pub record Answer : Type 0 where
   pub status : ℕ
   pub body : List ℕ
 
+-- the answer that refuses a command
 abbrev pub refused : Refusal → Answer
 refused r = record { status = status_of r; body = refusal_body r }
 
 -- ---- `_bulk_docs`
 
+-- the answer to a bulk whose documents were read, or refused
 abbrev pub told_of : World → Bool → Result (List Edit) Refusal → Answer
 told_of w new_edits (Ok es) = record { status = 201; body = line_of (list (entries_of new_edits (outcomes w.docs (numbered w.counter es)))) }
 told_of w new_edits (Err r) = refused r
 
+-- the answer to a bulk; a body of another shape is refused
 abbrev pub bulk_answer : World → Option Bulk → Answer
 bulk_answer w None = refused WrongShape
 bulk_answer w (Some b) = told_of w b.new_edits (edits_read (Some b))
 
+-- the world after the edits of a bulk, or as it was where the bulk is refused
 abbrev pub world_with : World → Result (List Edit) Refusal → World
 world_with w (Ok es) = record w { docs = after_edits w.docs (numbered w.counter es); counter = last_number w.counter es }
 world_with w (Err r) = w
@@ -54,12 +58,14 @@ refusal_of query_fault.InvalidOperator = InvalidOperator
 refusal_of query_fault.BadArg = BadArg
 refusal_of query_fault.NoMemory = OutOfMemory
 
+-- the answer to a query: its page, or its refusal
 abbrev pub found : World → Result Query QueryError → Answer
 found w (Ok q) = record { status = 200; body = line_of (page_value (answer_of q (documents_of w))) }
 found w (Err e) = refused (refusal_of e)
 
 -- ---- `GET` of a document
 
+-- the answer where there is a history: the served document, or that it is deleted
 abbrev pub shown_or_deleted : Option Value → Answer
 shown_or_deleted (Some v) = record { status = 200; body = line_of v }
 shown_or_deleted None = refused Deleted

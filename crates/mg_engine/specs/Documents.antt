@@ -20,6 +20,7 @@ use Rattle.mg_engine.specs.declared.document.Document.{Document}
 abbrev pub Kept : Type 0
 Kept = Tree × Option Value
 
+-- a document of the code as it is kept
 abbrev pub kept_of : Document → Kept
 kept_of d = (d.tree, option_map view d.served)
 
@@ -31,6 +32,7 @@ entry_of e = (string_bytes e.0, kept_of (arc_value e.1))
 abbrev pub KeptDocuments : Type 0
 KeptDocuments = FinMap (slice_cmp nat_cmp) Kept
 
+-- the documents of the code, by their ids
 abbrev pub shown : List (String Global × Arc Document Global) → KeptDocuments
 shown es = from_entries (map entry_of es)
 

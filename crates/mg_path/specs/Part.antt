@@ -15,10 +15,12 @@ is_dot c = c == 46
 abbrev pub is_backslash : ℕ → Bool
 is_backslash c = c == 92
 
+-- the text is empty
 abbrev pub is_empty : List ℕ → Bool
 is_empty [] = true
 is_empty (c ∷ cs) = false
 
+-- the text begins with a dot
 abbrev pub starts_with_dot : List ℕ → Bool
 starts_with_dot [] = false
 starts_with_dot (c ∷ cs) = is_dot c

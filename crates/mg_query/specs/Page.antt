@@ -29,6 +29,7 @@ page_rows q rows = take page_limit (filter (is_asked q) rows)
 abbrev pub bookmark_at : List ℕ → List ℕ
 bookmark_at id = spelled (record { ddoc = None; name = codes "_all_docs"; direction = Asc; key = item (text id) no_items; id = id })
 
+-- the bookmark of a row
 abbrev pub bookmark_of : Row → List ℕ
 bookmark_of r = bookmark_at r.0
 

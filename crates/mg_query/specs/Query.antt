@@ -24,9 +24,11 @@ fault_of selector_fault.NoMemory = NoMemory
 abbrev pub later_names : List (List ℕ)
 later_names = codes "fields" ∷ codes "use_index" ∷ codes "limit" ∷ codes "skip" ∷ codes "sort" ∷ codes "bookmark" ∷ codes "conflicts" ∷ []
 
+-- whether a body has one of them
 abbrev pub has_later_member : Members → Bool
 has_later_member ms = list_any (λ name. is_some (get_member name ms)) later_names
 
+-- the query of a selector that was read, or its fault
 abbrev pub query_with : Result Selector SelError → Result Query QueryError
 query_with (Ok s) = Ok (record { selector = s })
 query_with (Err e) = Err (fault_of e)

@@ -6,6 +6,7 @@ use Rattle.mg_query.specs.declared.error.QueryError.{QueryError}
 use Rattle.mg_query.specs.declared.error.QueryError.TheVariants.{Shape, InvalidOperator, BadArg, NoMemory}
 use Rattle.mg_query.specs.declared.query.Query as code
 
+-- the query that the code's stands for
 abbrev pub query_seen : code.Query → Query
 query_seen q = record { selector = selector_of q.selector }
 

@@ -8,6 +8,7 @@ use Rattle.mg_revtree.specs.declared.error.Merged.TheVariants.{New, Known as Kno
 use Rattle.mg_revtree.specs.declared.error.TreeError.{TreeError}
 use Rattle.mg_revtree.specs.declared.error.TreeError.TheVariants.{NotLeaf, Full, Known, NoMemory}
 
+-- a path with its mark and body
 abbrev pub path_of : List Revision → Bool → Value → Path
 path_of rs d b = record { revs = rs; deleted = d; body = b }
 
@@ -38,6 +39,7 @@ abbrev pub position_below : Option Revision → ℕ
 position_below None = 0
 position_below (Some r) = r.0
 
+-- the revision made over a base, or the first of a document
 abbrev pub next_revision : Option Revision → List ℕ → Revision
 next_revision base id = (position_below base + 1, id)
 

@@ -43,6 +43,7 @@ abbrev pub is_known : Revision → List Link → Bool
 is_known r [] = false
 is_known r (l ∷ ls) = same_revision r l.rev || is_known r ls
 
+-- the first of two places that has something
 abbrev pub or_else : {A : Type 0} → Option A → Option A → Option A
 or_else None b = b
 or_else (Some a) b = Some a
@@ -79,9 +80,11 @@ marked r (p ∷ h) = if is_at r (newest_of p.revs) then Some (p.deleted, p.body)
 abbrev pub leaf_at : Revision → History → Option (Bool × Value)
 leaf_at r h = if has_child r (all_links h) then None else marked r h
 
+-- the leaf at a revision, if it is one
 abbrev pub leaf_of : History → Revision → Option Leaf
 leaf_of h r = option_map (λ m. record { rev = r; deleted = m.0; body = m.1 }) (leaf_at r h)
 
+-- the revision is a leaf of the history, with this mark and body
 abbrev pub IsLeaf : History → Leaf → Type 0
 IsLeaf h l = leaf_at l.rev h ≡ Some (l.deleted, l.body)
 
@@ -89,9 +92,11 @@ IsLeaf h l = leaf_at l.rev h ≡ Some (l.deleted, l.body)
 abbrev pub leaf_order : Leaf → Leaf → Ordering
 leaf_order = then_cmp (on (λ l. not l.deleted) bool_cmp) (on (λ l. l.rev) revision_order)
 
+-- the better of two leaves, and the first where they tie
 abbrev pub better_of : Leaf → Leaf → Leaf
 better_of l m = if is_lt (leaf_order l m) then m else l
 
+-- the best of a leaf and those after it
 abbrev pub best_from : Leaf → List Leaf → Leaf
 best_from l [] = l
 best_from l (m ∷ ms) = best_from (better_of l m) ms
@@ -117,6 +122,7 @@ agrees None q = true
 agrees (Some p) None = true
 agrees (Some p) (Some q) = same_revision p q
 
+-- whether links give no known revision another parent
 abbrev pub fit : List Link → List Link → Bool
 fit known [] = true
 fit known (l ∷ ls) = if agrees (parent_of l.rev known) l.parent then fit known ls else false

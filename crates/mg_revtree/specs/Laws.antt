@@ -7,6 +7,7 @@ use Rattle.std.specs.declared.cmp.Ordering.TheVariants.{Less}
 
 -- ---- replicas agree
 
+-- the path is one of the history
 abbrev pub Among : Path → History → Type 0
 Among p [] = ⊥
 Among p (q ∷ h) = (p ≡ q) ⊎ Among p h
@@ -20,6 +21,7 @@ pub record SamePaths (h g : History) : Type 0 where
 abbrev pub SameMarks : History → Type 0
 SameMarks h = (r : Revision) (p q : Path) → Among p h → Among q h → is_at r (newest_of p.revs) ≡ true → is_at r (newest_of q.revs) ≡ true → (p.deleted ≡ q.deleted) × (p.body ≡ q.body)
 
+-- the link is one of these
 abbrev pub AmongLinks : Link → List Link → Type 0
 AmongLinks l [] = ⊥
 AmongLinks l (m ∷ ls) = (l ≡ m) ⊎ AmongLinks l ls
@@ -65,6 +67,7 @@ pub record Keeps (h g : History) : Type 0 where
   pub revisions : (r : Revision) → is_known r (all_links h) ≡ true → is_known r (all_links g) ≡ true
   pub parents : (r q : Revision) → parent_of r (all_links h) ≡ Some q → parent_of r (all_links g) ≡ Some q
 
+-- a revision that is known stays known, whatever is accepted later
 abbrev pub NothingIsLost : Type 0
 NothingIsLost = (h : History) (ps : List Path) → Keeps h (h ++ ps)
 

@@ -11,6 +11,7 @@ abbrev pub joined : Option (Option Revision) → Option Revision → Option (Opt
 joined None q = Some q
 joined (Some p) q = Some (or_else p q)
 
+-- the parent that is kept once a link is joined
 abbrev pub put : Link → Revision → Option (Option Revision) → Option (Option Revision)
 put l r o = if same_revision r l.rev then joined o l.parent else o
 

@@ -86,14 +86,18 @@ pub record StandsFor (t : Tree) (h : History) : Type 0 where
 
 -- ---- how they are stored
 
+-- how the logic stores a revision
 abbrev pub revision_code : Coded Revision
 revision_code = coded× coded_ℕ (coded_list coded_ℕ)
 
+-- how it stores a link
 abbrev pub link_code : Coded Link
 link_code = code_by (Revision × Option Revision) (coded× revision_code (coded_option revision_code)) (λ l. (l.rev, l.parent)) (λ p. record { rev = p.0; parent = p.1 }) (λ _. refl)
 
+-- how it stores a leaf
 abbrev pub leaf_code : Coded Leaf
 leaf_code = code_by (Revision × (Bool × Value)) (coded× revision_code (coded× coded_bool value_code)) (λ l. (l.rev, (l.deleted, l.body))) (λ p. record { rev = p.0; deleted = p.1.0; body = p.1.1 }) (λ _. refl)
 
+-- how it stores a tree
 abbrev pub tree_code : Coded Tree
 tree_code = code_by (List Link × List Leaf) (coded× (coded_list link_code) (coded_list leaf_code)) (λ t. (t.links, t.leaves)) (λ p. record { links = p.0; leaves = p.1 }) (λ _. refl)
