@@ -2,8 +2,8 @@ ghost use Rattle.std.specs.Prelude.{◌≡◌, ◌≤◌, ℕ, IfSome};
 
 use crate::config::Settings;
 
-/// The most shards, for now.
-const SHARDS: usize = 1;
+/// The most shards.
+const SHARDS: usize = 64;
 /// The most workers, for now.
 const WORKERS: usize = 1;
 /// The most sessions, for now.
@@ -11,9 +11,9 @@ const SESSIONS: usize = 1;
 
 /// The settings of `DB SHARDS WORKERS SESSIONS ADDR`, none for wrong arguments. Takes no memory.
 ///
-/// For now each number is 1, and ADDR is `-`.
+/// SHARDS is 1 to 64. For now the other numbers are 1, and ADDR is `-`.
 pub(crate) fn settings(words: &[String]) -> Option<Settings<'_>>
-    ensures shards { IfSome result (λ s. s.shards ≡ 1) }
+    ensures shards { IfSome result (λ s. (1 ≤ s.shards) × (s.shards ≤ 64)) }
     ensures workers { IfSome result (λ s. s.workers ≡ 1) }
 {
     match words {
@@ -87,17 +87,20 @@ mod tests {
             "a|1|1|1|-",
             "z9_$()+-a|1|1|1|-",
             "db|01|1|001|-",
+            "db|2|1|1|-",
+            "db|64|1|1|-",
+            "db|064|1|1|-",
         ] {
             let words = words(rt.alloc(), line)?;
             let found = settings(&words);
             assert!(rt; found.is_some(), "{line}");
         }
-        let words = words(rt.alloc(), "db|1|1|1|-")?;
+        let words = words(rt.alloc(), "db|7|1|1|-")?;
         assert_eq!(rt;
             settings(&words),
             Some(Settings {
                 db: "db",
-                shards: 1,
+                shards: 7,
                 workers: 1,
                 sessions: 1,
                 addr: "-",
@@ -124,7 +127,6 @@ mod tests {
             "d/b|1|1|1|-",
             "dé|1|1|1|-",
             "db|0|1|1|-",
-            "db|2|1|1|-",
             "db|65|1|1|-",
             "db|1|0|1|-",
             "db|1|2|1|-",

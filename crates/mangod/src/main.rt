@@ -1,19 +1,18 @@
 //! `mangod DB SHARDS WORKERS SESSIONS ADDR`: the database, over standard input and output.
 #![tactic(auto)]
 
-ghost use Rattle.std.specs.Prelude.{◌≡◌};
+ghost use Rattle.std.specs.Prelude.{◌≡◌, ◌≤◌};
 
 mod arguments;
 mod config;
 mod ends;
-mod placement;
 
 use crate::arguments::settings;
 use crate::config::Settings;
 use crate::ends::ending;
-use crate::placement::OneShard;
 use mg_engine::Engine;
 use mg_http::{Device, Solo};
+use mg_shard::Md5Placement;
 use std::env::{self, Env};
 use std::io::{ErrorKind, Read, Write};
 use std::process::ExitCode;
@@ -31,11 +30,11 @@ fn serve<R: Wait + Threads + AllocGlobal, I: Read + Drop, O: Write + Drop>(
     input: I,
     output: O,
 ) -> (u8, &'static str)
-    requires shards { settings.shards ≡ 1 }
+    requires shards { (1 ≤ settings.shards) × (settings.shards ≤ 64) }
     requires workers { settings.workers ≡ 1 }
 {
     let alloc = rt.alloc();
-    let Ok(engine) = Engine::new(alloc, OneShard, settings.shards) else {
+    let Ok(engine) = Engine::new(alloc, Md5Placement, settings.shards) else {
         return (1, OUT_OF_MEMORY);
     };
     let mut service = Solo {

@@ -56,7 +56,7 @@ stand_empty q = neither q (get empty q) (get empty q) (get-from_entries nat_list
 
 -- ---- insertions
 
-tied : (o : Ordering) → is_eq o ≡ true → o ≡ Equal
+pub tied : (o : Ordering) → is_eq o ≡ true → o ≡ Equal
 tied Less e = absurd (subst T (sym e) tt)
 tied Equal e = refl
 tied Greater e = absurd (subst T (sym e) tt)
@@ -168,12 +168,9 @@ abbrev pub kept_answer : Option (Option Value) → Answer
 kept_answer None = refused Missing
 kept_answer (Some o) = shown_or_deleted o
 
-same_at : (id : List ℕ) (k : Option Kept) (o : Option History) → StandsAt id k o → kept_answer (option_map (λ d. d.1) k) ≡ got id o
+-- it is that of the history
+pub same_at : (id : List ℕ) (k : Option Kept) (o : Option History) → StandsAt id k o → kept_answer (option_map (λ d. d.1) k) ≡ got id o
 same_at id None None st = refl
 same_at id None (Some h) st = absurd st
 same_at id (Some d) None st = absurd st
 same_at id (Some d) (Some h) st = ap shown_or_deleted st.1
-
--- it is that of the history
-pub same_answer : (ds : KeptDocuments) (hs : Histories) (id : List ℕ) (found : Option (Option Value)) → StandFor ds hs → found ≡ option_map (λ d. d.1) (get ds id) → kept_answer found ≡ got id (get hs id)
-same_answer ds hs id found st is = ap kept_answer is ∙ same_at id (get ds id) (get hs id) (st id)

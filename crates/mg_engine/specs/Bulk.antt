@@ -3,7 +3,7 @@ use Rattle.std.specs.Prelude.{ℕ, ◌+◌, ◌%◌, ◌^◌, List, [], ◌∷�
 use Rattle.std.specs.FinMap.{insert}
 use Rattle.std.specs.Int.{to_be_bytes, w64}
 use Rattle.hex.specs.Hex.{encode_lower}
-use Rattle.mg_value.specs.Value.{Value, flag, text, list, object, Items, no_items, item, no_members, member, get_member}
+use Rattle.mg_value.specs.Value.{Value, flag, text, list, object, Items, no_items, item, no_members, member, member_of}
 use Rattle.mg_revtree.specs.Revision.{Revision, revision_text}
 use Rattle.mg_doc.specs.Document.{Edit, edit_of, is_object, then_read}
 use Rattle.mg_doc.specs.Edit.{edited, outcome_of}
@@ -40,8 +40,7 @@ shaped docs new_edits = None
 
 -- the bulk that a body is; anything else has the wrong shape
 abbrev pub bulk_of : Value → Option Bulk
-bulk_of (object ms) = shaped (get_member (codes "docs") ms) (get_member (codes "new_edits") ms)
-bulk_of v = None
+bulk_of v = shaped (member_of (codes "docs") v) (member_of (codes "new_edits") v)
 
 -- its edits, or the first fault of its documents
 abbrev pub edits_of : Bool → Items → Result (List Edit) DocError

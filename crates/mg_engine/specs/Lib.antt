@@ -3,10 +3,10 @@ pub mod World
 pub mod Bulk
 pub mod Commands
 pub mod Bodies
-pub mod ObjectCode
 pub mod View
 pub mod BulkView
 pub mod Documents
+pub mod Shards
 pub mod Found
 pub mod Stands
 pub mod StateView

@@ -1,8 +1,37 @@
--- What clauses see of a state.
-use Rattle.mg_engine.specs.Documents.{shown}
+-- What clauses see of a state, and of a shard while a bulk is applied.
+use Rattle.std.specs.Prelude.{List, map, String}
+use Rattle.std.specs.Arc.{arc_value}
+use Rattle.std.specs.BTreeMap.{BTreeMap}
+use Rattle.std.specs.declared.alloc.Global.{Global}
+use Rattle.std.specs.declared.sync.Arc.{Arc}
+use Rattle.mg_engine.specs.Documents.{KeptDocuments, shown}
 use Rattle.mg_engine.specs.Stands.{Shown}
+use Rattle.mg_engine.specs.declared.document.Document.{Document}
+use Rattle.mg_engine.specs.declared.draft.Draft.{Draft}
+use Rattle.mg_engine.specs.declared.draft.Draft.TheVariants.{Shared, Changed}
 use Rattle.mg_engine.specs.declared.state.State.TheInside.{Inside}
 
--- the documents and the number that a state holds
+-- the documents of the code, by their ids
+abbrev pub Documents : Type 0
+Documents = BTreeMap (String Global) (Arc Document Global)
+
+-- the documents of a shard
+abbrev pub shard_seen : Arc Documents Global → KeptDocuments
+shard_seen shard = shown (arc_value shard).entries
+
+-- the documents of each shard
+abbrev pub shards_seen : List (Arc Documents Global) → List KeptDocuments
+shards_seen shards = map shard_seen shards
+
+-- the documents of a shard while a bulk is applied
+abbrev pub draft_seen : Draft → KeptDocuments
+draft_seen (Shared shard) = shard_seen shard
+draft_seen (Changed docs) = shown docs.entries
+
+-- the documents of each of them
+abbrev pub drafts_seen : List Draft → List KeptDocuments
+drafts_seen drafts = map draft_seen drafts
+
+-- the shards and the number that a state holds
 abbrev pub state_shown : Inside → Shown
-state_shown s = record { docs = shown s.docs.entries; counter = s.counter }
+state_shown s = record { shards = shards_seen s.shards.items; counter = s.counter }

@@ -1,7 +1,6 @@
 //! How the body of a bulk is read.
 ghost use Rattle.std.specs.Prelude.{◌≡◌, codes, IfOk, is_some, option_map, string_bytes, true};
-ghost use Rattle.mg_value.specs.Value.{get_member};
-ghost use Rattle.mg_value.specs.View.{view, items_view, members_view};
+ghost use Rattle.mg_value.specs.View.{view, items_view};
 ghost use Rattle.mg_doc.specs.Document.{is_object};
 ghost use Rattle.mg_engine.specs.Bulk.{are_objects, bulk_of, edits_of, edits_or_refusal, last_number, named, number_text, number_with, numbered, of_objects, shaped};
 ghost use Rattle.mg_engine.specs.BulkView.{bulk_seen};
@@ -11,7 +10,6 @@ use crate::fault::Fault;
 use mg_doc::Edit;
 use mg_value::{Json, NoMemory};
 use std::alloc::Global;
-use std::collections::BTreeMap;
 
 /// The documents of a bulk, each an object, and whether their edits are new.
 #[derive(Clone, Copy)]
@@ -24,10 +22,7 @@ pub(crate) struct Bulk<'a> {
 pub(crate) fn read_bulk(body: &Json) -> Option<Bulk<'_>>
     ensures { option_map bulk_seen result ≡ bulk_of (view body.now) }
 {
-    match body {
-        Json::Object(members) => shaped(member(members, "docs"), member(members, "new_edits")),
-        _ => None,
-    }
+    shaped(body.member("docs"), body.member("new_edits"))
 }
 
 fn shaped<'a>(docs: Option<&'a Json>, new_edits: Option<&Json>) -> Option<Bulk<'a>>
@@ -73,13 +68,6 @@ fn is_object(value: &Json) -> bool
         Json::Object(_) => true,
         _ => false,
     }
-}
-
-// The member of that name.
-fn member<'a>(members: &'a BTreeMap<String, Json>, name: &str) -> Option<&'a Json>
-    ensures { option_map (λ j. view j.now) result ≡ get_member name.now (members_view members.now.entries) }
-{
-    members.get(name)
 }
 
 /// The edits of documents, or the first fault of them.

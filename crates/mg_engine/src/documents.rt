@@ -1,17 +1,16 @@
-//! Documents by their ids, and edits of them.
+//! The documents of a shard by their ids, and edits of them.
 ghost use Rattle.std.specs.Prelude.{◌≡◌, List, ℕ, IfOk, OnOk, option_map};
 ghost use Rattle.std.specs.FinMap.{get, insert};
 ghost use Rattle.mg_value.specs.Value.{Items};
-ghost use Rattle.mg_value.specs.View.{view, items_view};
+ghost use Rattle.mg_value.specs.View.{view};
 ghost use Rattle.mg_engine.specs.Bodies.{items_before};
 ghost use Rattle.mg_revtree.specs.History.{History};
 ghost use Rattle.mg_revtree.specs.Tree.{StandsFor};
 ghost use Rattle.mg_engine.specs.World.{Histories, history_at};
-ghost use Rattle.mg_engine.specs.Bulk.{after_edit, after_edits, id_in, outcome_in, outcomes, entries_of, entry_before};
+ghost use Rattle.mg_engine.specs.Bulk.{after_edit, id_in, outcome_in, entry_before};
 ghost use Rattle.mg_engine.specs.Documents.{kept_of, shown, StandFor};
 
 use crate::document::Document;
-use crate::entry::entry;
 use mg_doc::{Edit, EditError, served};
 use mg_revtree::{Rev, RevTree};
 use mg_value::{Json, NoMemory};
@@ -78,8 +77,8 @@ fn keep(alloc: Global, docs: &mut Documents, id: &str, tree: RevTree) -> Result<
     Ok(())
 }
 
-// The id of an edit that has one.
-fn id_in(edit: &Edit) -> &str
+/// The id of an edit that has one.
+pub(crate) fn id_in(edit: &Edit) -> &str
     ensures { result.now ≡ id_in edit.now }
 {
     match edit.id() {
@@ -88,8 +87,8 @@ fn id_in(edit: &Edit) -> &str
     }
 }
 
-// Applies one edit that has an id: the revision that it brings, or why it is refused.
-fn apply(
+/// Applies one edit that has an id: the revision that it brings, or why it is refused.
+pub(crate) fn apply(
     alloc: Global,
     docs: &mut Documents,
     edit: &Edit,
@@ -110,8 +109,8 @@ fn apply(
     }
 }
 
-// Adds an entry, if there is one.
-fn push_entry(entries: &mut Vec<Json>, entry: Option<Json>) -> Result<(), NoMemory>
+/// Adds an entry, if there is one.
+pub(crate) fn push_entry(entries: &mut Vec<Json>, entry: Option<Json>) -> Result<(), NoMemory>
     ensures { OnOk result ((vs : Items) → items_before entries.new.items vs
         ≡ items_before entries.old.items (entry_before (option_map view entry) vs)) }
 {
@@ -119,24 +118,4 @@ fn push_entry(entries: &mut Vec<Json>, entry: Option<Json>) -> Result<(), NoMemo
         entries.push(entry)?;
     }
     Ok(())
-}
-
-/// Applies edits that have ids, in order, and gives the entries of the reply.
-pub(crate) fn apply_all(
-    alloc: Global,
-    docs: &mut Documents,
-    edits: &[Edit],
-    new_edits: bool,
-) -> Result<Vec<Json>, NoMemory>
-    ensures { IfOk result (λ v. (hs : Histories) → StandFor (shown docs.old.entries) hs
-        → StandFor (shown docs.new.entries) (after_edits hs edits.now)
-        × (items_view v.items ≡ entries_of new_edits (outcomes hs edits.now))) }
-{
-    let mut entries = Vec::new(alloc);
-    for edit in edits {
-        let outcome = apply(alloc, docs, edit)?;
-        let entry = entry(alloc, new_edits, id_in(edit), &outcome)?;
-        push_entry(&mut entries, entry)?;
-    }
-    Ok(entries)
 }

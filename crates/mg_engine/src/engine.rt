@@ -1,4 +1,4 @@
-ghost use Rattle.std.specs.Prelude.{◌≡◌, IfOk, IfNone, OnErr, map};
+ghost use Rattle.std.specs.Prelude.{◌≡◌, ◌≤◌, IfOk, IfNone, OnErr, map};
 ghost use Rattle.mg_engine.specs.World.{World, empty_world};
 ghost use Rattle.mg_engine.specs.View.{asked, said};
 ghost use Rattle.mg_engine.specs.Stands.{Stands};
@@ -33,19 +33,17 @@ impl<P> Model for Engine<P> {
 }
 
 impl<P: Placement + Drop> Engine<P> {
-    /// An engine with no document. There is one shard for now.
+    /// An engine with no document, and 1 to 64 shards.
     ///
-    /// Errors: `NoMemory` where a growth was refused. Cost: none to speak of.
+    /// Errors: `NoMemory` where a growth was refused. Cost: the number of shards.
     pub fn new(alloc: Global, placement: P, shards: usize) -> Result<Engine<P>, NoMemory>
-        requires { shards ≡ 1 }
+        requires some { 1 ≤ shards }
+        requires most { shards ≤ 64 }
         ensures { IfOk result (λ e. Stands P.place e empty_world) }
     {
-        let _ = shards;
         let placement = Arc::new(alloc, placement)?;
-        Ok(Engine {
-            placement,
-            state: State::new(alloc),
-        })
+        let state = State::new(alloc, shards)?;
+        Ok(Engine { placement, state })
     }
 
     /// Answers one command. Where memory is refused, nothing has changed.
@@ -68,7 +66,7 @@ impl<P: Placement + Drop> Engine<P> {
         ensures refused { IfNone (said result) (self.new ≡ self.old) }
     {
         let _ = rt;
-        let (reply, next) = self.state.commit(alloc, command);
+        let (reply, next) = self.state.commit(alloc, &*self.placement, command);
         if let Some(next) = next {
             self.state = next;
         }

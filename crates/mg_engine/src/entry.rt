@@ -3,7 +3,6 @@ ghost use Rattle.std.specs.Prelude.{◌≡◌, IfOk, option_map};
 ghost use Rattle.mg_value.specs.View.{view};
 ghost use Rattle.mg_engine.specs.Bulk.{entry_of, done_entry, refused_entry};
 
-use crate::object::Members;
 use crate::refusal::{BAD_HISTORY_ERROR, BAD_HISTORY_REASON, CONFLICT_ERROR, CONFLICT_REASON};
 use mg_doc::EditError;
 use mg_revtree::Rev;
@@ -38,19 +37,23 @@ pub(crate) fn entry(
 fn done_entry(alloc: Global, id: &str, rev: &Rev) -> Result<Json, NoMemory>
     ensures { IfOk result (λ v. view v ≡ done_entry id.now rev.now) }
 {
-    let mut members = Members::new(alloc);
-    members.put("id", Json::Text(String::from_str(alloc, id)?))?;
-    members.put("ok", Json::Flag(true))?;
-    members.put("rev", Json::Text(rev.text(alloc)?))?;
-    Ok(members.object())
+    let mut entry = Json::empty_object(alloc);
+    entry.insert(alloc, "id", Json::Text(String::from_str(alloc, id)?))?;
+    entry.insert(alloc, "ok", Json::Flag(true))?;
+    entry.insert(alloc, "rev", Json::Text(rev.text(alloc)?))?;
+    Ok(entry)
 }
 
 fn refused_entry(alloc: Global, error: &str, id: &str, reason: &str) -> Result<Json, NoMemory>
     ensures { IfOk result (λ v. view v ≡ refused_entry error.now id.now reason.now) }
 {
-    let mut members = Members::new(alloc);
-    members.put("error", Json::Text(String::from_str(alloc, error)?))?;
-    members.put("id", Json::Text(String::from_str(alloc, id)?))?;
-    members.put("reason", Json::Text(String::from_str(alloc, reason)?))?;
-    Ok(members.object())
+    let mut entry = Json::empty_object(alloc);
+    entry.insert(alloc, "error", Json::Text(String::from_str(alloc, error)?))?;
+    entry.insert(alloc, "id", Json::Text(String::from_str(alloc, id)?))?;
+    entry.insert(
+        alloc,
+        "reason",
+        Json::Text(String::from_str(alloc, reason)?),
+    )?;
+    Ok(entry)
 }

@@ -6,14 +6,15 @@ mod bulk;
 pub mod command;
 mod document;
 mod documents;
+mod draft;
 pub mod engine;
 mod entry;
 mod fault;
 pub mod laws;
-mod object;
 mod page;
 pub mod refusal;
 pub mod reply;
+mod shards;
 mod state;
 
 pub use command::Command;

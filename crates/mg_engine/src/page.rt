@@ -1,126 +1,185 @@
 //! The page that answers a query.
-ghost use Rattle.std.specs.Prelude.{◌≡◌, ◌++◌, IfOk, OnOk, map, option_map, string_bytes};
+ghost use Rattle.std.specs.Prelude.{◌≡◌, ◌<◌, ◌++◌, All, IfOk, OnOk, length, option_copied, option_map, string_bytes, take};
 ghost use Rattle.mg_value.specs.Value.{Items};
 ghost use Rattle.mg_value.specs.View.{view, items_of, items_view};
-ghost use Rattle.mg_query.specs.Page.{answer_of, bookmark_after, bookmark_at, page_of, page_rows};
+ghost use Rattle.mg_collate.specs.Row.{row_view, rows_view};
+ghost use Rattle.mg_collate.specs.Sorted.{IsInOrder};
+ghost use Rattle.mg_merge.specs.Merged.{lists_view};
+ghost use Rattle.mg_query.specs.Page.{page_limit};
 ghost use Rattle.mg_query.specs.Seen.{query_seen};
-ghost use Rattle.mg_engine.specs.Bodies.{page_value};
-ghost use Rattle.mg_engine.specs.Documents.{kept_of, kept_rows, shown};
-ghost use Rattle.mg_engine.specs.Found.{asked_form, row_list, row_of};
+ghost use Rattle.mg_engine.specs.Bodies.{page_value, items_before};
+ghost use Rattle.mg_engine.specs.Documents.{kept_of, shown};
+ghost use Rattle.mg_engine.specs.Found.{bookmark_of_row, found_page, handed, keyed, keyed_if_asked, row_bookmark, shard_rows, shown_before, shown_rows};
+ghost use Rattle.mg_engine.specs.Shards.{form_at};
+ghost use Rattle.mg_engine.specs.StateView.{shards_seen};
 
 use crate::document::Document;
 use crate::documents::Documents;
-use crate::object::Members;
+use crate::shards::served_in;
 use mg_bookmark::Bookmark;
-use mg_collate::Direction;
+use mg_collate::{Direction, Row};
+use mg_merge::merge;
 use mg_query::Query;
+use mg_shard::Placement;
 use mg_value::{Json, NoMemory};
 use std::alloc::Global;
+use std::sync::Arc;
 
 /// How many documents a page has at most.
 const PAGE_LIMIT: usize = 25;
 
-/// A document of the page.
-#[derive(Clone, Copy)]
-pub(crate) struct Found<'a> {
-    id: &'a str,
-    document: &'a Json,
-}
-
 /// The body of the reply to a query: the page of documents in the order of their ids, and its bookmark.
-/// Cost: the documents up to the last one of the page, and a copy of the page.
-pub(crate) fn page(alloc: Global, docs: &Documents, query: &Query) -> Result<Json, NoMemory>
-    ensures { IfOk result (λ v. view v ≡ page_value (answer_of (query_seen query.now) (kept_rows (shown docs.now.entries)))) }
+///
+/// Cost: of each shard the documents up to the last one that it hands over, at most as many rows of each shard as a page
+/// has, and what is shown of the page's documents.
+pub(crate) fn page<P: Placement>(
+    alloc: Global,
+    placement: &P,
+    shards: &[Arc<Documents>],
+    query: &Query,
+) -> Result<Json, NoMemory>
+    requires { 0 < length shards.now }
+    ensures { IfOk result (λ v. view v
+        ≡ page_value (found_page (P.place placement.now) (shards_seen shards.now) (query_seen query.now))) }
 {
-    let found = find(alloc, docs, query)?;
-    page_object(alloc, &found)
+    let lists = handed_over(alloc, shards, query)?;
+    let rows = merge(alloc, &lists, Direction::Asc, PAGE_LIMIT)?;
+    let docs = show_all(alloc, placement, shards, query, &rows)?;
+    let mut page = Json::empty_object(alloc);
+    page.insert(alloc, "bookmark", Json::Text(bookmark(alloc, rows)?))?;
+    page.insert(alloc, "docs", Json::List(docs))?;
+    Ok(page)
 }
 
-// The rows of the page.
-fn find<'a>(alloc: Global, docs: &'a Documents, query: &Query) -> Result<Vec<Found<'a>>, NoMemory>
-    ensures { IfOk result (λ v. map row_of v.items ≡ page_rows (query_seen query.now) (kept_rows (shown docs.now.entries))) }
+// The rows that each shard hands over.
+fn handed_over(
+    alloc: Global,
+    shards: &[Arc<Documents>],
+    query: &Query,
+) -> Result<Vec<Vec<Row>>, NoMemory>
+    ensures { IfOk result (λ v. lists_view v.items ≡ handed (query_seen query.now) (shards_seen shards.now)) }
 {
-    let mut found = Vec::with_capacity(alloc, PAGE_LIMIT)?;
+    let mut lists = Vec::with_capacity(alloc, shards.len())?;
+    for shard in shards {
+        let list = rows_of(alloc, shard, query)?;
+        lists.push(list)?;
+    }
+    Ok(lists)
+}
+
+// The first rows of a shard that the query asks for, as many as a page has.
+fn rows_of(alloc: Global, docs: &Documents, query: &Query) -> Result<Vec<Row>, NoMemory>
+    ensures { IfOk result (λ v. rows_view v.items
+        ≡ take page_limit (shard_rows (query_seen query.now) (shown docs.now.entries))) }
+{
+    let mut rows = Vec::new(alloc);
     for (id, document) in docs.iter() {
-        if found.len() == PAGE_LIMIT {
-            return Ok(found);
+        if rows.len() == PAGE_LIMIT {
+            return Ok(rows);
         }
-        let asked = asked_form(document, query);
-        add(&mut found, id.as_str(), asked)?;
+        add_if_asked(alloc, &mut rows, id.as_str(), document, query)?;
     }
-    Ok(found)
+    Ok(rows)
 }
 
-// The form in which a document is served, if the query asks for it.
-fn asked_form<'a>(document: &'a Document, query: &Query) -> Option<&'a Json>
-    ensures { option_map (λ j. view j.now) result ≡ asked_form (query_seen query.now) (kept_of document.now).1 }
-{
-    match &document.served {
-        Some(form) => if query.selector.holds(form) {
-            Some(form)
-        } else {
-            None
-        },
-        None => None,
-    }
-}
-
-// Adds a document, if there is one.
-fn add<'a>(
-    found: &mut Vec<Found<'a>>,
-    id: &'a str,
-    document: Option<&'a Json>,
+// Adds the row of a document that the query asks for.
+fn add_if_asked(
+    alloc: Global,
+    rows: &mut Vec<Row>,
+    id: &str,
+    document: &Document,
+    query: &Query,
 ) -> Result<(), NoMemory>
-    ensures { OnOk result (map row_of found.new.items
-        ≡ map row_of found.old.items ++ row_list id.now (option_map (λ j. view j.now) document.entry)) }
+    ensures { OnOk result (rows_view rows.new.items ≡ rows_view rows.old.items
+        ++ keyed_if_asked (query_seen query.now) id.now (kept_of document.now).1) }
 {
-    if let Some(document) = document {
-        found.push(Found { id, document })?;
+    if let Some(form) = &document.served {
+        if query.selector.holds(form) {
+            rows.push(row_of(alloc, id)?)?;
+        }
     }
     Ok(())
 }
 
-// `{"bookmark":..,"docs":[..]}`
-fn page_object(alloc: Global, found: &[Found]) -> Result<Json, NoMemory>
-    ensures { IfOk result (λ v. view v ≡ page_value (page_of (map row_of found.now))) }
+// The row of an id in the index of all documents.
+fn row_of(alloc: Global, id: &str) -> Result<Row, NoMemory>
+    ensures { IfOk result (λ row. row_view row ≡ keyed id.now) }
 {
-    let mut members = Members::new(alloc);
-    members.put("bookmark", Json::Text(bookmark(alloc, found)?))?;
-    members.put("docs", Json::List(copies(alloc, found)?))?;
-    Ok(members.object())
+    let key = vec![in alloc; Json::Text(String::from_str(alloc, id)?)]?;
+    Ok(Row {
+        key,
+        id: String::from_str(alloc, id)?,
+    })
 }
 
-fn copies(alloc: Global, found: &[Found]) -> Result<Vec<Json>, NoMemory>
-    ensures { IfOk result (λ v. items_view v.items ≡ items_of (map (λ r. r.1) (map row_of found.now))) }
+// What the page shows of the documents of its rows.
+fn show_all<P: Placement>(
+    alloc: Global,
+    placement: &P,
+    shards: &[Arc<Documents>],
+    query: &Query,
+    rows: &[Row],
+) -> Result<Vec<Json>, NoMemory>
+    requires { 0 < length shards.now }
+    ensures { IfOk result (λ v. items_view v.items
+        ≡ items_of (shown_rows (P.place placement.now) (shards_seen shards.now) (query_seen query.now) (rows_view rows.now))) }
 {
-    let mut copies = Vec::with_capacity(alloc, found.len())?;
-    for row in found {
-        copies.push(row.document.copy(alloc)?)?;
+    let mut docs = Vec::with_capacity(alloc, rows.len())?;
+    for row in rows {
+        let form = form_in(placement, shards, row.id.as_str());
+        add_shown(alloc, &mut docs, query, form)?;
     }
-    Ok(copies)
+    Ok(docs)
+}
+
+// The form in which the document of an id is served, if it is.
+fn form_in<'a, P: Placement>(
+    placement: &P,
+    shards: &'a [Arc<Documents>],
+    id: &str,
+) -> Option<&'a Json>
+    requires { 0 < length shards.now }
+    ensures { option_map (λ j. view j.now) result ≡ form_at (P.place placement.now) (shards_seen shards.now) id.now }
+{
+    served_in(placement, shards, id)?
+}
+
+// Adds what is shown of a document, if there is one.
+fn add_shown(
+    alloc: Global,
+    docs: &mut Vec<Json>,
+    query: &Query,
+    form: Option<&Json>,
+) -> Result<(), NoMemory>
+    ensures { OnOk result ((vs : Items) → items_before docs.new.items vs
+        ≡ items_before docs.old.items (shown_before (query_seen query.now) (option_map (λ j. view j.now) form.entry) vs)) }
+{
+    if let Some(form) = form {
+        docs.push(query.show(alloc, form)?)?;
+    }
+    Ok(())
 }
 
 // The bookmark of the last row, or `nil`.
-fn bookmark(alloc: Global, found: &[Found]) -> Result<String, NoMemory>
-    ensures { IfOk result (λ t. string_bytes t ≡ bookmark_after (map row_of found.now)) }
+fn bookmark(alloc: Global, mut rows: Vec<Row>) -> Result<String, NoMemory>
+    ensures { IfOk result (λ t. string_bytes t ≡ row_bookmark (rows_view rows.items)) }
 {
-    match found.last() {
-        Some(last) => bookmark_of(alloc, last.id),
+    match rows.pop() {
+        Some(last) => bookmark_of(alloc, last),
         None => Ok(String::from_str(alloc, "nil")?),
     }
 }
 
-// The bookmark of a document in the index of all documents.
-fn bookmark_of(alloc: Global, id: &str) -> Result<String, NoMemory>
-    ensures { IfOk result (λ t. string_bytes t ≡ bookmark_at id.now) }
+// The bookmark of a row in the index of all documents.
+fn bookmark_of(alloc: Global, row: Row) -> Result<String, NoMemory>
+    ensures { IfOk result (λ t. string_bytes t ≡ bookmark_of_row (row_view row)) }
 {
-    let key = vec![in alloc; Json::Text(String::from_str(alloc, id)?)]?;
     let bookmark = Bookmark {
         ddoc: None,
         name: String::from_str(alloc, "_all_docs")?,
         direction: Direction::Asc,
-        key,
-        id: String::from_str(alloc, id)?,
+        key: row.key,
+        id: row.id,
     };
     bookmark.encode(alloc)
 }

@@ -1,32 +1,36 @@
 //! The state of the engine: what a command reads, and what it leaves.
-ghost use Rattle.std.specs.Prelude.{◌≡◌, IfOk, IfNone, IsSome, None, Ok, Some, unwrap_or};
+ghost use Rattle.std.specs.Prelude.{◌≡◌, ◌<◌, IfOk, IfNone, IfSome, IsSome, None, Ok, Some, length, unwrap_or};
 ghost use Rattle.mg_value.specs.View.{view};
 ghost use Rattle.mg_engine.specs.World.{World, empty_world};
 ghost use Rattle.mg_engine.specs.Commands.{bulk, find, got, next, reply_of, told_of, world_with};
 ghost use Rattle.std.specs.FinMap as finite;
 ghost use Rattle.mg_engine.specs.View.{asked, said};
+ghost use Rattle.mg_engine.specs.Shards.{Placing};
 ghost use Rattle.mg_engine.specs.Stands.{Holds};
 ghost use Rattle.mg_engine.specs.Run.{Answers};
 
 use crate::body::line;
 use crate::bulk::{numbered, read_bulk, read_edits};
 use crate::command::Command;
-use crate::documents::{self, Documents};
+use crate::documents::Documents;
 use crate::fault::Fault;
 use crate::page::page;
 use crate::refusal::Refusal;
 use crate::reply::Reply;
+use crate::shards::{edited, served_in};
 use mg_doc::Edit;
 use mg_query::Query;
+use mg_shard::Placement;
 use mg_value::{Json, NoMemory};
 use std::alloc::Global;
 use std::collections::BTreeMap;
 use std::marker::Model;
+use std::sync::Arc;
 
-/// All documents, and the number that was last given to a document without an id.
+/// The documents of each shard, and the number that was last given to a document without an id.
 #[derive(Drop)]
 pub(crate) struct State {
-    docs: Documents,
+    shards: Vec<Arc<Documents>>,
     counter: u64,
 }
 
@@ -40,35 +44,49 @@ impl Model for State {
     ghost use Rattle.mg_engine.specs.StateView.{state_shown};
 
     ghost view = { state_shown };
+
+    ghost use Rattle.std.specs.Prelude.{◌<◌, length};
+
+    ghost invariant = { λ s. 0 < length s.shards.items };
 }
 
 impl State {
-    /// No document.
-    pub(crate) fn new(alloc: Global) -> State
-        ensures { Holds result empty_world }
+    /// Shards without a document. Cost: their number.
+    pub(crate) fn new(alloc: Global, shards: usize) -> Result<State, NoMemory>
+        requires { 0 < shards }
+        ensures { IfOk result (λ s. (place : Placing) → Holds place s empty_world) }
     {
-        State {
-            docs: BTreeMap::new(alloc),
-            counter: 0,
+        let mut made = Vec::with_capacity(alloc, shards)?;
+        for _ in 0..shards {
+            made.push(Arc::new(alloc, BTreeMap::new(alloc))?)?;
         }
+        Ok(State {
+            shards: made,
+            counter: 0,
+        })
     }
 
     /// The reply to a command, made whole, and the next state, if the command leaves another.
-    pub(crate) fn commit(&self, alloc: Global, command: &Command) -> (Reply, Option<State>)
-        ensures answers { (w : World) → Holds self.now w
-            → Answers w (asked command.now) (said result.0) (Holds (unwrap_or result.1 self.now)) }
+    pub(crate) fn commit<P: Placement>(
+        &self,
+        alloc: Global,
+        placement: &P,
+        command: &Command,
+    ) -> (Reply, Option<State>)
+        ensures answers { (w : World) → Holds (P.place placement.now) self.now w
+            → Answers w (asked command.now) (said result.0) (Holds (P.place placement.now) (unwrap_or result.1 self.now)) }
         ensures refused { IfNone (said result.0) (result.1 ≡ None) }
     {
         match command {
-            Command::Bulk(body) => match self.bulk(alloc, body) {
+            Command::Bulk(body) => match self.bulk(alloc, placement, body) {
                 Ok(done) => done,
                 Err(NoMemory) => (Reply::NoMemory, None),
             },
-            Command::Find(body) => match self.find(alloc, body) {
+            Command::Find(body) => match self.find(alloc, placement, body) {
                 Ok(reply) => (reply, None),
                 Err(NoMemory) => (Reply::NoMemory, None),
             },
-            Command::Get { id, conflicts: _ } => match self.get(alloc, id.as_str()) {
+            Command::Get { id, conflicts: _ } => match self.get(alloc, placement, id.as_str()) {
                 Ok(reply) => (reply, None),
                 Err(NoMemory) => (Reply::NoMemory, None),
             },
@@ -76,18 +94,23 @@ impl State {
     }
 
     // The reply to a bulk, and the next state, if the bulk is accepted.
-    fn bulk(&self, alloc: Global, body: &Json) -> Result<(Reply, Option<State>), NoMemory>
+    fn bulk<P: Placement>(
+        &self,
+        alloc: Global,
+        placement: &P,
+        body: &Json,
+    ) -> Result<(Reply, Option<State>), NoMemory>
         ensures whole { IfOk result (λ r. IsSome (said r.0)) }
-        ensures does { IfOk result (λ r. (w : World) → Holds self.now w
+        ensures does { IfOk result (λ r. (w : World) → Holds (P.place placement.now) self.now w
             → (said r.0 ≡ Some (reply_of w (bulk (view body.now))))
-            × Holds (unwrap_or r.1 self.now) (next w (bulk (view body.now)))) }
+            × Holds (P.place placement.now) (unwrap_or r.1 self.now) (next w (bulk (view body.now)))) }
     {
         let Some(bulk) = read_bulk(body) else {
             return Ok((Reply::refusing(alloc, Refusal::WrongShape)?, None));
         };
         match read_edits(alloc, bulk.new_edits, bulk.documents) {
             Ok(edits) => {
-                let (reply, next) = self.accept(alloc, bulk.new_edits, edits)?;
+                let (reply, next) = self.accept(alloc, placement, bulk.new_edits, edits)?;
                 Ok((reply, Some(next)))
             }
             Err(Fault::Refused(refusal)) => Ok((Reply::refusing(alloc, refusal)?, None)),
@@ -96,31 +119,37 @@ impl State {
     }
 
     // The reply to edits, and the next state.
-    fn accept(
+    fn accept<P: Placement>(
         &self,
         alloc: Global,
+        placement: &P,
         new_edits: bool,
         edits: Vec<Edit>,
     ) -> Result<(Reply, State), NoMemory>
         ensures whole { IfOk result (λ r. IsSome (said r.0)) }
-        ensures does { IfOk result (λ r. (w : World) → Holds self.now w
+        ensures does { IfOk result (λ r. (w : World) → Holds (P.place placement.now) self.now w
             → (said r.0 ≡ Some (told_of w new_edits (Ok edits.items)))
-            × Holds r.1 (world_with w (Ok edits.items))) }
+            × Holds (P.place placement.now) r.1 (world_with w (Ok edits.items))) }
     {
         let (edits, counter) = numbered(alloc, edits, self.counter)?;
-        let mut docs = documents::copied(alloc, &self.docs)?;
-        let entries = documents::apply_all(alloc, &mut docs, &edits, new_edits)?;
+        let (entries, shards) = edited(alloc, placement, &self.shards, &edits, new_edits)?;
         let body = line(alloc, &Json::List(entries))?;
-        Ok((Reply::Full { status: 201, body }, State { docs, counter }))
+        Ok((Reply::Full { status: 201, body }, State { shards, counter }))
     }
 
     // The reply to a query.
-    fn find(&self, alloc: Global, body: &Json) -> Result<Reply, NoMemory>
-        ensures { IfOk result (λ r. (w : World) → Holds self.now w → said r ≡ Some (reply_of w (find (view body.now)))) }
+    fn find<P: Placement>(
+        &self,
+        alloc: Global,
+        placement: &P,
+        body: &Json,
+    ) -> Result<Reply, NoMemory>
+        ensures { IfOk result (λ r. (w : World) → Holds (P.place placement.now) self.now w
+            → said r ≡ Some (reply_of w (find (view body.now)))) }
     {
         match Query::read(alloc, body) {
             Ok(query) => {
-                let page = page(alloc, &self.docs, &query)?;
+                let page = page(alloc, placement, &self.shards, &query)?;
                 let body = line(alloc, &page)?;
                 Ok(Reply::Full { status: 200, body })
             }
@@ -132,16 +161,17 @@ impl State {
     }
 
     // The reply to a `GET` of a document: one look-up, and one copy into the reply.
-    fn get(&self, alloc: Global, id: &str) -> Result<Reply, NoMemory>
-        ensures { IfOk result (λ r. (w : World) → Holds self.now w → said r ≡ Some (got id.now (finite.get w.docs id.now))) }
+    fn get<P: Placement>(&self, alloc: Global, placement: &P, id: &str) -> Result<Reply, NoMemory>
+        ensures { IfOk result (λ r. (w : World) → Holds (P.place placement.now) self.now w
+            → said r ≡ Some (got id.now (finite.get w.docs id.now))) }
     {
-        match documents::served_at(&self.docs, id) {
+        match served_in(placement, &self.shards, id) {
             Some(Some(form)) => {
                 let body = line(alloc, form)?;
                 Ok(Reply::Full { status: 200, body })
             }
-            Some(None) => Reply::refusing(alloc, Refusal::Deleted),
-            None => Reply::refusing(alloc, Refusal::Missing),
+            Some(None) => Ok(Reply::refusing(alloc, Refusal::Deleted)?),
+            None => Ok(Reply::refusing(alloc, Refusal::Missing)?),
         }
     }
 }

@@ -1,3 +1,4 @@
-mod Heads
+pub mod Cuts
+pub mod Heads
 mod Orders
-mod Shards
+pub mod Shards

@@ -1,5 +1,5 @@
 -- The rows of documents, however these are dealt to shards.
-use Rattle.std.proofs.Common.{◌≡◌, ◌+◌, List, [], ◌∷◌, Ordering, sum_by, refl, sym, ap, ap₂, ◌∙◌}
+use Rattle.std.proofs.Common.{◌≡◌, ℕ, ◌+◌, List, [], ◌∷◌, take, Ordering, sum_by, refl, sym, ap, ap₂, ◌∙◌}
 use Rattle.std.specs.List.{flat_map}
 use Rattle.std.specs.List.Sorted.{IsPermutation}
 use Rattle.std.proofs.lemmas.List.Sorted.{sum_by-IsPermutation}
@@ -10,7 +10,7 @@ use Rattle.mg_collate.specs.Row.{RowValue, directed_order}
 use Rattle.mg_collate.specs.Sorted.{sorted_rows}
 use Rattle.mg_collate.proofs.Directed.{directed_total, directed_ties}
 use Rattle.mg_collate.proofs.Sorting.{times, times_permutation, permutation_sorted, sorted_of_same}
-use Rattle.mg_merge.specs.Merged.{joined}
+use Rattle.mg_merge.specs.Merged.{joined, merged}
 use Rattle.mg_merge.specs.Sharding.{Document, rows_of, lists_of}
 use Rattle.mg_merge.proofs.Heads.{times_append}
 
@@ -31,6 +31,7 @@ times_lists direction z rows (shard ∷ shards) =
     ∙ sym (times_append (directed_order direction) z (flat_map rows shard) (flat_map rows (joined shards)))
     ∙ ap (times (directed_order direction) z) (sym (flat_map-append rows shard (joined shards)))
 
+-- however documents are dealt to shards, the rows of the shards' lists are the rows of all documents
 pub any_dealing : (direction : Direction) (rows : Document → List RowValue) (documents : List Document) (shards : List (List Document)) → IsPermutation documents (joined shards)
     → sorted_rows direction (joined (lists_of direction rows shards)) ≡ rows_of direction rows documents
 any_dealing direction rows documents shards h =
@@ -38,3 +39,8 @@ any_dealing direction rows documents shards h =
     (λ z. times_lists direction z rows shards ∙ times_flat_map (directed_order direction) z rows (joined shards)
     ∙ sum_by-IsPermutation (λ document. times (directed_order direction) z (rows document)) documents (joined shards) h
     ∙ sym (times_flat_map (directed_order direction) z rows documents))
+
+-- and a merge of the lists gives the first of them
+pub first_of_any_dealing : (direction : Direction) (rows : Document → List RowValue) (documents : List Document) (shards : List (List Document)) (count : ℕ) → IsPermutation documents (joined shards)
+    → merged direction count (lists_of direction rows shards) ≡ take count (rows_of direction rows documents)
+first_of_any_dealing direction rows documents shards count h = ap (take count) (any_dealing direction rows documents shards h)

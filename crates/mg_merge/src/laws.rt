@@ -1,8 +1,8 @@
-//! The law of the merge: it does not matter how documents are dealt to lists.
-ghost use Rattle.std.specs.Prelude.{◌≡◌, ℕ, List, take};
+//! The laws of the merge: it does not matter how documents are dealt to lists, nor what follows the first rows of each.
+ghost use Rattle.std.specs.Prelude.{◌≡◌, ℕ, List, All, map, take};
 ghost use Rattle.std.specs.List.Sorted.{IsPermutation};
 ghost use Rattle.mg_collate.specs.Row.{RowValue};
-ghost use Rattle.mg_collate.specs.Sorted.{sorted_rows};
+ghost use Rattle.mg_collate.specs.Sorted.{IsInOrder, sorted_rows};
 ghost use Rattle.mg_merge.specs.Merged.{joined, merged};
 ghost use Rattle.mg_merge.specs.Sharding.{Document, rows_of, lists_of};
 
@@ -22,4 +22,15 @@ pub fn any_sharding()
         → IsPermutation documents (joined shards)
         → merged direction count (lists_of direction rows shards)
         ≡ take count (rows_of direction rows documents) }
+{}
+
+/// Lists that are in order may be cut at the count before they are merged: they stay in order, and
+/// the merge gives the same rows. So a shard hands over no more rows than a page takes.
+pub fn cut_lists()
+    ensures in_order { (direction : Direction) (count : ℕ) (lists : List (List RowValue))
+        → All (IsInOrder direction) lists
+        → All (IsInOrder direction) (map (take count) lists) }
+    ensures same_rows { (direction : Direction) (count : ℕ) (lists : List (List RowValue))
+        → All (IsInOrder direction) lists
+        → merged direction count (map (take count) lists) ≡ merged direction count lists }
 {}

@@ -1,13 +1,14 @@
 -- The page that answers a query, after CouchDB's `_find`: of the documents that the selector holds of, in the order of the
 -- index that serves them, the first of them, and the bookmark of the last.
-use Rattle.std.specs.Prelude.{ℕ, List, Bool, codes, Some, None, filter, take, map, length, ◌-◌, slice_get}
+use Rattle.std.specs.Prelude.{ℕ, List, [], ◌∷◌, Bool, codes, Some, None, filter, take, map, length, ◌-◌, slice_get}
 use Rattle.std.specs.Option.{option_map_or}
 use Rattle.mg_value.specs.Value.{Value, text, item, no_items}
 use Rattle.mg_collate.specs.declared.direction.Direction.TheVariants.{Asc}
 use Rattle.mg_selector.specs.Meaning.{holds_in}
 use Rattle.mg_selector.specs.declared.sense.Sense.TheVariants.{Plain}
 use Rattle.mg_bookmark.specs.Bookmark.{spelled}
-use Rattle.mg_query.specs.Query.{Query}
+use Rattle.mg_path.specs.Part.{projection_of}
+use Rattle.mg_query.specs.Query.{Query, Steps}
 
 -- a document's id and the form in which it is served
 abbrev pub Row : Type 0
@@ -42,10 +43,15 @@ pub record Page : Type 0 where
   pub docs : List Value
   pub bookmark : List ℕ
 
+-- what a page shows of a document: the parts at the fields, or the whole where there are none
+abbrev pub shown_of : List Steps → Value → Value
+shown_of [] v = v
+shown_of (field ∷ fields) v = projection_of (field ∷ fields) v
+
 -- the page of these rows
-abbrev pub page_of : List Row → Page
-page_of rows = record { docs = map (λ r. r.1) rows; bookmark = bookmark_after rows }
+abbrev pub page_of : Query → List Row → Page
+page_of q rows = record { docs = map (λ r. shown_of q.fields r.1) rows; bookmark = bookmark_after rows }
 
 -- the answer to a query, over all served documents in the order of their ids
 abbrev pub answer_of : Query → List Row → Page
-answer_of q rows = page_of (page_rows q rows)
+answer_of q rows = page_of q (page_rows q rows)

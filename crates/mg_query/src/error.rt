@@ -1,4 +1,6 @@
+use mg_path::PathError;
 use mg_selector::SelError;
+use std::alloc::{AllocError, AllocFailed};
 use thiserror::Error;
 
 /// Why the body of a query was not read.
@@ -16,6 +18,42 @@ pub enum QueryError {
     /// A growth was refused.
     #[error("out of memory")]
     NoMemory,
+}
+
+impl From<AllocError> for QueryError {
+    ghost use Rattle.std.specs.Prelude.{◌≡◌};
+    ghost use Rattle.mg_query.specs.declared.error.QueryError.TheVariants.{NoMemory as refused};
+
+    ghost from_gives = { λ _ e. e ≡ refused };
+
+    fn from(_refused: AllocError) -> QueryError {
+        QueryError::NoMemory
+    }
+}
+
+impl<T: Drop> From<AllocFailed<T>> for QueryError {
+    ghost use Rattle.std.specs.Prelude.{◌≡◌};
+    ghost use Rattle.mg_query.specs.declared.error.QueryError.TheVariants.{NoMemory as refused};
+
+    ghost from_gives = { λ _ e. e ≡ refused };
+
+    fn from(_refused: AllocFailed<T>) -> QueryError {
+        QueryError::NoMemory
+    }
+}
+
+impl From<PathError> for QueryError {
+    ghost use Rattle.std.specs.Prelude.{◌≡◌};
+    ghost use Rattle.mg_query.specs.Query.{fault_of_path};
+
+    ghost from_gives = { λ p e. e ≡ fault_of_path p };
+
+    fn from(fault: PathError) -> QueryError {
+        match fault {
+            PathError::Empty => QueryError::Shape,
+            PathError::NoMemory => QueryError::NoMemory,
+        }
+    }
 }
 
 impl From<SelError> for QueryError {

@@ -3,4 +3,4 @@
 
 pub mod placement;
 
-pub use placement::Placement;
+pub use placement::{Md5Placement, Placement};
