@@ -1,4 +1,5 @@
-ghost use Rattle.std.specs.Prelude.{◌≡◌, ◌≤◌, ℕ, IfSome};
+ghost use Rattle.std.specs.Prelude.{◌≡◌, ◌≤◌, ◌↔◌, ℕ, IfSome, IsTrue};
+ghost use Rattle.mangod.specs.Arguments.{IsDatabaseName, IsNameByte, number_of};
 
 use crate::config::Settings;
 
@@ -34,7 +35,9 @@ pub(crate) fn settings(words: &[String]) -> Option<Settings<'_>>
 }
 
 // Whether a word is the name of a database: a lower case letter, then lower case letters, digits and `_$()+-`.
-fn is_database(word: &str) -> bool {
+fn is_database(word: &str) -> bool
+    ensures { IsTrue result ↔ IsDatabaseName word.now }
+{
     match word.as_bytes() {
         [first, rest @ ..] => first.is_ascii_lowercase()
             && rest.iter().all(|byte| is_name_byte(*byte)),
@@ -42,14 +45,17 @@ fn is_database(word: &str) -> bool {
     }
 }
 
-fn is_name_byte(byte: u8) -> bool {
+fn is_name_byte(byte: u8) -> bool
+    ensures { IsTrue result ↔ IsNameByte byte }
+{
     byte.is_ascii_lowercase() || byte.is_ascii_digit() || b"_$()+-".contains(&byte)
 }
 
 // The number that one or more digits write, from 1 to `most`.
 fn number(word: &str, most: usize) -> Option<usize>
     requires { most ≤ 1000 }
-    ensures { IfSome result (λ n. (1 ≤ n) × (n ≤ most)) }
+    ensures value { result ≡ number_of word.now most }
+    ensures within { IfSome result (λ n. (1 ≤ n) × (n ≤ most)) }
 {
     let mut number: usize = 0;
     for digit in word.as_bytes() {

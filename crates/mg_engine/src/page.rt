@@ -1,11 +1,13 @@
 //! The page that answers a query.
-ghost use Rattle.std.specs.Prelude.{◌≡◌, ◌<◌, ◌++◌, All, IfOk, OnOk, length, option_copied, option_map, string_bytes, take};
+ghost use Rattle.std.specs.Prelude.{◌≡◌, ◌<◌, ◌≤◌, ◌+◌, ◌++◌, All, IfOk, OnOk, length, option_copied, option_map, string_bytes, take};
 ghost use Rattle.mg_value.specs.Value.{Items};
 ghost use Rattle.mg_value.specs.View.{view, items_of, items_view};
 ghost use Rattle.mg_collate.specs.Row.{row_view, rows_view};
 ghost use Rattle.mg_collate.specs.Sorted.{IsInOrder};
 ghost use Rattle.mg_merge.specs.Merged.{lists_view};
+ghost use Rattle.mg_normal.specs.Normal.{IsNormalOf};
 ghost use Rattle.mg_query.specs.Page.{page_limit};
+ghost use Rattle.mg_query.specs.Query.{Query as QueryValue};
 ghost use Rattle.mg_query.specs.Seen.{query_seen};
 ghost use Rattle.mg_engine.specs.Bodies.{page_value, items_before};
 ghost use Rattle.mg_engine.specs.Documents.{kept_of, shown};
@@ -19,6 +21,7 @@ use crate::shards::served_in;
 use mg_bookmark::Bookmark;
 use mg_collate::{Direction, Row};
 use mg_merge::merge;
+use mg_normal::Normal;
 use mg_query::Query;
 use mg_shard::Placement;
 use mg_value::{Json, NoMemory};
@@ -31,7 +34,7 @@ const PAGE_LIMIT: usize = 25;
 /// The body of the reply to a query: the page of documents in the order of their ids, and its bookmark.
 ///
 /// Cost: of each shard the documents up to the last one that it hands over, at most as many rows of each shard as a page
-/// has, and what is shown of the page's documents.
+/// has, and what is shown of the page's documents. The selector is brought into its normal form once.
 pub(crate) fn page<P: Placement>(
     alloc: Global,
     placement: &P,
@@ -42,7 +45,8 @@ pub(crate) fn page<P: Placement>(
     ensures { IfOk result (λ v. view v
         ≡ page_value (found_page (P.place placement.now) (shards_seen shards.now) (query_seen query.now))) }
 {
-    let lists = handed_over(alloc, shards, query)?;
+    let normal = Normal::of(alloc, &query.selector)?;
+    let lists = handed_over(alloc, shards, &normal)?;
     let rows = merge(alloc, &lists, Direction::Asc, PAGE_LIMIT)?;
     let docs = show_all(alloc, placement, shards, query, &rows)?;
     let mut page = Json::empty_object(alloc);
@@ -55,46 +59,48 @@ pub(crate) fn page<P: Placement>(
 fn handed_over(
     alloc: Global,
     shards: &[Arc<Documents>],
-    query: &Query,
+    normal: &Normal,
 ) -> Result<Vec<Vec<Row>>, NoMemory>
-    ensures { IfOk result (λ v. lists_view v.items ≡ handed (query_seen query.now) (shards_seen shards.now)) }
+    ensures { IfOk result (λ v. (q : QueryValue) → IsNormalOf q.selector normal.now
+        → lists_view v.items ≡ handed q (shards_seen shards.now)) }
 {
     let mut lists = Vec::with_capacity(alloc, shards.len())?;
     for shard in shards {
-        let list = rows_of(alloc, shard, query)?;
+        let list = rows_of(alloc, shard, normal)?;
         lists.push(list)?;
     }
     Ok(lists)
 }
 
-// The first rows of a shard that the query asks for, as many as a page has.
-fn rows_of(alloc: Global, docs: &Documents, query: &Query) -> Result<Vec<Row>, NoMemory>
-    ensures { IfOk result (λ v. rows_view v.items
-        ≡ take page_limit (shard_rows (query_seen query.now) (shown docs.now.entries))) }
+// The first rows of a shard that a query of the normal form asks for, as many as a page has.
+fn rows_of(alloc: Global, docs: &Documents, normal: &Normal) -> Result<Vec<Row>, NoMemory>
+    ensures { IfOk result (λ v. (q : QueryValue) → IsNormalOf q.selector normal.now
+        → rows_view v.items ≡ take page_limit (shard_rows q (shown docs.now.entries))) }
 {
     let mut rows = Vec::new(alloc);
     for (id, document) in docs.iter() {
         if rows.len() == PAGE_LIMIT {
             return Ok(rows);
         }
-        add_if_asked(alloc, &mut rows, id.as_str(), document, query)?;
+        add_if_asked(alloc, &mut rows, id.as_str(), document, normal)?;
     }
     Ok(rows)
 }
 
-// Adds the row of a document that the query asks for.
+// Adds the row of a document that a query of the normal form asks for.
 fn add_if_asked(
     alloc: Global,
     rows: &mut Vec<Row>,
     id: &str,
     document: &Document,
-    query: &Query,
+    normal: &Normal,
 ) -> Result<(), NoMemory>
-    ensures { OnOk result (rows_view rows.new.items ≡ rows_view rows.old.items
-        ++ keyed_if_asked (query_seen query.now) id.now (kept_of document.now).1) }
+    ensures added { OnOk result ((q : QueryValue) → IsNormalOf q.selector normal.now → rows_view rows.new.items
+        ≡ rows_view rows.old.items ++ keyed_if_asked q id.now (kept_of document.now).1) }
+    ensures at_most_one { OnOk result (length rows.new.items ≤ length rows.old.items + 1) }
 {
     if let Some(form) = &document.served {
-        if query.selector.holds(form) {
+        if normal.holds(form) {
             rows.push(row_of(alloc, id)?)?;
         }
     }

@@ -5,3 +5,4 @@ pub mod MessageLemmas
 pub mod ReplyLemmas
 pub mod SessionLemmas
 pub mod TalkLemmas
+pub mod TargetLemmas

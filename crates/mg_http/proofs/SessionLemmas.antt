@@ -1,17 +1,18 @@
 -- What a session has done stays done when it goes on.
-use Rattle.std.proofs.Common.{◌≡◌, ℕ, List, [], ◌∷◌, ◌++◌, Option, Some, None, refl, sym, ap, ◌∙◌, append_assoc, append-nil, inl, inr, Result, Ok, Err, is_ok, cond}
+use Rattle.std.proofs.Common.{◌≡◌, ℕ, List, [], ◌∷◌, ◌++◌, Option, Some, None, refl, sym, ap, ◌∙◌, append_assoc, append-nil, inl, inr, Result, Ok, Err, is_ok, cond, Bool}
+use Rattle.std.specs.Bool.{⊤}
 use Rattle.std.specs.Io.KnownBytes.{Appends, Consumes}
 use Rattle.std.proofs.KnownBytes.{Consumes-nil, Appends-nil, Consumes-trans, Appends-trans}
 use Rattle.httparse.proofs.GrammarLemmas.{ReadsRequest-append}
 use Rattle.mg_engine.specs.Commands.{Asked, Answer}
 use Rattle.mg_http.specs.declared.device.Fault.{Fault}
-use Rattle.mg_http.specs.declared.head.Route.{Route}
 use Rattle.mg_http.specs.declared.sessions.SessionEnd.{SessionEnd}
 use Rattle.mg_http.specs.declared.sessions.SessionEnd.TheVariants.{Refused, WriteFault}
-use Rattle.mg_http.specs.Device.{Writes, WritesPart}
+use Rattle.mg_http.specs.Device.{Writes}
 use Rattle.mg_http.specs.Message.{Begins}
 use Rattle.mg_http.specs.Reply.{reply_text}
-use Rattle.mg_http.specs.Session.{Call, Handles, Serves, Refuses, Ends, Converses}
+use Rattle.mg_http.specs.Session.{Call, Handles, Serves, Refuses, Ends, Converses, Turns}
+use Rattle.mg_http.specs.Target.{Request, document}
 
 -- what is found has no value, so nothing found has one
 pub never_both : {D V U : Type 0} (found : Option D) (value_of : D → Option V) → ((d : D) × (U × (found ≡ Some d)) × (value_of d ≡ None)) → (v : V)
@@ -22,9 +23,9 @@ never_both found value_of h v r =
     let none : None ≡ Some v = sym h.2 ∙ ap value_of same ∙ r.2 in cc
 
 -- a message stays at the front when more comes
-pub Begins-append : (db bytes : List ℕ) (route : Route) (body rest more : List ℕ) → Begins db bytes route body rest
-    → Begins db (bytes ++ more) route body (rest ++ more)
-Begins-append db bytes route body rest more h = record {
+pub Begins-append : (db bytes : List ℕ) (request : Request) (body rest more : List ℕ) → Begins db bytes request body rest
+    → Begins db (bytes ++ more) request body (rest ++ more)
+Begins-append db bytes request body rest more h = record {
   head = h.head;
   after = h.after ++ more;
   reads = ReadsRequest-append bytes h.head h.after more h.reads;
@@ -45,7 +46,7 @@ module _ {S : Type 0} (answers : S → Asked → Option Answer → S → Type 0)
       → Serves answers db old bytes calls text rest new → Serves answers db old (bytes ++ more) calls text (rest ++ more) new
   Serves-append old bytes [] text rest new more h = (ap (λ (t : List ℕ). t ++ more) h.0, h.1, h.2)
   Serves-append old bytes (call ∷ calls) text rest new more h =
-      (h.0 ++ more, h.1, h.2, Begins-append db bytes call.route call.body h.0 more h.3, h.4, h.5, Serves-append h.2 h.0 calls h.1 rest new more h.6)
+      (h.0 ++ more, h.1, h.2, Begins-append db bytes call.request call.body h.0 more h.3, h.4, h.5, Serves-append h.2 h.0 calls h.1 rest new more h.6)
 
   -- one run of calls after another
   pub Serves-then : (old : S) (bytes : List ℕ) (calls : List Call) (text mid : List ℕ) (between : S) (others : List Call) (later rest : List ℕ) (new : S)
@@ -88,33 +89,40 @@ module _ {S : Type 0} (answers : S → Asked → Option Answer → S → Type 0)
       (came : List ℕ) × (written : List ℕ) × Consumes r r' came × Appends w w' written
       × ((calls : List Call) × Serves answers db old (before ++ came) calls written held new)
 
-  pub reply_fails : (r w w' : Option (List ℕ)) (old : S) (held : List ℕ) (route : Route) (body after : List ℕ) (new : S)
-      → Begins db held route body after
-      → ((reply : Option Answer) × Handles answers old route body reply new × WritesPart w w' (reply_text reply))
-      → Promises r r w w' old held new WriteFault
-  reply_fails r w w' old held route body after new h k = (
-    [],
-    k.2.0,
-    Consumes-nil r,
-    k.2.2,
-    rw append-nil (ends_at old held k.2.0 new WriteFault
-        (reply_text k.0, k.2.1, inl (record { route = route; body = body; reply = k.0 }, after, h, k.1, refl))),
+  -- a message at the front was handled, and its reply written, or a front of it
+  pub handled_one : {A : Type 0} (w w' : Option (List ℕ)) (old : S) (bytes : List ℕ) (request : Request) (body rest : List ℕ) (new : S) (reply : Option Answer) (written : Result A Fault) (r : Result ⊤ SessionEnd)
+      → Begins db bytes request body rest → Handles answers old request body reply new → Writes w w' (reply_text reply) written
+      → r ≡ cond (is_ok written) (Ok tt) (Err WriteFault) → (text : List ℕ) × Appends w w' text × Turns answers db old bytes text rest new r
+  handled_one w w' old bytes request body rest new reply (Ok a) r h k t e = (
+    reply_text reply,
+    t,
+    rw e (record { request = request; body = body; reply = reply } ∷ [], (rest, [], new, h, k, sym (append-nil (reply_text reply)), (refl, refl, refl))),
+  )
+  handled_one w w' old bytes request body rest new reply (Err f) r h k t e = (
+    t.0,
+    t.2,
+    rw e (ends_at old bytes t.0 new WriteFault
+        (reply_text reply, t.1, inl (record { request = request; body = body; reply = reply }, rest, h, k, refl))),
   )
 
-  pub replied : (r w w' : Option (List ℕ)) (old : S) (held : List ℕ) (route : Route) (body after left : List ℕ) (new : S)
-      → Begins db held route body after → left ≡ after
-      → ((reply : Option Answer) × Handles answers old route body reply new × Appends w w' (reply_text reply))
-      → Runs r r w w' old held left new
-  replied r w w' old held route body after left new h e k = (
-    [],
-    reply_text k.0,
-    Consumes-nil r,
-    k.2,
-    (
-      record { route = route; body = body; reply = k.0 } ∷ [],
-      (after, [], new, rw append-nil h, k.1, sym (append-nil (reply_text k.0)), (sym e, refl, refl)),
-    ),
-  )
+  -- a message at the front for whose segment there is no memory
+  pub refused_one : {A : Type 0} (w w' : Option (List ℕ)) (old : S) (bytes : List ℕ) (segment : List ℕ) (conflicts : Bool) (body rest : List ℕ) (written : Result A Fault) (end : SessionEnd)
+      → Begins db bytes (document segment conflicts) body rest → Writes w w' (reply_text None) written
+      → end ≡ cond (is_ok written) Refused WriteFault → (text : List ℕ) × Appends w w' text × Converses answers db old bytes text old end
+  refused_one w w' old bytes segment conflicts body rest (Ok a) end h t e =
+      (reply_text None, t, rw e (ends_at old bytes (reply_text None) old Refused (inr (inr (inr (segment, conflicts, body, rest, h)), refl), refl)))
+  refused_one w w' old bytes segment conflicts body rest (Err f) end h t e =
+      (t.0, t.2, rw e (ends_at old bytes t.0 old WriteFault (reply_text None, t.1, inr (inr (inr (inr (segment, conflicts, body, rest, h)), refl), refl))))
+
+  -- the message at the front ends the session, and nothing is read
+  pub ends_here : (r w w' : Option (List ℕ)) (old : S) (held : List ℕ) (new : S) (end : SessionEnd)
+      → ((text : List ℕ) × Appends w w' text × Converses answers db old held text new end) → Promises r r w w' old held new end
+  ends_here r w w' old held new end k = ([], k.0, Consumes-nil r, k.1, rw append-nil k.2)
+
+  -- the message at the front is answered, and nothing is read
+  pub goes_on : (r w w' : Option (List ℕ)) (old : S) (held rest left : List ℕ) (new : S) → left ≡ rest
+      → ((text : List ℕ) × Appends w w' text × ((calls : List Call) × Serves answers db old held calls text rest new)) → Runs r r w w' old held left new
+  goes_on r w w' old held rest left new e k = ([], k.0, Consumes-nil r, k.1, rw (append-nil, e) k.2)
 
   -- the last text is a refusal, or a front of it
   pub refuses : {A : Type 0} (r r' w w' : Option (List ℕ)) (old : S) (held came text : List ℕ) (written : Result A Fault) (end : SessionEnd)

@@ -7,3 +7,4 @@ pub mod Reply
 pub mod Session
 pub mod Solo
 pub mod Talk
+pub mod Target

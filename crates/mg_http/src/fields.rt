@@ -2,7 +2,7 @@ ghost use Rattle.std.specs.Prelude.{◌≡◌, length, map, count_by, find, All}
 ghost use Rattle.std.specs.Option.{option_map};
 ghost use Rattle.std.specs.Str.{str_eq_ignore_ascii_case};
 ghost use Rattle.httparse.specs.Spans.{IsHeaderWithin, header_bytes};
-ghost use Rattle.mg_http.specs.Fields.{is_named, length_written, body_length};
+ghost use Rattle.mg_http.specs.Fields.{is_named, length_written, body_length, length_or_none};
 
 use httparse::spans::HeaderSpan;
 
@@ -75,5 +75,20 @@ pub(crate) fn length_of(bytes: &[u8], fields: &[HeaderSpan]) -> Option<u64>
         parse_length(find_named(bytes, fields, b"content-length")?)
     } else {
         None
+    }
+}
+
+/// The length that the fields give to a body that may be left out; 0 where they give none.
+pub(crate) fn length_or_none(bytes: &[u8], fields: &[HeaderSpan]) -> Option<u64>
+    requires { All (IsHeaderWithin (length bytes.now)) fields.now }
+    ensures { result ≡ length_or_none (map (header_bytes bytes.now) fields.now) }
+{
+    if count_named(bytes, fields, b"content-length") == 0
+        && count_named(bytes, fields, b"transfer-encoding") == 0
+        && count_named(bytes, fields, b"connection") == 0
+    {
+        Some(0)
+    } else {
+        length_of(bytes, fields)
     }
 }

@@ -1,25 +1,19 @@
-ghost use Rattle.std.specs.Prelude.{◌≡◌, ◌↔◌, ◌++◌, ◌≤◌, length, codes, IsTrue, MatchOption};
-ghost use Rattle.mg_http.specs.Head.{target_of, IsHeadRead};
+ghost use Rattle.std.specs.Prelude.{◌≡◌, ◌≤◌, length, map, All};
+ghost use Rattle.httparse.specs.Spans.{IsHeaderWithin, header_bytes};
+ghost use Rattle.mg_http.specs.Head.{length_for, IsHeadRead};
+ghost use Rattle.mg_http.specs.Target.{request_of};
 
-use crate::fields::length_of;
+use crate::fields::{length_of, length_or_none};
+use crate::target::{Target, read_target};
 use httparse::spans::{HeaderSpan, parse_request};
 use httparse::{Error, Status};
 
-/// What a request asks for.
-#[derive(Clone, Copy, Debug, PartialEq, Eq)]
-pub enum Route {
-    /// `POST /{db}/_bulk_docs`
-    BulkDocs,
-    /// `POST /{db}/_find`
-    Find,
-}
-
 /// What some bytes begin with.
 #[derive(Clone, Copy)]
-pub(crate) enum HeadRead {
-    /// A head of so many bytes that asks for the route, and a body of so many bytes follows.
-    Framed(Route, usize, u64),
-    /// A head that no route takes.
+pub(crate) enum HeadRead<'a> {
+    /// A head of so many bytes that asks for something, and a body of so many bytes follows.
+    Framed(Target<'a>, usize, u64),
+    /// A head that asks for nothing that is answered.
     Unframed,
     /// The front of a head.
     Partial,
@@ -27,35 +21,19 @@ pub(crate) enum HeadRead {
     Bad,
 }
 
-/// Whether the path is that of the name in the database.
-fn is_path_of(db: &str, name: &[u8], path: &[u8]) -> bool
-    ensures { IsTrue result ↔ (path.now ≡ codes "/" ++ (db.now ++ name.now)) }
+/// The length that the fields give to the body of what is asked for.
+fn length_for(target: Target<'_>, bytes: &[u8], fields: &[HeaderSpan]) -> Option<u64>
+    requires { All (IsHeaderWithin (length bytes.now)) fields.now }
+    ensures { result ≡ length_for (request_of target.entry) (map (header_bytes bytes.now) fields.now) }
 {
-    match path.strip_prefix(b"/") {
-        None => false,
-        Some(rest) => match rest.strip_prefix(db.as_bytes()) {
-            None => false,
-            Some(last) => last == name,
-        },
-    }
-}
-
-/// The route of the path.
-fn route_of(db: &str, path: &[u8]) -> Option<Route>
-    ensures { MatchOption result ((route : _) → ¬ (path.now ≡ target_of db.now route))
-        (λ route. path.now ≡ target_of db.now route) }
-{
-    if is_path_of(db, b"/_bulk_docs", path) {
-        Some(Route::BulkDocs)
-    } else if is_path_of(db, b"/_find", path) {
-        Some(Route::Find)
-    } else {
-        None
+    match target {
+        Target::Post(_) => length_of(bytes, fields),
+        Target::Document { .. } => length_or_none(bytes, fields),
     }
 }
 
 /// Reads the head at the front of at most 16,384 bytes; the spans are room for its fields.
-pub(crate) fn read_head(db: &str, bytes: &[u8], spans: &mut [HeaderSpan]) -> HeadRead
+pub(crate) fn read_head<'a>(db: &str, bytes: &'a [u8], spans: &mut [HeaderSpan]) -> HeadRead<'a>
     requires size { length bytes.now ≤ 16384 }
     requires room { 5461 ≤ length spans.old }
     ensures { IsHeadRead db.now bytes.now result }
@@ -63,15 +41,15 @@ pub(crate) fn read_head(db: &str, bytes: &[u8], spans: &mut [HeaderSpan]) -> Hea
     match parse_request(bytes, spans) {
         Ok(Status::Complete(head)) => {
             let fields = &spans[..head.headers];
-            if fields.len() > 64
-                || head.version != 1
-                || head.method.of(bytes) != b"POST".as_slice()
-            {
+            if fields.len() > 64 || head.version != 1 {
                 return HeadRead::Unframed;
             }
-            match (route_of(db, head.path.of(bytes)), length_of(bytes, fields)) {
-                (Some(route), Some(body)) => HeadRead::Framed(route, head.len, body),
-                _ => HeadRead::Unframed,
+            match read_target(db, head.method.of(bytes), head.path.of(bytes)) {
+                None => HeadRead::Unframed,
+                Some(target) => match length_for(target, bytes, fields) {
+                    None => HeadRead::Unframed,
+                    Some(body) => HeadRead::Framed(target, head.len, body),
+                },
             }
         }
         Ok(Status::Partial) => HeadRead::Partial,

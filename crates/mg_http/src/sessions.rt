@@ -1,22 +1,25 @@
-ghost use Rattle.std.specs.Prelude.{◌≡◌, ◌↔◌, ◌⊎◌, ℕ, ◌<◌, ◌≤◌, List, [], ◌++◌, true, false, IsTrue, IsErrOf, is_ok, if◌then◌else◌, Option, OnOk};
+ghost use Rattle.std.specs.Prelude.{◌≡◌, ◌↔◌, ◌⊎◌, ℕ, ◌<◌, ◌≤◌, List, [], ◌++◌, true, false, IsTrue, IsErrOf, IfErr, is_ok, if◌then◌else◌, Option, OnOk};
 ghost use Rattle.std.specs.Io.KnownBytes.{Appends, Consumes, IsAtEnd};
 ghost use Rattle.mg_value.specs.View.{view};
 ghost use Rattle.mg_engine.specs.Commands.{Answer};
 ghost use Rattle.mg_engine.specs.View.{asked};
-ghost use Rattle.mg_http.specs.Device.{inner_of, has_failed, Writes, WritesPart};
+ghost use Rattle.mg_http.specs.Device.{inner_of, has_failed, Writes};
 ghost use Rattle.mg_http.specs.Inbox.{unanswered, turns_left};
+ghost use Rattle.mg_http.specs.Message.{Begins};
 ghost use Rattle.mg_http.specs.Reply.{reply_text};
-ghost use Rattle.mg_http.specs.Session.{asked_by, Handles, Converses, Turns};
+ghost use Rattle.mg_http.specs.Session.{asked_by, HandlesBody, Converses, Turns};
+ghost use Rattle.mg_http.specs.Target.{request_of};
 
+use crate::decode::command_for;
 use crate::device::{Device, Fault};
-use crate::head::Route;
 use crate::inbox::{Filled, Inbox, fill, rest_of};
 use crate::message::{Front, read_message};
 use crate::reply::{write_refusal, write_reply};
 use crate::service::Service;
+use crate::target::{Route, Target};
 use mg_engine::{Command, Refusal, Reply};
 use mg_value::{Json, ReadError};
-use std::alloc::Global;
+use std::alloc::{AllocError, Global};
 use std::io::{Read, Write};
 use std::sync::Wait;
 use std::thread::Threads;
@@ -28,7 +31,7 @@ pub enum SessionEnd {
     Eof,
     /// A message asked to close; not yet.
     Closed,
-    /// Bytes that are no message of a route, or no memory for one: the last text says which.
+    /// Bytes that are no message that is answered, or no memory for one: the last text says which.
     Refused,
     /// The reader failed.
     ReadFault,
@@ -38,7 +41,7 @@ pub enum SessionEnd {
     Limit,
 }
 
-/// The command that a message for the route asks.
+/// The command that a body for the route asks.
 fn command_of(route: Route, value: Json) -> Command
     ensures { asked result ≡ asked_by route (view value) }
 {
@@ -48,8 +51,8 @@ fn command_of(route: Route, value: Json) -> Command
     }
 }
 
-/// Answers one message, and writes its reply.
-fn answer<H: Wait + Threads, S: Service, W: Write>(
+/// Answers the body for a route, and writes the reply.
+fn answer_body<H: Wait + Threads, S: Service, W: Write>(
     rt: &H,
     alloc: Global,
     service: &mut S,
@@ -58,7 +61,7 @@ fn answer<H: Wait + Threads, S: Service, W: Write>(
     route: Route,
     body: &[u8],
 ) -> Result<(), Fault>
-    ensures bytes { (reply : Option Answer) × Handles S.answers service.old route body.now reply service.new
+    ensures bytes { (reply : Option Answer) × HandlesBody S.answers service.old route body.now reply service.new
         × Writes (W.contents (inner_of writer.old)) (W.contents (inner_of writer.new)) (reply_text reply) result }
     ensures failed { has_failed writer.new ≡ (if is_ok result then has_failed writer.old else true) }
 {
@@ -80,6 +83,50 @@ fn refused(written: Result<(), Fault>) -> SessionEnd
     match written {
         Ok(()) => SessionEnd::Refused,
         Err(Fault) => SessionEnd::WriteFault,
+    }
+}
+
+/// How a session goes on whose reply was written so.
+fn replied(written: Result<(), Fault>) -> Result<(), SessionEnd>
+    ensures { result ≡ (if is_ok written then Ok tt else Err SessionEnd.WriteFault) }
+{
+    match written {
+        Ok(()) => Ok(()),
+        Err(Fault) => Err(SessionEnd::WriteFault),
+    }
+}
+
+/// Answers one message, and writes its reply. Where memory for what its target spells is refused, the session ends.
+fn answer<H: Wait + Threads, S: Service, W: Write>(
+    rt: &H,
+    alloc: Global,
+    service: &mut S,
+    writer: &mut Device<W>,
+    page: &mut Vec<u8>,
+    target: Target<'_>,
+    body: &[u8],
+) -> Result<(), SessionEnd>
+    requires { has_failed writer.old ≡ false }
+
+    // Where such a message is at the front of some bytes: what was written for it.
+    ensures bytes { (db bytes rest : List ℕ) → Begins db bytes (request_of target.entry) body.now rest
+        → (written : List ℕ) × Appends (W.contents (inner_of writer.old)) (W.contents (inner_of writer.new)) written
+        × Turns S.answers db service.old bytes written rest service.new result }
+    ensures end { IfErr result (λ end. (end ≡ SessionEnd.Refused) ⊎ (end ≡ SessionEnd.WriteFault)) }
+    ensures write_fault { IsTrue (has_failed writer.new) ↔ IsErrOf result SessionEnd.WriteFault }
+{
+    match target {
+        Target::Post(route) => {
+            replied(answer_body(rt, alloc, service, writer, page, route, body))
+        }
+        Target::Document { segment, query } => match command_for(alloc, segment, query) {
+            Ok(Some(command)) => {
+                let reply = service.ask(rt, alloc, &command);
+                replied(write_reply(writer, page, &reply))
+            }
+            Ok(None) => replied(write_refusal(writer, page, Refusal::Missing)),
+            Err(AllocError) => Err(refused(write_reply(writer, page, &Reply::NoMemory))),
+        },
     }
 }
 
@@ -106,13 +153,13 @@ fn turn<H: Wait + Threads, S: Service, R: Read, W: Write>(
 {
     let bytes = rest_of(&inbox.held, inbox.start);
     match read_message(db, bytes, &mut inbox.spans) {
-        Front::Whole(route, start, end) => {
+        Front::Whole(target, start, end) => {
             if inbox.requests == u32::MAX {
                 return Err(SessionEnd::Limit);
             }
             let body = &bytes[start..end];
-            match answer(rt, alloc, service, writer, &mut inbox.page, route, body) {
-                Err(Fault) => Err(SessionEnd::WriteFault),
+            match answer(rt, alloc, service, writer, &mut inbox.page, target, body) {
+                Err(stop) => Err(stop),
                 Ok(()) => {
                     inbox.requests += 1;
                     inbox.start += end;

@@ -80,7 +80,8 @@ winner_leaf h w e = go (filter_map (tip_of h) h) (tips_are_leaves h h) (tip_has 
         let d = best_from_leaf h l ls all.0 all.1 in
         (subst (IsLeaf h) b d.0, λ m leaf. subst (λ (x : Leaf). IsAtMost x m) b (has_at_most (best_from l ls) m (l ∷ ls) (d.1, d.2) (has m leaf)))
 
-no_winner_leaf : (h : History) (l : Leaf) → winner_of h ≡ None → IsLeaf h l → ⊥
+-- where there is no winner, there is no leaf
+pub no_winner_leaf : (h : History) (l : Leaf) → winner_of h ≡ None → IsLeaf h l → ⊥
 no_winner_leaf h l e leaf = go (filter_map (tip_of h) h) (tip_has h l leaf) e
   where
     go : (ls : List Leaf) → Has l ls → best_of ls ≡ None → ⊥

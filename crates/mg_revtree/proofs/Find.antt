@@ -1,5 +1,5 @@
 -- What a link put into the kept links changes.
-use Rattle.std.proofs.Common.{◌≡◌, ℕ, zero, suc, ◌<◌, ◌≤◌, false, Some, None, List, [], ◌∷◌, inl, inr, Result, Ok, Err, IfOk, IfErr, nat_lt, length, get_or, set, refl, ap, sym, ◌∙◌, subst, arith}
+use Rattle.std.proofs.Common.{◌≡◌, ℕ, zero, suc, ◌<◌, ◌≤◌, true, false, Some, None, is_some, List, [], ◌∷◌, inl, inr, Result, Ok, Err, IfOk, IfErr, nat_lt, length, get_or, map, set, refl, ap, sym, ◌∙◌, subst, arith}
 use Rattle.std.specs.List.{insert, HoldsAt}
 use Rattle.std.specs.List.Sorted.{IsBinarySearchResult, IsNonDecreasingBy, IsPartitionPoint, IsSearchInRange}
 use Rattle.std.specs.Ordering.{is_eq, ordering_index, ordering_reverse}
@@ -14,17 +14,19 @@ use Rattle.mg_revtree.proofs.Same.{two, same_is, apart, revision_total, less_apa
 
 -- ---- links in order
 
--- a revision less than all is less than the one at place i
-below_at : (r : Revision) (ls : List Link) (i : ℕ) (d : Link) → i < length ls → IsBelow r ls → revision_order r (get_or ls i d).rev ≡ Less
-below_at r [] i d lt h = absurd (omega arith)
-below_at r (l ∷ ls) zero d lt h = h.0
-below_at r (l ∷ ls) (suc i) d lt h = below_at r ls i d (omega arith) h.1
+-- the items of a list, each with its link
+module _ {A : Type 0} (f : A → Link) where
+  -- a revision less than all is less than the one at place i
+  pub below_at : (r : Revision) (xs : List A) (i : ℕ) (d : A) → i < length xs → IsBelow r (map f xs) → revision_order r (f (get_or xs i d)).rev ≡ Less
+  below_at r [] i d lt h = absurd (omega arith)
+  below_at r (x ∷ xs) zero d lt h = h.0
+  below_at r (x ∷ xs) (suc i) d lt h = below_at r xs i d (omega arith) h.1
 
-sorted_at : (ls : List Link) (i j : ℕ) (d : Link) → i < j → j < length ls → AreSorted ls → revision_order (get_or ls i d).rev (get_or ls j d).rev ≡ Less
-sorted_at [] i j d lt within h = absurd (omega arith)
-sorted_at (l ∷ ls) i zero d lt within h = absurd (omega arith)
-sorted_at (l ∷ ls) zero (suc j) d lt within h = below_at l.rev ls j d (omega arith) h.0
-sorted_at (l ∷ ls) (suc i) (suc j) d lt within h = sorted_at ls i j d (omega arith) (omega arith) h.1
+  pub sorted_at : (xs : List A) (i j : ℕ) (d : A) → i < j → j < length xs → AreSorted (map f xs) → revision_order (f (get_or xs i d)).rev (f (get_or xs j d)).rev ≡ Less
+  sorted_at [] i j d lt within h = absurd (omega arith)
+  sorted_at (x ∷ xs) i zero d lt within h = absurd (omega arith)
+  sorted_at (x ∷ xs) zero (suc j) d lt within h = below_at (f x).rev xs j d (omega arith) h.0
+  sorted_at (x ∷ xs) (suc i) (suc j) d lt within h = sorted_at xs i j d (omega arith) (omega arith) h.1
 
 index_small : (o : Ordering) → ordering_index o ≤ 2
 index_small Less = omega arith
@@ -43,32 +45,38 @@ index_rises a b r lt = go (revision_order b r) refl
         rw (e, f) (omega arith)
     go Greater e = rw e (index_small (revision_order a r))
 
--- links in order compare with a revision in order
-pub rising : (ls : List Link) (r : Revision) → AreSorted ls → IsNonDecreasingBy (λ (l : Link). ordering_index (revision_order l.rev r)) ls
-rising ls r h i j d le within = elim (two (nat_lt i j)) [
-  | inl t ↦ let lt : i < j = grind (arith, nat_tests) in index_rises (get_or ls i d).rev (get_or ls j d).rev r (sorted_at ls i j d lt within h)
-  | inr f ↦ let e : i ≡ j = grind (arith, nat_tests) in rw e (omega arith)
-]
+module _ {A : Type 0} (f : A → Link) where
+  -- links in order compare with a revision in order
+  pub rising : (xs : List A) (r : Revision) → AreSorted (map f xs) → IsNonDecreasingBy (λ (x : A). ordering_index (revision_order (f x).rev r)) xs
+  rising xs r h i j d le within = elim (two (nat_lt i j)) [
+    | inl t ↦ let lt : i < j = grind (arith, nat_tests) in index_rises (f (get_or xs i d)).rev (f (get_or xs j d)).rev r (sorted_at f xs i j d lt within h)
+    | inr n ↦ let e : i ≡ j = grind (arith, nat_tests) in rw e (omega arith)
+  ]
 
--- an equal one is at its place
-pub place_found : (r : Revision) (ls : List Link) (i : ℕ) → i < length ls → AreSorted ls → HoldsAt (λ (l : Link). revision_order l.rev r ≡ Equal) ls i → IsPlace r ls i
-place_found r [] i lt s h = absurd (omega arith)
-place_found r (l ∷ ls) zero lt s h = equal_same l.rev r (h l)
-place_found r (l ∷ ls) (suc i) lt s h =
-    let e : r ≡ (get_or ls i l).rev = same_is r (get_or ls i l).rev (equal_same (get_or ls i l).rev r (h l)) in
-    let b : revision_order l.rev r ≡ Less = subst (λ (x : Revision). revision_order l.rev x ≡ Less) (sym e) (below_at l.rev ls i l (omega arith) s.0) in
-    (less_apart l.rev r b, place_found r ls i (omega arith) s.1 (λ d. h d))
+  -- an equal one is at its place
+  pub place_found : (r : Revision) (xs : List A) (i : ℕ) → i < length xs → AreSorted (map f xs) → HoldsAt (λ (x : A). revision_order (f x).rev r ≡ Equal) xs i → IsPlace r (map f xs) i
+  place_found r [] i lt s h = absurd (omega arith)
+  place_found r (x ∷ xs) zero lt s h = equal_same (f x).rev r (h x)
+  place_found r (x ∷ xs) (suc i) lt s h =
+      let e : r ≡ (f (get_or xs i x)).rev = same_is r (f (get_or xs i x)).rev (equal_same (f (get_or xs i x)).rev r (h x)) in
+      let b : revision_order (f x).rev r ≡ Less = subst (λ (q : Revision). revision_order (f x).rev q ≡ Less) (sym e) (below_at f (f x).rev xs i x (omega arith) s.0) in
+      (less_apart (f x).rev r b, place_found r xs i (omega arith) s.1 (λ d. h d))
 
-above_all : (r : Revision) (ls : List Link) → ((k : ℕ) (d : Link) → k < length ls → revision_order (get_or ls k d).rev r ≡ Greater) → IsBelow r ls
-above_all r [] h = tt
-above_all r (l ∷ ls) h = (revision_total.antisymm r l.rev ∙ ap ordering_reverse (h 0 l (omega arith)), above_all r ls (λ k d lt. h (suc k) d (omega arith)))
+  above_all : (r : Revision) (xs : List A) → ((k : ℕ) (d : A) → k < length xs → revision_order (f (get_or xs k d)).rev r ≡ Greater) → IsBelow r (map f xs)
+  above_all r [] h = tt
+  above_all r (x ∷ xs) h = (revision_total.antisymm r (f x).rev ∙ ap ordering_reverse (h 0 x (omega arith)), above_all r xs (λ k d lt. h (suc k) d (omega arith)))
 
--- one between the less and the greater goes there
-pub gap_found : (r : Revision) (ls : List Link) (i : ℕ) → i ≤ length ls → IsPartitionPoint (λ (l : Link). revision_order l.rev r ≡ Less) (λ (l : Link). revision_order l.rev r ≡ Greater) ls i → IsGap r ls i
-gap_found r ls zero le h = above_all r ls (λ k d lt. h.1 k d (omega arith) lt)
-gap_found r [] (suc i) le h = absurd (omega arith)
-gap_found r (l ∷ ls) (suc i) le h =
-    (h.0 0 l (omega arith) (omega arith), gap_found r ls i (omega arith) (λ k d lo hi. h.0 (suc k) d (omega arith) (omega arith), λ k d lo hi. h.1 (suc k) d (omega arith) (omega arith)))
+  -- one between the less and the greater goes there
+  pub gap_found : (r : Revision) (xs : List A) (i : ℕ) → i ≤ length xs → IsPartitionPoint (λ (x : A). revision_order (f x).rev r ≡ Less) (λ (x : A). revision_order (f x).rev r ≡ Greater) xs i → IsGap r (map f xs) i
+  gap_found r xs zero le h = above_all r xs (λ k d lt. h.1 k d (omega arith) lt)
+  gap_found r [] (suc i) le h = absurd (omega arith)
+  gap_found r (x ∷ xs) (suc i) le h =
+      (h.0 0 x (omega arith) (omega arith), gap_found r xs i (omega arith) (λ k d lo hi. h.0 (suc k) d (omega arith) (omega arith), λ k d lo hi. h.1 (suc k) d (omega arith) (omega arith)))
+
+  -- what a binary search answers
+  pub searched : (r : Revision) (xs : List A) (o : Result ℕ ℕ) → IsSearchInRange o (length xs) → IsBinarySearchResult (λ (x : A). revision_order (f x).rev r) xs o → IfOk o (λ i. (i < length xs) × (AreSorted (map f xs) → IsPlace r (map f xs) i)) × IfErr o (λ i. (i ≤ length xs) × (AreSorted (map f xs) → IsGap r (map f xs) i))
+  searched r xs (Ok i) bound by = ((bound, λ s. place_found r xs i bound s by), tt)
+  searched r xs (Err i) bound by = (tt, (bound, λ s. gap_found r xs i bound (by (rising xs r s))))
 
 below_none : (r : Revision) (ls : List Link) → IsBelow r ls → find r ls ≡ None
 below_none r [] h = refl
@@ -134,7 +142,13 @@ place_find r [] i x place is = absurd place
 place_find r (y ∷ ls) zero x place is = let e : x.parent ≡ y.parent = ap (λ (z : Link). z.parent) is in rw (place, e) refl
 place_find r (y ∷ ls) (suc i) x place is = rw (place.0) (place_find r ls i x place.1 is)
 
--- what a binary search answers
-pub searched : (r : Revision) (ls : List Link) (o : Result ℕ ℕ) → IsSearchInRange o (length ls) → IsBinarySearchResult (λ (l : Link). revision_order l.rev r) ls o → IfOk o (λ i. (i < length ls) × (AreSorted ls → IsPlace r ls i)) × IfErr o (λ i. (i ≤ length ls) × (AreSorted ls → IsGap r ls i))
-searched r ls (Ok i) bound by = ((bound, λ s. place_found r ls i bound s by), tt)
-searched r ls (Err i) bound by = (tt, (bound, λ s. gap_found r ls i bound (by (rising ls r s))))
+-- the one at a revision's place has that revision
+pub place_is : (r : Revision) (ls : List Link) (i : ℕ) (x : Link) → IsPlace r ls i → x ≡ get_or ls i x → x.rev ≡ r
+place_is r [] i x place is = absurd place
+place_is r (y ∷ ls) zero x place is = ap (λ (z : Link). z.rev) is ∙ sym (same_is r y.rev place)
+place_is r (y ∷ ls) (suc i) x place is = place_is r ls i x place.1 is
+
+pub place_some : (r : Revision) (ls : List Link) (i : ℕ) → IsPlace r ls i → is_some (find r ls) ≡ true
+place_some r [] i place = absurd place
+place_some r (y ∷ ls) zero place = rw place refl
+place_some r (y ∷ ls) (suc i) place = rw (place.0) (place_some r ls i place.1)

@@ -4,7 +4,7 @@ use Rattle.mg_revtree.specs.Revision.{Revision, same_revision}
 use Rattle.mg_revtree.specs.History.{Link, parent_of, or_else, agrees, fit, links, all_links}
 use Rattle.mg_revtree.specs.Laws.{AmongLinks, AcceptedInEveryOrder}
 use Rattle.mg_revtree.proofs.Same.{two, same_is, same_refl}
-use Rattle.mg_revtree.proofs.Links.{all_links-append}
+use Rattle.mg_revtree.proofs.Joins.{all_links-append}
 
 pub among_left : (l : Link) (ls ms : List Link) → AmongLinks l ls → AmongLinks l (ls ++ ms)
 among_left l [] ms a = absurd a

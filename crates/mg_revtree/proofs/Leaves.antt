@@ -7,7 +7,7 @@ use Rattle.mg_revtree.specs.History.{Link, Leaf, History, is_known, has_child, i
 use Rattle.mg_revtree.specs.Tree.{leaf_in, AreApart}
 use Rattle.mg_revtree.specs.Steps.{ranked}
 use Rattle.mg_revtree.proofs.Same.{two, same_is, same_refl, apart}
-use Rattle.mg_revtree.proofs.Links.{known-append, has_child-append}
+use Rattle.mg_revtree.proofs.Joins.{known-append, has_child-append}
 
 -- the leaves that are no parents
 pub leaf_in-filter : (r : Revision) (ks : List Link) (ls : List Leaf) → leaf_in r (filter (λ l. not (has_child l.rev ks)) ls) ≡ (if has_child r ks then None else leaf_in r ls)

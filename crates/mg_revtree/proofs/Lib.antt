@@ -2,7 +2,8 @@ pub mod Positions
 pub mod Same
 pub mod Runs
 pub mod Find
-pub mod Links
+pub mod Joins
+pub mod Texts
 pub mod Leaves
 pub mod Ranks
 pub mod Winners
@@ -12,3 +13,4 @@ pub mod Extend
 pub mod Fits
 pub mod Best
 pub mod Replicas
+pub mod Leafless

@@ -6,7 +6,7 @@ use Rattle.mg_revtree.specs.History.{Path, History, Link, newest_of, is_at, is_k
 use Rattle.mg_revtree.specs.Changes.{with_path}
 use Rattle.mg_revtree.specs.Laws.{Among, AmongLinks, SamePaths, SameMarks, OneParent, ReplicasAgree, IsKnownWhole, KnownChangesNothing, NothingIsLost}
 use Rattle.mg_revtree.proofs.Same.{two, same_is, same_refl}
-use Rattle.mg_revtree.proofs.Links.{known-append, parent-append, has_child-append, all_links-append}
+use Rattle.mg_revtree.proofs.Joins.{known-append, parent-append, has_child-append, all_links-append}
 use Rattle.mg_revtree.proofs.Leaves.{leaf_marked, head_known}
 use Rattle.mg_revtree.proofs.Step.{all_links-one, leaf_at-append, mark_of}
 use Rattle.mg_revtree.proofs.Fits.{among_left, among_right, parent_among}

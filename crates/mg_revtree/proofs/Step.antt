@@ -1,15 +1,15 @@
 -- What a tree stands for after one more path.
-use Rattle.std.proofs.Common.{◌≡◌, ℕ, Bool, true, false, not, ◌||◌, if◌then◌else◌, Option, Some, None, is_some, Result, Ok, Err, is_ok, IfOk, IfErr, zero, suc, ◌<◌, ◌≤◌, length, get_or, List, [], ◌∷◌, ◌++◌, append-nil, filter, inl, inr, refl, ap, sym, ◌∙◌, subst, arith}
+use Rattle.std.proofs.Common.{◌≡◌, Bool, true, false, not, ◌||◌, if◌then◌else◌, Option, Some, None, is_some, List, [], ◌∷◌, ◌++◌, append-nil, filter, inl, inr, refl, ap, sym, ◌∙◌, subst}
 use Rattle.mg_value.specs.Value.{Value}
 use Rattle.mg_revtree.specs.Revision.{Revision, same_revision}
 use Rattle.mg_revtree.specs.History.{Link, Leaf, Path, History, is_known, has_child, is_at, newest_of, links, all_links, marked, leaf_at, or_else}
-use Rattle.mg_revtree.specs.Tree.{StandsFor, AreNodes, AreSorted, node, find, leaf_in}
+use Rattle.mg_revtree.specs.Tree.{StandsFor, AreNodes, node, find, leaf_in}
 use Rattle.mg_revtree.specs.Changes.{path_of, with_path, knows, found_of}
 use Rattle.mg_revtree.specs.declared.error.Merged.TheVariants.{New, Known}
-use Rattle.mg_revtree.specs.Steps.{ranked, IsPlace, IsGap, IsRun}
+use Rattle.mg_revtree.specs.Steps.{ranked}
 use Rattle.mg_revtree.proofs.Same.{two, same_is}
-use Rattle.mg_revtree.proofs.Find.{gap_none}
-use Rattle.mg_revtree.proofs.Links.{has_child-append, all_links-append}
+use Rattle.mg_revtree.proofs.Runs.{IsRun}
+use Rattle.mg_revtree.proofs.Joins.{has_child-append, all_links-append}
 use Rattle.mg_revtree.proofs.Ranks.{are_ranked-filter, are_ranked-ranked}
 use Rattle.mg_revtree.proofs.Leaves.{apart-filter, apart-ranked, leaf_in-filter, leaf_in-ranked, child_known, unknown_unmarked, leaf_marked}
 
@@ -95,35 +95,17 @@ module _ (h : History) (p : Path) (q : Revision) (newest : newest_of p.revs ≡ 
 pub found_known : (q : Revision) (ls ks : List Link) → find q ks ≡ node q ls → is_some (find q ks) ≡ is_known q ls
 found_known q ls ks e = rw e (elim (two (is_known q ls)) [ inl t ↦ rw t refl | inr f ↦ rw f refl ])
 
-place_some : (r : Revision) (ls : List Link) (i : ℕ) → IsPlace r ls i → is_some (find r ls) ≡ true
-place_some r [] i place = absurd place
-place_some r (y ∷ ls) zero place = rw place refl
-place_some r (y ∷ ls) (suc i) place = rw (place.0) (place_some r ls i place.1)
-
--- a search says whether the revision is found
-pub place_ok : (r : Revision) (ls : List Link) (o : Result ℕ ℕ) → AreSorted ls → IfOk o (λ i. (i < length ls) × (AreSorted ls → IsPlace r ls i)) → IfErr o (λ i. (i ≤ length ls) × (AreSorted ls → IsGap r ls i)) → is_ok o ≡ is_some (find r ls)
-place_ok r ls (Ok i) s found absent = sym (place_some r ls i (found.1 s))
-place_ok r ls (Err i) s found absent = rw (gap_none r ls i (absent.1 s)) refl
-
--- the first link is that of the newest
-pub head_links : (rs : List Revision) (ms : List Link) (x : Link) → ms ≡ links rs → 0 < length ms → x ≡ get_or ms 0 x → newest_of rs ≡ Some x.rev
-head_links [] ms x e lt is = absurd (let n : length ms ≡ 0 = ap length e in omega arith)
-head_links (q ∷ qs) ms x e lt is = let f = rw e at is in ap Some (sym (ap (λ (z : Link). z.rev) f))
-
-module _ (h : History) (rs : List Revision) (d : Bool) (b : Value) (q : Revision) (kept ms : List Link) (leaves : List Leaf) (is : ms ≡ links rs) (newest : newest_of rs ≡ Some q) (stands : StandsFor (record { links = kept; leaves = leaves }) h) (nodes : List Link) (joined : AreNodes kept (all_links h) → AreNodes nodes (all_links h ++ ms)) (left : List Leaf) (unleafed : left ≡ filter (λ l. not (has_child l.rev ms)) leaves) where
+module _ (h : History) (rs : List Revision) (d : Bool) (b : Value) (q : Revision) (kept nodes : List Link) (leaves left : List Leaf) (newest : newest_of rs ≡ Some q) (stands : StandsFor (record { links = kept; leaves = leaves }) h) (joined : AreNodes nodes (all_links h ++ links rs)) (unleafed : left ≡ filter (λ l. not (has_child l.rev (links rs))) leaves) where
   nodes_next : AreNodes nodes (all_links (h ++ path_of rs d b ∷ []))
-  nodes_next = subst (λ (ls : List Link). AreNodes nodes ls) (ap (λ ls. all_links h ++ ls) is ∙ sym (all_links-one h (path_of rs d b))) (joined stands.nodes)
-
-  left_is : left ≡ filter (λ l. not (has_child l.rev (links rs))) leaves
-  left_is = subst (λ (k : List Link). left ≡ filter (λ l. not (has_child l.rev k)) leaves) is unleafed
+  nodes_next = subst (λ (ls : List Link). AreNodes nodes ls) (sym (all_links-one h (path_of rs d b))) joined
 
   pub stands_known : is_some (find q kept) ≡ true → StandsFor (record { links = nodes; leaves = left }) (with_path h (path_of rs d b))
   stands_known k = record {
     nodes = nodes_next;
     leaves = record {
-      same = λ r. rw left_is (leaves-known h (path_of rs d b) q newest leaves stands.leaves.same (sym (found_known q (all_links h) kept (stands.nodes.same q)) ∙ k) r);
-      apart = rw unleafed (apart-filter (λ l. not (has_child l.rev ms)) leaves stands.leaves.apart);
-      ranked = rw unleafed (are_ranked-filter (λ l. not (has_child l.rev ms)) leaves stands.leaves.ranked);
+      same = λ r. rw unleafed (leaves-known h (path_of rs d b) q newest leaves stands.leaves.same (sym (found_known q (all_links h) kept (stands.nodes.same q)) ∙ k) r);
+      apart = rw unleafed (apart-filter (λ l. not (has_child l.rev (links rs))) leaves stands.leaves.apart);
+      ranked = rw unleafed (are_ranked-filter (λ l. not (has_child l.rev (links rs))) leaves stands.leaves.ranked);
     };
   }
 
@@ -131,13 +113,13 @@ module _ (h : History) (rs : List Revision) (d : Bool) (b : Value) (q : Revision
   stands_new k run more is_more =
       let l : Leaf = record { rev = q; deleted = d; body = b } in
       let u : is_known q (all_links h) ≡ false = sym (found_known q (all_links h) kept (stands.nodes.same q)) ∙ k in
-      let none : leaf_in q left ≡ None = rw left_is (unknown_no_leaf h (path_of rs d b) q newest leaves stands.leaves.same u) in
+      let none : leaf_in q left ≡ None = rw unleafed (unknown_no_leaf h (path_of rs d b) q newest leaves stands.leaves.same u) in
       record {
         nodes = nodes_next;
         leaves = record {
-          same = λ r. rw is_more (leaf_in-ranked l left none r ∙ rw left_is (leaves-new h (path_of rs d b) q newest leaves stands.leaves.same run u r));
-          apart = rw is_more (apart-ranked l left (rw unleafed (apart-filter (λ x. not (has_child x.rev ms)) leaves stands.leaves.apart)) none);
-          ranked = rw is_more (are_ranked-ranked l left (rw unleafed (are_ranked-filter (λ x. not (has_child x.rev ms)) leaves stands.leaves.ranked)) none);
+          same = λ r. rw is_more (leaf_in-ranked l left none r ∙ rw unleafed (leaves-new h (path_of rs d b) q newest leaves stands.leaves.same run u r));
+          apart = rw is_more (apart-ranked l left (rw unleafed (apart-filter (λ x. not (has_child x.rev (links rs))) leaves stands.leaves.apart)) none);
+          ranked = rw is_more (are_ranked-ranked l left (rw unleafed (are_ranked-filter (λ x. not (has_child x.rev (links rs))) leaves stands.leaves.ranked)) none);
         };
       }
 

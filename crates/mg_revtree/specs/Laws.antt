@@ -1,8 +1,9 @@
 -- What holds of histories, as replicas meet them: CouchDB's replication and conflict model in the subject's own words.
-use Rattle.std.specs.Prelude.{◌≡◌, List, [], ◌∷◌, ◌++◌, ◌⊎◌, true, false, Some}
-use Rattle.mg_revtree.specs.Revision.{Revision}
+use Rattle.std.specs.Prelude.{◌≡◌, ℕ, ◌+◌, Bool, Option, None, List, [], ◌∷◌, ◌++◌, ◌⊎◌, true, false, Some}
+use Rattle.mg_value.specs.Value.{Value}
+use Rattle.mg_revtree.specs.Revision.{Revision, run_of}
 use Rattle.mg_revtree.specs.History.{Path, History, Link, Leaf, newest_of, is_at, links, all_links, is_known, parent_of, leaf_at, leaf_order, winner_of, fits, IsLeaf}
-use Rattle.mg_revtree.specs.Changes.{with_path}
+use Rattle.mg_revtree.specs.Changes.{with_path, extension}
 use Rattle.std.specs.declared.cmp.Ordering.TheVariants.{Less}
 
 -- ---- replicas agree
@@ -80,3 +81,25 @@ WinnerIsBest = (h : History) (w : Leaf) → winner_of h ≡ Some w → IsLeaf h 
 -- no deleted leaf wins while another is not deleted
 abbrev pub DeletedDoNotWin : Type 0
 DeletedDoNotWin = (h : History) (w l : Leaf) → winner_of h ≡ Some w → IsLeaf h l → l.deleted ≡ false → w.deleted ≡ false
+
+-- ---- the first revision
+
+-- each revision of a path is one position above the one after it
+abbrev pub Falls : List Revision → Type 0
+Falls [] = Unit {0}
+Falls (r ∷ []) = Unit {0}
+Falls (r ∷ q ∷ rs) = (r.0 ≡ q.0 + 1) × Falls (q ∷ rs)
+
+-- each run that a replica gives falls, and a new revision over its parent does
+pub record PathsFall : Type 0 where
+  pub runs : (n : ℕ) (ids : List (List ℕ)) (rs : List Revision) → run_of n ids ≡ Some rs → Falls rs
+  pub extensions : (base : Option Revision) (id : List ℕ) (d : Bool) (b : Value) → Falls (extension base id d b).revs
+
+-- all paths of a history fall
+abbrev pub AllFall : History → Type 0
+AllFall [] = Unit {0}
+AllFall (p ∷ h) = Falls p.revs × AllFall h
+
+-- where there is no winner, no revision is known
+abbrev pub NoWinnerNothingKnown : Type 0
+NoWinnerNothingKnown = (h : History) → AllFall h → winner_of h ≡ None → (r : Revision) → is_known r (all_links h) ≡ false

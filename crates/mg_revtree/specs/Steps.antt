@@ -3,7 +3,7 @@ use Rattle.std.specs.Prelude.{◌≡◌, ℕ, zero, suc, List, [], ◌∷◌, Bo
 use Rattle.std.specs.Ordering.{is_lt}
 use Rattle.std.specs.declared.cmp.Ordering.TheVariants.{Less}
 use Rattle.mg_revtree.specs.Revision.{Revision, revision_order, same_revision}
-use Rattle.mg_revtree.specs.History.{Link, Leaf, links, newest_of, is_at, has_child, or_else, agrees, leaf_order}
+use Rattle.mg_revtree.specs.History.{Link, Leaf, or_else, agrees, leaf_order}
 use Rattle.mg_revtree.specs.Tree.{IsBelow, leaf_in}
 
 -- what is kept of a revision after one more link of it
@@ -37,12 +37,13 @@ abbrev pub ranked : Leaf → List Leaf → List Leaf
 ranked l [] = l ∷ []
 ranked l (m ∷ ms) = if is_lt (leaf_order m l) then l ∷ m ∷ ms else m ∷ ranked l ms
 
--- the newest of a run is no parent in it
-abbrev pub IsRun : List Revision → Type 0
-IsRun rs = (r : Revision) → is_at r (newest_of rs) ≡ true → has_child r (links rs) ≡ false
-
 -- whether there are no leaves, or the revision is one
 abbrev pub base_in : List Leaf → Option Revision → Bool
 base_in [] None = true
 base_in (l ∷ ls) None = false
 base_in ls (Some q) = is_some (leaf_in q ls)
+
+-- the ids of a new revision and of the leaf that it extends
+abbrev pub ids_over : List ℕ → Option Revision → List (List ℕ)
+ids_over id None = id ∷ []
+ids_over id (Some q) = id ∷ q.1 ∷ []

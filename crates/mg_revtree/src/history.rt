@@ -1,13 +1,10 @@
-ghost use Rattle.std.specs.Prelude.{◌≡◌, ◌<◌, ◌≤◌, ◌+◌, IfOk, OnOk, length, map, string_bytes};
+ghost use Rattle.std.specs.Prelude.{◌≡◌, ◌<◌, ◌≤◌, IfOk, Some, length, map, string_bytes};
 ghost use Rattle.std.specs.List.{list_all};
-ghost use Rattle.mg_revtree.specs.Revision.{Revision, is_revision_id, run_of};
-ghost use Rattle.mg_revtree.specs.History.{links, newest_of};
-ghost use Rattle.mg_revtree.specs.Steps.{IsRun};
+ghost use Rattle.mg_revtree.specs.Revision.{is_revision_id, run_from, run_of};
+ghost use Rattle.mg_revtree.specs.History.{newest_of};
 
 use crate::error::NoMemory;
-use crate::link::Link;
 use crate::revision::{Rev, is_id};
-use std::alloc::Global;
 use std::marker::Model;
 
 /// A path as a replica gives it: a run of revisions, newest first, each at the position below the one before.
@@ -51,34 +48,13 @@ impl History {
         })
     }
 
-    /// Each revision with the one after it.
-    pub(crate) fn links(&self, alloc: Global) -> Result<Vec<Link>, NoMemory>
-        ensures links { IfOk result (λ made. made.items ≡ links self.now) }
-        ensures some { OnOk result (0 < length (links self.now)) }
-        ensures run { OnOk result (IsRun self.now) }
+    /// The start, and the ids, newest first.
+    pub(crate) fn run(&self) -> (u32, &[String])
+        ensures run { self.now ≡ run_from result.0 (map string_bytes result.1.now) }
+        ensures some { 0 < length result.1.now }
+        ensures len { length result.1.now ≤ result.0 }
     {
-        let ids = &self.ids;
-        let mut made = Vec::with_capacity(alloc, ids.len())?;
-        let mut pos = self.start;
-        for (i, id) in ids.iter().enumerate() {
-            let above = pos.saturating_sub(1);
-            let parent = match ids.get(i + 1) {
-                Some(parent) => Some(Rev {
-                    pos: above,
-                    id: parent.clone()?,
-                }),
-                None => None,
-            };
-            made.push(Link {
-                rev: Rev {
-                    pos,
-                    id: id.clone()?,
-                },
-                parent,
-            })?;
-            pos = above;
-        }
-        Ok(made)
+        (self.start, self.ids.as_slice())
     }
 }
 

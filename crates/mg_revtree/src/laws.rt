@@ -1,4 +1,4 @@
-ghost use Rattle.mg_revtree.specs.Laws.{AcceptedInEveryOrder, DeletedDoNotWin, KnownChangesNothing, NothingIsLost, ReplicasAgree, WinnerIsBest};
+ghost use Rattle.mg_revtree.specs.Laws.{AcceptedInEveryOrder, DeletedDoNotWin, KnownChangesNothing, NoWinnerNothingKnown, NothingIsLost, PathsFall, ReplicasAgree, WinnerIsBest};
 
 /// Replicas that exchanged all they have agree: histories with the same set of paths, in any order and with any
 /// repetition, have the same known revisions with the same parents, the same leaves and the same winner, where paths
@@ -30,4 +30,15 @@ pub fn winner_is_best()
 /// No deleted leaf wins while another leaf is not deleted.
 pub fn deleted_do_not_win()
     ensures { DeletedDoNotWin }
+{}
+
+/// The positions of each path that a replica can give fall by one, and so do those of a new revision and its parent.
+pub fn paths_fall()
+    ensures { PathsFall }
+{}
+
+/// Where the positions of each path fall by one, a document that has no winner knows no revision. So a revision
+/// without a parent is begun only where nothing is known.
+pub fn no_winner_nothing_known()
+    ensures { NoWinnerNothingKnown }
 {}

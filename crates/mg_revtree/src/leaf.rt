@@ -7,6 +7,7 @@ use mg_value::Json;
 use std::alloc::Global;
 use std::cmp::Ordering;
 use std::marker::Model;
+use std::sync::Arc;
 
 /// A revision that is nobody's parent, with its mark and body.
 #[derive(Debug, Drop)]
@@ -48,6 +49,51 @@ impl Leaf {
             rev: self.rev.copy()?,
             deleted: self.deleted,
             body: self.body.copy(alloc)?,
+        })
+    }
+}
+
+/// A leaf that the copies of a tree share. Contracts see the leaf.
+#[derive(Drop)]
+pub(crate) struct Shared {
+    leaf: Arc<Leaf>,
+}
+
+impl Model for Shared {
+    ghost use Rattle.std.specs.Arc.{arc_value};
+    ghost use Rattle.mg_revtree.specs.History.{Leaf as LeafValue};
+    ghost use Rattle.mg_revtree.specs.Tree.{leaf_code};
+
+    ghost Value = { LeafValue };
+
+    ghost coded = { leaf_code };
+
+    ghost view = { λ s. arc_value s.leaf };
+}
+
+impl Shared {
+    /// A leaf to be shared.
+    pub fn new(alloc: Global, leaf: Leaf) -> Result<Shared, NoMemory>
+        ensures { IfOk result (λ shared. shared ≡ leaf) }
+    {
+        Ok(Shared {
+            leaf: Arc::new(alloc, leaf)?,
+        })
+    }
+
+    /// The leaf.
+    pub fn leaf(&self) -> &Leaf
+        ensures { result.now ≡ self.now }
+    {
+        &self.leaf
+    }
+
+    /// The same leaf once more. Takes no memory.
+    pub fn share(&self) -> Result<Shared, NoMemory>
+        ensures { IfOk result (λ shared. shared ≡ self.now) }
+    {
+        Ok(Shared {
+            leaf: self.leaf.clone()?,
         })
     }
 }

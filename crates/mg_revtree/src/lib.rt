@@ -5,7 +5,8 @@ pub mod error;
 pub mod history;
 pub mod laws;
 pub mod leaf;
-mod link;
+mod links;
+mod node;
 pub mod revision;
 pub mod tree;
 

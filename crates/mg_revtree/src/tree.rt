@@ -1,110 +1,51 @@
 ghost use Rattle.std.specs.Prelude.{◌≡◌, ◌+◌, ◌<◌, ◌≤◌, ◌++◌, List, [], Err, IfErr, IfOk, MatchOption, None, OnErr, OnOk, Some, false, filter, is_some, length, map, not, option_copied, string_bytes, true, vec_capacity, vec_len};
 ghost use Rattle.std.specs.List.{insert};
 ghost use Rattle.mg_value.specs.View.{view};
-ghost use Rattle.mg_revtree.specs.Revision.{Revision};
-ghost use Rattle.mg_revtree.specs.History.{History as Paths, Link as Parent, fit, fits, has_child, links, winner_of};
-ghost use Rattle.mg_revtree.specs.Tree.{AreLeaves, AreLosers, AreNodes, AreSorted, StandsFor, find, leaf_in, node};
-ghost use Rattle.mg_revtree.specs.Changes.{extension, found_of, named, path_of, position_below, refusal_of, run_over, with_path};
-ghost use Rattle.mg_revtree.specs.Steps.{IsGap, IsPlace, IsRun, agrees_found, base_in, put, ranked};
+ghost use Rattle.mg_revtree.specs.Revision.{run_from};
+ghost use Rattle.mg_revtree.specs.History.{History as Paths, fits, has_child, links, winner_of};
+ghost use Rattle.mg_revtree.specs.Tree.{AreLeaves, AreLosers, StandsFor, leaf_in};
+ghost use Rattle.mg_revtree.specs.Changes.{extension, found_of, named, path_of, position_below, refusal_of, with_path};
+ghost use Rattle.mg_revtree.specs.Steps.{base_in, ids_over, ranked};
 
 use crate::error::{MergeError, Merged, NoMemory, TreeError};
 use crate::history::History;
-use crate::leaf::Leaf;
-use crate::link::Link;
+use crate::leaf::{Leaf, Shared};
+use crate::links::Links;
 use crate::revision::Rev;
 use mg_value::Json;
 use std::alloc::Global;
 use std::marker::Model;
 
-// Where a revision is, or where it would go.
-fn place(links: &[Link], rev: &Rev) -> Result<usize, usize>
-    ensures found { IfOk result (λ i. (i < length links.now) × (AreSorted links.now → IsPlace rev.now links.now i)) }
-    ensures absent { IfErr result (λ i. (i ≤ length links.now) × (AreSorted links.now → IsGap rev.now links.now i)) }
+// Whether a revision is a parent in a run, given by its start and its ids, newest first. One comparison tells, with the
+// id at the revision's position.
+fn is_parent(rev: &Rev, start: u32, ids: &[String]) -> bool
+    ensures { length ids.now ≤ start + 1 → result ≡ has_child rev.now (links (run_from start (map string_bytes ids.now))) }
 {
-    links.binary_search_by(|link| link.order(rev))
-}
-
-// Adds a link, for which there is room.
-fn join(links: &mut Vec<Link>, link: Link)
-    requires { vec_len links.old < vec_capacity links.old }
-    ensures put { AreSorted links.old.items → (r : Revision) → find r links.new.items ≡ put link r (find r links.old.items) }
-    ensures sorted { AreSorted links.old.items → AreSorted links.new.items }
-    ensures capacity { vec_capacity links.old ≤ vec_capacity links.new }
-    ensures len { vec_len links.new ≤ vec_len links.old + 1 }
-{
-    match place(links, &link.rev) {
-        Ok(at) => {
-            let kept = &mut links[at];
-            kept.join(link.parent);
-        }
-        Err(at) => drop(links.insert(at, link)),
+    if rev.pos >= start {
+        return false;
+    }
+    match ids.get((start - rev.pos) as usize) {
+        Some(id) => rev.id.as_str().cmp(id.as_str()).is_eq(),
+        None => false,
     }
 }
 
-// Adds links, for which there is room.
-fn join_all(links: &mut Vec<Link>, more: Vec<Link>)
-    requires { vec_len links.old + vec_len more ≤ vec_capacity links.old }
-    ensures nodes { (ls : List Parent) → AreNodes links.old.items ls → (r : Revision) → find r links.new.items ≡ node r (ls ++ more.items) }
-    ensures sorted { AreSorted links.old.items → AreSorted links.new.items }
-{
-    for link in more {
-        join(links, link);
-    }
-}
-
-// Whether a revision is a parent in these links.
-fn is_parent(rev: &Rev, links: &[Link]) -> bool
-    ensures { result ≡ has_child rev.now links.now }
-{
-    for link in links {
-        if link.is_above(rev) {
-            return true;
-        }
-    }
-    false
-}
-
-// Takes away the leaves that are parents in these links.
-fn unleaf(leaves: &mut Vec<Leaf>, links: &[Link])
-    ensures kept { leaves.new.items ≡ filter (λ l. not (has_child l.rev links.now)) leaves.old.items }
+// Takes away the leaves that are parents in a run.
+fn unleaf(leaves: &mut Vec<Shared>, start: u32, ids: &[String])
+    ensures kept { length ids.now ≤ start + 1 → leaves.new.items ≡ filter (λ l. not (has_child l.rev (links (run_from start (map string_bytes ids.now))))) leaves.old.items }
     ensures capacity { vec_capacity leaves.new ≡ vec_capacity leaves.old }
     ensures len { vec_len leaves.new ≤ vec_len leaves.old }
 {
-    leaves.retain(|leaf| !is_parent(&leaf.rev, links));
-}
-
-// Whether a link gives its revision no other parent than the kept one.
-fn agrees(links: &[Link], link: &Link) -> bool
-    ensures { AreSorted links.now → result ≡ agrees_found (find link.now.rev links.now) link.now.parent }
-{
-    match place(links, &link.rev) {
-        Ok(at) => {
-            let kept = &links[at];
-            kept.agrees(link)
-        }
-        Err(_) => true,
-    }
-}
-
-// Whether all links fit what is kept.
-fn all_agree(links: &[Link], more: &[Link]) -> bool
-    ensures { (ls : List Parent) → AreNodes links.now ls → result ≡ fit ls more.now }
-{
-    for link in more {
-        if !agrees(links, link) {
-            return false;
-        }
-    }
-    true
+    leaves.retain(|leaf| !is_parent(&leaf.leaf().rev, start, ids));
 }
 
 // Before which leaf a leaf goes.
-fn rank(leaves: &[Leaf], leaf: &Leaf) -> usize
+fn rank(leaves: &[Shared], leaf: &Leaf) -> usize
     ensures within { result ≤ length leaves.now }
     ensures ranked { insert leaves.now result leaf.now ≡ ranked leaf.now leaves.now }
 {
     for (i, other) in leaves.iter().enumerate() {
-        if other.order(leaf).is_lt() {
+        if other.leaf().order(leaf).is_lt() {
             return i;
         }
     }
@@ -112,20 +53,20 @@ fn rank(leaves: &[Leaf], leaf: &Leaf) -> usize
 }
 
 // Adds a leaf, for which there is room.
-fn add_leaf(leaves: &mut Vec<Leaf>, leaf: Leaf)
+fn add_leaf(leaves: &mut Vec<Shared>, leaf: Shared)
     requires { vec_len leaves.old < vec_capacity leaves.old }
     ensures { leaves.new.items ≡ ranked leaf leaves.old.items }
 {
-    let at = rank(leaves, &leaf);
+    let at = rank(leaves, leaf.leaf());
     drop(leaves.insert(at, leaf));
 }
 
 // Whether a revision is a leaf.
-fn is_leaf(leaves: &[Leaf], rev: &Rev) -> bool
+fn is_leaf(leaves: &[Shared], rev: &Rev) -> bool
     ensures { result ≡ is_some (leaf_in rev.now leaves.now) }
 {
     for leaf in leaves {
-        if rev.is(&leaf.rev) {
+        if rev.is(&leaf.leaf().rev) {
             return true;
         }
     }
@@ -133,7 +74,7 @@ fn is_leaf(leaves: &[Leaf], rev: &Rev) -> bool
 }
 
 // The position below a new revision, if that may be made.
-fn position_under(leaves: &[Leaf], parent: Option<&Rev>) -> Option<u32>
+fn position_under(leaves: &[Shared], parent: Option<&Rev>) -> Option<u32>
     ensures { MatchOption result (base_in leaves.now (option_copied parent.entry) ≡ false) (λ n. (base_in leaves.now (option_copied parent.entry) ≡ true) × (n ≡ position_below (option_copied parent.entry))) }
 {
     match parent {
@@ -146,34 +87,25 @@ fn position_under(leaves: &[Leaf], parent: Option<&Rev>) -> Option<u32>
     }
 }
 
-// The links of a new revision over its parent.
-fn links_over(alloc: Global, rev: Rev, parent: Option<&Rev>) -> Result<Vec<Link>, NoMemory>
-    ensures { IfOk result (λ made. made.items ≡ links (run_over rev (option_copied parent.entry))) }
+// The ids of a new revision and of its parent.
+fn ids_over(alloc: Global, id: String, parent: Option<&Rev>) -> Result<Vec<String>, NoMemory>
+    ensures { IfOk result (λ ids. map string_bytes ids.items ≡ ids_over (string_bytes id) (option_copied parent.entry)) }
 {
-    let mut made = Vec::with_capacity(alloc, 2)?;
-    match parent {
-        None => made.push(Link { rev, parent: None })?,
-        Some(parent) => {
-            let above = parent.copy()?;
-            made.push(Link {
-                rev,
-                parent: Some(parent.copy()?),
-            })?;
-            made.push(Link {
-                rev: above,
-                parent: None,
-            })?;
-        }
+    let mut ids = Vec::with_capacity(alloc, 2)?;
+    ids.push(id)?;
+    if let Some(parent) = parent {
+        ids.push(parent.id.clone()?)?;
     }
-    Ok(made)
+    Ok(ids)
 }
 
 // Those leaves that are not deleted.
-fn kept_among(alloc: Global, leaves: &[Leaf]) -> Result<Vec<&Leaf>, NoMemory>
+fn kept_among(alloc: Global, leaves: &[Shared]) -> Result<Vec<&Leaf>, NoMemory>
     ensures { IfOk result (λ found. map (λ l. l.now) found.items ≡ filter (λ l. not l.deleted) leaves.now) }
 {
     let mut found = Vec::with_capacity(alloc, leaves.len())?;
-    for leaf in leaves {
+    for shared in leaves {
+        let leaf = shared.leaf();
         if !leaf.deleted {
             found.push(leaf)?;
         }
@@ -181,34 +113,24 @@ fn kept_among(alloc: Global, leaves: &[Leaf]) -> Result<Vec<&Leaf>, NoMemory>
     Ok(found)
 }
 
-// Equal links.
-fn copy_links(alloc: Global, links: &[Link]) -> Result<Vec<Link>, NoMemory>
-    ensures { IfOk result (λ made. made.items ≡ links.now) }
-{
-    let mut made = Vec::with_capacity(alloc, links.len())?;
-    for link in links {
-        made.push(link.copy()?)?;
-    }
-    Ok(made)
-}
-
-// Equal leaves.
-fn copy_leaves(alloc: Global, leaves: &[Leaf]) -> Result<Vec<Leaf>, NoMemory>
+// The same leaves, shared.
+fn copy_leaves(alloc: Global, leaves: &[Shared]) -> Result<Vec<Shared>, NoMemory>
     ensures { IfOk result (λ made. made.items ≡ leaves.now) }
 {
     let mut made = Vec::with_capacity(alloc, leaves.len())?;
     for leaf in leaves {
-        made.push(leaf.copy(alloc)?)?;
+        made.push(leaf.share()?)?;
     }
     Ok(made)
 }
 
 /// The revision tree of a document: its known revisions with their parents, and its leaves with their marks
-/// and bodies. A contract speaks of every history that the tree stands for.
+/// and bodies. A body is kept once, at its leaf, and a revision's id once, and once more where it is a leaf. A contract
+/// speaks of every history that the tree stands for.
 #[derive(Drop)]
 pub struct RevTree {
-    links: Vec<Link>,
-    leaves: Vec<Leaf>,
+    links: Links,
+    leaves: Vec<Shared>,
 }
 
 impl Model for RevTree {
@@ -218,7 +140,7 @@ impl Model for RevTree {
 
     ghost coded = { tree_code };
 
-    ghost view = { λ t. record { links = t.links.items; leaves = t.leaves.items } };
+    ghost view = { λ t. record { links = t.links; leaves = t.leaves.items } };
 }
 
 impl RevTree {
@@ -227,7 +149,7 @@ impl RevTree {
         ensures { StandsFor result [] }
     {
         RevTree {
-            links: Vec::new(alloc),
+            links: Links::new(alloc),
             leaves: Vec::new(alloc),
         }
     }
@@ -239,7 +161,7 @@ impl RevTree {
         if self.leaves.is_empty() {
             return None;
         }
-        Some(&self.leaves[0])
+        Some(self.leaves[0].leaf())
     }
 
     /// The leaves, best first. Cost: their number.
@@ -249,7 +171,7 @@ impl RevTree {
         let alloc = *self.leaves.allocator();
         let mut found = Vec::with_capacity(alloc, self.leaves.len())?;
         for leaf in &self.leaves {
-            found.push(leaf)?;
+            found.push(leaf.leaf())?;
         }
         Ok(found)
     }
@@ -265,13 +187,14 @@ impl RevTree {
         Ok(kept_among(alloc, &self.leaves[1..])?)
     }
 
-    /// An equal tree. Cost: the size of the tree with its bodies.
+    /// An equal tree, which shares the leaves with their bodies. Cost: two blocks with the known revisions are copied,
+    /// and one count goes up for each leaf.
     pub fn copy(&self) -> Result<RevTree, NoMemory>
         ensures { IfOk result (λ tree. tree ≡ self.now) }
     {
         let alloc = *self.leaves.allocator();
         Ok(RevTree {
-            links: copy_links(alloc, &self.links)?,
+            links: self.links.copy()?,
             leaves: copy_leaves(alloc, &self.leaves)?,
         })
     }
@@ -281,8 +204,9 @@ impl RevTree {
     /// newest was known, its mark and body stay.
     ///
     /// Errors: `BadHistory` where the path gives a known revision a parent other than its known one. A refusal leaves
-    /// the tree as it was. Cost: the length of the path times the logarithm of the known revisions, and times the
-    /// number of the leaves; unknown revisions are inserted into a sorted vector. Source: the replication model of CouchDB.
+    /// the tree as it was. Cost: the length of the path times the logarithm of the known revisions, a comparison or two
+    /// for each leaf, and for each unknown revision a move of the nodes of the revisions that come after it in the
+    /// order: none where the path goes on the line with the highest positions. Source: the replication model of CouchDB.
     pub fn merge(&mut self, path: &History, deleted: bool, body: Json) -> Result<Merged, MergeError>
         ensures accepted { OnOk result ((h : Paths) → StandsFor self.old h → StandsFor self.new (with_path h (path_of path.now deleted (view body)))) }
         ensures found { IfOk result (λ m. (h : Paths) → StandsFor self.old h → m ≡ found_of h path.now) }
@@ -290,31 +214,41 @@ impl RevTree {
         ensures refused { result ≡ Err MergeError.BadHistory → (h : Paths) → StandsFor self.old h → fits h (path_of path.now deleted (view body)) ≡ false }
         ensures err { OnErr result (self.new ≡ self.old) }
     {
-        let more = path.links(*self.links.allocator())?;
-        if !all_agree(&self.links, &more) {
+        let (start, ids) = path.run();
+        if !self.links.fits(start, ids) {
             return Err(MergeError::BadHistory);
         }
-        Ok(self.accept(more, deleted, body)?)
+        Ok(self.accept(start, ids, deleted, body)?)
     }
 
-    // Accepts a path that fits, given by its links.
-    fn accept(&mut self, more: Vec<Link>, deleted: bool, body: Json) -> Result<Merged, NoMemory>
-        requires { 0 < vec_len more }
-        ensures accepted { OnOk result ((h : Paths) (rs : List Revision) → more.items ≡ links rs → IsRun rs → StandsFor self.old h → StandsFor self.new (with_path h (path_of rs deleted (view body)))) }
-        ensures found { IfOk result (λ m. (h : Paths) (rs : List Revision) → more.items ≡ links rs → StandsFor self.old h → m ≡ found_of h rs) }
+    // Accepts a run that fits, given by its start and its ids, newest first.
+    fn accept(
+        &mut self,
+        start: u32,
+        ids: &[String],
+        deleted: bool,
+        body: Json,
+    ) -> Result<Merged, NoMemory>
+        requires some { 0 < length ids.now }
+        requires run { length ids.now ≤ start + 1 }
+        ensures accepted { OnOk result ((h : Paths) → StandsFor self.old h → StandsFor self.new (with_path h (path_of (run_from start (map string_bytes ids.now)) deleted (view body)))) }
+        ensures found { IfOk result (λ m. (h : Paths) → StandsFor self.old h → m ≡ found_of h (run_from start (map string_bytes ids.now))) }
         ensures err { OnErr result (self.new ≡ self.old) }
     {
-        let newest = &more[0];
-        let rev = newest.rev.copy()?;
-        self.links.reserve(more.len())?;
+        let id = &ids[0];
+        let known = self.links.knows(start, id);
+        let rev = Rev {
+            pos: start,
+            id: id.clone()?,
+        };
+        let leaf = Shared::new(*self.leaves.allocator(), Leaf { rev, deleted, body })?;
         self.leaves.reserve(1)?;
-        let known = place(&self.links, &rev).is_ok();
-        unleaf(&mut self.leaves, &more);
-        join_all(&mut self.links, more);
+        self.links.join(start, ids)?;
+        unleaf(&mut self.leaves, start, ids);
         if known {
             return Ok(Merged::Known);
         }
-        add_leaf(&mut self.leaves, Leaf { rev, deleted, body });
+        add_leaf(&mut self.leaves, leaf);
         Ok(Merged::New)
     }
 
@@ -323,7 +257,8 @@ impl RevTree {
     ///
     /// Errors, in this order: `NotLeaf` where the parent is no leaf, or where there is none and the tree has leaves;
     /// `Full` where the parent's position is 4,294,967,295; `Known` where the new revision is known; `NoMemory`.
-    /// A refusal leaves the tree as it was. Cost: the logarithm of the known revisions, and the number of the leaves.
+    /// A refusal leaves the tree as it was. Cost: the logarithm of the known revisions, a few comparisons for each leaf,
+    /// and a move of the nodes of the revisions that come after the new one in the order.
     pub fn extend(
         &mut self,
         parent: Option<&Rev>,
@@ -342,12 +277,11 @@ impl RevTree {
         let Some(pos) = below.checked_add(1) else {
             return Err(TreeError::Full);
         };
-        let rev = Rev { pos, id };
-        if place(&self.links, &rev).is_ok() {
+        if self.links.knows(pos, &id) {
             return Err(TreeError::Known);
         }
-        let more = links_over(*self.links.allocator(), rev, parent)?;
-        self.accept(more, deleted, body)?;
+        let ids = ids_over(*self.leaves.allocator(), id, parent)?;
+        self.accept(pos, &ids, deleted, body)?;
         Ok(())
     }
 }

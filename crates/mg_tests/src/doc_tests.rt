@@ -2,7 +2,17 @@ use mg_doc::{DocError, Edit, EditError, rev_id, served};
 use mg_revtree::{Rev, RevTree};
 use mg_value::{Json, read, write};
 use std::alloc::Global;
+use std::process::Abort;
 use std::test::Fail;
+
+const FIRST: &str = "1-46932c080c85cb88184bff630205817d";
+
+const DELETION: &str = "2-13a335b24394ea04fcf9a0ac5c9af0c5";
+
+const FIRST_EDIT: &str = "{\"_id\":\"w\",\"v\":1,\"_local_seq\":7}";
+
+const DELETING_EDIT: &str =
+    "{\"_id\":\"w\",\"_rev\":\"1-46932c080c85cb88184bff630205817d\",\"_deleted\":true}";
 
 // What a reading of the document answers; none where the text is no object.
 fn reading(
@@ -84,56 +94,41 @@ fn digests(
 
 // The expected digests are those of MD5 over the compact texts, from another implementation.
 #[test]
-fn digests_of_new_revisions(rt: HostRuntime) -> Result<(), Fail> {
+fn digests_of_first_revisions(rt: HostRuntime) -> Result<(), Fail> {
     let alloc = rt.alloc();
-    let first = Rev::parse(alloc, "1-46932c080c85cb88184bff630205817d")?;
-    let second = Rev::parse(alloc, "2-13a335b24394ea04fcf9a0ac5c9af0c5")?;
-    let quoted = Rev::parse(alloc, "1-a\"\\b")?;
-    assert!(rt;
-        digests(
-            alloc,
+    for (body, wanted) in [
+        ("{\"v\":1}", "46932c080c85cb88184bff630205817d"),
+        ("{\"v\":3}", "ee9ec2d746c8050b10a1d9d68ba0b047"),
+    ] {
+        assert!(rt; digests(alloc, false, None, body, wanted)?, "at {body}");
+    }
+    Ok(())
+}
+
+#[test]
+fn digests_over_a_parent(rt: HostRuntime) -> Result<(), Fail> {
+    let alloc = rt.alloc();
+    for (deleted, parent, body, wanted) in [
+        (true, FIRST, "{}", "13a335b24394ea04fcf9a0ac5c9af0c5"),
+        (
             false,
-            None,
-            "{\"v\":1}",
-            "46932c080c85cb88184bff630205817d"
-        )?
-    );
-    assert!(rt;
-        digests(
-            alloc,
-            false,
-            None,
-            "{\"v\":3}",
-            "ee9ec2d746c8050b10a1d9d68ba0b047"
-        )?
-    );
-    assert!(rt;
-        digests(
-            alloc,
-            true,
-            Some(&first),
-            "{}",
-            "13a335b24394ea04fcf9a0ac5c9af0c5"
-        )?
-    );
-    assert!(rt;
-        digests(
-            alloc,
-            false,
-            Some(&second),
+            DELETION,
             "{\"v\":4}",
-            "0b04d9b5016a0cfec679f7d2b0cdb951"
-        )?
-    );
-    assert!(rt;
-        digests(
-            alloc,
+            "0b04d9b5016a0cfec679f7d2b0cdb951",
+        ),
+        (
             false,
-            Some(&quoted),
+            "1-a\"\\b",
             "{\"b\":[null,true,-1,\"\u{e9}\\n\"],\"a\":{\"_x\":1}}",
-            "4ab6960e527394f0da3286edd7be29da"
-        )?
-    );
+            "4ab6960e527394f0da3286edd7be29da",
+        ),
+    ] {
+        let parent = Rev::parse(alloc, parent)?;
+        assert!(rt;
+            digests(alloc, deleted, Some(&parent), body, wanted)?,
+            "at {body}"
+        );
+    }
     Ok(())
 }
 
@@ -141,49 +136,17 @@ fn digests_of_new_revisions(rt: HostRuntime) -> Result<(), Fail> {
 fn new_edits(rt: HostRuntime) -> Result<(), Fail> {
     let alloc = rt.alloc();
     let mut tree = RevTree::new(alloc);
-    let first = "1-46932c080c85cb88184bff630205817d";
-    let deletion =
-        "{\"_id\":\"w\",\"_rev\":\"1-46932c080c85cb88184bff630205817d\",\"_deleted\":true}";
-    assert!(rt;
-        brings(
-            alloc,
-            &mut tree,
-            "{\"_id\":\"w\",\"v\":1,\"_local_seq\":7}",
-            true,
-            first
-        )?
-    );
-    assert!(rt; refusal(alloc, &mut tree, "{\"v\":2}", true)? == Some(EditError::Conflict));
-    assert!(rt;
-        refusal(alloc, &mut tree, "{\"_rev\":\"1-a\"}", true)? == Some(EditError::Conflict)
-    );
-    assert!(rt;
-        brings(
-            alloc,
-            &mut tree,
-            deletion,
-            true,
-            "2-13a335b24394ea04fcf9a0ac5c9af0c5"
-        )?
-    );
+    let again = "3-0b04d9b5016a0cfec679f7d2b0cdb951";
+    let shown = "{\"_id\":\"w\",\"_rev\":\"3-0b04d9b5016a0cfec679f7d2b0cdb951\",\"v\":4}";
+    assert!(rt; brings(alloc, &mut tree, FIRST_EDIT, true, FIRST)?);
+    for text in ["{\"v\":2}", "{\"_rev\":\"1-a\"}"] {
+        assert!(rt; refusal(alloc, &mut tree, text, true)? == Some(EditError::Conflict));
+    }
+    assert!(rt; brings(alloc, &mut tree, DELETING_EDIT, true, DELETION)?);
     assert!(rt; serves(alloc, &tree, "")?);
-    assert!(rt; refusal(alloc, &mut tree, deletion, true)? == Some(EditError::Conflict));
-    assert!(rt;
-        brings(
-            alloc,
-            &mut tree,
-            "{\"v\":4}",
-            true,
-            "3-0b04d9b5016a0cfec679f7d2b0cdb951"
-        )?
-    );
-    assert!(rt;
-        serves(
-            alloc,
-            &tree,
-            "{\"_id\":\"w\",\"_rev\":\"3-0b04d9b5016a0cfec679f7d2b0cdb951\",\"v\":4}"
-        )?
-    );
+    assert!(rt; refusal(alloc, &mut tree, DELETING_EDIT, true)? == Some(EditError::Conflict));
+    assert!(rt; brings(alloc, &mut tree, "{\"v\":4}", true, again)?);
+    assert!(rt; serves(alloc, &tree, shown)?);
     Ok(())
 }
 
@@ -246,77 +209,98 @@ fn nothing_over_the_last_position(rt: HostRuntime) -> Result<(), Fail> {
     Ok(())
 }
 
-#[test]
-fn bad_documents(rt: HostRuntime) -> Result<(), Fail> {
-    let alloc = rt.alloc();
-    let faults = [
-        ("{\"_foo\":1}", DocError::BadMember),
-        ("{\"_\":1}", DocError::BadMember),
-        ("{\"_attachments\":{}}", DocError::BadMember),
-        ("{\"_deleted\":null}", DocError::BadMember),
-        ("{\"_deleted\":1}", DocError::BadMember),
-        (
-            "{\"_foo\":1,\"_id\":\"_x\",\"_rev\":1}",
-            DocError::BadMember,
-        ),
-        (
-            "{\"_deleted\":0,\"_id\":\"\",\"_rev\":\"1\"}",
-            DocError::BadMember,
-        ),
-        ("{\"_id\":\"_x\"}", DocError::BadId),
-        ("{\"_id\":\"\"}", DocError::BadId),
-        ("{\"_id\":null}", DocError::BadId),
-        ("{\"_id\":7,\"_rev\":\"0-a\"}", DocError::BadId),
-        ("{\"_rev\":null}", DocError::BadRev),
-        ("{\"_rev\":\"a\"}", DocError::BadRev),
-        ("{\"_rev\":\"01-a\"}", DocError::BadRev),
-        ("{\"_rev\":\"4294967296-a\"}", DocError::BadRev),
-        ("{\"_revisions\":[]}", DocError::BadRev),
-        ("{\"_revisions\":{\"start\":1}}", DocError::BadRev),
-        (
-            "{\"_revisions\":{\"start\":1,\"ids\":[]}}",
-            DocError::BadRev,
-        ),
-        (
-            "{\"_revisions\":{\"start\":1,\"ids\":[\"a\",\"b\"]}}",
-            DocError::BadRev,
-        ),
-        (
-            "{\"_revisions\":{\"start\":1,\"ids\":[1]}}",
-            DocError::BadRev,
-        ),
-        (
-            "{\"_revisions\":{\"start\":1,\"ids\":[\"a b\"]}}",
-            DocError::BadRev,
-        ),
-        (
-            "{\"_revisions\":{\"start\":-1,\"ids\":[\"a\"]}}",
-            DocError::BadRev,
-        ),
-        (
-            "{\"_revisions\":{\"start\":4294967296,\"ids\":[\"a\"]}}",
-            DocError::BadRev,
-        ),
-        (
-            "{\"_rev\":\"1\",\"_revisions\":{\"start\":1,\"ids\":[\"a\"]}}",
-            DocError::BadRev,
-        ),
-        (
-            "{\"_rev\":\"1-a\",\"_revisions\":{\"start\":0,\"ids\":[\"a\"]}}",
-            DocError::BadRev,
-        ),
-    ];
-    for (text, wanted) in faults {
-        assert!(rt; fault(alloc, text, true)? == Some(wanted));
-        assert!(rt; fault(alloc, text, false)? == Some(wanted));
+// Each document is refused so, as a new edit and as a replica's.
+fn refuse<R: Abort + AllocGlobal>(rt: &R, wanted: DocError, texts: &[&str]) -> Result<(), Fail> {
+    for text in texts {
+        for new_edit in [true, false] {
+            assert!(rt;
+                fault(rt.alloc(), text, new_edit)? == Some(wanted),
+                "at {text}"
+            );
+        }
     }
-    // What a replica has to give.
+    Ok(())
+}
+
+#[test]
+fn bad_members_are_found_first(rt: HostRuntime) -> Result<(), Fail> {
+    refuse(
+        &rt,
+        DocError::BadMember,
+        &[
+            "{\"_foo\":1}",
+            "{\"_\":1}",
+            "{\"_attachments\":{}}",
+            "{\"_deleted\":null}",
+            "{\"_deleted\":1}",
+            "{\"_foo\":1,\"_id\":\"_x\",\"_rev\":1}",
+            "{\"_deleted\":0,\"_id\":\"\",\"_rev\":\"1\"}",
+        ],
+    )
+}
+
+#[test]
+fn bad_ids_are_found_before_revisions(rt: HostRuntime) -> Result<(), Fail> {
+    refuse(
+        &rt,
+        DocError::BadId,
+        &[
+            "{\"_id\":\"_x\"}",
+            "{\"_id\":\"\"}",
+            "{\"_id\":null}",
+            "{\"_id\":7,\"_rev\":\"0-a\"}",
+        ],
+    )
+}
+
+#[test]
+fn bad_revisions(rt: HostRuntime) -> Result<(), Fail> {
+    refuse(
+        &rt,
+        DocError::BadRev,
+        &[
+            "{\"_rev\":null}",
+            "{\"_rev\":\"a\"}",
+            "{\"_rev\":\"01-a\"}",
+            "{\"_rev\":\"4294967296-a\"}",
+            "{\"_rev\":\"1\",\"_revisions\":{\"start\":1,\"ids\":[\"a\"]}}",
+        ],
+    )
+}
+
+#[test]
+fn bad_paths_of_revisions(rt: HostRuntime) -> Result<(), Fail> {
+    refuse(
+        &rt,
+        DocError::BadRev,
+        &[
+            "{\"_revisions\":[]}",
+            "{\"_revisions\":{\"start\":1}}",
+            "{\"_revisions\":{\"start\":1,\"ids\":[]}}",
+            "{\"_revisions\":{\"start\":1,\"ids\":[\"a\",\"b\"]}}",
+            "{\"_revisions\":{\"start\":1,\"ids\":[1]}}",
+            "{\"_revisions\":{\"start\":1,\"ids\":[\"a b\"]}}",
+            "{\"_revisions\":{\"start\":-1,\"ids\":[\"a\"]}}",
+            "{\"_revisions\":{\"start\":4294967296,\"ids\":[\"a\"]}}",
+            "{\"_rev\":\"1-a\",\"_revisions\":{\"start\":0,\"ids\":[\"a\"]}}",
+        ],
+    )
+}
+
+#[test]
+fn a_replica_gives_a_revision(rt: HostRuntime) -> Result<(), Fail> {
+    let alloc = rt.alloc();
     assert!(rt; fault(alloc, "{\"_id\":\"a\"}", false)? == Some(DocError::BadRev));
     assert!(rt; fault(alloc, "{\"_id\":\"a\"}", true)?.is_none());
-    // Each of the names that a document may have, and two revisions that are not the same.
+    Ok(())
+}
+
+// Each of the names that a document may have, and two revisions that are not the same.
+#[test]
+fn all_special_members(rt: HostRuntime) -> Result<(), Fail> {
     let whole =
         "{\"_id\":\"\\u0000\",\"_rev\":\"1-a\",\"_revisions\":{\"start\":2,\"ids\":[\"b\"],\"x\":0},\"_deleted\":false,\"_conflicts\":1,\"_deleted_conflicts\":1,\"_revs_info\":1,\"_local_seq\":1}";
-    assert!(rt; fault(alloc, whole, false)?.is_none());
+    assert!(rt; fault(rt.alloc(), whole, false)?.is_none());
     Ok(())
 }
 

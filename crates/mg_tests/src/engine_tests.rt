@@ -1,63 +1,20 @@
-use mg_engine::{Command, Engine};
-use mg_shard::Placement;
-use mg_value::read;
-use std::alloc::Global;
-use std::process::Abort;
-use std::sync::Wait;
+use crate::conversation::{BULK, FIND, GET, Line, converse};
 use std::test::Fail;
 
-#[derive(Clone, Copy, Drop)]
-struct OneShard;
+const WINNER_B: &str =
+    r#"{"bookmark":"W251bGwsIl9hbGxfZG9jcyIsImFzYyIsWyJ3Il0sInciXQ","docs":[{"_id":"w","_rev":"2-b","x":1}]}"#;
 
-impl Placement for OneShard {
-    ghost place = { λ _ _ _. 0 };
+const WINNER_C: &str =
+    r#"{"bookmark":"W251bGwsIl9hbGxfZG9jcyIsImFzYyIsWyJ3Il0sInciXQ","docs":[{"_id":"w","_rev":"2-c","x":2}]}"#;
 
-    fn shard_of(&self, _id: &str, _shards: usize) -> usize {
-        0
-    }
+// A bulk of a replica, and its reply: `[]` where all is taken in.
+fn replicated(body: &'static str, reply: &'static str) -> Line<'static> {
+    (BULK, body, 201, reply)
 }
 
-const BULK: &str = "bulk";
-
-const FIND: &str = "find";
-
-const GET: &str = "get";
-
-// A command by its kind and its body, or the id that is asked for.
-fn command(alloc: Global, kind: &str, body: &str) -> Result<Command, Fail> {
-    if kind == GET {
-        return Ok(Command::Get {
-            id: String::from_str(alloc, body)?,
-            conflicts: false,
-        });
-    }
-    let body = read(alloc, body.as_bytes())?;
-    if kind == BULK {
-        Ok(Command::Bulk(body))
-    } else {
-        Ok(Command::Find(body))
-    }
-}
-
-// The commands of one conversation, by kind and body, and their replies, by status and body without the line feed.
-fn converse<R: Abort + Wait>(
-    rt: &R,
-    alloc: Global,
-    lines: &[(&str, &str, u16, &str)],
-) -> Result<(), Fail> {
-    let mut commands = Vec::new(alloc);
-    for (kind, body, _, _) in lines {
-        commands.push(command(alloc, kind, body)?)?;
-    }
-    let mut engine = Engine::new(alloc, OneShard, 1)?;
-    let replies = engine.run(rt, alloc, &commands, 1)?;
-    assert_eq!(rt; replies.len(), lines.len());
-    for (reply, (_, body, status, text)) in replies.iter().zip(lines) {
-        let text = format!(in alloc; "{text}\n")?;
-        assert_eq!(rt; reply.status(), *status, "{body}");
-        assert_eq!(rt; reply.body(), text.as_bytes(), "{body}");
-    }
-    Ok(())
+// All documents that are served.
+fn all(reply: &'static str) -> Line<'static> {
+    (FIND, r#"{"selector":{}}"#, 200, reply)
 }
 
 #[test]
@@ -102,37 +59,21 @@ fn winner(rt: HostRuntime) -> Result<(), Fail> {
         &rt,
         rt.alloc(),
         &[
-            (
-                BULK,
+            replicated(
                 r#"{"docs":[{"_id":"w","_rev":"2-b","_revisions":{"start":2,"ids":["b","a"]},"x":1}],"new_edits":false}"#,
-                201,
                 "[]",
             ),
-            (
-                BULK,
+            replicated(
                 r#"{"docs":[{"_id":"w","_rev":"2-c","_revisions":{"start":2,"ids":["c","a"]},"x":2}],"new_edits":false}"#,
-                201,
                 "[]",
             ),
-            (
-                FIND,
-                r#"{"selector":{}}"#,
-                200,
-                r#"{"bookmark":"W251bGwsIl9hbGxfZG9jcyIsImFzYyIsWyJ3Il0sInciXQ","docs":[{"_id":"w","_rev":"2-c","x":2}]}"#,
-            ),
+            all(WINNER_C),
             (GET, "w", 200, r#"{"_id":"w","_rev":"2-c","x":2}"#),
-            (
-                BULK,
+            replicated(
                 r#"{"docs":[{"_id":"w","_rev":"3-d","_revisions":{"start":3,"ids":["d","c","a"]},"_deleted":true}],"new_edits":false}"#,
-                201,
                 "[]",
             ),
-            (
-                FIND,
-                r#"{"selector":{}}"#,
-                200,
-                r#"{"bookmark":"W251bGwsIl9hbGxfZG9jcyIsImFzYyIsWyJ3Il0sInciXQ","docs":[{"_id":"w","_rev":"2-b","x":1}]}"#,
-            ),
+            all(WINNER_B),
             (GET, "w", 200, r#"{"_id":"w","_rev":"2-b","x":1}"#),
             (
                 BULK,
@@ -140,12 +81,7 @@ fn winner(rt: HostRuntime) -> Result<(), Fail> {
                 201,
                 r#"[{"id":"w","ok":true,"rev":"3-e32a1498161a5ff3541a8810a1745b2f"}]"#,
             ),
-            (
-                FIND,
-                r#"{"selector":{}}"#,
-                200,
-                r#"{"bookmark":"nil","docs":[]}"#,
-            ),
+            all(r#"{"bookmark":"nil","docs":[]}"#),
             (GET, "w", 404, r#"{"error":"not_found","reason":"deleted"}"#),
             (GET, "v", 404, r#"{"error":"not_found","reason":"missing"}"#),
         ],
@@ -154,46 +90,30 @@ fn winner(rt: HostRuntime) -> Result<(), Fail> {
 
 #[test]
 fn replication(rt: HostRuntime) -> Result<(), Fail> {
+    let path =
+        r#"{"docs":[{"_id":"r","_rev":"2-b","_revisions":{"start":2,"ids":["b","a"]}}],"new_edits":false}"#;
     let refused =
         r#"[{"error":"bad_history","id":"r","reason":"Revision history does not fit the document."}]"#;
     converse(
         &rt,
         rt.alloc(),
         &[
-            (
-                BULK,
-                r#"{"docs":[{"_id":"r","_rev":"2-b","_revisions":{"start":2,"ids":["b","a"]}}],"new_edits":false}"#,
-                201,
-                "[]",
-            ),
-            (
-                BULK,
-                r#"{"docs":[{"_id":"r","_rev":"2-b","_revisions":{"start":2,"ids":["b","a"]}}],"new_edits":false}"#,
-                201,
-                "[]",
-            ),
-            (
-                BULK,
+            replicated(path, "[]"),
+            replicated(path, "[]"),
+            replicated(
                 r#"{"docs":[{"_id":"r","_rev":"3-c","_revisions":{"start":3,"ids":["c","b","z"]}}],"new_edits":false}"#,
-                201,
                 refused,
             ),
-            (
-                BULK,
+            replicated(
                 r#"{"docs":[{"_id":"r","_rev":"2-b","_revisions":{"start":2,"ids":["b","z"]}}],"new_edits":false}"#,
-                201,
                 refused,
             ),
-            (
-                BULK,
+            replicated(
                 r#"{"docs":[{"_id":"q","_rev":"2-q"}],"new_edits":false}"#,
-                201,
                 "[]",
             ),
-            (
-                BULK,
+            replicated(
                 r#"{"docs":[{"_id":"q","_rev":"3-s","_revisions":{"start":3,"ids":["s","q","p"]}}],"new_edits":false}"#,
-                201,
                 "[]",
             ),
         ],

@@ -7,6 +7,7 @@ use mg_shard::Placement;
 use std::alloc::Global;
 use std::io;
 use std::io::{ErrorKind, Read, Write};
+use std::process::Abort;
 use std::sync::Wait;
 use std::test::Fail;
 use std::thread::Threads;
@@ -30,6 +31,21 @@ const BAD_HEAD: &[u8] =
 
 const INVALID_JSON: &[u8] =
     b"HTTP/1.1 400 Bad Request\r\nContent-Type: application/json\r\nContent-Length: 49\r\n\r\n{\"error\":\"bad_request\",\"reason\":\"Invalid JSON.\"}\n";
+
+const MISSING: &[u8] =
+    b"HTTP/1.1 404 Not Found\r\nContent-Type: application/json\r\nContent-Length: 41\r\n\r\n{\"error\":\"not_found\",\"reason\":\"missing\"}\n";
+
+const DELETED: &[u8] =
+    b"HTTP/1.1 404 Not Found\r\nContent-Type: application/json\r\nContent-Length: 41\r\n\r\n{\"error\":\"not_found\",\"reason\":\"deleted\"}\n";
+
+/// Documents with the ids that the targets below spell.
+const DOCUMENTS: &[u8] =
+    b"POST /db/_bulk_docs HTTP/1.1\r\nContent-Length: 289\r\n\r\n{\"docs\":[{\"_id\":\"d1\",\"_rev\":\"1-a\",\"v\":1},{\"_id\":\"a b\",\"_rev\":\"1-a\"},{\"_id\":\"a+b\",\"_rev\":\"1-a\"},{\"_id\":\"a/b\",\"_rev\":\"1-a\"},{\"_id\":\"%zz\",\"_rev\":\"1-a\"},{\"_id\":\"%\",\"_rev\":\"1-a\"},{\"_id\":\"%4\",\"_rev\":\"1-a\"},{\"_id\":\"\xC3\xA9\",\"_rev\":\"1-a\"},{\"_id\":\"gone\",\"_rev\":\"1-a\",\"_deleted\":true}],\"new_edits\":false}";
+
+const GET_D1: &[u8] = b"GET /db/d1 HTTP/1.1\r\n\r\n";
+
+const D1: &[u8] =
+    b"HTTP/1.1 200 OK\r\nContent-Type: application/json\r\nContent-Length: 32\r\n\r\n{\"_id\":\"d1\",\"_rev\":\"1-a\",\"v\":1}\n";
 
 /// The placement of a database of one shard.
 #[derive(Clone, Copy, Drop)]
@@ -148,6 +164,20 @@ fn whole(
     run(rt, alloc, bytes, most, 99_999, ALL)
 }
 
+/// Runs a session over the bytes, in pieces of at most so many, and compares how it ended and what it wrote.
+fn expect(
+    rt: &(impl Wait + Threads + Abort + AllocGlobal),
+    bytes: &[u8],
+    most: usize,
+    end: SessionEnd,
+    text: &[u8],
+) -> Result<(), Fail> {
+    let ran = whole(rt, rt.alloc(), bytes, most)?;
+    assert_eq!(rt; ran.end, end);
+    assert_eq!(rt; ran.text.as_slice(), text);
+    Ok(())
+}
+
 #[test]
 fn first_query(rt: HostRuntime) -> Result<(), Fail> {
     for most in [ALL, 1, 7] {
@@ -157,9 +187,7 @@ fn first_query(rt: HostRuntime) -> Result<(), Fail> {
         assert!(rt; !ran.failed);
     }
     for end in 0..FIND.len() {
-        let ran = whole(&rt, rt.alloc(), &FIND[..end], ALL)?;
-        assert_eq!(rt; ran.end, SessionEnd::Eof);
-        assert!(rt; ran.text.is_empty());
+        expect(&rt, &FIND[..end], ALL, SessionEnd::Eof, b"")?;
     }
     Ok(())
 }
@@ -194,14 +222,10 @@ fn bytes_after_a_finished_message(rt: HostRuntime) -> Result<(), Fail> {
     let mut bytes = Vec::from_slice(rt.alloc(), FIND)?;
     bytes.extend_from_slice(b"GET /db/x HT")?;
     for most in [ALL, 1] {
-        let ran = whole(&rt, rt.alloc(), &bytes, most)?;
-        assert_eq!(rt; ran.end, SessionEnd::Eof);
-        assert_eq!(rt; ran.text.as_slice(), EMPTY_PAGE);
+        expect(&rt, &bytes, most, SessionEnd::Eof, EMPTY_PAGE)?;
     }
     for end in FIND.len()..bytes.len() {
-        let ran = whole(&rt, rt.alloc(), &bytes[..end], ALL)?;
-        assert_eq!(rt; ran.end, SessionEnd::Eof);
-        assert_eq!(rt; ran.text.as_slice(), EMPTY_PAGE);
+        expect(&rt, &bytes[..end], ALL, SessionEnd::Eof, EMPTY_PAGE)?;
     }
     Ok(())
 }
@@ -210,31 +234,37 @@ fn bytes_after_a_finished_message(rt: HostRuntime) -> Result<(), Fail> {
 #[test]
 fn head_that_is_none_is_cut(rt: HostRuntime) -> Result<(), Fail> {
     for head in [b"".as_slice(), b"X"] {
-        let ran = whole(&rt, rt.alloc(), head, ALL)?;
-        assert_eq!(rt; ran.end, SessionEnd::Eof);
-        assert!(rt; ran.text.is_empty());
+        expect(&rt, head, ALL, SessionEnd::Eof, b"")?;
     }
-    let ran = whole(&rt, rt.alloc(), b"X\r", ALL)?;
-    assert_eq!(rt; ran.end, SessionEnd::Refused);
-    assert_eq!(rt; ran.text.as_slice(), BAD_HEAD);
-    Ok(())
+    expect(&rt, b"X\r", ALL, SessionEnd::Refused, BAD_HEAD)
 }
 
 #[test]
 fn heads_that_are_refused(rt: HostRuntime) -> Result<(), Fail> {
-    let heads: [&[u8]; 6] = [
+    let heads: [&[u8]; 19] = [
         b"X\r\n",
-        b"GET /db/x HTTP/1.1\r\n\r\n",
         b"POST /other/_find HTTP/1.1\r\nContent-Length: 2\r\n\r\n{}",
         b"POST /db/_find HTTP/1.1\r\nContent-Length: 2\r\nContent-Length: 3\r\n\r\n{}",
         b"POST /db/_find HTTP/1.1\r\nContent-Length: 8388609\r\n\r\n",
         b"POST /db/_find HTTP/1.1\r\nConnection: close\r\nContent-Length: 2\r\n\r\n{}",
+        b"GET /db/_find HTTP/1.1\r\n\r\n",
+        b"GET /db/_bulk_docs?conflicts=true HTTP/1.1\r\n\r\n",
+        b"GET /other/d1 HTTP/1.1\r\n\r\n",
+        b"GET /db/d1 HTTP/1.0\r\n\r\n",
+        b"GET /db/a/b HTTP/1.1\r\n\r\n",
+        b"GET /db/ HTTP/1.1\r\n\r\n",
+        b"GET /db HTTP/1.1\r\n\r\n",
+        b"HEAD /db/d1 HTTP/1.1\r\n\r\n",
+        b"GET /db/d1 HTTP/1.1\r\nConnection: close\r\n\r\n",
+        b"GET /db/d1 HTTP/1.1\r\nTransfer-Encoding: chunked\r\n\r\n",
+        b"GET /db/d1 HTTP/1.1\r\nContent-Length: 8388609\r\n\r\n",
+        b"GET /db/d1 HTTP/1.1\r\nContent-Length: 0\r\nContent-Length: 0\r\n\r\n",
+        b"POST /db/_find?a=b HTTP/1.1\r\nContent-Length: 2\r\n\r\n{}",
+        b"POST /db/d1 HTTP/1.1\r\nContent-Length: 2\r\n\r\n{}",
     ];
     for head in heads {
         for most in [ALL, 1] {
-            let ran = whole(&rt, rt.alloc(), head, most)?;
-            assert_eq!(rt; ran.end, SessionEnd::Refused);
-            assert_eq!(rt; ran.text.as_slice(), BAD_HEAD);
+            expect(&rt, head, most, SessionEnd::Refused, BAD_HEAD)?;
         }
     }
     Ok(())
@@ -242,16 +272,112 @@ fn heads_that_are_refused(rt: HostRuntime) -> Result<(), Fail> {
 
 #[test]
 fn body_that_is_no_json_is_answered_and_the_session_goes_on(rt: HostRuntime) -> Result<(), Fail> {
-    let mut bytes = Vec::from_slice(
-        rt.alloc(),
-        b"POST /db/_find HTTP/1.1\r\nContent-Length: 5\r\n\r\n[1.5]",
-    )?;
-    bytes.extend_from_slice(FIND)?;
-    let mut out = Vec::from_slice(rt.alloc(), INVALID_JSON)?;
-    out.extend_from_slice(EMPTY_PAGE)?;
-    let ran = whole(&rt, rt.alloc(), &bytes, ALL)?;
-    assert_eq!(rt; ran.end, SessionEnd::Eof);
-    assert_eq!(rt; ran.text.as_slice(), out.as_slice());
+    let fraction = b"POST /db/_find HTTP/1.1\r\nContent-Length: 5\r\n\r\n[1.5]".as_slice();
+    let bytes = joined(rt.alloc(), &[fraction, FIND])?;
+    let out = joined(rt.alloc(), &[INVALID_JSON, EMPTY_PAGE])?;
+    expect(&rt, &bytes, ALL, SessionEnd::Eof, &out)
+}
+
+/// Each target of a GET, and the whole reply to it.
+const TARGETS: [(&[u8], &[u8]); 18] = [
+    (b"/db/d1", D1),
+    (b"/db/%64%31", D1),
+    (b"/db/d1?", D1),
+    (b"/db/d1?conflicts=true", D1),
+    (b"/db/d1?rev=1-b&conflicts=tru%65", D1),
+    (
+        b"/db/a%20b",
+        b"HTTP/1.1 200 OK\r\nContent-Type: application/json\r\nContent-Length: 27\r\n\r\n{\"_id\":\"a b\",\"_rev\":\"1-a\"}\n",
+    ),
+    (
+        b"/db/a+b",
+        b"HTTP/1.1 200 OK\r\nContent-Type: application/json\r\nContent-Length: 27\r\n\r\n{\"_id\":\"a+b\",\"_rev\":\"1-a\"}\n",
+    ),
+    (
+        b"/db/a%2Fb",
+        b"HTTP/1.1 200 OK\r\nContent-Type: application/json\r\nContent-Length: 27\r\n\r\n{\"_id\":\"a/b\",\"_rev\":\"1-a\"}\n",
+    ),
+    (
+        b"/db/%zz",
+        b"HTTP/1.1 200 OK\r\nContent-Type: application/json\r\nContent-Length: 27\r\n\r\n{\"_id\":\"%zz\",\"_rev\":\"1-a\"}\n",
+    ),
+    (
+        b"/db/%",
+        b"HTTP/1.1 200 OK\r\nContent-Type: application/json\r\nContent-Length: 25\r\n\r\n{\"_id\":\"%\",\"_rev\":\"1-a\"}\n",
+    ),
+    (
+        b"/db/%4",
+        b"HTTP/1.1 200 OK\r\nContent-Type: application/json\r\nContent-Length: 26\r\n\r\n{\"_id\":\"%4\",\"_rev\":\"1-a\"}\n",
+    ),
+    (
+        b"/db/%C3%A9",
+        b"HTTP/1.1 200 OK\r\nContent-Type: application/json\r\nContent-Length: 26\r\n\r\n{\"_id\":\"\xC3\xA9\",\"_rev\":\"1-a\"}\n",
+    ),
+    (
+        b"/db/\xC3\xA9",
+        b"HTTP/1.1 200 OK\r\nContent-Type: application/json\r\nContent-Length: 26\r\n\r\n{\"_id\":\"\xC3\xA9\",\"_rev\":\"1-a\"}\n",
+    ),
+    (b"/db/gone", DELETED),
+    (b"/db/none", MISSING),
+    (b"/db/%FF", MISSING),
+    (b"/db/%5Ffind", MISSING),
+    (b"/db/_index", MISSING),
+];
+
+/// The pieces, one after another.
+fn joined(alloc: Global, pieces: &[&[u8]]) -> Result<Vec<u8>, Fail> {
+    let mut bytes = Vec::new(alloc);
+    for piece in pieces {
+        bytes.extend_from_slice(piece)?;
+    }
+    Ok(bytes)
+}
+
+#[test]
+fn get_answers_by_the_decoded_segment_and_goes_on(rt: HostRuntime) -> Result<(), Fail> {
+    let alloc = rt.alloc();
+    for (target, reply) in TARGETS {
+        let head = [DOCUMENTS, b"GET ", target, b" HTTP/1.1\r\n\r\n", GET_D1];
+        let bytes = joined(alloc, &head)?;
+        let out = joined(alloc, &[CREATED, reply, D1])?;
+        for most in [ALL, 7] {
+            expect(&rt, &bytes, most, SessionEnd::Eof, &out)?;
+        }
+    }
+    Ok(())
+}
+
+#[test]
+fn body_of_a_get_is_skipped_and_waited_for(rt: HostRuntime) -> Result<(), Fail> {
+    let message = b"GET /db/d1 HTTP/1.1\r\nContent-Length: 5\r\n\r\nGET /".as_slice();
+    let bytes = joined(rt.alloc(), &[DOCUMENTS, message, GET_D1])?;
+    let out = joined(rt.alloc(), &[CREATED, D1, D1])?;
+    expect(&rt, &bytes, ALL, SessionEnd::Eof, &out)?;
+    for end in 0..message.len() {
+        let bytes = joined(rt.alloc(), &[DOCUMENTS, &message[..end]])?;
+        expect(&rt, &bytes, ALL, SessionEnd::Eof, CREATED)?;
+    }
+    Ok(())
+}
+
+#[test]
+fn id_that_is_no_text_is_missing_and_the_session_goes_on(rt: HostRuntime) -> Result<(), Fail> {
+    let bytes = joined(rt.alloc(), &[b"GET /db/%FF HTTP/1.1\r\n\r\n", FIND])?;
+    let out = joined(rt.alloc(), &[MISSING, EMPTY_PAGE])?;
+    expect(&rt, &bytes, ALL, SessionEnd::Eof, &out)
+}
+
+#[test]
+fn bulk_with_a_number_outside_i64_writes_nothing(rt: HostRuntime) -> Result<(), Fail> {
+    let bulks: [&[u8]; 2] = [
+        b"POST /db/_bulk_docs HTTP/1.1\r\nContent-Length: 60\r\n\r\n{\"docs\":[{\"_id\":\"a1\"},{\"_id\":\"a2\",\"v\":9223372036854775808}]}",
+        b"POST /db/_bulk_docs HTTP/1.1\r\nContent-Length: 44\r\n\r\n{\"docs\":[{\"_id\":\"a1\"},{\"_id\":\"a2\",\"v\":1.5}]}",
+    ];
+    let out = joined(rt.alloc(), &[INVALID_JSON, MISSING])?;
+    for bulk in bulks {
+        let bytes = joined(rt.alloc(), &[bulk, b"GET /db/a1 HTTP/1.1\r\n\r\n"])?;
+        expect(&rt, &bytes, ALL, SessionEnd::Eof, &out)?;
+    }
     Ok(())
 }
 

@@ -4,6 +4,8 @@
 #[cfg(test)]
 mod collate_tests;
 #[cfg(test)]
+mod conversation;
+#[cfg(test)]
 mod doc_tests;
 #[cfg(test)]
 mod engine_tests;
@@ -12,10 +14,16 @@ mod http_tests;
 #[cfg(test)]
 mod merge_tests;
 #[cfg(test)]
+mod normal_tests;
+#[cfg(test)]
 mod path_tests;
 #[cfg(test)]
 mod revtree_tests;
 #[cfg(test)]
 mod selector_tests;
+#[cfg(test)]
+mod shard_tests;
+#[cfg(test)]
+mod sharding_tests;
 #[cfg(test)]
 mod value_tests;

@@ -129,3 +129,30 @@ fn lists_out_of_order(rt: HostRuntime) -> Result<(), Fail> {
     assert!(rt; !are_in_order(&given, Direction::Desc));
     Ok(())
 }
+
+// What follows the first rows of a list does not change the first rows of all.
+#[test]
+fn lists_cut_at_the_count(rt: HostRuntime) -> Result<(), Fail> {
+    let given: [&[(i64, &str)]; 3] = [
+        &[(1, "a"), (2, "a"), (2, "c"), (9, "a")],
+        &[(1, "b"), (2, "b")],
+        &[],
+    ];
+    let all = [(1, "a"), (1, "b"), (2, "a"), (2, "b"), (2, "c"), (9, "a")];
+    for take in 0..8 {
+        let wanted = all.get(..take).unwrap_or(&all);
+        let mut cut = Vec::new(rt.alloc());
+        for list in given {
+            cut.push(list.get(..take).unwrap_or(list))?;
+        }
+        assert!(rt;
+            merges(rt.alloc(), &given, Direction::Asc, take, wanted)?,
+            "{take} of all"
+        );
+        assert!(rt;
+            merges(rt.alloc(), &cut, Direction::Asc, take, wanted)?,
+            "{take} of cut"
+        );
+    }
+    Ok(())
+}

@@ -27,6 +27,27 @@ fn merged(
     }
 }
 
+// What an extension of the parent, by its position and id, answers; the new revision is not deleted.
+fn extended(
+    alloc: Global,
+    tree: &mut RevTree,
+    parent: Option<(u32, &str)>,
+    id: &str,
+    body: i64,
+) -> Result<Result<(), TreeError>, Fail> {
+    let id = String::from_str(alloc, id)?;
+    match parent {
+        Some((pos, name)) => {
+            let parent = Rev {
+                pos,
+                id: String::from_str(alloc, name)?,
+            };
+            Ok(tree.extend(Some(&parent), id, false, Json::Whole(body)))
+        }
+        None => Ok(tree.extend(None, id, false, Json::Whole(body))),
+    }
+}
+
 fn is_new(answer: Option<Result<Merged, MergeError>>) -> bool {
     matches!(answer, Some(Ok(Merged::New)))
 }
@@ -171,58 +192,26 @@ fn roots_joined_by_a_path(rt: HostRuntime) -> Result<(), Fail> {
 fn extensions(rt: HostRuntime) -> Result<(), Fail> {
     let alloc = rt.alloc();
     let mut tree = RevTree::new(alloc);
-    assert!(rt;
-        tree.extend(None, String::from_str(alloc, "a")?, false, Json::Whole(1))
-            .is_ok()
-    );
-    let again = tree.extend(None, String::from_str(alloc, "b")?, false, Json::Whole(2));
+    assert!(rt; extended(alloc, &mut tree, None, "a", 1)?.is_ok());
+    let again = extended(alloc, &mut tree, None, "b", 2)?;
     assert!(rt; matches!(again, Err(TreeError::NotLeaf)));
-    let root = Rev {
-        pos: 1,
-        id: String::from_str(alloc, "a")?,
-    };
-    assert!(rt;
-        tree.extend(
-            Some(&root),
-            String::from_str(alloc, "b")?,
-            false,
-            Json::Whole(3)
-        )
-        .is_ok()
-    );
-    let inner = tree.extend(
-        Some(&root),
-        String::from_str(alloc, "c")?,
-        false,
-        Json::Whole(4),
-    );
+    assert!(rt; extended(alloc, &mut tree, Some((1, "a")), "b", 3)?.is_ok());
+    let inner = extended(alloc, &mut tree, Some((1, "a")), "c", 4)?;
     assert!(rt; matches!(inner, Err(TreeError::NotLeaf)));
     assert!(rt; is_new(merged(alloc, &mut tree, 1, &["z"], false, 5)?));
-    let other = Rev {
-        pos: 1,
-        id: String::from_str(alloc, "z")?,
-    };
-    let known = tree.extend(
-        Some(&other),
-        String::from_str(alloc, "b")?,
-        false,
-        Json::Whole(6),
-    );
+    let known = extended(alloc, &mut tree, Some((1, "z")), "b", 6)?;
     assert!(rt; matches!(known, Err(TreeError::Known)));
-    let mut last = RevTree::new(alloc);
-    assert!(rt; is_new(merged(alloc, &mut last, 4294967295, &["y"], false, 7)?));
-    let newest = Rev {
-        pos: 4294967295,
-        id: String::from_str(alloc, "y")?,
-    };
-    let full = last.extend(
-        Some(&newest),
-        String::from_str(alloc, "x")?,
-        false,
-        Json::Whole(8),
-    );
-    assert!(rt; matches!(full, Err(TreeError::Full)));
     assert_eq!(rt; all_shown(alloc, &tree.leaves()?)?.as_str(), "2-b 3;1-z 5;");
+    Ok(())
+}
+
+#[test]
+fn no_extension_of_the_last_position(rt: HostRuntime) -> Result<(), Fail> {
+    let alloc = rt.alloc();
+    let mut tree = RevTree::new(alloc);
+    assert!(rt; is_new(merged(alloc, &mut tree, 4294967295, &["y"], false, 7)?));
+    let full = extended(alloc, &mut tree, Some((4294967295, "y")), "x", 8)?;
+    assert!(rt; matches!(full, Err(TreeError::Full)));
     Ok(())
 }
 

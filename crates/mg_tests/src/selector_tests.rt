@@ -1,6 +1,7 @@
 use mg_selector::{Sel, SelError};
 use mg_value::{Json, read};
 use std::alloc::Global;
+use std::process::Abort;
 use std::test::Fail;
 
 fn selector(alloc: Global, text: &str) -> Result<Sel, Fail> {
@@ -169,9 +170,8 @@ fn subfields(rt: HostRuntime) -> Result<(), Fail> {
     Ok(())
 }
 
-// Each operator in the plain and in the negated sense, on a missing part and on a part of each type.
-#[test]
-fn operators_on_each_type(rt: HostRuntime) -> Result<(), Fail> {
+// Each selector is tried on a missing part and on a part of each type, as `selects` does.
+fn select_types<R: Abort + AllocGlobal>(rt: &R, rows: &[(&str, &str)]) -> Result<(), Fail> {
     let documents = documents(
         rt.alloc(),
         &[
@@ -184,49 +184,6 @@ fn operators_on_each_type(rt: HostRuntime) -> Result<(), Fail> {
             r#"{"v":{"a":1}}"#,
         ],
     )?;
-    let rows = [
-        (r#"{"v":{"$lt":5}}"#, "0111000"),
-        (r#"{"$not":{"v":{"$lt":5}}}"#, "0000111"),
-        (r#"{"v":{"$lte":4}}"#, "0111000"),
-        (r#"{"$not":{"v":{"$lte":4}}}"#, "0000111"),
-        (r#"{"v":{"$eq":4}}"#, "0001000"),
-        (r#"{"$not":{"v":{"$eq":4}}}"#, "0110111"),
-        (r#"{"v":{"$ne":4}}"#, "0110111"),
-        (r#"{"$not":{"v":{"$ne":4}}}"#, "0001000"),
-        (r#"{"v":{"$gte":4}}"#, "0001111"),
-        (r#"{"$not":{"v":{"$gte":4}}}"#, "0110000"),
-        (r#"{"v":{"$gt":4}}"#, "0000111"),
-        (r#"{"$not":{"v":{"$gt":4}}}"#, "0111000"),
-        (r#"{"v":{"$exists":true}}"#, "0111111"),
-        (r#"{"$not":{"v":{"$exists":true}}}"#, "1000000"),
-        (r#"{"v":{"$exists":false}}"#, "1000000"),
-        (r#"{"$not":{"v":{"$exists":false}}}"#, "0111111"),
-        (r#"{"v":{"$type":"null"}}"#, "0100000"),
-        (r#"{"$not":{"v":{"$type":"null"}}}"#, "0011111"),
-        (r#"{"v":{"$type":"boolean"}}"#, "0010000"),
-        (r#"{"v":{"$type":"number"}}"#, "0001000"),
-        (r#"{"v":{"$type":"string"}}"#, "0000100"),
-        (r#"{"v":{"$type":"array"}}"#, "0000010"),
-        (r#"{"v":{"$type":"object"}}"#, "0000001"),
-        (r#"{"v":{"$in":[4,{"a":1}]}}"#, "0001011"),
-        (r#"{"$not":{"v":{"$in":[4,{"a":1}]}}}"#, "0110100"),
-        (r#"{"v":{"$in":[[4,"x"]]}}"#, "0000000"),
-        (r#"{"v":{"$nin":[4,{"a":1}]}}"#, "0110100"),
-        (r#"{"$not":{"v":{"$nin":[4,{"a":1}]}}}"#, "0001011"),
-        (r#"{"v":{"$size":2}}"#, "0000010"),
-        (r#"{"$not":{"v":{"$size":2}}}"#, "0111101"),
-        (r#"{"v":{"$mod":[3,1]}}"#, "0001000"),
-        (r#"{"$not":{"v":{"$mod":[3,1]}}}"#, "0110111"),
-        (r#"{"v":{"$all":[4]}}"#, "0000010"),
-        (r#"{"$not":{"v":{"$all":[4]}}}"#, "0111101"),
-        (r#"{"v":{"$all":[]}}"#, "0000000"),
-        (r#"{"v":{"$all":[[4,"x"]]}}"#, "0000010"),
-        (r#"{"v":{"$elemMatch":{"$lt":5}}}"#, "0000010"),
-        (r#"{"$not":{"v":{"$elemMatch":{"$lt":5}}}}"#, "0111101"),
-        (r#"{"v":{"$allMatch":{"$lt":5}}}"#, "0000000"),
-        (r#"{"v":{"$allMatch":{"$gt":0}}}"#, "0000010"),
-        (r#"{"$not":{"v":{"$allMatch":{"$gt":0}}}}"#, "0111101"),
-    ];
     for (text, expected) in rows {
         assert!(rt;
             selects(rt.alloc(), &documents, text, expected)?,
@@ -234,6 +191,84 @@ fn operators_on_each_type(rt: HostRuntime) -> Result<(), Fail> {
         );
     }
     Ok(())
+}
+
+// The operators in the plain and in the negated sense.
+#[test]
+fn comparison_on_each_type(rt: HostRuntime) -> Result<(), Fail> {
+    select_types(
+        &rt,
+        &[
+            (r#"{"v":{"$lt":5}}"#, "0111000"),
+            (r#"{"$not":{"v":{"$lt":5}}}"#, "0000111"),
+            (r#"{"v":{"$lte":4}}"#, "0111000"),
+            (r#"{"$not":{"v":{"$lte":4}}}"#, "0000111"),
+            (r#"{"v":{"$eq":4}}"#, "0001000"),
+            (r#"{"$not":{"v":{"$eq":4}}}"#, "0110111"),
+            (r#"{"v":{"$ne":4}}"#, "0110111"),
+            (r#"{"$not":{"v":{"$ne":4}}}"#, "0001000"),
+            (r#"{"v":{"$gte":4}}"#, "0001111"),
+            (r#"{"$not":{"v":{"$gte":4}}}"#, "0110000"),
+            (r#"{"v":{"$gt":4}}"#, "0000111"),
+            (r#"{"$not":{"v":{"$gt":4}}}"#, "0111000"),
+        ],
+    )
+}
+
+#[test]
+fn existence_and_type_on_each_type(rt: HostRuntime) -> Result<(), Fail> {
+    select_types(
+        &rt,
+        &[
+            (r#"{"v":{"$exists":true}}"#, "0111111"),
+            (r#"{"$not":{"v":{"$exists":true}}}"#, "1000000"),
+            (r#"{"v":{"$exists":false}}"#, "1000000"),
+            (r#"{"$not":{"v":{"$exists":false}}}"#, "0111111"),
+            (r#"{"v":{"$type":"null"}}"#, "0100000"),
+            (r#"{"$not":{"v":{"$type":"null"}}}"#, "0011111"),
+            (r#"{"v":{"$type":"boolean"}}"#, "0010000"),
+            (r#"{"v":{"$type":"number"}}"#, "0001000"),
+            (r#"{"v":{"$type":"string"}}"#, "0000100"),
+            (r#"{"v":{"$type":"array"}}"#, "0000010"),
+            (r#"{"v":{"$type":"object"}}"#, "0000001"),
+        ],
+    )
+}
+
+#[test]
+fn membership_size_and_remainder_on_each_type(rt: HostRuntime) -> Result<(), Fail> {
+    select_types(
+        &rt,
+        &[
+            (r#"{"v":{"$in":[4,{"a":1}]}}"#, "0001011"),
+            (r#"{"$not":{"v":{"$in":[4,{"a":1}]}}}"#, "0110100"),
+            (r#"{"v":{"$in":[[4,"x"]]}}"#, "0000000"),
+            (r#"{"v":{"$nin":[4,{"a":1}]}}"#, "0110100"),
+            (r#"{"$not":{"v":{"$nin":[4,{"a":1}]}}}"#, "0001011"),
+            (r#"{"v":{"$size":2}}"#, "0000010"),
+            (r#"{"$not":{"v":{"$size":2}}}"#, "0111101"),
+            (r#"{"v":{"$mod":[3,1]}}"#, "0001000"),
+            (r#"{"$not":{"v":{"$mod":[3,1]}}}"#, "0110111"),
+        ],
+    )
+}
+
+#[test]
+fn elements_on_each_type(rt: HostRuntime) -> Result<(), Fail> {
+    select_types(
+        &rt,
+        &[
+            (r#"{"v":{"$all":[4]}}"#, "0000010"),
+            (r#"{"$not":{"v":{"$all":[4]}}}"#, "0111101"),
+            (r#"{"v":{"$all":[]}}"#, "0000000"),
+            (r#"{"v":{"$all":[[4,"x"]]}}"#, "0000010"),
+            (r#"{"v":{"$elemMatch":{"$lt":5}}}"#, "0000010"),
+            (r#"{"$not":{"v":{"$elemMatch":{"$lt":5}}}}"#, "0111101"),
+            (r#"{"v":{"$allMatch":{"$lt":5}}}"#, "0000000"),
+            (r#"{"v":{"$allMatch":{"$gt":0}}}"#, "0000010"),
+            (r#"{"$not":{"v":{"$allMatch":{"$gt":0}}}}"#, "0111101"),
+        ],
+    )
 }
 
 #[test]

@@ -1,5 +1,12 @@
-use Rattle.std.proofs.Common.{◌≤◌}
+use Rattle.std.proofs.Common.{◌≡◌, ◌≤◌, true, take}
+use Rattle.std.specs.Char.{is_ascii_digit}
+use Rattle.std.specs.List.{list_all}
+use Rattle.std.specs.Str.Parse.{digits_value}
 use Rattle.mangod.proofs.arguments.number.Given as goal
 
 abbrev pub invariant-loop-digit : goal.invariant-loop-digit
-invariant-loop-digit l = l.number ≤ l.most
+invariant-loop-digit l = record {
+  value : l.number ≡ digits_value 10 (take l.digit-index l.word);
+  digits : list_all is_ascii_digit (take l.digit-index l.word) ≡ true;
+  small : l.number ≤ l.most;
+}

@@ -10,5 +10,5 @@ use Rattle.mg_engine.proofs.page.page.Goals as goal
 
 pub merge-requires : goal.merge-requires
 merge-requires g c =
-    subst (λ (lists : List (List RowValue)). All (IsInOrder Asc) lists) (sym (ap lists_view c.deref.ensures.value ∙ c.in_ok-lists.ensures))
+    subst (λ (lists : List (List RowValue)). All (IsInOrder Asc) lists) (sym (ap lists_view c.deref.ensures.value ∙ c.in_ok-lists.ensures (query_seen c.args.query.now) c.in_ok-normal.ensures))
     (handed_in_order (query_seen c.args.query.now) (shards_seen c.args.shards.now))

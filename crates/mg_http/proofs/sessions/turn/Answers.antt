@@ -1,7 +1,7 @@
 use Rattle.std.proofs.Common.{◌<◌, ◌++◌, arith, inl, inr, refl, sym, ap, length, append-nil, drop-drop}
 use Rattle.std.proofs.KnownBytes.{Consumes-nil}
 use Rattle.mg_http.specs.Inbox.{unanswered}
-use Rattle.mg_http.proofs.SessionLemmas.{reply_fails, replied, refuses, stops, reads_on}
+use Rattle.mg_http.proofs.SessionLemmas.{ends_here, goes_on, refuses, stops, reads_on}
 use Rattle.mg_http.proofs.sessions.turn.Goals as goal
 
 pub returns-then-inbox-clause-bytes : goal.returns-then-inbox-clause-bytes
@@ -12,14 +12,14 @@ pub returns-in-Err-clause-bytes : goal.returns-in-Err-clause-bytes
 returns-in-Err-clause-bytes g c =
     let h = rw (c.rest_of-bytes.ensures, c.deref.ensures.value) at c.in-Whole.ensures.2 in
     let k = rw (c.rest_of-bytes.ensures, c.deref.ensures.value) at c.in-Err.ensures.bytes in
-    reply_fails g.S.Service.answers c.args.db.now _ _ _ _ _ _ _ _ _ h k
+    ends_here g.S.Service.answers c.args.db.now _ _ _ _ _ _ _ (k _ _ _ h)
 
 pub returns-in-Ok-clause-bytes : goal.returns-in-Ok-clause-bytes
 returns-in-Ok-clause-bytes g c =
     let h = rw (c.rest_of-bytes.ensures, c.deref.ensures.value) at c.in-Whole.ensures.2 in
     let k = rw (c.rest_of-bytes.ensures, c.deref.ensures.value) at c.in-Ok.ensures.bytes in
     let left = sym (drop-drop c.in-Whole.end c.args.inbox.now.start c.args.inbox.now.held.items) in
-    replied g.S.Service.answers c.args.db.now _ _ _ _ _ _ _ _ _ _ h left k
+    goes_on g.S.Service.answers c.args.db.now _ _ _ _ _ _ _ _ left (k _ _ _ h)
 
 pub returns-in-Enough-clause-bytes : goal.returns-in-Enough-clause-bytes
 returns-in-Enough-clause-bytes g c =
@@ -53,7 +53,7 @@ returns-in-NoMemory-clause-bytes g c =
     let read = rw c.drop_answered.ensures.held at c.in-NoMemory.ensures.bytes in
     let short : length (unanswered c.args.inbox.now ++ read.0) < c.in-Waiting.want =
     omega (arith, ap length read.2, c.in-NoMemory.ensures.short (λ e. cc)) in
-    refuses g.S.Service.answers c.args.db.now _ _ _ _ _ _ read.0 _ c.write_reply.result _ read.1 (inr (inr (waiting.1 read.0 short), refl)) c.write_reply.ensures.bytes c.refused.ensures
+    refuses g.S.Service.answers c.args.db.now _ _ _ _ _ _ read.0 _ c.write_reply.result _ read.1 (inr (inr (inl (waiting.1 read.0 short)), refl)) c.write_reply.ensures.bytes c.refused.ensures
 
 pub returns-in-Refused-clause-bytes : goal.returns-in-Refused-clause-bytes
 returns-in-Refused-clause-bytes g c =

@@ -1,68 +1,37 @@
-use Rattle.std.proofs.Common.{◌≡◌, ◌∙◌, ◌<◌, ◌++◌, true, false, not, filter, Some, is_some, is_ok, length, sym, ap, subst, List, arith}
+use Rattle.std.proofs.Common.{◌≡◌, ◌∙◌, true, false, not, filter, Some, is_some, map, string_bytes, sym, ap, subst, List, ℕ, arith}
 use Rattle.mg_value.specs.View.{view}
-use Rattle.mg_revtree.specs.History.{Link, Leaf, all_links, has_child, newest_of}
-use Rattle.mg_revtree.specs.Tree.{Tree, StandsFor, AreNodes, AreSorted, find}
-use Rattle.mg_revtree.proofs.Step.{place_ok, head_links, stands_known, stands_new, found_is_known, found_is_new}
+use Rattle.mg_revtree.specs.Revision.{Revision, run_from}
+use Rattle.mg_revtree.specs.History.{Leaf, all_links, has_child, links, newest_of}
+use Rattle.mg_revtree.specs.Tree.{Tree, StandsFor, find}
+use Rattle.mg_revtree.specs.Steps.{ranked}
+use Rattle.mg_revtree.proofs.Runs.{newest_is, run_is, length-map}
+use Rattle.mg_revtree.proofs.Step.{stands_known, stands_new}
 use Rattle.mg_revtree.proofs.tree.RevTree.accept.Goals as goal
 
 pub returns-then-known-clause-accepted : goal.returns-then-known-clause-accepted
-returns-then-known-clause-accepted c = λ h rs is run stands.
-    let kept = c.self.inside.links.items in
+returns-then-known-clause-accepted c = λ h stands.
+    let kept = c.self.inside.links in
     let leaves = c.self.inside.leaves.items in
-    let ms = c.args.more.items in
-    let q = c.in_ok-rev.rev in
+    let rs = run_from c.args.start (map string_bytes c.args.ids.now) in
+    let q : Revision = (c.args.start, string_bytes c.index-ids-0.result) in
     let s : StandsFor (record { links = kept; leaves = leaves }) h = subst (λ (t : Tree). StandsFor t h) (sym c.self.view_is) stands in
-    let at : c.deref.result.now ≡ kept = c.deref.ensures.value ∙ c.reserve.ensures.items in
-    let some : 0 < length ms = omega (arith, c.requires, c.deref-2.ensures.len, ap length c.deref-2.ensures.value) in
-    let newest : newest_of rs ≡ Some q = head_links rs ms c.index-newest.result.now is some c.index-newest.ensures ∙ ap Some (ap (λ (l : Link). l.rev) (sym c.newest.view_is) ∙ sym c.in_ok-rev.ensures) in
-    let found : is_ok c.place.result ≡ is_some (find q kept) = place_ok q c.deref.result.now c.place.result (subst AreSorted (sym at) s.nodes.sorted) c.place.ensures.found c.place.ensures.absent ∙ ap (λ k. is_some (find q k)) at in
-    let joined : AreNodes kept (all_links h) → AreNodes c.join_all.new.links.items (all_links h ++ ms) = λ n. let m : AreNodes c.reserve.new.self.items (all_links h) = subst (λ (k : List Link). AreNodes k (all_links h)) (sym c.reserve.ensures.items) n in record { same = c.join_all.ensures.nodes (all_links h) m; sorted = c.join_all.ensures.sorted m.sorted } in
+    let newest : newest_of rs ≡ Some q = newest_is string_bytes c.args.start c.args.ids.now c.index-ids-0.result c.requires.some c.index-ids-0.is in
     let left = c.unleaf.new.leaves.items in
-    let unleafed : left ≡ filter (λ l. not (has_child l.rev ms)) leaves = subst (λ (k : List Link). left ≡ filter (λ l. not (has_child l.rev k)) leaves) c.deref-2.ensures.value (subst (λ (v : List Leaf). left ≡ filter (λ l. not (has_child l.rev c.deref-2.result.now)) v) c.reserve-2.ensures.items c.unleaf.ensures.kept) in
-    let k : is_some (find q kept) ≡ true = sym found ∙ sym c.is_ok-known.ensures.value ∙ c.if-known.true in
-    stands_known h rs c.args.deleted (view c.args.body) q kept ms leaves is newest s _ joined left unleafed k
-
-pub returns-then-known-clause-found : goal.returns-then-known-clause-found
-returns-then-known-clause-found c = λ h rs is stands.
-    let kept = c.self.inside.links.items in
-    let leaves = c.self.inside.leaves.items in
-    let ms = c.args.more.items in
-    let q = c.in_ok-rev.rev in
-    let s : StandsFor (record { links = kept; leaves = leaves }) h = subst (λ (t : Tree). StandsFor t h) (sym c.self.view_is) stands in
-    let at : c.deref.result.now ≡ kept = c.deref.ensures.value ∙ c.reserve.ensures.items in
-    let some : 0 < length ms = omega (arith, c.requires, c.deref-2.ensures.len, ap length c.deref-2.ensures.value) in
-    let newest : newest_of rs ≡ Some q = head_links rs ms c.index-newest.result.now is some c.index-newest.ensures ∙ ap Some (ap (λ (l : Link). l.rev) (sym c.newest.view_is) ∙ sym c.in_ok-rev.ensures) in
-    let found : is_ok c.place.result ≡ is_some (find q kept) = place_ok q c.deref.result.now c.place.result (subst AreSorted (sym at) s.nodes.sorted) c.place.ensures.found c.place.ensures.absent ∙ ap (λ k. is_some (find q k)) at in
-    let k : is_some (find q kept) ≡ true = sym found ∙ sym c.is_ok-known.ensures.value ∙ c.if-known.true in
-    found_is_known h rs q kept leaves newest s k
+    let unleafed : left ≡ filter (λ l. not (has_child l.rev (links rs))) leaves = subst (λ (v : List Leaf). left ≡ filter (λ l. not (has_child l.rev (links rs))) v) c.reserve.ensures.items (c.unleaf.ensures.kept c.requires.run) in
+    let k : is_some (find q kept) ≡ true = sym (c.knows-known.ensures s.nodes.sorted) ∙ c.if-known.true in
+    stands_known h rs c.args.deleted (view c.args.body) q kept c.join.new.self leaves left newest s (c.in_ok-join.ensures.nodes (all_links h) s.nodes) unleafed k
 
 pub returns-clause-accepted : goal.returns-clause-accepted
-returns-clause-accepted c = λ h rs is run stands.
-    let kept = c.self.inside.links.items in
+returns-clause-accepted c = λ h stands.
+    let kept = c.self.inside.links in
     let leaves = c.self.inside.leaves.items in
-    let ms = c.args.more.items in
-    let q = c.in_ok-rev.rev in
+    let rs = run_from c.args.start (map string_bytes c.args.ids.now) in
+    let q : Revision = (c.args.start, string_bytes c.index-ids-0.result) in
     let s : StandsFor (record { links = kept; leaves = leaves }) h = subst (λ (t : Tree). StandsFor t h) (sym c.self.view_is) stands in
-    let at : c.deref.result.now ≡ kept = c.deref.ensures.value ∙ c.reserve.ensures.items in
-    let some : 0 < length ms = omega (arith, c.requires, c.deref-2.ensures.len, ap length c.deref-2.ensures.value) in
-    let newest : newest_of rs ≡ Some q = head_links rs ms c.index-newest.result.now is some c.index-newest.ensures ∙ ap Some (ap (λ (l : Link). l.rev) (sym c.newest.view_is) ∙ sym c.in_ok-rev.ensures) in
-    let found : is_ok c.place.result ≡ is_some (find q kept) = place_ok q c.deref.result.now c.place.result (subst AreSorted (sym at) s.nodes.sorted) c.place.ensures.found c.place.ensures.absent ∙ ap (λ k. is_some (find q k)) at in
-    let joined : AreNodes kept (all_links h) → AreNodes c.join_all.new.links.items (all_links h ++ ms) = λ n. let m : AreNodes c.reserve.new.self.items (all_links h) = subst (λ (k : List Link). AreNodes k (all_links h)) (sym c.reserve.ensures.items) n in record { same = c.join_all.ensures.nodes (all_links h) m; sorted = c.join_all.ensures.sorted m.sorted } in
+    let newest : newest_of rs ≡ Some q = newest_is string_bytes c.args.start c.args.ids.now c.index-ids-0.result c.requires.some c.index-ids-0.is in
     let left = c.unleaf.new.leaves.items in
-    let unleafed : left ≡ filter (λ l. not (has_child l.rev ms)) leaves = subst (λ (k : List Link). left ≡ filter (λ l. not (has_child l.rev k)) leaves) c.deref-2.ensures.value (subst (λ (v : List Leaf). left ≡ filter (λ l. not (has_child l.rev c.deref-2.result.now)) v) c.reserve-2.ensures.items c.unleaf.ensures.kept) in
-    let k : is_some (find q kept) ≡ false = sym found ∙ sym c.is_ok-known.ensures.value ∙ c.if-known.false in
-    stands_new h rs c.args.deleted (view c.args.body) q kept ms leaves is newest s _ joined left unleafed k run _ c.add_leaf.ensures
-
-pub returns-clause-found : goal.returns-clause-found
-returns-clause-found c = λ h rs is stands.
-    let kept = c.self.inside.links.items in
-    let leaves = c.self.inside.leaves.items in
-    let ms = c.args.more.items in
-    let q = c.in_ok-rev.rev in
-    let s : StandsFor (record { links = kept; leaves = leaves }) h = subst (λ (t : Tree). StandsFor t h) (sym c.self.view_is) stands in
-    let at : c.deref.result.now ≡ kept = c.deref.ensures.value ∙ c.reserve.ensures.items in
-    let some : 0 < length ms = omega (arith, c.requires, c.deref-2.ensures.len, ap length c.deref-2.ensures.value) in
-    let newest : newest_of rs ≡ Some q = head_links rs ms c.index-newest.result.now is some c.index-newest.ensures ∙ ap Some (ap (λ (l : Link). l.rev) (sym c.newest.view_is) ∙ sym c.in_ok-rev.ensures) in
-    let found : is_ok c.place.result ≡ is_some (find q kept) = place_ok q c.deref.result.now c.place.result (subst AreSorted (sym at) s.nodes.sorted) c.place.ensures.found c.place.ensures.absent ∙ ap (λ k. is_some (find q k)) at in
-    let k : is_some (find q kept) ≡ false = sym found ∙ sym c.is_ok-known.ensures.value ∙ c.if-known.false in
-    found_is_new h rs q kept leaves newest s k
+    let unleafed : left ≡ filter (λ l. not (has_child l.rev (links rs))) leaves = subst (λ (v : List Leaf). left ≡ filter (λ l. not (has_child l.rev (links rs))) v) c.reserve.ensures.items (c.unleaf.ensures.kept c.requires.run) in
+    let k : is_some (find q kept) ≡ false = sym (c.knows-known.ensures s.nodes.sorted) ∙ c.if-known.false in
+    let leaf : Leaf = record { rev = q; deleted = c.args.deleted; body = view c.args.body } in
+    let more : c.add_leaf.new.leaves.items ≡ ranked leaf left = c.add_leaf.ensures ∙ ap (λ (l : Leaf). ranked l left) (c.in_ok-leaf.ensures ∙ ap (λ (s : List ℕ). (let l : Leaf = record { rev = (c.args.start, s); deleted = c.args.deleted; body = view c.args.body } in l)) c.in_ok-clone.ensures.cases) in
+    stands_new h rs c.args.deleted (view c.args.body) q kept c.join.new.self leaves left newest s (c.in_ok-join.ensures.nodes (all_links h) s.nodes) unleafed k (run_is c.args.start (map string_bytes c.args.ids.now) (omega (arith, length-map string_bytes c.args.ids.now, c.requires.run))) c.add_leaf.new.leaves.items more

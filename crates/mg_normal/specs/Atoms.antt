@@ -1,0 +1,53 @@
+-- The atoms of a selector: operators that it asks in any case, each of the part at a whole path; index ranges come from them.
+-- That an object of several members has none in the negated sense, and `$or` of one arm none in the plain one, is this project's
+-- own choice. What stands inside `$elemMatch` and `$allMatch` is asked of elements, so that these are atoms themselves.
+use Rattle.std.specs.Prelude.{ℕ, Bool, List, [], ◌∷◌, ◌++◌, Option, option_and_then}
+use Rattle.mg_value.specs.Value.{Value}
+use Rattle.mg_path.specs.Part.{part_of}
+use Rattle.mg_selector.specs.Meaning.{flip, operator_holds}
+use Rattle.mg_selector.specs.Selector.{Selector, members, every, some, none, opposite, at, asks, Arms, no_arms, arm, Operator}
+use Rattle.mg_selector.specs.declared.sense.Sense.{Sense}
+use Rattle.mg_selector.specs.declared.sense.Sense.TheVariants.{Plain, Negated}
+
+-- an operator that is no combinator, asked in a sense of the part at the steps
+pub record Atom : Type 0 where
+  pub steps : List (List ℕ)
+  pub operator : Operator
+  pub sense : Sense
+
+-- the operator holds, in the sense, of the document's part at the steps
+abbrev pub atom_holds : Option Value → Atom → Bool
+atom_holds x a = operator_holds a.operator a.sense (option_and_then (part_of a.steps) x)
+
+abbrev mutual
+  -- the atoms of a selector that is asked, in the sense, of the part at the steps
+  pub atoms_in : Selector → Sense → List (List ℕ) → List Atom
+  -- of an object: its members' in the plain sense, and in the negated those of its only member
+  atoms_in (members ss) Plain steps = arms_atoms ss Plain steps
+  atoms_in (members ss) Negated steps = only_atoms ss Negated steps
+  -- of arms: where all are asked, and none where one is enough
+  atoms_in (every ss) Plain steps = arms_atoms ss Plain steps
+  atoms_in (every ss) Negated steps = []
+  atoms_in (some ss) Plain steps = []
+  atoms_in (some ss) Negated steps = arms_atoms ss Negated steps
+  atoms_in (none ss) Plain steps = arms_atoms ss Negated steps
+  atoms_in (none ss) Negated steps = []
+  -- below `$not` and a path
+  atoms_in (opposite s) sense steps = atoms_in s (flip sense) steps
+  atoms_in (at more s) sense steps = atoms_in s sense (steps ++ more)
+  -- the operator itself
+  atoms_in (asks o) sense steps = record { steps = steps; operator = o; sense = sense } ∷ []
+
+  -- those of each arm
+  pub arms_atoms : Arms → Sense → List (List ℕ) → List Atom
+  arms_atoms no_arms sense steps = []
+  arms_atoms (arm s ss) sense steps = atoms_in s sense steps ++ arms_atoms ss sense steps
+
+  -- those of the only arm
+  pub only_atoms : Arms → Sense → List (List ℕ) → List Atom
+  only_atoms (arm s no_arms) sense steps = atoms_in s sense steps
+  only_atoms ss sense steps = []
+
+-- the atoms of a selector
+abbrev pub atoms_of : Selector → List Atom
+atoms_of s = atoms_in s Plain []

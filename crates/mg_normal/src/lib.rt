@@ -1,0 +1,12 @@
+//! Selectors whose negations stand on their operators alone, and the atoms of selectors.
+#![tactic(auto)]
+
+mod atom;
+mod form;
+pub mod laws;
+mod meaning;
+mod normal;
+mod pushed;
+
+pub use atom::Atom;
+pub use normal::Normal;

@@ -1,0 +1,72 @@
+ghost use Rattle.std.specs.Prelude.{◌≡◌, Some, IfOk};
+ghost use Rattle.mg_value.specs.View.{view};
+ghost use Rattle.mg_selector.specs.View.{selector_of};
+ghost use Rattle.mg_normal.specs.Normal.{IsNormalOf, normal_holds, normal_atoms};
+ghost use Rattle.mg_normal.specs.View.{atoms_view};
+
+use crate::atom::{Atom, gather};
+use crate::form::Form;
+use crate::meaning;
+use crate::pushed::pushed;
+use mg_selector::{Sel, Sense};
+use mg_value::{Json, NoMemory};
+use std::alloc::Global;
+use std::marker::Model;
+
+/// A selector in its normal form: its negations are pushed inwards until each stands on an operator.
+///
+/// An operator negated is not its complement: of a missing part neither holds, but for `$exists`.
+/// An empty list of arms holds in both senses.
+#[derive(Debug, Drop)]
+pub struct Normal {
+    form: Form,
+    atoms: Vec<Atom>,
+}
+
+impl Model for Normal {
+    ghost use Rattle.mg_normal.specs.Normal.{NormalForm, normal_code};
+
+    ghost Value = { NormalForm };
+
+    ghost coded = { normal_code };
+
+    ghost view = { λ n. record { form = n.form; atoms = n.atoms.items } };
+}
+
+impl Normal {
+    /// The normal form of the selector, with its atoms.
+    ///
+    /// Errors: `NoMemory` where a growth is refused. Cost: the size of the selector, each operator
+    /// being copied once, and once more where it is an atom, with the steps of its whole path.
+    /// Source: `$not`, `$and`, `$or` and `$nor` of CouchDB's `_find`.
+    pub fn of(alloc: Global, selector: &Sel) -> Result<Normal, NoMemory>
+        ensures { IfOk result (λ normal. IsNormalOf (selector_of selector.now) normal) }
+    {
+        let form = pushed(alloc, selector, Sense::Plain)?;
+        let mut atoms = Vec::new(alloc);
+        gather(alloc, &form, Vec::new(alloc), &mut atoms)?;
+        Ok(Normal { form, atoms })
+    }
+
+    /// Whether the selector holds of the document. No memory is taken.
+    ///
+    /// Cost: each operator once, with the way to its part, and once more for each element that
+    /// `$elemMatch` and `$allMatch` look at.
+    pub fn holds(&self, value: &Json) -> bool
+        ensures { result ≡ normal_holds self.now (Some (view value.now)) }
+    {
+        meaning::holds(&self.form, Some(value))
+    }
+
+    /// What the selector asks in any case, in reading order: the operators that are reached through
+    /// paths, `$not`, and all arms of what asks for all of them, which is an object, `$and` and
+    /// `$nor` in the plain sense, and `$or` in the negated. An object of one member is that member
+    /// in both senses. Nothing inside `$elemMatch` and `$allMatch` is taken. No memory is taken.
+    ///
+    /// Cost: none.
+    pub fn atoms(&self) -> &[Atom]
+        ensures { atoms_view result.now ≡ normal_atoms self.now }
+    {
+        &self.atoms
+    }
+}

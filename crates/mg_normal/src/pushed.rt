@@ -1,0 +1,96 @@
+ghost use Rattle.std.specs.Prelude.{◌||◌, IfOk};
+ghost use Rattle.mg_selector.specs.Meaning.{holds_in, every_arm, some_arm, is_no_arms};
+ghost use Rattle.mg_selector.specs.Selector.{members, every, some};
+ghost use Rattle.mg_selector.specs.View.{selector_of, arms_view};
+ghost use Rattle.mg_normal.specs.Atoms.{atoms_in, arms_atoms};
+ghost use Rattle.mg_normal.specs.Stands.{Says, AllSay, no_atoms};
+ghost use Rattle.mg_normal.specs.View.{form_of, forms_view};
+
+use crate::form::Form;
+use mg_selector::{Sel, Sense};
+use mg_value::NoMemory;
+use std::alloc::Global;
+
+/// The form of the selector in the sense, with its negations pushed inwards to the operators.
+#[cycle(pushed)]
+pub(crate) fn pushed(alloc: Global, sel: &Sel, sense: Sense) -> Result<Form, NoMemory>
+    ensures { IfOk result (λ form. Says (holds_in (selector_of sel.now) sense)
+        (atoms_in (selector_of sel.now) sense) (form_of form)) }
+{
+    match sel {
+        Sel::Members(arms) => object(alloc, arms, sense),
+        Sel::And(arms) => conjunction(alloc, arms, sense),
+        Sel::Or(arms) => disjunction(alloc, arms, sense),
+        Sel::Nor(arms) => disjunction(alloc, arms, sense.flipped()),
+        Sel::Not(inner) => pushed(alloc, inner, sense.flipped()),
+        Sel::At(path, inner) => {
+            let inner = pushed(alloc, inner, sense)?;
+            Ok(Form::At(path.copy(alloc)?, Box::new(alloc, inner)?))
+        }
+        Sel::Ask(op) => Ok(Form::Ask(op.copy(alloc)?, sense)),
+    }
+}
+
+// An object of one member is that member.
+#[cycle(pushed)]
+fn object(alloc: Global, arms: &[Sel], sense: Sense) -> Result<Form, NoMemory>
+    ensures { IfOk result (λ form. Says (holds_in (members (arms_view arms.now)) sense)
+        (atoms_in (members (arms_view arms.now)) sense) (form_of form)) }
+{
+    match arms {
+        [only] => pushed(alloc, only, sense),
+        _ => conjunction(alloc, arms, sense),
+    }
+}
+
+#[cycle(pushed)]
+fn conjunction(alloc: Global, arms: &[Sel], sense: Sense) -> Result<Form, NoMemory>
+    ensures { IfOk result (λ form. Says (holds_in (every (arms_view arms.now)) sense)
+        (atoms_in (every (arms_view arms.now)) sense) (form_of form)) }
+{
+    match sense {
+        Sense::Plain => all_of(alloc, arms, sense),
+        Sense::Negated => any_of(alloc, arms, sense),
+    }
+}
+
+#[cycle(pushed)]
+fn disjunction(alloc: Global, arms: &[Sel], sense: Sense) -> Result<Form, NoMemory>
+    ensures { IfOk result (λ form. Says (holds_in (some (arms_view arms.now)) sense)
+        (atoms_in (some (arms_view arms.now)) sense) (form_of form)) }
+{
+    match sense {
+        Sense::Plain => any_of(alloc, arms, sense),
+        Sense::Negated => all_of(alloc, arms, sense),
+    }
+}
+
+// All arms, each in the sense.
+#[cycle(pushed)]
+fn all_of(alloc: Global, arms: &[Sel], sense: Sense) -> Result<Form, NoMemory>
+    ensures { IfOk result (λ form. Says (every_arm (arms_view arms.now) sense)
+        (arms_atoms (arms_view arms.now) sense) (form_of form)) }
+{
+    Ok(Form::All(pushed_arms(alloc, arms, sense)?))
+}
+
+// Some arm in the sense, where there is any.
+#[cycle(pushed)]
+fn any_of(alloc: Global, arms: &[Sel], sense: Sense) -> Result<Form, NoMemory>
+    ensures { IfOk result (λ form. Says
+        (λ x. is_no_arms (arms_view arms.now) || some_arm (arms_view arms.now) sense x)
+        no_atoms (form_of form)) }
+{
+    Ok(Form::Any(pushed_arms(alloc, arms, sense)?))
+}
+
+#[cycle(pushed)]
+fn pushed_arms(alloc: Global, arms: &[Sel], sense: Sense) -> Result<Vec<Form>, NoMemory>
+    ensures { IfOk result (λ forms. AllSay (arms_view arms.now) sense (forms_view forms.items)) }
+{
+    let mut forms = Vec::with_capacity(alloc, arms.len())?;
+    for arm in arms {
+        forms.push(pushed(alloc, arm, sense)?)?;
+    }
+    Ok(forms)
+}

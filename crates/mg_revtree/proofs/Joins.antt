@@ -1,0 +1,66 @@
+-- What the links of a history say after one more.
+use Rattle.std.proofs.Common.{◌≡◌, true, false, ◌||◌, Option, Some, None, List, [], ◌∷◌, ◌++◌, inl, inr, refl, ap, sym, ◌∙◌, append_assoc}
+use Rattle.mg_revtree.specs.Revision.{Revision, same_revision}
+use Rattle.mg_revtree.specs.History.{Link, History, agrees, is_known, parent_of, has_child, is_at, links, all_links, or_else}
+use Rattle.mg_revtree.specs.Tree.{node}
+use Rattle.mg_revtree.specs.Steps.{agrees_found, put}
+use Rattle.mg_revtree.proofs.Same.{two, same_is}
+
+pub known-append : (r : Revision) (ls ms : List Link) → is_known r (ls ++ ms) ≡ is_known r ls || is_known r ms
+known-append r [] ms = refl
+known-append r (l ∷ ls) ms = elim (two (same_revision r l.rev)) [ inl t ↦ rw t refl | inr f ↦ rw f (known-append r ls ms) ]
+
+pub or_else_assoc : {A : Type 0} (a b c : Option A) → or_else (or_else a b) c ≡ or_else a (or_else b c)
+or_else_assoc None b c = refl
+or_else_assoc (Some x) b c = refl
+
+pub parent-append : (r : Revision) (ls ms : List Link) → parent_of r (ls ++ ms) ≡ or_else (parent_of r ls) (parent_of r ms)
+parent-append r [] ms = refl
+parent-append r (l ∷ ls) ms = elim (two (same_revision r l.rev)) [
+  | inl t ↦ rw (t, parent-append r ls ms) (sym (or_else_assoc l.parent (parent_of r ls) (parent_of r ms)))
+  | inr f ↦ rw f (parent-append r ls ms)
+]
+
+pub has_child-append : (r : Revision) (ls ms : List Link) → has_child r (ls ++ ms) ≡ has_child r ls || has_child r ms
+has_child-append r [] ms = refl
+has_child-append r (l ∷ ls) ms = elim (two (is_at r l.parent)) [ inl t ↦ rw t refl | inr f ↦ rw f (has_child-append r ls ms) ]
+
+pub all_links-append : (h g : History) → all_links (h ++ g) ≡ all_links h ++ all_links g
+all_links-append [] g = refl
+all_links-append (p ∷ h) g = rw (all_links-append h g) (sym (append_assoc (links p.revs) (all_links h) (all_links g)))
+
+-- an unknown revision has no parent
+pub unknown_parent : (r : Revision) (ls : List Link) → is_known r ls ≡ false → parent_of r ls ≡ None
+unknown_parent r [] h = refl
+unknown_parent r (l ∷ ls) h = elim (two (same_revision r l.rev)) [
+  | inl t ↦ absurd (let k : true ≡ false = rw t at h in cc)
+  | inr f ↦ let k : is_known r ls ≡ false = rw f at h in rw f (unknown_parent r ls k)
+]
+
+or_none : {A : Type 0} (a : Option A) → a ≡ or_else a None
+or_none None = refl
+or_none (Some x) = refl
+
+-- a node after one more link before others, where none of those is of its revision
+pub node-put-before : (r : Revision) (ls ms : List Link) (l : Link) → is_known l.rev ms ≡ false → put l r (node r (ls ++ ms)) ≡ node r (ls ++ l ∷ ms)
+node-put-before r ls ms l new = rw (known-append r ls ms, parent-append r ls ms, known-append r ls (l ∷ ms), parent-append r ls (l ∷ ms)) (elim (two (same_revision r l.rev)) [
+  | inl t ↦
+      let u : is_known r ms ≡ false = ap (λ x. is_known x ms) (same_is r l.rev t) ∙ new in
+      elim (two (is_known r ls)) [
+        | inl k ↦ rw (t, k, unknown_parent r ms u) (ap Some (rest (parent_of r ls) l.parent))
+        | inr k ↦ rw (t, k, u, unknown_parent r ms u, unknown_parent r ls k) (ap Some (or_none l.parent))
+      ]
+  | inr f ↦ rw f refl
+])
+  where
+    rest : (a b : Option Revision) → or_else (or_else a None) b ≡ or_else a (or_else b None)
+    rest None None = refl
+    rest None (Some y) = refl
+    rest (Some x) b = refl
+
+-- a kept node's parent is the known one
+pub agrees_node : (r : Revision) (ls : List Link) (q : Option Revision) → agrees_found (node r ls) q ≡ agrees (parent_of r ls) q
+agrees_node r ls q = elim (two (is_known r ls)) [
+  | inl k ↦ rw k refl
+  | inr k ↦ rw (k, unknown_parent r ls k) refl
+]

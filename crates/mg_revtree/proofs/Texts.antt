@@ -1,0 +1,202 @@
+-- Parts of a text, and the nodes made of them.
+use Rattle.std.proofs.Common.{◌≡◌, ℕ, zero, suc, ◌+◌, ◌-◌, ◌<◌, ◌≤◌, Bool, Option, Some, None, is_some, Result, Ok, Err, is_ok, IfOk, IfErr, List, [], ◌∷◌, ◌++◌, length, length-append, length-drop, append_assoc, get_or, map, option_map, set, take, drop, refl, ap, sym, ◌∙◌, subst, arith}
+use Rattle.std.specs.List.{insert}
+use Rattle.std.proofs.lemmas.List.{map-set, get_or-map, take-append-le, drop-append-le, drop_more, map_push, map_more}
+use Rattle.mg_revtree.specs.Revision.{Revision, run_from}
+use Rattle.mg_revtree.specs.History.{Link, agrees, links, newest_of, or_else}
+use Rattle.mg_revtree.specs.Tree.{AreNodes, AreSorted, find}
+use Rattle.mg_revtree.specs.Nodes.{part_of, link_in, IsWithin, ParentWithin, NodeWithin, AreWithin, PartsWithin, Grows}
+use Rattle.mg_revtree.specs.Steps.{agrees_found, put, IsPlace, IsGap}
+use Rattle.mg_revtree.specs.declared.node.Part.{Part}
+use Rattle.mg_revtree.specs.declared.node.Node.{Node}
+use Rattle.mg_revtree.proofs.Find.{find-set, gap_none, place_find, place_is, place_some, sorted-set}
+use Rattle.mg_revtree.proofs.Joins.{node-put-before}
+use Rattle.mg_revtree.proofs.Runs.{unknown_before}
+
+-- ---- a text that grows
+
+module _ (xs ys : List ℕ) where
+  pub part-grown : (p : Part) → IsWithin (length xs) p → part_of (xs ++ ys) p ≡ part_of xs p
+  part-grown p h = rw (drop-append-le p.from xs ys (omega arith)) (take-append-le p.len (drop p.from xs) ys (omega (arith, length-drop p.from xs)))
+
+  parent-grown : (n : ℕ) (o : Option Part) → ParentWithin (length xs) o → option_map {U = Revision} (λ p. (n - 1, part_of (xs ++ ys) p)) o ≡ option_map {U = Revision} (λ p. (n - 1, part_of xs p)) o
+  parent-grown n None h = refl
+  parent-grown n (Some p) h = rw (part-grown p h) refl
+
+  pub link-grown : (x : Node) → NodeWithin (length xs) x → link_in (xs ++ ys) x ≡ link_in xs x
+  link-grown x h = rw (part-grown x.id h.0, parent-grown x.pos x.parent h.1) refl
+
+  pub links-grown : (ns : List Node) → AreWithin (length xs) ns → map (link_in (xs ++ ys)) ns ≡ map (link_in xs) ns
+  links-grown [] h = refl
+  links-grown (x ∷ ns) h = rw (link-grown x h.0, links-grown ns h.1) refl
+
+  pub parts-grown : (ps : List Part) → PartsWithin (length xs) ps → map (part_of (xs ++ ys)) ps ≡ map (part_of xs) ps
+  parts-grown [] h = refl
+  parts-grown (p ∷ ps) h = rw (part-grown p h.0, parts-grown ps h.1) refl
+
+-- ---- what stays within
+
+module _ (m n : ℕ) (le : m ≤ n) where
+  parent-more : (o : Option Part) → ParentWithin m o → ParentWithin n o
+  parent-more None h = tt
+  parent-more (Some p) h = omega arith
+
+  pub within-more : (ns : List Node) → AreWithin m ns → AreWithin n ns
+  within-more [] h = tt
+  within-more (x ∷ ns) h = ((omega (arith, h.0.0), parent-more x.parent h.0.1), within-more ns h.1)
+
+  pub parts-more : (ps : List Part) → PartsWithin m ps → PartsWithin n ps
+  parts-more [] h = tt
+  parts-more (p ∷ ps) h = (omega (arith, h.0), parts-more ps h.1)
+
+pub parts-push : (n : ℕ) (ps : List Part) (p : Part) → PartsWithin n ps → IsWithin n p → PartsWithin n (ps ++ p ∷ [])
+parts-push n [] p h w = (w, tt)
+parts-push n (q ∷ ps) p h w = (h.0, parts-push n ps p h.1 w)
+
+pub part-within : (n : ℕ) (ps : List Part) (i : ℕ) (d : Part) → i < length ps → PartsWithin n ps → IsWithin n (get_or ps i d)
+part-within n [] i d lt h = absurd (omega arith)
+part-within n (p ∷ ps) zero d lt h = h.0
+part-within n (p ∷ ps) (suc i) d lt h = part-within n ps i d (omega arith) h.1
+
+pub node-within : (n : ℕ) (ns : List Node) (i : ℕ) (d : Node) → i < length ns → AreWithin n ns → NodeWithin n (get_or ns i d)
+node-within n [] i d lt h = absurd (omega arith)
+node-within n (x ∷ ns) zero d lt h = h.0
+node-within n (x ∷ ns) (suc i) d lt h = node-within n ns i d (omega arith) h.1
+
+pub within-set : (n : ℕ) (ns : List Node) (i : ℕ) (x : Node) → NodeWithin n x → AreWithin n ns → AreWithin n (set ns i x)
+within-set n [] i x w h = tt
+within-set n (y ∷ ns) zero x w h = (w, h.1)
+within-set n (y ∷ ns) (suc i) x w h = (h.0, within-set n ns i x w h.1)
+
+pub within-insert : (n : ℕ) (ns : List Node) (i : ℕ) (x : Node) → NodeWithin n x → AreWithin n ns → AreWithin n (insert ns i x)
+within-insert n ns zero x w h = (w, h)
+within-insert n [] (suc i) x w h = (w, tt)
+within-insert n (y ∷ ns) (suc i) x w h = (h.0, within-insert n ns i x w h.1)
+
+-- the id of the node at a revision's place
+pub part_at : (t : List ℕ) (r : Revision) (ns : List Node) (i : ℕ) (d : Node) → i < length ns → IsPlace r (map (link_in t) ns) i → part_of t (get_or ns i d).id ≡ r.1
+part_at t r ns i d lt place = ap (λ (q : Revision). q.1) (place_is r (map (link_in t) ns) i (link_in t (get_or ns i d)) place (sym (get_or-map (link_in t) ns i d (link_in t (get_or ns i d)) lt)))
+
+-- a search says whether the revision is found
+pub place_knows : {A : Type 0} (f : A → Link) (r : Revision) (xs : List A) (o : Result ℕ ℕ) → AreSorted (map f xs) → IfOk o (λ i. (i < length xs) × (AreSorted (map f xs) → IsPlace r (map f xs) i)) → IfErr o (λ i. (i ≤ length xs) × (AreSorted (map f xs) → IsGap r (map f xs) i)) → is_ok o ≡ is_some (find r (map f xs))
+place_knows f r xs (Ok i) s found absent = sym (place_some r (map f xs) i (found.1 s))
+place_knows f r xs (Err i) s found absent = rw (gap_none r (map f xs) i (absent.1 s)) refl
+
+or_within : (n : ℕ) (a b : Option Part) → ParentWithin n a → ParentWithin n b → ParentWithin n (or_else a b)
+or_within n None b h w = w
+or_within n (Some p) b h w = h
+
+-- ---- a node joined
+
+pub map-insert : {A B : Type 0} (f : A → B) (xs : List A) (i : ℕ) (x : A) → map f (insert xs i x) ≡ insert (map f xs) i (f x)
+map-insert f xs zero x = refl
+map-insert f [] (suc i) x = refl
+map-insert f (y ∷ xs) (suc i) x = ap (λ zs. f y ∷ zs) (map-insert f xs i x)
+
+-- the first of some parts
+abbrev pub first : List Part → Option Part
+first [] = None
+first (p ∷ ps) = Some p
+
+module _ (t : List ℕ) where
+  joined_parent : (n : ℕ) (a b : Option Part) → option_map {U = Revision} (λ p. (n - 1, part_of t p)) (or_else a b) ≡ or_else (option_map {U = Revision} (λ p. (n - 1, part_of t p)) a) (option_map {U = Revision} (λ p. (n - 1, part_of t p)) b)
+  joined_parent n None b = refl
+  joined_parent n (Some p) b = refl
+
+  joined_link : (kept given : Node) → kept.pos ≡ given.pos → link_in t (record kept { parent = or_else kept.parent given.parent }) ≡ record (link_in t kept) { parent = or_else (link_in t kept).parent (link_in t given).parent }
+  joined_link kept given e = rw (joined_parent kept.pos kept.parent given.parent, e) refl
+
+  -- the node at place i, joined to what is given
+  module _ (given kept now : Node) (ns : List Node) (i : ℕ) (lt : i < length ns) (is : kept ≡ get_or ns i kept) (joined : now ≡ record kept { parent = or_else kept.parent given.parent }) where
+    kept_at : link_in t kept ≡ get_or (map (link_in t) ns) i (link_in t kept)
+    kept_at = ap (link_in t) is ∙ sym (get_or-map (link_in t) ns i kept (link_in t kept) lt)
+
+    pub sorted-joined : AreSorted (map (link_in t) ns) → AreSorted (map (link_in t) (set ns i now))
+    sorted-joined h = rw (map-set (link_in t) ns i now) (sorted-set (link_in t kept) (link_in t now) (map (link_in t) ns) i kept_at (ap (λ x. (link_in t x).rev) joined) h)
+
+    pub within-joined : (n : ℕ) → AreWithin n ns → NodeWithin n given → AreWithin n (set ns i now)
+    within-joined n h w =
+        let k : NodeWithin n kept = subst (NodeWithin n) (sym is) (node-within n ns i kept lt h) in
+        within-set n ns i now (subst (NodeWithin n) (sym joined) (k.0, or_within n kept.parent given.parent k.1 w.1)) h
+
+    module _ (place : IsPlace (link_in t given).rev (map (link_in t) ns) i) where
+      same_place : kept.pos ≡ given.pos
+      same_place = ap (λ (r : Revision). r.0) (place_is (link_in t given).rev (map (link_in t) ns) i (link_in t kept) place kept_at)
+
+      now_is : link_in t now ≡ record (link_in t kept) { parent = or_else (link_in t kept).parent (link_in t given).parent }
+      now_is = ap (link_in t) joined ∙ joined_link kept given same_place
+
+      pub find-joined : (r : Revision) → find r (map (link_in t) (set ns i now)) ≡ put (link_in t given) r (find r (map (link_in t) ns))
+      find-joined = rw (map-set (link_in t) ns i now) (find-set (link_in t given) (link_in t kept) (link_in t now) (map (link_in t) ns) i place kept_at now_is)
+
+  -- ---- a run joined, oldest first
+
+  newest_first : (n : ℕ) (ps : List Part) → option_map {U = Revision} (λ p. (n, part_of t p)) (first ps) ≡ newest_of (run_from n (map (part_of t) ps))
+  newest_first n [] = refl
+  newest_first n (p ∷ ps) = refl
+
+  pub nodes-before : (n : ℕ) (p : Part) (ps : List Part) (kept now ls : List Link) → length ps ≤ n → AreNodes kept (ls ++ links (run_from (n - 1) (map (part_of t) ps))) → ((r : Revision) → find r now ≡ put (link_in t (record { pos = n; id = p; parent = first ps })) r (find r kept)) → AreSorted now → AreNodes now (ls ++ links (run_from n (map (part_of t) (p ∷ ps))))
+  nodes-before n p ps kept now ls fits nodes puts sorted =
+      let ms = links (run_from (n - 1) (map (part_of t) ps)) in
+      let l : Link = record { rev = (n, part_of t p); parent = newest_of (run_from (n - 1) (map (part_of t) ps)) } in
+      let e : link_in t (record { pos = n; id = p; parent = first ps }) ≡ l = ap (λ o. (let x : Link = record { rev = (n, part_of t p); parent = o } in x)) (newest_first (n - 1) ps) in
+      record {
+        same = λ r. puts r ∙ ap (λ x. put x r (find r kept)) e ∙ ap (put l r) (nodes.same r) ∙ node-put-before r ls ms l (unknown_before n (part_of t p) (map (part_of t) ps) (omega (arith, length-map-of ps)));
+        sorted = sorted;
+      }
+    where
+      length-map-of : (qs : List Part) → length (map (part_of t) qs) ≡ length qs
+      length-map-of [] = refl
+      length-map-of (q ∷ qs) = rw (length-map-of qs) refl
+
+  -- the same, by places
+  pub nodes-step : (start at k : ℕ) (ps : List Part) (d : Part) (o : Option Part) (kept now ls : List Link) → k + 1 ≡ at → k < length ps → length ps ≤ start + 1 → o ≡ first (drop at ps) → AreNodes kept (ls ++ links (run_from (start - at) (map (part_of t) (drop at ps)))) → ((r : Revision) → find r now ≡ put (link_in t (record { pos = start - k; id = get_or ps k d; parent = o })) r (find r kept)) → AreSorted now → AreNodes now (ls ++ links (run_from (start - k) (map (part_of t) (drop k ps))))
+  nodes-step start at k ps d o kept now ls next lt fits newest nodes puts sorted =
+      let e : drop k ps ≡ get_or ps k d ∷ drop at ps = drop_more ps k d lt ∙ ap (λ i. get_or ps k d ∷ drop i ps) next in
+      let m : start - at ≡ start - k - 1 = omega arith in
+      rw e (
+      nodes-before (start - k) (get_or ps k d) (drop at ps) kept now ls (omega (arith, length-drop at ps))
+      (subst (λ (i : ℕ). AreNodes kept (ls ++ links (run_from i (map (part_of t) (drop at ps))))) m nodes)
+      (subst (λ (x : Option Part). (r : Revision) → find r now ≡ put (link_in t (record { pos = start - k; id = get_or ps k d; parent = x })) r (find r kept)) newest puts)
+      sorted
+      )
+
+  -- ---- what a revision has been given
+
+  -- the node at a revision's place tells whether a parent is no other than the known one
+  pub agrees-at : {X : Type 0} (f : X → List ℕ) (pos : ℕ) (id : List ℕ) (ns : List Node) (i : ℕ) (d : Node) (o : Option X) (b : Bool) → i < length ns → IsPlace (pos, id) (map (link_in t) ns) i → b ≡ agrees (link_in t (get_or ns i d)).parent (option_map {U = Revision} (λ p. ((get_or ns i d).pos - 1, f p)) o) → b ≡ agrees_found (find (pos, id) (map (link_in t) ns)) (option_map {U = Revision} (λ p. (pos - 1, f p)) o)
+  agrees-at f pos id ns i d o b lt place h =
+      let x = get_or ns i d in
+      let is : link_in t x ≡ get_or (map (link_in t) ns) i (link_in t x) = sym (get_or-map (link_in t) ns i d (link_in t x) lt) in
+      let e : x.pos ≡ pos = ap (λ (r : Revision). r.0) (place_is (pos, id) (map (link_in t) ns) i (link_in t x) place is) in
+      let g : find (pos, id) (map (link_in t) ns) ≡ Some (link_in t x).parent = place_find (pos, id) (map (link_in t) ns) i (link_in t x) place is in
+      h ∙ ap (λ (n : ℕ). agrees (link_in t x).parent (option_map {U = Revision} (λ p. (n - 1, f p)) o)) e ∙ ap (λ v. agrees_found v (option_map {U = Revision} (λ p. (pos - 1, f p)) o)) (sym g)
+
+-- ---- a text that grew
+
+module _ (xs ys : List ℕ) (g : Grows xs ys) where
+  pub grown-length : length xs ≤ length ys
+  grown-length = omega (arith, ap length g.is, length-append xs g.more)
+
+  pub grown-links : (ns : List Node) → AreWithin (length xs) ns → map (link_in ys) ns ≡ map (link_in xs) ns
+  grown-links ns h = rw (g.is) (links-grown xs g.more ns h)
+
+  pub grown-parts : (ps : List Part) → PartsWithin (length xs) ps → map (part_of ys) ps ≡ map (part_of xs) ps
+  grown-parts ps h = rw (g.is) (parts-grown xs g.more ps h)
+
+pub grown-grown : (xs ys zs : List ℕ) → Grows xs ys → Grows ys zs → Grows xs zs
+grown-grown xs ys zs g k = record {
+  more = g.more ++ k.more;
+  is = k.is ∙ ap (λ x. x ++ k.more) g.is ∙ append_assoc xs g.more k.more;
+}
+
+-- one more part
+pub parts-step : {X : Type 0} (f : X → List ℕ) (t t' : List ℕ) (k : Grows t t') (ps : List Part) (p : Part) (xs : List X) (i : ℕ) (x : X) → PartsWithin (length t) ps → map (part_of t) ps ≡ map f (take i xs) → part_of t' p ≡ f x → i < length xs → x ≡ get_or xs i x → map (part_of t') (ps ++ p ∷ []) ≡ map f (take (i + 1) xs)
+parts-step f t t' k ps p xs i x within done new lt is =
+    map_push (part_of t') ps p ∙ ap (λ ss. ss ++ part_of t' p ∷ []) (grown-parts t t' k ps within ∙ done) ∙ ap (λ s. map f (take i xs) ++ s ∷ []) (new ∙ ap f is) ∙ sym (map_more f xs i x lt)
+
+pub first-within : (n : ℕ) (ps : List Part) (i : ℕ) → PartsWithin n ps → ParentWithin n (first (drop i ps))
+first-within n [] zero h = tt
+first-within n [] (suc i) h = tt
+first-within n (p ∷ ps) zero h = h.0
+first-within n (p ∷ ps) (suc i) h = first-within n ps i h.1

@@ -1,0 +1,45 @@
+-- How a tree keeps its known revisions: each id once, in one text of all ids, and a revision with its parent as a node.
+use Rattle.std.specs.Prelude.{◌≡◌, ℕ, ◌+◌, ◌-◌, ◌≤◌, List, [], ◌∷◌, ◌++◌, Option, None, Some, map, option_map, take, drop}
+use Rattle.mg_revtree.specs.History.{Link}
+use Rattle.mg_revtree.specs.declared.node.Part.{Part}
+use Rattle.mg_revtree.specs.declared.node.Node.{Node}
+
+-- the bytes of a part
+abbrev pub part_of : List ℕ → Part → List ℕ
+part_of texts p = take p.len (drop p.from texts)
+
+-- the link that a node stands for: a parent is at the position below
+abbrev pub link_in : List ℕ → Node → Link
+link_in texts n = record { rev = (n.pos, part_of texts n.id); parent = option_map (λ p. (n.pos - 1, part_of texts p)) n.parent }
+
+-- the links that nodes stand for
+abbrev pub links_in : List ℕ → List Node → List Link
+links_in texts ns = map (link_in texts) ns
+
+-- a part that ends within n bytes
+abbrev pub IsWithin : ℕ → Part → Type 0
+IsWithin n p = p.from + p.len ≤ n
+
+-- a part, if there is one, that ends within n bytes
+abbrev pub ParentWithin : ℕ → Option Part → Type 0
+ParentWithin n None = Unit {0}
+ParentWithin n (Some p) = IsWithin n p
+
+-- a node whose parts end within n bytes
+abbrev pub NodeWithin : ℕ → Node → Type 0
+NodeWithin n x = IsWithin n x.id × ParentWithin n x.parent
+
+-- nodes whose parts end within n bytes
+abbrev pub AreWithin : ℕ → List Node → Type 0
+AreWithin n [] = Unit {0}
+AreWithin n (x ∷ xs) = NodeWithin n x × AreWithin n xs
+
+-- parts that end within n bytes
+abbrev pub PartsWithin : ℕ → List Part → Type 0
+PartsWithin n [] = Unit {0}
+PartsWithin n (p ∷ ps) = IsWithin n p × PartsWithin n ps
+
+-- a text with more behind it
+pub record Grows (xs ys : List ℕ) : Type 0 where
+  pub more : List ℕ
+  pub is : ys ≡ xs ++ more
