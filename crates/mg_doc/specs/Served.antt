@@ -1,13 +1,8 @@
 -- The document that is served, after CouchDB's `GET` of a document: the winner's body with `_id` and `_rev`.
 use Rattle.std.specs.Prelude.{ℕ, List, codes, Option, Some, None, option_and_then, if◌then◌else◌}
-use Rattle.mg_value.specs.Value.{Value, text, object, put}
+use Rattle.mg_value.specs.Value.{Value, text, with_member}
 use Rattle.mg_revtree.specs.Revision.{revision_text}
 use Rattle.mg_revtree.specs.History.{History, Leaf, winner_of}
-
--- an object with this member; what is no object stays as it is
-abbrev pub with_member : List ℕ → Value → Value → Value
-with_member k v (object ms) = object (put k v ms)
-with_member k v w = w
 
 -- a leaf's body with the document's id and its revision
 abbrev pub served_form : List ℕ → Leaf → Value

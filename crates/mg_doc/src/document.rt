@@ -2,7 +2,7 @@ ghost use Rattle.std.specs.Prelude.{◌≡◌, IfOk, option_map};
 ghost use Rattle.mg_value.specs.View.{view};
 ghost use Rattle.mg_revtree.specs.History.{History as Paths};
 ghost use Rattle.mg_revtree.specs.Tree.{StandsFor};
-ghost use Rattle.mg_doc.specs.Served.{served_form as form_of, served_of, with_member as put_in};
+ghost use Rattle.mg_doc.specs.Served.{served_form as form_of, served_of};
 
 use mg_revtree::{Leaf, NoMemory, RevTree};
 use mg_value::Json;
@@ -30,22 +30,8 @@ pub fn served(alloc: Global, id: &str, tree: &RevTree) -> Result<Option<Json>, N
 fn served_form(alloc: Global, id: &str, leaf: &Leaf) -> Result<Json, NoMemory>
     ensures { IfOk result (λ form. view form ≡ form_of id.now leaf.now) }
 {
-    let rev = Json::Text(leaf.rev.text(alloc)?);
-    let id = Json::Text(String::from_str(alloc, id)?);
-    let body = with_member(alloc, "_rev", rev, leaf.body.copy(alloc)?)?;
-    with_member(alloc, "_id", id, body)
-}
-
-// An object with this member; what is no object stays as it is.
-fn with_member(alloc: Global, name: &str, member: Json, value: Json) -> Result<Json, NoMemory>
-    ensures { IfOk result (λ v. view v ≡ put_in name.now (view member) (view value)) }
-{
-    match value {
-        Json::Object(mut members) => {
-            let name = String::from_str(alloc, name)?;
-            drop(members.insert(name, member)?);
-            Ok(Json::Object(members))
-        }
-        value => Ok(value),
-    }
+    let mut form = leaf.body.copy(alloc)?;
+    form.insert(alloc, "_rev", Json::Text(leaf.rev.text(alloc)?))?;
+    form.insert(alloc, "_id", Json::Text(String::from_str(alloc, id)?))?;
+    Ok(form)
 }

@@ -1,13 +1,13 @@
 -- A `BTreeMap` of documents beside the finite map that it shows.
 use lib.Dec.{T}
-use Rattle.std.proofs.Common.{◌≡◌, ℕ, Bool, true, false, ◌&&◌, List, [], ◌∷◌, ◌++◌, String, Global, Ordering, Less, Equal, Greater, Option, Some, option_map, map, cond, string_bytes, string_cmp, nat_cmp, refl, ap, sym, ◌∙◌}
+use Rattle.std.proofs.Common.{◌≡◌, ℕ, Bool, true, false, ◌&&◌, List, [], ◌∷◌, String, Global, Ordering, Less, Equal, Greater, Option, Some, option_map, map, cond, string_bytes, string_cmp, nat_cmp, refl, ap, ap₂, sym, ◌∙◌}
 use Rattle.std.proofs.lemmas.Cmp.{nat_list_cmp_total}
 use Rattle.std.specs.Arc.{arc_value}
 use Rattle.std.specs.Cmp.Lexicographic.{slice_cmp}
-use Rattle.std.specs.List.{AllByRecursion}
+use Rattle.std.specs.List.{AllByRecursion, AllZip}
 use Rattle.std.specs.List.Sorted.{IsStrictlySortedBy}
 use Rattle.std.specs.Map.{keys_of, lookup}
-use Rattle.std.specs.Ordering.{match_ordering, ordering_reverse, is_eq, eq_by_cmp}
+use Rattle.std.specs.Ordering.{match_ordering, is_eq, eq_by_cmp}
 use Rattle.std.specs.BTreeMap.{insert_entry, is_at}
 use Rattle.std.specs.FinMap.Entries.{by_order, find-put, below_all}
 use Rattle.std.specs.FinMap.{from_sorted, insert, get, entries, put, find, is_sorted, get-from_entries, get-insert, get-from_sorted, same_map, slice_cmp-IsAntisymmetric, nat_cmp-IsAntisymmetric, entries-from_sorted, IsAntisymmetric}
@@ -52,19 +52,15 @@ with_entry-is k h (e ∷ es) = rw (with_entry-is k h es) (turned (bytes_cmp k e.
     turned Equal a b c = refl
     turned Greater a b c = refl
 
-below_middle : (first : Entry) (es : List Entry) (e : Entry) (more : List Entry) → AllByRecursion (λ y. string_cmp first.0 y ≡ Less) (keys_of (es ++ e ∷ more)) → string_cmp first.0 e.0 ≡ Less
-below_middle first [] e more h = h.0
-below_middle first (x ∷ es) e more h = below_middle first es e more h.1
+one_clone : (k l : List ℕ) (d f : Kept) → l ≡ k → f ≡ d → ◌≡◌ {A = List ℕ × Kept} (l, f) (k, d)
+one_clone k l d f e g = λ i. (e i, g i)
 
--- an id that is above those before it goes last
-pub goes_last : (done : List Entry) (e : Entry) (more : List Entry) → IsStrictlySortedBy string_cmp (keys_of (done ++ e ∷ more))
-    → with_entry (string_bytes e.0) (kept_in e.1) (map entry_of done) ≡ map entry_of (done ++ e ∷ [])
-unfolding IsStrictlySortedBy
-goes_last [] e more h = refl
-goes_last (first ∷ done) e more h =
-    let above : bytes_cmp (string_bytes e.0) (string_bytes first.0) ≡ Greater =
-    nat_list_cmp_total.antisymm (string_bytes e.0) (string_bytes first.0) ∙ ap ordering_reverse (below_middle first done e more h.0) in
-    rw above (ap (λ es. entry_of first ∷ es) (goes_last done e more h.1))
+-- entries that are clones show the same documents
+pub seen-clones : (es fs : List Entry) → AllZip (λ p q. (string_bytes q.0 ≡ string_bytes p.0) × (arc_value q.1 ≡ arc_value p.1)) es fs → map entry_of fs ≡ map entry_of es
+seen-clones [] [] h = refl
+seen-clones [] (f ∷ fs) h = absurd h
+seen-clones (e ∷ es) [] h = absurd h
+seen-clones (e ∷ es) (f ∷ fs) h = ap₂ (λ x xs. x ∷ xs) (one_clone (string_bytes e.0) (string_bytes f.0) (kept_in e.1) (kept_in f.1) h.0.0 (ap kept_of h.0.1)) (seen-clones es fs h.1)
 
 find-with_entry : (k : List ℕ) (h : Kept) (es : List (List ℕ × Kept)) (q : List ℕ) → find bytes_cmp q (with_entry k h es) ≡ cond (eq_by_cmp bytes_cmp q k) (Some h) (find bytes_cmp q es)
 find-with_entry k h es q = ap (find bytes_cmp q) (with_entry-is k h es) ∙ find-put bytes_cmp nat_list_cmp_total q k h es

@@ -18,11 +18,11 @@ pub(crate) enum Draft {
 
 impl Draft {
     /// The documents, to be changed. Cost: none, or, where they are shared, the number of the shard's documents.
-    pub(crate) fn into_changed(self, alloc: Global) -> Result<Documents, NoMemory>
+    pub(crate) fn into_changed(self) -> Result<Documents, NoMemory>
         ensures { IfOk result (λ m. shown m.entries ≡ draft_seen self) }
     {
         match self {
-            Draft::Shared(shard) => copied(alloc, &shard),
+            Draft::Shared(shard) => copied(&shard),
             Draft::Changed(docs) => Ok(docs),
         }
     }

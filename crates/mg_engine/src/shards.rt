@@ -49,7 +49,7 @@ fn apply_on<P: Placement>(
 {
     let place = placement.shard_of(id_in(edit), drafts.len());
     let draft = replace(&mut drafts[place], Draft::Changed(BTreeMap::new(alloc)));
-    let mut docs = draft.into_changed(alloc)?;
+    let mut docs = draft.into_changed()?;
     let outcome = apply(alloc, &mut docs, edit)?;
     drafts[place] = Draft::Changed(docs);
     Ok(outcome)
