@@ -44,7 +44,7 @@ const DOCUMENTS: &[u8] =
 
 const GET_D1: &[u8] = b"GET /db/d1 HTTP/1.1\r\n\r\n";
 
-const D1: &[u8] =
+const SERVED: &[u8] =
     b"HTTP/1.1 200 OK\r\nContent-Type: application/json\r\nContent-Length: 32\r\n\r\n{\"_id\":\"d1\",\"_rev\":\"1-a\",\"v\":1}\n";
 
 /// The placement of a database of one shard.
@@ -280,11 +280,11 @@ fn body_that_is_no_json_is_answered_and_the_session_goes_on(rt: HostRuntime) -> 
 
 /// Each target of a GET, and the whole reply to it.
 const TARGETS: [(&[u8], &[u8]); 18] = [
-    (b"/db/d1", D1),
-    (b"/db/%64%31", D1),
-    (b"/db/d1?", D1),
-    (b"/db/d1?conflicts=true", D1),
-    (b"/db/d1?rev=1-b&conflicts=tru%65", D1),
+    (b"/db/d1", SERVED),
+    (b"/db/%64%31", SERVED),
+    (b"/db/d1?", SERVED),
+    (b"/db/d1?conflicts=true", SERVED),
+    (b"/db/d1?rev=1-b&conflicts=tru%65", SERVED),
     (
         b"/db/a%20b",
         b"HTTP/1.1 200 OK\r\nContent-Type: application/json\r\nContent-Length: 27\r\n\r\n{\"_id\":\"a b\",\"_rev\":\"1-a\"}\n",
@@ -339,7 +339,7 @@ fn get_answers_by_the_decoded_segment_and_goes_on(rt: HostRuntime) -> Result<(),
     for (target, reply) in TARGETS {
         let head = [DOCUMENTS, b"GET ", target, b" HTTP/1.1\r\n\r\n", GET_D1];
         let bytes = joined(alloc, &head)?;
-        let out = joined(alloc, &[CREATED, reply, D1])?;
+        let out = joined(alloc, &[CREATED, reply, SERVED])?;
         for most in [ALL, 7] {
             expect(&rt, &bytes, most, SessionEnd::Eof, &out)?;
         }
@@ -351,7 +351,7 @@ fn get_answers_by_the_decoded_segment_and_goes_on(rt: HostRuntime) -> Result<(),
 fn body_of_a_get_is_skipped_and_waited_for(rt: HostRuntime) -> Result<(), Fail> {
     let message = b"GET /db/d1 HTTP/1.1\r\nContent-Length: 5\r\n\r\nGET /".as_slice();
     let bytes = joined(rt.alloc(), &[DOCUMENTS, message, GET_D1])?;
-    let out = joined(rt.alloc(), &[CREATED, D1, D1])?;
+    let out = joined(rt.alloc(), &[CREATED, SERVED, SERVED])?;
     expect(&rt, &bytes, ALL, SessionEnd::Eof, &out)?;
     for end in 0..message.len() {
         let bytes = joined(rt.alloc(), &[DOCUMENTS, &message[..end]])?;

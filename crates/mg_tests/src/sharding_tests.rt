@@ -24,6 +24,11 @@ fn put(body: &'static str) -> Line<'static> {
     (BULK, body, 201, "[]")
 }
 
+// A query, and the page that answers it.
+fn found(body: &'static str, page: &'static str) -> Line<'static> {
+    (FIND, body, 200, page)
+}
+
 const FIVE: &str =
     r#"{"docs":[{"_id":"d1","_rev":"1-a","k":7},{"_id":"d2","_rev":"1-a","k":7},{"_id":"d3","_rev":"1-a","k":7},{"_id":"d4","_rev":"1-a","k":7},{"_id":"d5","_rev":"1-a","k":7}],"new_edits":false}"#;
 
@@ -32,10 +37,7 @@ const FIVE_FOUND: &str =
 
 #[test]
 fn five_shards_of_all_docs(rt: HostRuntime) -> Result<(), Fail> {
-    let lines = &[
-        put(FIVE),
-        (FIND, r#"{"selector":{"k":7}}"#, 200, FIVE_FOUND),
-    ];
+    let lines = &[put(FIVE), found(r#"{"selector":{"k":7}}"#, FIVE_FOUND)];
     converse_on(&rt, rt.alloc(), ByNumber, 4, lines)?;
     converse(&rt, rt.alloc(), lines)
 }
@@ -50,16 +52,12 @@ fn comparison_across_types(rt: HostRuntime) -> Result<(), Fail> {
         rt.alloc(),
         &[
             put(TYPES),
-            (
-                FIND,
+            found(
                 r#"{"selector":{"v":{"$lt":5}},"fields":["_id"]}"#,
-                200,
                 r#"{"bookmark":"W251bGwsIl9hbGxfZG9jcyIsImFzYyIsWyJjMyJdLCJjMyJd","docs":[{"_id":"c1"},{"_id":"c2"},{"_id":"c3"}]}"#,
             ),
-            (
-                FIND,
+            found(
                 r#"{"selector":{"v":{"$gte":5}},"fields":["_id"]}"#,
-                200,
                 r#"{"bookmark":"W251bGwsIl9hbGxfZG9jcyIsImFzYyIsWyJjNSJdLCJjNSJd","docs":[{"_id":"c4"},{"_id":"c5"}]}"#,
             ),
         ],
@@ -85,43 +83,16 @@ fn missing_fields(rt: HostRuntime) -> Result<(), Fail> {
         rt.alloc(),
         &[
             put(MISSING),
-            (
-                FIND,
-                r#"{"selector":{"$not":{"a":1}},"fields":["_id"]}"#,
-                200,
-                THIRD,
-            ),
-            (
-                FIND,
-                r#"{"selector":{"a":{"$ne":1}},"fields":["_id"]}"#,
-                200,
-                THIRD,
-            ),
-            (
-                FIND,
-                r#"{"selector":{"$nor":[{"a":1}]},"fields":["_id"]}"#,
-                200,
-                THIRD,
-            ),
-            (
-                FIND,
+            found(r#"{"selector":{"$not":{"a":1}},"fields":["_id"]}"#, THIRD),
+            found(r#"{"selector":{"a":{"$ne":1}},"fields":["_id"]}"#, THIRD),
+            found(r#"{"selector":{"$nor":[{"a":1}]},"fields":["_id"]}"#, THIRD),
+            found(
                 r#"{"selector":{"$not":{"a":{"$exists":true}}},"fields":["_id"]}"#,
-                200,
                 FIRST,
             ),
-            (
-                FIND,
-                r#"{"selector":{"$nor":[]},"fields":["_id"]}"#,
-                200,
-                EACH,
-            ),
-            (
-                FIND,
-                r#"{"selector":{"$not":{"$or":[]}},"fields":["_id"]}"#,
-                200,
-                EACH,
-            ),
-            (FIND, r#"{"selector":{},"fields":["_id"]}"#, 200, EACH),
+            found(r#"{"selector":{"$nor":[]},"fields":["_id"]}"#, EACH),
+            found(r#"{"selector":{"$not":{"$or":[]}},"fields":["_id"]}"#, EACH),
+            found(r#"{"selector":{},"fields":["_id"]}"#, EACH),
         ],
     )
 }
@@ -137,28 +108,20 @@ fn paths(rt: HostRuntime) -> Result<(), Fail> {
         rt.alloc(),
         &[
             put(PARTS),
-            (
-                FIND,
+            found(
                 r#"{"selector":{"_id":"x"},"fields":["a.b","d","z"]}"#,
-                200,
                 r#"{"bookmark":"W251bGwsIl9hbGxfZG9jcyIsImFzYyIsWyJ4Il0sIngiXQ","docs":[{"a":{"b":1},"d":3}]}"#,
             ),
-            (
-                FIND,
+            found(
                 r#"{"selector":{"_id":"y"},"fields":["a.0"]}"#,
-                200,
                 r#"{"bookmark":"W251bGwsIl9hbGxfZG9jcyIsImFzYyIsWyJ5Il0sInkiXQ","docs":[{"a":{"0":7}}]}"#,
             ),
-            (
-                FIND,
+            found(
                 r#"{"selector":{"a\\.b.0":5},"fields":[]}"#,
-                200,
                 r#"{"bookmark":"W251bGwsIl9hbGxfZG9jcyIsImFzYyIsWyJ6Il0sInoiXQ","docs":[{"_id":"z","_rev":"1-a","a.b":[5]}]}"#,
             ),
-            (
-                FIND,
+            found(
                 r#"{"selector":{"a\\.b.00":5}}"#,
-                200,
                 r#"{"bookmark":"nil","docs":[]}"#,
             ),
         ],
