@@ -83,7 +83,7 @@ revisions_of None = Some []
 revisions_of (Some (object ms)) = run_at (get_member (codes "start") ms) (get_member (codes "ids") ms)
 revisions_of (Some v) = None
 
--- the path that is given: `_revisions` where it is there, else `_rev` alone
+-- the path that is given: a document that has both `_revisions` and `_rev` goes by the first
 abbrev pub given_run : List Revision → List Revision → List Revision
 given_run rev [] = rev
 given_run rev (r ∷ rs) = r ∷ rs

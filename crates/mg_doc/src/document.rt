@@ -8,8 +8,8 @@ use mg_revtree::{Leaf, NoMemory, RevTree};
 use mg_value::Json;
 use std::alloc::Global;
 
-/// The document that is served for an id: the winner's body with `_id` and `_rev`. None where the
-/// winner is deleted or there is none.
+/// The document that is served for an id: what the winning revision holds, and `_id` and `_rev` beside it. None where
+/// that revision deletes the document, or where the tree is empty.
 ///
 /// Cost: a copy of the body. Source: `GET` of a document in CouchDB's API reference.
 pub fn served(alloc: Global, id: &str, tree: &RevTree) -> Result<Option<Json>, NoMemory>

@@ -5,10 +5,10 @@ use thiserror::Error;
 /// Why a document of a bulk was not read.
 #[derive(Clone, Copy, PartialEq, Eq, Debug, Drop, Error)]
 pub enum DocError {
-    /// A reserved name that no document may have, or a `_deleted` that is not true or false.
+    /// A reserved name that no document may have, or a `_deleted` of another type than a flag.
     #[error("Bad special document member.")]
     BadMember,
-    /// An `_id` that is not a text, is empty or begins with an underscore.
+    /// An `_id` that cannot be one: no text, the empty text, or one with an underscore in front.
     #[error("Bad document id.")]
     BadId,
     /// A `_rev` or `_revisions` that is none, or neither of them where a replica sends the document.
@@ -22,7 +22,8 @@ pub enum DocError {
 /// Why an edit was refused.
 #[derive(Clone, Copy, PartialEq, Eq, Debug, Drop, Error)]
 pub enum EditError {
-    /// The revision that is edited is no leaf, or the document is there and none was named.
+    /// The revision that is edited is no leaf, or the document is there and none was named; or the revision that the
+    /// edit makes is known already.
     #[error("Document update conflict.")]
     Conflict,
     /// The path gives a known revision another parent, or no position is left.

@@ -11,8 +11,8 @@ use mg_value::Json;
 use std::alloc::Global;
 use std::collections::BTreeMap;
 
-// The path that a document gives, if it gives one: `_revisions` where it is there, else `_rev`
-// alone. A replica has to give one. `_revisions` is taken out of the members.
+// The path that a document gives, if it gives one; of `_revisions` and `_rev` the first decides.
+// A replica has to give one. `_revisions` is taken out of the members.
 pub(crate) fn take_path(
     alloc: Global,
     members: &mut BTreeMap<String, Json>,

@@ -5,7 +5,7 @@ use mg_value::Json;
 pub enum Command {
     /// A bulk of edits: `{"docs":[..],"new_edits":..}`.
     Bulk(Json),
-    /// A query: `{"selector":{..}}`.
+    /// A query: `{"selector":{..},"fields":[..]}`.
     Find(Json),
     /// The document of an id. Whether its conflicts are asked for has no effect yet.
     Get { id: String, conflicts: bool },

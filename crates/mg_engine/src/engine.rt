@@ -48,8 +48,8 @@ impl<P: Placement + Drop> Engine<P> {
 
     /// Answers one command. Where memory is refused, nothing has changed.
     ///
-    /// A bulk costs its edits and a pass over the ids of the documents; a query costs the documents up to the last
-    /// one of its page.
+    /// A bulk costs its edits and a pass over the ids of the shards that it writes to; a query looks in each shard at the
+    /// documents until a page's rows are found.
     pub fn step<R: Wait>(
         &mut self,
         rt: &R,

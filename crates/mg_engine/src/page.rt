@@ -33,8 +33,8 @@ const PAGE_LIMIT: usize = 25;
 
 /// The body of the reply to a query: the page of documents in the order of their ids, and its bookmark.
 ///
-/// Cost: of each shard the documents up to the last one that it hands over, at most as many rows of each shard as a page
-/// has, and what is shown of the page's documents. The selector is brought into its normal form once.
+/// Cost: each shard is looked through until as many rows are found in it as a page has, or to its end; then what is
+/// shown of the page's documents. The selector is brought into its normal form once.
 pub(crate) fn page<P: Placement>(
     alloc: Global,
     placement: &P,

@@ -26,13 +26,13 @@ pub const OUT_OF_MEMORY: &str = "{\"error\":\"out_of_memory\",\"reason\":\"Out o
 /// The body of `BadHead`.
 pub const BAD_HEAD: &str = "{\"error\":\"bad_head\",\"reason\":\"Bad request head.\"}\n";
 
-/// The `error` of an edit whose revision is no leaf.
+/// The `error` of an edit that is a conflict.
 pub const CONFLICT_ERROR: &str = "conflict";
-/// The `reason` of an edit whose revision is no leaf.
+/// The `reason` of an edit that is a conflict.
 pub const CONFLICT_REASON: &str = "Document update conflict.";
-/// The `error` of an edit whose path does not fit.
+/// The `error` of an edit that the history does not admit.
 pub const BAD_HISTORY_ERROR: &str = "bad_history";
-/// The `reason` of an edit whose path does not fit.
+/// The `reason` of an edit that the history does not admit.
 pub const BAD_HISTORY_REASON: &str = "Revision history does not fit the document.";
 
 /// Why a request is refused. The texts stand here once, for the definitions and for the code.

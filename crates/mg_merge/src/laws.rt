@@ -8,9 +8,9 @@ ghost use Rattle.mg_merge.specs.Sharding.{Document, rows_of, lists_of};
 
 use mg_collate::Direction;
 
-/// However documents are dealt to shards, and whatever rows each of them has, the rows of the
-/// shards' lists, joined and sorted, are the rows of all documents, each as often; so
-/// a merge of the lists gives the first rows of all documents.
+/// It does not matter on which shard a document is, nor how many rows it has: to sort what all
+/// shards list is to sort the rows of all documents, and no row is lost or doubled by the dealing.
+/// So a merge of the lists gives the first rows of all documents.
 pub fn any_sharding()
     ensures joined_and_sorted { (direction : Direction) (rows : Document → List RowValue)
         (documents : List Document) (shards : List (List Document))

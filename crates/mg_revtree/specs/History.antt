@@ -88,7 +88,7 @@ leaf_of h r = option_map (λ m. record { rev = r; deleted = m.0; body = m.1 }) (
 abbrev pub IsLeaf : History → Leaf → Type 0
 IsLeaf h l = leaf_at l.rev h ≡ Some (l.deleted, l.body)
 
--- the better is the greater: not deleted, then the higher position, then the greater id
+-- the better is the greater: first one that is not deleted, among these the higher position, and there the greater id
 abbrev pub leaf_order : Leaf → Leaf → Ordering
 leaf_order = then_cmp (on (λ l. not l.deleted) bool_cmp) (on (λ l. l.rev) revision_order)
 
@@ -127,6 +127,6 @@ abbrev pub fit : List Link → List Link → Bool
 fit known [] = true
 fit known (l ∷ ls) = if agrees (parent_of l.rev known) l.parent then fit known ls else false
 
--- whether a path gives no known revision a parent other than its known one
+-- whether a path contradicts no parent that is known already
 abbrev pub fits : History → Path → Bool
 fits h p = fit (all_links h) (links p.revs)

@@ -78,8 +78,8 @@ pub record AreLosers (h : History) (ls : List Leaf) : Type 0 where
 
 -- ---- the tree
 
--- a tree stands for a history where both have the same known revisions, with the same parents,
--- and the same leaves, with the same marks and bodies
+-- which histories a tree stands for: those whose known revisions and parents are the tree's links, and whose leaves,
+-- with their marks and bodies, are the tree's leaves
 pub record StandsFor (t : Tree) (h : History) : Type 0 where
   pub nodes : AreNodes t.links (all_links h)
   pub leaves : AreLeaves h t.leaves

@@ -36,7 +36,7 @@ pub enum Merged {
 /// Why a path was not merged.
 #[derive(Clone, Copy, PartialEq, Eq, Debug, Drop, Error)]
 pub enum MergeError {
-    /// The path gives a known revision a parent other than its known one.
+    /// The path contradicts a parent that is known already.
     #[error("revision history does not fit the document")]
     BadHistory,
     /// A growth was refused.

@@ -32,7 +32,7 @@ impl Model for Leaf {
 }
 
 impl Leaf {
-    /// The better is the greater: one that is not deleted, then the higher position, then the greater id.
+    /// The better is the greater: first one that is not deleted, among these the higher position, and there the greater id.
     pub fn order(&self, other: &Leaf) -> Ordering
         ensures { result ≡ leaf_order self.now other.now }
     {

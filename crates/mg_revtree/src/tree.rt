@@ -154,7 +154,7 @@ impl RevTree {
         }
     }
 
-    /// The best leaf: not deleted, then the higher position, then the greater id. Takes no memory.
+    /// The best leaf, by `Leaf::order`. Takes no memory.
     pub fn winner(&self) -> Option<&Leaf>
         ensures { (h : Paths) → StandsFor self.now h → option_copied result ≡ winner_of h }
     {
@@ -176,7 +176,7 @@ impl RevTree {
         Ok(found)
     }
 
-    /// The leaves that are neither the winner nor deleted, best first. Cost: the number of the leaves.
+    /// The other leaves that are not deleted, the best of them first. Cost: the number of the leaves.
     pub fn losers(&self) -> Result<Vec<&Leaf>, NoMemory>
         ensures { IfOk result (λ found. (h : Paths) → StandsFor self.now h → AreLosers h (map (λ l. l.now) found.items)) }
     {
@@ -200,10 +200,10 @@ impl RevTree {
     }
 
     /// Accepts a path as a replica gives it, with the mark and the body of its newest revision. Unknown revisions
-    /// become known, and known ones without a parent are joined to the parent that the path gives them. Where the
-    /// newest was known, its mark and body stay.
+    /// become known, and known ones without a parent are joined to the parent that the path gives them. A newest
+    /// revision that is known already keeps the mark and the body that it has.
     ///
-    /// Errors: `BadHistory` where the path gives a known revision a parent other than its known one. A refusal leaves
+    /// Errors: `BadHistory` where the path contradicts a parent that is known already. A refusal leaves
     /// the tree as it was. Cost: the length of the path times the logarithm of the known revisions, a comparison or two
     /// for each leaf, and for each unknown revision a move of the nodes of the revisions that come after it in the
     /// order: none where the path goes on the line with the highest positions. Source: the replication model of CouchDB.

@@ -1,4 +1,4 @@
-//! HTTP sessions over an engine of one shard. Input and output of each conversation are those of the worked rows.
+//! HTTP sessions over an engine of one shard. The bytes that are wanted are written after docs/PROFILE.md.
 ghost use Rattle.std.specs.Prelude.{None, Some};
 
 use mg_engine::Engine;

@@ -1,4 +1,4 @@
-//! Tests of the libraries, a module for each crate.
+//! Tests of the libraries, a module for a crate; queries and bookmarks are tested through the engine.
 #![tactic(auto)]
 
 #[cfg(test)]
@@ -7,6 +7,8 @@ mod collate_tests;
 mod conversation;
 #[cfg(test)]
 mod doc_tests;
+#[cfg(test)]
+mod engine_shard_tests;
 #[cfg(test)]
 mod engine_tests;
 #[cfg(test)]
@@ -23,7 +25,5 @@ mod revtree_tests;
 mod selector_tests;
 #[cfg(test)]
 mod shard_tests;
-#[cfg(test)]
-mod sharding_tests;
 #[cfg(test)]
 mod value_tests;

@@ -44,7 +44,7 @@ fn merges(
     Ok(merge(alloc, &given, direction, take)? == rows(alloc, wanted)?)
 }
 
-// The worked row `merge`.
+// Rows that tie by their keys and stand in four lists.
 #[test]
 fn ties_over_four_lists(rt: HostRuntime) -> Result<(), Fail> {
     let up: [&[(i64, &str)]; 4] = [
