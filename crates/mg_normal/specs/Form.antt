@@ -8,6 +8,7 @@ use Rattle.mg_selector.specs.Selector.{Operator}
 use Rattle.mg_selector.specs.declared.sense.Sense.{Sense}
 
 mutual
+  -- what a selector asks, with no negation but that of an operator
   pub data Form : Type 0 where
     -- all of the forms
     all_of : Forms → Form
@@ -18,6 +19,7 @@ mutual
     -- an operator on the current part, in a sense
     asked : Operator → Sense → Form
 
+  -- forms, one after another
   pub data Forms : Type 0 where
     no_forms : Forms
     form : Form → Forms → Forms

@@ -69,18 +69,6 @@ are_ranked-filter p (x ∷ ls) h = elim (two (p x)) [
   | inr b ↦ rw b (are_ranked-filter p ls h.1)
 ]
 
--- ---- the place of a leaf
-
-pub ranked_here : (l : Leaf) (ls : List Leaf) (i : ℕ) (x : Leaf) → i < length ls → x ≡ get_or ls i x → is_lt (leaf_order x l) ≡ true → ranked l (drop i ls) ≡ l ∷ drop i ls
-ranked_here l [] i x lt is b = absurd (omega arith)
-ranked_here l (y ∷ ls) zero x lt is b = let c : is_lt (leaf_order y l) ≡ true = subst (λ (z : Leaf). is_lt (leaf_order z l) ≡ true) is b in rw c refl
-ranked_here l (y ∷ ls) (suc i) x lt is b = ranked_here l ls i x (omega arith) is b
-
-pub ranked_step : (l : Leaf) (ls : List Leaf) (i : ℕ) (x : Leaf) → i < length ls → x ≡ get_or ls i x → is_lt (leaf_order x l) ≡ false → take i ls ++ ranked l (drop i ls) ≡ take (i + 1) ls ++ ranked l (drop (i + 1) ls)
-ranked_step l [] i x lt is b = absurd (omega arith)
-ranked_step l (y ∷ ls) zero x lt is b = let c : is_lt (leaf_order y l) ≡ false = subst (λ (z : Leaf). is_lt (leaf_order z l) ≡ false) is b in rw c refl
-ranked_step l (y ∷ ls) (suc i) x lt is b = let n : suc i + 1 ≡ suc (i + 1) = omega arith in rw n (ap (λ zs. y ∷ zs) (ranked_step l ls i x (omega arith) is b))
-
 -- ---- a leaf in a list
 
 mark_part : Option (Bool × Value) → Bool

@@ -122,15 +122,3 @@ module _ (h : History) (rs : List Revision) (d : Bool) (b : Value) (q : Revision
           ranked = rw is_more (are_ranked-ranked l left (rw unleafed (are_ranked-filter (λ x. not (has_child x.rev (links rs))) leaves stands.leaves.ranked)) none);
         };
       }
-
--- ---- what a merge finds
-
-module _ (h : History) (rs : List Revision) (q : Revision) (kept : List Link) (leaves : List Leaf) (newest : newest_of rs ≡ Some q) (stands : StandsFor (record { links = kept; leaves = leaves }) h) where
-  newest_known : knows h (newest_of rs) ≡ is_some (find q kept)
-  newest_known = ap (knows h) newest ∙ sym (found_known q (all_links h) kept (stands.nodes.same q))
-
-  pub found_is_known : is_some (find q kept) ≡ true → Known ≡ found_of h rs
-  found_is_known k = let e : knows h (newest_of rs) ≡ true = newest_known ∙ k in rw e refl
-
-  pub found_is_new : is_some (find q kept) ≡ false → New ≡ found_of h rs
-  found_is_new k = let e : knows h (newest_of rs) ≡ false = newest_known ∙ k in rw e refl

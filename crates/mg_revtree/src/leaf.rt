@@ -40,17 +40,6 @@ impl Leaf {
             .cmp(&!other.deleted)
             .then(self.rev.order(&other.rev))
     }
-
-    /// An equal leaf. Cost: the size of the body.
-    pub fn copy(&self, alloc: Global) -> Result<Leaf, NoMemory>
-        ensures { IfOk result (λ leaf. leaf ≡ self.now) }
-    {
-        Ok(Leaf {
-            rev: self.rev.copy()?,
-            deleted: self.deleted,
-            body: self.body.copy(alloc)?,
-        })
-    }
 }
 
 /// A leaf that the copies of a tree share. Contracts see the leaf.
