@@ -10,9 +10,6 @@ use Rattle.std.specs.FinMap as finite
 pub draft_at : (drafts : List Draft) (i : ℕ) (d : Draft) → i < length drafts → draft_seen (get_or drafts i d) ≡ shard_at (drafts_seen drafts) i
 draft_at drafts i d l = sym (get_or-map draft_seen drafts i d finite.empty l)
 
-pub shard_there : (shards : List (Arc Documents Global)) (i : ℕ) (a : Arc Documents Global) → i < length shards → a ≡ get_or shards i a → shard_seen a ≡ shard_at (shards_seen shards) i
-shard_there shards i a l e = ap shard_seen e ∙ sym (get_or-map shard_seen shards i a finite.empty l)
-
 -- a draft that was put in the place of another
 pub drafts_seen-set : (drafts : List Draft) (i : ℕ) (a b : Draft) → drafts_seen (set (set drafts i a) i b) ≡ set (drafts_seen drafts) i (draft_seen b)
 drafts_seen-set drafts i a b = ap drafts_seen (set-set drafts i a b) ∙ map-set draft_seen drafts i b

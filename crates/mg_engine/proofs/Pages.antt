@@ -41,9 +41,6 @@ filled found [] rest h k = rw append-nil
 filled found (r ∷ []) rest h k = rw (take_one (length found) r rest h, length-append) (sym (append_assoc found (r ∷ []) (take (25 - (length found + 1)) rest)))
 filled found (r ∷ s ∷ more) rest h k = absurd (omega (arith, k))
 
-pub within_room : (found add : List RowValue) → length found < 25 → length add ≤ 1 → length (found ++ add) ≤ 25
-within_room found add h k = rw length-append (omega (arith, h, k))
-
 -- no room is left
 pub full : (found rest : List RowValue) → length found ≡ 25 → found ++ take (25 - length found) rest ≡ found
 full found rest h = rw h (append-nil found)

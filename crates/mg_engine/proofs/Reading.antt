@@ -27,11 +27,3 @@ refused found d first rest is = rw is
 
 pub all_before : (found : List Edit) → edits_before found (Ok []) ≡ Ok found
 all_before found = ap Ok (append-nil found)
-
-pub first_true : (a b : Bool) → (a && b) ≡ true → a ≡ true
-first_true true b e = refl
-first_true false b e = e
-
-pub second_true : (a b : Bool) → (a && b) ≡ true → b ≡ true
-second_true true b e = e
-second_true false b e = absurd cc
