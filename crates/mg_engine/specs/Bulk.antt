@@ -13,7 +13,6 @@ use Rattle.mg_doc.specs.declared.error.EditError.{EditError}
 use Rattle.mg_doc.specs.declared.error.EditError.TheVariants.{Conflict, BadHistory, NoMemory}
 use Rattle.mg_engine.specs.declared.refusal.Refusal.{Refusal}
 use Rattle.mg_engine.specs.declared.refusal.Refusal.TheVariants.{WrongShape, BadMember, BadId, BadRev, OutOfMemory}
-use Rattle.mg_engine.specs.declared.refusal.TheConstants.{CONFLICT_ERROR, CONFLICT_REASON, BAD_HISTORY_ERROR, BAD_HISTORY_REASON}
 use Rattle.mg_engine.specs.World.{Histories, history_at}
 
 -- ---- reading the body
@@ -139,8 +138,8 @@ refused_entry error id reason = object (member (codes "error") (text error) (mem
 abbrev pub entry_of : Bool → List ℕ → Result Revision EditError → Option Value
 entry_of true id (Ok r) = Some (done_entry id r)
 entry_of false id (Ok r) = None
-entry_of new_edits id (Err Conflict) = Some (refused_entry CONFLICT_ERROR.now id CONFLICT_REASON.now)
-entry_of new_edits id (Err BadHistory) = Some (refused_entry BAD_HISTORY_ERROR.now id BAD_HISTORY_REASON.now)
+entry_of new_edits id (Err Conflict) = Some (refused_entry (codes "conflict") id (codes "Document update conflict."))
+entry_of new_edits id (Err BadHistory) = Some (refused_entry (codes "bad_history") id (codes "Revision history does not fit the document."))
 entry_of new_edits id (Err NoMemory) = None
 
 -- an entry, if there is one, before others

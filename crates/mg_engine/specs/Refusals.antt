@@ -1,8 +1,9 @@
--- Refusals: the status and the body of each. The texts are this project's own and stand once, as constants of the code.
-use Rattle.std.specs.Prelude.{ℕ, List}
+-- Refusals: the status and the body of each. The texts are this project's own.
+use Rattle.std.specs.Prelude.{ℕ, List, codes}
+use Rattle.mg_value.specs.Value.{object, member, no_members, text}
+use Rattle.mg_engine.specs.Bodies.{line_of}
 use Rattle.mg_engine.specs.declared.refusal.Refusal.{Refusal}
 use Rattle.mg_engine.specs.declared.refusal.Refusal.TheVariants.{InvalidJson, WrongShape, InvalidOperator, BadArg, BadMember, BadId, BadRev, Missing, Deleted, OutOfMemory, BadHead}
-use Rattle.mg_engine.specs.declared.refusal.TheConstants.{INVALID_JSON, WRONG_SHAPE, INVALID_OPERATOR, BAD_ARG, BAD_MEMBER, BAD_ID, BAD_REV, MISSING, DELETED, OUT_OF_MEMORY, BAD_HEAD}
 
 -- the status of a refusal, as in RFC 9110
 abbrev pub status_of : Refusal → ℕ
@@ -18,16 +19,20 @@ status_of Deleted = 404
 status_of OutOfMemory = 503
 status_of BadHead = 400
 
--- the body of a refusal: the compact text of its `error` and `reason`, and a line feed
+-- the line of `{"error":..,"reason":..}`
+abbrev pub refusal_line : List ℕ → List ℕ → List ℕ
+refusal_line error reason = line_of (object (member (codes "error") (text error) (member (codes "reason") (text reason) no_members)))
+
+-- the body of a refusal: the line of its `error` and `reason`
 abbrev pub refusal_body : Refusal → List ℕ
-refusal_body InvalidJson = INVALID_JSON.now
-refusal_body WrongShape = WRONG_SHAPE.now
-refusal_body InvalidOperator = INVALID_OPERATOR.now
-refusal_body BadArg = BAD_ARG.now
-refusal_body BadMember = BAD_MEMBER.now
-refusal_body BadId = BAD_ID.now
-refusal_body BadRev = BAD_REV.now
-refusal_body Missing = MISSING.now
-refusal_body Deleted = DELETED.now
-refusal_body OutOfMemory = OUT_OF_MEMORY.now
-refusal_body BadHead = BAD_HEAD.now
+refusal_body InvalidJson = refusal_line (codes "bad_request") (codes "Invalid JSON.")
+refusal_body WrongShape = refusal_line (codes "bad_request") (codes "Wrong shape.")
+refusal_body InvalidOperator = refusal_line (codes "invalid_operator") (codes "Unknown operator.")
+refusal_body BadArg = refusal_line (codes "bad_arg") (codes "Bad argument for an operator.")
+refusal_body BadMember = refusal_line (codes "doc_validation") (codes "Bad special document member.")
+refusal_body BadId = refusal_line (codes "doc_validation") (codes "Bad document id.")
+refusal_body BadRev = refusal_line (codes "doc_validation") (codes "Invalid rev format.")
+refusal_body Missing = refusal_line (codes "not_found") (codes "missing")
+refusal_body Deleted = refusal_line (codes "not_found") (codes "deleted")
+refusal_body OutOfMemory = refusal_line (codes "out_of_memory") (codes "Out of memory.")
+refusal_body BadHead = refusal_line (codes "bad_head") (codes "Bad request head.")

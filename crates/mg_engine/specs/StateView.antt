@@ -1,5 +1,5 @@
 -- What clauses see of a state, and of a shard while a bulk is applied.
-use Rattle.std.specs.Prelude.{List, map, String}
+use Rattle.std.specs.Prelude.{List, map, String, string_bytes}
 use Rattle.std.specs.Arc.{arc_value}
 use Rattle.std.specs.BTreeMap.{BTreeMap}
 use Rattle.std.specs.declared.alloc.Global.{Global}
@@ -32,6 +32,6 @@ draft_seen (Changed docs) = shown docs.entries
 abbrev pub drafts_seen : List Draft → List KeptDocuments
 drafts_seen drafts = map draft_seen drafts
 
--- the shards and the number that a state holds
+-- the name, the shards and the number that a state holds
 abbrev pub state_shown : Inside → Shown
-state_shown s = record { shards = shards_seen s.shards.items; counter = s.counter }
+state_shown s = record { name = string_bytes (arc_value s.name); shards = shards_seen s.shards.items; counter = s.counter }

@@ -14,15 +14,16 @@ use Rattle.mg_query.specs.Page.{Row}
 abbrev pub Histories : Type 0
 Histories = FinMap (slice_cmp nat_cmp) History
 
--- the documents' histories, the index definitions, and the number that was last given to a document without an id
+-- the database's name, the documents' histories, the index definitions, and the number that was last given to a document without an id
 pub record World : Type 0 where
+  pub name : List ℕ
   pub docs : Histories
   pub indexes : List IndexDefinition
   pub counter : ℕ
 
--- no document, no index, and no number given
-abbrev pub empty_world : World
-empty_world = record { docs = finite.empty; indexes = []; counter = 0 }
+-- the world of a database of this name at first: no document, no index, and no number given
+abbrev pub empty_world : List ℕ → World
+empty_world name = record { name = name; docs = finite.empty; indexes = []; counter = 0 }
 
 -- the history of an id, which is empty where there is none
 abbrev pub history_at : Histories → List ℕ → History

@@ -1,7 +1,7 @@
 ghost use Rattle.std.specs.Prelude.{◌≡◌, ◌≤◌, IfOk, IfNone, OnErr, map};
 ghost use Rattle.mg_engine.specs.World.{World, empty_world};
 ghost use Rattle.mg_engine.specs.View.{asked, said};
-ghost use Rattle.mg_engine.specs.Stands.{Stands};
+ghost use Rattle.mg_engine.specs.Stands.{Stands, shard_count};
 ghost use Rattle.mg_engine.specs.Run.{Answers, IsRun};
 
 use crate::command::Command;
@@ -33,16 +33,22 @@ impl<P> Model for Engine<P> {
 }
 
 impl<P: Placement + Drop> Engine<P> {
-    /// An engine with no document, and 1 to 64 shards.
+    /// A database of this name with no document, and 1 to 64 shards.
     ///
-    /// Errors: `NoMemory` where a growth was refused. Cost: the number of shards.
-    pub fn new(alloc: Global, placement: P, shards: usize) -> Result<Engine<P>, NoMemory>
+    /// Errors: `NoMemory` where a growth was refused. Cost: the number of shards, and the name.
+    pub fn new(
+        alloc: Global,
+        db: &str,
+        placement: P,
+        shards: usize,
+    ) -> Result<Engine<P>, NoMemory>
         requires some { 1 ≤ shards }
         requires most { shards ≤ 64 }
-        ensures { IfOk result (λ e. Stands P.place e empty_world) }
+        ensures stands { IfOk result (λ e. Stands P.place e (empty_world db.now)) }
+        ensures shards { IfOk result (λ e. shard_count e ≡ shards) }
     {
         let placement = Arc::new(alloc, placement)?;
-        let state = State::new(alloc, shards)?;
+        let state = State::new(alloc, db, shards)?;
         Ok(Engine { placement, state })
     }
 
@@ -64,6 +70,7 @@ impl<P: Placement + Drop> Engine<P> {
         ensures answers { (w : World) → Stands P.place self.old w
             → Answers w (asked command.now) (said result) (Stands P.place self.new) }
         ensures refused { IfNone (said result) (self.new ≡ self.old) }
+        ensures shards { shard_count self.new ≡ shard_count self.old }
     {
         let _ = rt;
         let (reply, next) = self.state.commit(alloc, &*self.placement, command);
@@ -88,6 +95,7 @@ impl<P: Placement + Drop> Engine<P> {
         ensures run { (w : World) → Stands P.place self.old w → IfOk result
             (λ replies. IsRun w (map asked commands.now) (map said replies.items) (Stands P.place self.new)) }
         ensures none_run { OnErr result (self.new ≡ self.old) }
+        ensures shards { shard_count self.new ≡ shard_count self.old }
     {
         let mut replies = Vec::with_capacity(alloc, commands.len())?;
         for command in commands {

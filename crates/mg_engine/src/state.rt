@@ -27,9 +27,10 @@ use std::collections::BTreeMap;
 use std::marker::Model;
 use std::sync::Arc;
 
-/// The documents of each shard, and the number that was last given to a document without an id.
+/// The database's name, the documents of each shard, and the number that was last given to a document without an id.
 #[derive(Drop)]
 pub(crate) struct State {
+    name: Arc<String>,
     shards: Vec<Arc<Documents>>,
     counter: u64,
 }
@@ -51,16 +52,19 @@ impl Model for State {
 }
 
 impl State {
-    /// Shards without a document. Cost: their number.
-    pub(crate) fn new(alloc: Global, shards: usize) -> Result<State, NoMemory>
+    /// A database of this name, with shards that have no document. Cost: their number, and the name.
+    pub(crate) fn new(alloc: Global, name: &str, shards: usize) -> Result<State, NoMemory>
         requires { 0 < shards }
-        ensures { IfOk result (λ s. (place : Placing) → Holds place s empty_world) }
+        ensures stands { IfOk result (λ s. (place : Placing) → Holds place s (empty_world name.now)) }
+        ensures number { IfOk result (λ s. length s.shards ≡ shards) }
     {
+        let name = Arc::new(alloc, String::from_str(alloc, name)?)?;
         let mut made = Vec::with_capacity(alloc, shards)?;
         for _ in 0..shards {
             made.push(Arc::new(alloc, BTreeMap::new(alloc))?)?;
         }
         Ok(State {
+            name,
             shards: made,
             counter: 0,
         })
@@ -75,6 +79,7 @@ impl State {
     ) -> (Reply, Option<State>)
         ensures answers { (w : World) → Holds (P.place placement.now) self.now w
             → Answers w (asked command.now) (said result.0) (Holds (P.place placement.now) (unwrap_or result.1 self.now)) }
+        ensures number { length (unwrap_or result.1 self.now).shards ≡ length self.now.shards }
         ensures refused { IfNone (said result.0) (result.1 ≡ None) }
     {
         match command {
@@ -104,6 +109,7 @@ impl State {
         ensures does { IfOk result (λ r. (w : World) → Holds (P.place placement.now) self.now w
             → (said r.0 ≡ Some (reply_of w (bulk (view body.now))))
             × Holds (P.place placement.now) (unwrap_or r.1 self.now) (next w (bulk (view body.now)))) }
+        ensures number { IfOk result (λ r. length (unwrap_or r.1 self.now).shards ≡ length self.now.shards) }
     {
         let Some(bulk) = read_bulk(body) else {
             return Ok((Reply::refusing(alloc, Refusal::WrongShape)?, None));
@@ -130,11 +136,20 @@ impl State {
         ensures does { IfOk result (λ r. (w : World) → Holds (P.place placement.now) self.now w
             → (said r.0 ≡ Some (told_of w new_edits (Ok edits.items)))
             × Holds (P.place placement.now) r.1 (world_with w (Ok edits.items))) }
+        ensures number { IfOk result (λ r. length r.1.shards ≡ length self.now.shards) }
     {
         let (edits, counter) = numbered(alloc, edits, self.counter)?;
         let (entries, shards) = edited(alloc, placement, &self.shards, &edits, new_edits)?;
         let body = line(alloc, &Json::List(entries))?;
-        Ok((Reply::Full { status: 201, body }, State { shards, counter }))
+        let name = self.name.clone()?;
+        Ok((
+            Reply::Full { status: 201, body },
+            State {
+                name,
+                shards,
+                counter,
+            },
+        ))
     }
 
     // The reply to a query.

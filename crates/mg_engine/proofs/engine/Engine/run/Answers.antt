@@ -1,4 +1,4 @@
-use Rattle.std.proofs.Common.{ap, ◌+◌}
+use Rattle.std.proofs.Common.{ap, refl, ◌∙◌, ◌+◌}
 use Rattle.mg_engine.specs.View.{asked, said}
 use Rattle.mg_engine.specs.Stands.{Stands}
 use Rattle.mg_engine.proofs.Runs.{world_then, ends_then, goes_on_after, ends_here}
@@ -7,7 +7,7 @@ use Rattle.mg_engine.proofs.engine.Engine.run.Goals as goal
 pub loop-command-init : goal.loop-command-init
 loop-command-init g c =
     let made = c.in_ok-replies.ensures in
-    record { room = made.exact; some = made.len; goes_on = λ w h. (w, h, λ rs after run. rw made.items run) }
+    record { room = made.exact; some = made.len; shards = refl; goes_on = λ w h. (w, h, λ rs after run. rw made.items run) }
 
 pub loop-command-preserved : goal.loop-command-preserved
 loop-command-preserved g c =
@@ -19,6 +19,7 @@ loop-command-preserved g c =
     record {
       room = rw pushed.capacity l.invariant.room;
       some = rw pushed.len (ap (λ n. n + 1) l.invariant.some);
+      shards = c.step-reply.ensures.shards ∙ l.invariant.shards;
       goes_on = λ w h.
           let now = l.invariant.goes_on w h in
           let did = c.step-reply.ensures.answers now.0 now.1 in (

@@ -1,4 +1,4 @@
-use Rattle.std.proofs.Common.{◌≡◌, Some, ap, sym, ◌∙◌, subst}
+use Rattle.std.proofs.Common.{◌≡◌, Some, String, Global, string_bytes, ap, sym, ◌∙◌, subst}
 use Rattle.std.specs.Prelude.{List, ℕ}
 use Rattle.mg_value.specs.Value.{list}
 use Rattle.mg_value.proofs.Views.{view-List}
@@ -28,6 +28,7 @@ returns-clause-does g c = λ w h.
     let body = c.in_ok-body.ensures ∙ ap line_of (view-List c.in_ok-entries.entries ∙ ap list entries) in (
       ap (λ b. Some (accepted b)) body,
       record {
+        name = ap (λ (s : String Global). string_bytes s) c.in_ok-name.ensures.cases ∙ ap (λ (s : Shown). s.name) c.self.view_is ∙ h.name;
         documents = subst (λ (es : List Edit). ShardsStandFor place (shards_seen c.in_ok-entries.shards.items) (after_edits w.docs es)) edits (c.in_ok-entries.ensures.stands w.docs stands);
         indexes = h.indexes;
         counter = c.in_ok-edits.ensures.last ∙ ap (λ n. last_number n c.args.edits.items) counter;
