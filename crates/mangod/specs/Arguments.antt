@@ -1,20 +1,42 @@
--- The arguments of the program: the name of a database, as CouchDB takes it but without the slash, and numbers.
-use Rattle.std.specs.Prelude.{ℕ, List, [], ◌∷◌, Option, Some, None, All, IsTrue, ◌&&◌, ◌||◌, if◌then◌else◌, nat_eq, nat_le, codes}
+-- The arguments of the program, `DB SHARDS WORKERS SESSIONS ADDR`: the name of a database, as CouchDB takes it but without the
+-- slash, numbers, and where the program listens.
+use Rattle.std.specs.Prelude.{ℕ, List, [], ◌∷◌, Bool, false, Option, Some, None, ◌&&◌, ◌||◌, if◌then◌else◌, nat_eq, nat_le, bytes_eq, codes}
 use Rattle.std.specs.Char.{is_ascii_lowercase, is_ascii_digit}
 use Rattle.std.specs.List.{list_all, list_any}
 use Rattle.std.specs.Str.Parse.{digits_value}
 
 -- a byte that may follow in a name: a lower case letter, a digit or one of `_$()+-`
-abbrev pub IsNameByte : ℕ → Type 0
-IsNameByte byte = IsTrue (is_ascii_lowercase byte || is_ascii_digit byte || list_any (nat_eq byte) (codes "_$()+-"))
+abbrev pub is_name_byte : ℕ → Bool
+is_name_byte byte = is_ascii_lowercase byte || is_ascii_digit byte || list_any (nat_eq byte) (codes "_$()+-")
 
--- a name: a lower case letter, and then bytes that may follow
-abbrev pub IsDatabaseName : List ℕ → Type 0
-IsDatabaseName [] = ⊥
-IsDatabaseName (first ∷ rest) = IsTrue (is_ascii_lowercase first) × All IsNameByte rest
+-- whether a word is a name: a lower case letter, and then bytes that may follow
+abbrev pub is_database_name : List ℕ → Bool
+is_database_name [] = false
+is_database_name (first ∷ rest) = is_ascii_lowercase first && list_all is_name_byte rest
 
 -- the number that decimal digits write, where it is from 1 to `most`
 abbrev pub number_of : List ℕ → ℕ → Option ℕ
 number_of word most =
     if list_all is_ascii_digit word && (nat_le 1 (digits_value 10 word) && nat_le (digits_value 10 word) most)
     then Some (digits_value 10 word) else None
+
+-- what the words ask for
+pub record Settings : Type 0 where
+  pub db : List ℕ
+  pub shards : ℕ
+  pub workers : ℕ
+  pub sessions : ℕ
+  pub addr : List ℕ
+
+-- the settings of a name, an address and three numbers, if all are right; for now the address is `-`
+abbrev pub settings_with : List ℕ → List ℕ → Option ℕ → Option ℕ → Option ℕ → Option Settings
+settings_with db addr (Some shards) (Some workers) (Some sessions) =
+    if is_database_name db && bytes_eq addr (codes "-")
+    then Some (record { db = db; shards = shards; workers = workers; sessions = sessions; addr = addr }) else None
+settings_with db addr shards workers sessions = None
+
+-- the settings of five words, none where they are wrong: 1 to 64 shards, and for now one worker and one session
+abbrev pub settings_of : List (List ℕ) → Option Settings
+settings_of (db ∷ shards ∷ workers ∷ sessions ∷ addr ∷ []) =
+    settings_with db addr (number_of shards 64) (number_of workers 1) (number_of sessions 1)
+settings_of words = None

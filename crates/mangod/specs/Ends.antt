@@ -1,23 +1,27 @@
--- How the program ends after a session: its status, where 0 is success as POSIX has it, and its line. The lines are this project's own and stand once, as constants of the code.
-use Rattle.std.specs.Prelude.{ℕ, List, []}
-use Rattle.mg_http.specs.declared.SessionEnd.{SessionEnd}
-use Rattle.mg_http.specs.declared.SessionEnd.TheVariants.{Eof, Closed, Refused, ReadFault, WriteFault, Limit}
-use Rattle.mangod.specs.declared.ends.TheConstants.{REFUSED, READ_FAULT, WRITE_FAULT, LIMIT}
+-- How the program ends: its status, where 0 is success as POSIX has it, and its line on standard error, empty where there is
+-- none. The lines are this project's own.
+use Rattle.std.specs.Prelude.{ℕ, List, [], codes}
+use Rattle.mg_http.specs.declared.sessions.SessionEnd.{SessionEnd}
+use Rattle.mg_http.specs.declared.sessions.SessionEnd.TheVariants.{Eof, Closed, Refused, ReadFault, WriteFault, Limit}
 
--- the status that the program ends with: 0 where the client ended the session, and else 1
-abbrev pub status_of : SessionEnd → ℕ
-status_of Eof = 0
-status_of Closed = 0
-status_of Refused = 1
-status_of ReadFault = 1
-status_of WriteFault = 1
-status_of Limit = 1
+-- a status and a line
+pub record Ending : Type 0 where
+  pub status : ℕ
+  pub line : List ℕ
 
--- the line for standard error, empty where there is none
-abbrev pub line_of : SessionEnd → List ℕ
-line_of Eof = []
-line_of Closed = []
-line_of Refused = REFUSED.now
-line_of ReadFault = READ_FAULT.now
-line_of WriteFault = WRITE_FAULT.now
-line_of Limit = LIMIT.now
+-- the ending after a session: 0 where the client ended it, and else 1
+abbrev pub ending_of : SessionEnd → Ending
+ending_of Eof = record { status = 0; line = [] }
+ending_of Closed = record { status = 0; line = [] }
+ending_of Refused = record { status = 1; line = codes "mangod: refused" }
+ending_of ReadFault = record { status = 1; line = codes "mangod: read fault" }
+ending_of WriteFault = record { status = 1; line = codes "mangod: write fault" }
+ending_of Limit = record { status = 1; line = codes "mangod: limit" }
+
+-- the ending where the words are wrong
+abbrev pub wrong_words : Ending
+wrong_words = record { status = 2; line = codes "mangod: usage: mangod DB SHARDS WORKERS SESSIONS ADDR" }
+
+-- the ending where the start is refused memory
+abbrev pub no_memory : Ending
+no_memory = record { status = 1; line = codes "mangod: out of memory" }

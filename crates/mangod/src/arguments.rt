@@ -1,5 +1,7 @@
-ghost use Rattle.std.specs.Prelude.{◌≡◌, ◌≤◌, ◌↔◌, ℕ, IfSome, IsTrue};
-ghost use Rattle.mangod.specs.Arguments.{IsDatabaseName, IsNameByte, number_of};
+ghost use Rattle.std.specs.Prelude.{◌≡◌, ◌≤◌, IfSome, map, option_map, string_bytes};
+ghost use Rattle.std.specs.List.{list_all};
+ghost use Rattle.mangod.specs.Arguments.{is_database_name, is_name_byte, number_of, settings_of, settings_with};
+ghost use Rattle.mangod.specs.View.{settings_seen};
 
 use crate::config::Settings;
 
@@ -14,20 +16,41 @@ const SESSIONS: usize = 1;
 ///
 /// SHARDS is 1 to 64. For now the other numbers are 1, and ADDR is `-`.
 pub(crate) fn settings(words: &[String]) -> Option<Settings<'_>>
-    ensures shards { IfSome result (λ s. (1 ≤ s.shards) × (s.shards ≤ 64)) }
-    ensures workers { IfSome result (λ s. s.workers ≡ 1) }
+    ensures { option_map settings_seen result ≡ settings_of (map (λ w. string_bytes w) words.now) }
 {
     match words {
-        [db, shards, workers, sessions, addr] => {
-            if !is_database(db.as_str()) || addr.as_str() != "-" {
+        [db, shards, workers, sessions, addr] => checked(
+            db.as_str(),
+            addr.as_str(),
+            number(shards.as_str(), SHARDS),
+            number(workers.as_str(), WORKERS),
+            number(sessions.as_str(), SESSIONS),
+        ),
+        _ => None,
+    }
+}
+
+// The settings of a name, an address and three numbers, if all are right.
+fn checked<'a>(
+    db: &'a str,
+    addr: &'a str,
+    shards: Option<usize>,
+    workers: Option<usize>,
+    sessions: Option<usize>,
+) -> Option<Settings<'a>>
+    ensures { option_map settings_seen result ≡ settings_with db.now addr.now shards workers sessions }
+{
+    match (shards, workers, sessions) {
+        (Some(shards), Some(workers), Some(sessions)) => {
+            if !is_database_name(db) || addr != "-" {
                 return None;
             }
             Some(Settings {
-                db: db.as_str(),
-                shards: number(shards.as_str(), SHARDS)?,
-                workers: number(workers.as_str(), WORKERS)?,
-                sessions: number(sessions.as_str(), SESSIONS)?,
-                addr: addr.as_str(),
+                db,
+                shards,
+                workers,
+                sessions,
+                addr,
             })
         }
         _ => None,
@@ -35,18 +58,23 @@ pub(crate) fn settings(words: &[String]) -> Option<Settings<'_>>
 }
 
 // Whether a word is the name of a database: a lower case letter, then lower case letters, digits and `_$()+-`.
-fn is_database(word: &str) -> bool
-    ensures { IsTrue result ↔ IsDatabaseName word.now }
+fn is_database_name(word: &str) -> bool
+    ensures { result ≡ is_database_name word.now }
 {
-    match word.as_bytes() {
-        [first, rest @ ..] => first.is_ascii_lowercase()
-            && rest.iter().all(|byte| is_name_byte(*byte)),
-        [] => false,
+    match word.as_bytes().split_first() {
+        Some((first, rest)) => first.is_ascii_lowercase() && are_name_bytes(rest),
+        None => false,
     }
 }
 
+fn are_name_bytes(bytes: &[u8]) -> bool
+    ensures { result ≡ list_all is_name_byte bytes.now }
+{
+    bytes.iter().all(|byte| is_name_byte(*byte))
+}
+
 fn is_name_byte(byte: u8) -> bool
-    ensures { IsTrue result ↔ IsNameByte byte }
+    ensures { result ≡ is_name_byte byte }
 {
     byte.is_ascii_lowercase() || byte.is_ascii_digit() || b"_$()+-".contains(&byte)
 }
@@ -68,96 +96,4 @@ fn number(word: &str, most: usize) -> Option<usize>
         }
     }
     if number == 0 { None } else { Some(number) }
-}
-
-#[cfg(test)]
-mod tests {
-    use super::settings;
-    use crate::config::Settings;
-    use std::test::Fail;
-
-    fn words(alloc: Global, line: &str) -> Result<Vec<String>, Fail> {
-        let mut words = Vec::new(alloc);
-        for word in line.split('|') {
-            words.push(String::from_str(alloc, word)?)?;
-        }
-        Ok(words)
-    }
-
-    use std::alloc::Global;
-
-    #[test]
-    fn takes_one_of_each(rt: HostRuntime) -> Result<(), Fail> {
-        for line in [
-            "db|1|1|1|-",
-            "a|1|1|1|-",
-            "z9_$()+-a|1|1|1|-",
-            "db|01|1|001|-",
-            "db|2|1|1|-",
-            "db|64|1|1|-",
-            "db|064|1|1|-",
-        ] {
-            let words = words(rt.alloc(), line)?;
-            let found = settings(&words);
-            assert!(rt; found.is_some(), "{line}");
-        }
-        let words = words(rt.alloc(), "db|7|1|1|-")?;
-        assert_eq!(rt;
-            settings(&words),
-            Some(Settings {
-                db: "db",
-                shards: 7,
-                workers: 1,
-                sessions: 1,
-                addr: "-",
-            })
-        );
-        Ok(())
-    }
-
-    #[test]
-    fn refuses_all_else(rt: HostRuntime) -> Result<(), Fail> {
-        for line in [
-            "",
-            "db",
-            "db|1|1|1",
-            "db|1|1|1|-|",
-            "db|1|1|1|-|1",
-            "D|1|1|1|-",
-            "dB|1|1|1|-",
-            "|1|1|1|-",
-            "1|1|1|1|-",
-            "_db|1|1|1|-",
-            "d b|1|1|1|-",
-            "d.b|1|1|1|-",
-            "d/b|1|1|1|-",
-            "dé|1|1|1|-",
-            "db|0|1|1|-",
-            "db|65|1|1|-",
-            "db|1|0|1|-",
-            "db|1|2|1|-",
-            "db|1|33|1|-",
-            "db|1|1|0|-",
-            "db|1|1|2|-",
-            "db|1|1|17|-",
-            "db||1|1|-",
-            "db|1||1|-",
-            "db|1|1||-",
-            "db|1|1|1|",
-            "db|+1|1|1|-",
-            "db|-1|1|1|-",
-            "db|1 |1|1|-",
-            "db| 1|1|1|-",
-            "db|1.0|1|1|-",
-            "db|x|1|1|-",
-            "db|18446744073709551617|1|1|-",
-            "db|1|1|1|--",
-            "db|1|1|1|127.0.0.1:5984",
-        ] {
-            let words = words(rt.alloc(), line)?;
-            let found = settings(&words);
-            assert!(rt; found.is_none(), "{line}");
-        }
-        Ok(())
-    }
 }

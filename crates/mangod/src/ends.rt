@@ -1,43 +1,41 @@
 ghost use Rattle.std.specs.Prelude.{◌≡◌};
-ghost use Rattle.mangod.specs.Ends.{status_of, line_of};
+ghost use Rattle.mangod.specs.Ends.{ending_of};
 
 use mg_http::SessionEnd;
 
-/// The line of `Refused`.
-pub(crate) const REFUSED: &str = "mangod: refused";
-/// The line of `ReadFault`.
-pub(crate) const READ_FAULT: &str = "mangod: read fault";
-/// The line of `WriteFault`.
-pub(crate) const WRITE_FAULT: &str = "mangod: write fault";
-/// The line of `Limit`.
-pub(crate) const LIMIT: &str = "mangod: limit";
-
-/// The status with which the program ends after a session, and the line for standard error, empty where there is none.
-pub(crate) fn ending(end: &SessionEnd) -> (u8, &'static str)
-    ensures status { result.0 ≡ status_of end.now }
-    ensures line { result.1.now ≡ line_of end.now }
-{
-    match end {
-        SessionEnd::Eof | SessionEnd::Closed => (0, ""),
-        SessionEnd::Refused => (1, REFUSED),
-        SessionEnd::ReadFault => (1, READ_FAULT),
-        SessionEnd::WriteFault => (1, WRITE_FAULT),
-        SessionEnd::Limit => (1, LIMIT),
-    }
+/// How the program ends: its status, and its line for standard error, empty where there is none.
+#[derive(Clone, Copy, PartialEq, Debug)]
+pub(crate) struct Ending {
+    pub(crate) status: u8,
+    pub(crate) line: &'static str,
 }
 
-#[cfg(test)]
-mod tests {
-    use super::ending;
-    use mg_http::SessionEnd;
+/// The end where the words are wrong.
+pub(crate) const WRONG_WORDS: Ending = Ending {
+    status: 2,
+    line: "mangod: usage: mangod DB SHARDS WORKERS SESSIONS ADDR",
+};
 
-    #[test]
-    fn each_end_has_its_status_and_line(rt: HostRuntime) {
-        assert_eq!(rt; ending(&SessionEnd::Eof), (0, ""));
-        assert_eq!(rt; ending(&SessionEnd::Closed), (0, ""));
-        assert_eq!(rt; ending(&SessionEnd::Refused), (1, "mangod: refused"));
-        assert_eq!(rt; ending(&SessionEnd::ReadFault), (1, "mangod: read fault"));
-        assert_eq!(rt; ending(&SessionEnd::WriteFault), (1, "mangod: write fault"));
-        assert_eq!(rt; ending(&SessionEnd::Limit), (1, "mangod: limit"));
+/// The end where the start is refused memory.
+pub(crate) const NO_MEMORY: Ending = Ending {
+    status: 1,
+    line: "mangod: out of memory",
+};
+
+impl Ending {
+    ghost use Rattle.mangod.specs.View.{ending_seen};
+
+    /// The end of the program after a session.
+    pub(crate) fn after(end: SessionEnd) -> Ending
+        ensures { ending_seen result ≡ ending_of end }
+    {
+        let (status, line) = match end {
+            SessionEnd::Eof | SessionEnd::Closed => (0, ""),
+            SessionEnd::Refused => (1, "mangod: refused"),
+            SessionEnd::ReadFault => (1, "mangod: read fault"),
+            SessionEnd::WriteFault => (1, "mangod: write fault"),
+            SessionEnd::Limit => (1, "mangod: limit"),
+        };
+        Ending { status, line }
     }
 }
