@@ -1,14 +1,11 @@
-//! Tests of the libraries, a module for a crate; queries and bookmarks are tested through the engine.
+//! Tests of the libraries, a module for a crate: each public call by itself. Whole conversations are data, in the folder
+//! tests/ at the top; queries and bookmarks are tested there.
 #![tactic(auto)]
 
 #[cfg(test)]
 mod collate_tests;
 #[cfg(test)]
-mod conversation;
-#[cfg(test)]
 mod doc_tests;
-#[cfg(test)]
-mod engine_shard_tests;
 #[cfg(test)]
 mod engine_tests;
 #[cfg(test)]
@@ -19,6 +16,8 @@ mod merge_tests;
 mod normal_tests;
 #[cfg(test)]
 mod path_tests;
+#[cfg(test)]
+mod plain_tests;
 #[cfg(test)]
 mod revtree_tests;
 #[cfg(test)]
