@@ -1,2 +1,3 @@
 mod Said
 mod Necessary
+mod Parted

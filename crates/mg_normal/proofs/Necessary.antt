@@ -12,7 +12,7 @@ use Rattle.mg_selector.specs.declared.sense.Sense.TheVariants.{Plain, Negated}
 use Rattle.mg_normal.specs.Atoms.{Atom, atom_holds, atoms_in, arms_atoms}
 
 -- the part at steps and then at more is the part at all of them
-part_of-append : (steps more : List (List ℕ)) (x : Option Value) → option_and_then (part_of (steps ++ more)) x ≡ option_and_then (part_of more) (option_and_then (part_of steps) x)
+pub part_of-append : (steps more : List (List ℕ)) (x : Option Value) → option_and_then (part_of (steps ++ more)) x ≡ option_and_then (part_of more) (option_and_then (part_of steps) x)
 part_of-append steps more None = refl
 part_of-append [] more (Some v) = refl
 part_of-append (step ∷ steps) more (Some v) = part_of-append steps more (part_at step v)

@@ -1,34 +1,44 @@
--- What a normal form of a selector is: it holds of the same documents, and has the selector's atoms.
-use Rattle.std.specs.Prelude.{◌≡◌, Bool, List, Option, refl}
-use Rattle.std.specs.Coded.{Coded, code_by, coded×, coded_list}
+-- What a normal form of a selector is: its atoms and what else it asks, which hold together of the same documents.
+use Rattle.std.specs.Prelude.{◌≡◌, Bool, true, ◌&&◌, List, Option, Some, None, option_map, refl}
+use Rattle.std.specs.Coded.{Coded, code_by, coded×, coded_list, coded_option}
+use Rattle.std.specs.List.{list_all}
 use Rattle.mg_value.specs.Value.{Value}
 use Rattle.mg_selector.specs.Meaning.{holds_in}
 use Rattle.mg_selector.specs.Selector.{Selector}
 use Rattle.mg_selector.specs.declared.sense.Sense.TheVariants.{Plain}
-use Rattle.mg_normal.specs.Atoms.{Atom as AtomValue, atoms_of}
-use Rattle.mg_normal.specs.Form.{form_holds}
+use Rattle.mg_normal.specs.Atoms.{Atom as AtomValue, atoms_of, atom_holds}
+use Rattle.mg_normal.specs.Form.{Form as FormValue, form_holds}
 use Rattle.mg_normal.specs.View.{form_of, atoms_view}
 use Rattle.mg_normal.specs.contracts.atom.Atom as atom
 use Rattle.mg_normal.specs.contracts.form.Form as form
 use Rattle.mg_normal.specs.declared.atom.Atom.{Atom}
 use Rattle.mg_normal.specs.declared.form.Form.{Form}
 
--- a normal form: what it asks, and its atoms
+-- a normal form: its atoms, and what it asks besides, if anything
 pub record NormalForm : Type 0 where
-  pub form : Form
   pub atoms : List Atom
+  pub rest : Option Form
 
 -- a normal form is stored as the pair of them
 abbrev pub normal_code : Coded NormalForm
-normal_code = code_by (Form × List Atom) (coded× form.the_row.coded (coded_list atom.the_row.coded)) (λ n. (n.form, n.atoms)) (λ p. record { form = p.0; atoms = p.1 }) (λ _. refl)
-
--- it holds of the part, where it is there
-abbrev pub normal_holds : NormalForm → Option Value → Bool
-normal_holds n x = form_holds (form_of n.form) x
+normal_code = code_by (List Atom × Option Form) (coded× (coded_list atom.the_row.coded) (coded_option form.the_row.coded)) (λ n. (n.atoms, n.rest)) (λ p. record { atoms = p.0; rest = p.1 }) (λ _. refl)
 
 -- its atoms
 abbrev pub normal_atoms : NormalForm → List AtomValue
 normal_atoms n = atoms_view n.atoms
+
+-- each of the atoms holds of the document
+abbrev pub all_hold : Option Value → List AtomValue → Bool
+all_hold x atoms = list_all (atom_holds x) atoms
+
+-- the form holds of the document, where there is a form
+abbrev pub rest_holds : Option FormValue → Option Value → Bool
+rest_holds None x = true
+rest_holds (Some f) x = form_holds f x
+
+-- it holds of the document, where it is there
+abbrev pub normal_holds : NormalForm → Option Value → Bool
+normal_holds n x = all_hold x (normal_atoms n) && rest_holds (option_map form_of n.rest) x
 
 -- it is one of the selector
 pub record IsNormalOf (s : Selector) (n : NormalForm) : Type 0 where

@@ -1,5 +1,5 @@
--- For private clauses: the atoms of a form, and which form stands for a selector.
-use Rattle.std.specs.Prelude.{◌≡◌, ℕ, Bool, List, [], ◌∷◌, ◌++◌, Option, ⊤}
+-- For private clauses: the atoms of a form and what else it asks, and which form stands for a selector.
+use Rattle.std.specs.Prelude.{◌≡◌, ℕ, Bool, List, [], ◌∷◌, ◌++◌, Option, Some, None, option_map, ⊤}
 use Rattle.mg_value.specs.Value.{Value}
 use Rattle.mg_selector.specs.Meaning.{holds_in}
 use Rattle.mg_selector.specs.Selector.{Arms, no_arms, arm}
@@ -19,6 +19,29 @@ abbrev mutual
   pub forms_atoms : Forms → List (List ℕ) → List Atom
   forms_atoms no_forms steps = []
   forms_atoms (form f fs) steps = form_atoms f steps ++ forms_atoms fs steps
+
+-- the forms as one, where there are any
+abbrev pub all_left : Forms → Option Form
+all_left no_forms = None
+all_left (form f fs) = Some (all_of (form f fs))
+
+-- the forms, after the one that is left, if it is
+abbrev pub with_left : Option Form → Forms → Forms
+with_left None fs = fs
+with_left (Some f) fs = form f fs
+
+abbrev mutual
+  -- what the form asks besides its atoms, if anything
+  pub rest_of : Form → Option Form
+  rest_of (all_of fs) = all_left (rests_of fs)
+  rest_of (any_of fs) = Some (any_of fs)
+  rest_of (within more f) = option_map (within more) (rest_of f)
+  rest_of (asked o sense) = None
+
+  -- the rests of the forms
+  pub rests_of : Forms → Forms
+  rests_of no_forms = no_forms
+  rests_of (form f fs) = with_left (rest_of f) (rests_of fs)
 
 -- the form holds exactly of these parts, and asks these atoms at given steps
 abbrev pub Says : (Option Value → Bool) → (List (List ℕ) → List Atom) → Form → Type 0

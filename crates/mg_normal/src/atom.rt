@@ -1,11 +1,12 @@
-ghost use Rattle.std.specs.Prelude.{◌≡◌, ◌++◌, IfOk, OnOk, map, string_bytes};
-ghost use Rattle.mg_normal.specs.Stands.{form_atoms, forms_atoms};
-ghost use Rattle.mg_normal.specs.View.{form_of, forms_view, atoms_view};
+ghost use Rattle.std.specs.Prelude.{◌≡◌, Some};
+ghost use Rattle.mg_value.specs.View.{view};
+ghost use Rattle.mg_normal.specs.Atoms.{atom_holds};
+ghost use Rattle.mg_normal.specs.Normal.{all_hold};
+ghost use Rattle.mg_normal.specs.View.{atom_view, atoms_view, sense_of};
 
-use crate::form::Form;
+use mg_path::part_of;
 use mg_selector::{Op, Sense};
-use mg_value::NoMemory;
-use std::alloc::Global;
+use mg_value::Json;
 
 /// What a selector asks in any case: an operator, in a sense, of the part at a whole path.
 #[derive(Debug, Drop)]
@@ -18,59 +19,26 @@ pub struct Atom {
     pub negated: bool,
 }
 
-// Adds the atoms of the form on the part at the steps. Where it fails, some of them may be there.
-#[cycle(gather)]
-pub(crate) fn gather(
-    alloc: Global,
-    form: &Form,
-    steps: Vec<String>,
-    atoms: &mut Vec<Atom>,
-) -> Result<(), NoMemory>
-    ensures { OnOk result (atoms_view atoms.new.items ≡ atoms_view atoms.old.items
-        ++ form_atoms (form_of form.now) (map string_bytes steps.items)) }
+// Whether each of the atoms holds of the document.
+pub(crate) fn all_hold(atoms: &[Atom], document: &Json) -> bool
+    ensures { result ≡ all_hold (Some (view document.now)) (atoms_view atoms.now) }
 {
-    match form {
-        Form::All(forms) => gather_all(alloc, forms, &steps, atoms),
-        Form::Any(_) => Ok(()),
-        Form::At(path, inner) => {
-            let steps = extended(steps, path.steps())?;
-            gather(alloc, inner, steps, atoms)
-        }
-        Form::Ask(op, sense) => {
-            atoms.push(Atom {
-                steps,
-                op: op.copy(alloc)?,
-                negated: *sense == Sense::Negated,
-            })?;
-            Ok(())
+    for atom in atoms {
+        if !holds(atom, document) {
+            return false;
         }
     }
+    true
 }
 
-#[cycle(gather)]
-fn gather_all(
-    alloc: Global,
-    forms: &[Form],
-    steps: &[String],
-    atoms: &mut Vec<Atom>,
-) -> Result<(), NoMemory>
-    ensures { OnOk result (atoms_view atoms.new.items ≡ atoms_view atoms.old.items
-        ++ forms_atoms (forms_view forms.now) (map string_bytes steps.now)) }
+fn holds(atom: &Atom, document: &Json) -> bool
+    ensures { result ≡ atom_holds (Some (view document.now)) (atom_view atom.now) }
 {
-    for form in forms {
-        let steps = extended(Vec::new(alloc), steps)?;
-        gather(alloc, form, steps, atoms)?;
-    }
-    Ok(())
+    atom.op.holds_in(sense_of(atom.negated), part_of(&atom.steps, document))
 }
 
-// The steps, followed by copies of more.
-fn extended(mut steps: Vec<String>, more: &[String]) -> Result<Vec<String>, NoMemory>
-    ensures { IfOk result (λ all. map string_bytes all.items
-        ≡ map string_bytes steps.items ++ map string_bytes more.now) }
+fn sense_of(negated: bool) -> Sense
+    ensures { result ≡ sense_of negated }
 {
-    for step in more {
-        steps.push(step.clone()?)?;
-    }
-    Ok(steps)
+    if negated { Sense::Negated } else { Sense::Plain }
 }

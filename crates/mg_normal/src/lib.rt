@@ -7,6 +7,7 @@ pub mod laws;
 mod meaning;
 mod normal;
 mod pushed;
+mod rest;
 
 pub use atom::Atom;
 pub use normal::Normal;

@@ -4,23 +4,25 @@ ghost use Rattle.mg_selector.specs.View.{selector_of};
 ghost use Rattle.mg_normal.specs.Normal.{IsNormalOf, normal_holds, normal_atoms};
 ghost use Rattle.mg_normal.specs.View.{atoms_view};
 
-use crate::atom::{Atom, gather};
+use crate::atom::{Atom, all_hold};
 use crate::form::Form;
-use crate::meaning;
+use crate::meaning::rest_holds;
 use crate::pushed::pushed;
+use crate::rest::take_atoms;
 use mg_selector::{Sel, Sense};
 use mg_value::{Json, NoMemory};
 use std::alloc::Global;
 use std::marker::Model;
 
-/// A selector in its normal form: its negations are pushed inwards until each stands on an operator.
+/// A selector in its normal form: its negations are pushed inwards until each stands on an operator,
+/// and what it asks in any case stands apart, as atoms, from what it asks by choice.
 ///
 /// An operator negated is not its complement: of a missing part neither holds, but for `$exists`.
 /// An empty list of arms holds in both senses.
 #[derive(Debug, Drop)]
 pub struct Normal {
-    form: Form,
     atoms: Vec<Atom>,
+    rest: Option<Form>,
 }
 
 impl Model for Normal {
@@ -30,32 +32,33 @@ impl Model for Normal {
 
     ghost coded = { normal_code };
 
-    ghost view = { λ n. record { form = n.form; atoms = n.atoms.items } };
+    ghost view = { λ n. record { atoms = n.atoms.items; rest = n.rest } };
 }
 
 impl Normal {
     /// The normal form of the selector, with its atoms.
     ///
     /// Errors: `NoMemory` where a growth is refused. Cost: the size of the selector, each operator
-    /// being copied once, and once more where it is an atom, with the steps of its whole path.
+    /// being copied once, and for each atom the steps of its whole path.
     /// Source: `$not`, `$and`, `$or` and `$nor` of CouchDB's `_find`.
     pub fn of(alloc: Global, selector: &Sel) -> Result<Normal, NoMemory>
         ensures { IfOk result (λ normal. IsNormalOf (selector_of selector.now) normal) }
     {
         let form = pushed(alloc, selector, Sense::Plain)?;
+        let mut steps = Vec::new(alloc);
         let mut atoms = Vec::new(alloc);
-        gather(alloc, &form, Vec::new(alloc), &mut atoms)?;
-        Ok(Normal { form, atoms })
+        let rest = take_atoms(alloc, form, &mut steps, &mut atoms)?;
+        Ok(Normal { atoms, rest })
     }
 
     /// Whether the selector holds of the document. No memory is taken.
     ///
-    /// Cost: each operator once, with the way to its part, and once more for each element that
-    /// `$elemMatch` and `$allMatch` look at.
+    /// Cost: each operator once, with the way to its part, an atom's from the top as far as the
+    /// document goes, and once more for each element that `$elemMatch` and `$allMatch` look at.
     pub fn holds(&self, value: &Json) -> bool
         ensures { result ≡ normal_holds self.now (Some (view value.now)) }
     {
-        meaning::holds(&self.form, Some(value))
+        all_hold(&self.atoms, value) && rest_holds(self.rest.as_ref(), value)
     }
 
     /// What the selector asks in any case, in reading order: the operators that are reached through

@@ -7,5 +7,6 @@ mod path;
 mod projection;
 
 pub use error::PathError;
+pub use part::part_of;
 pub use path::Path;
 pub use projection::project;

@@ -1,13 +1,28 @@
-ghost use Rattle.std.specs.Prelude.{◌≡◌, ◌≤◌, ◌^◌, ℕ, Some, option_map, MatchOption, slice_get};
+ghost use Rattle.std.specs.Prelude.{◌≡◌, ◌≤◌, ◌^◌, ℕ, Some, map, string_bytes, option_map, MatchOption, slice_get};
 ghost use Rattle.std.specs.Option.{option_and_then};
 ghost use Rattle.mg_value.specs.Value.{item_list};
 ghost use Rattle.mg_value.specs.View.{view, items_view};
-ghost use Rattle.mg_path.specs.Part.{part_at as part_of_step, place_of as place_named};
+ghost use Rattle.mg_path.specs.Part.{part_of, part_at as part_of_step, place_of as place_named};
 
 use mg_value::Json;
 
-/// The part of the value one step in.
-pub(crate) fn part_at<'a>(step: &str, value: &'a Json) -> Option<&'a Json>
+/// The part of the value that the steps lead to: the member that a step names, in an array the item
+/// at its place, from 0. None where it is missing. It is lent; no memory is taken.
+///
+/// Cost: each step once, with a look-up in an object or an array.
+pub fn part_of<'a>(steps: &[String], value: &'a Json) -> Option<&'a Json>
+    ensures { option_map (λ part. view part.now) result
+        ≡ part_of (map string_bytes steps.now) (view value.now) }
+{
+    let mut part = value;
+    for step in steps {
+        part = part_at(step.as_str(), part)?;
+    }
+    Some(part)
+}
+
+// The part of the value one step in.
+fn part_at<'a>(step: &str, value: &'a Json) -> Option<&'a Json>
     ensures { option_map (λ part. view part.now) result ≡ part_of_step step.now (view value.now) }
 {
     match value {
@@ -25,7 +40,7 @@ fn item_at<'a>(step: &str, items: &'a [Json]) -> Option<&'a Json>
     items.get(place_of(step)?)
 }
 
-/// The place that the step names; none too where no array is that long.
+// The place that the step names; none too where no array is that long.
 fn place_of(step: &str) -> Option<usize>
     ensures { MatchOption result
         ((n : ℕ) → place_named step.now ≡ Some n → 2 ^ 64 ≤ n)

@@ -4,7 +4,7 @@ ghost use Rattle.mg_value.specs.View.{view as json_view};
 ghost use Rattle.mg_path.specs.Part.{steps_of, part_of};
 
 use crate::error::PathError;
-use crate::part::part_at;
+use crate::part::part_of;
 use mg_value::{Json, NoMemory};
 use std::alloc::Global;
 use std::marker::Model;
@@ -88,11 +88,7 @@ impl Path {
         ensures { option_map (λ part. json_view part.now) result
             ≡ part_of self.now (json_view value.now) }
     {
-        let mut part = value;
-        for step in &self.steps {
-            part = part_at(step.as_str(), part)?;
-        }
-        Some(part)
+        part_of(&self.steps, value)
     }
 
     /// An equal path.

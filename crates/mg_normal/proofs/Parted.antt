@@ -1,0 +1,89 @@
+-- A form holds where its atoms and what else it asks do.
+use Rattle.std.proofs.Common.{◌≡◌, ℕ, Bool, true, false, ◌&&◌, ◌||◌, List, [], ◌∷◌, ◌++◌, Option, Some, None, option_and_then, option_map, refl, ap, ap₂, sym, ◌∙◌}
+use Rattle.std.specs.List.{list_all}
+use Rattle.mg_value.specs.Value.{Value}
+use Rattle.mg_path.specs.Part.{part_of}
+use Rattle.mg_selector.specs.Meaning.{holds_in, operator_holds}
+use Rattle.mg_selector.specs.Selector.{Selector}
+use Rattle.mg_selector.specs.declared.sense.Sense.TheVariants.{Plain}
+use Rattle.mg_normal.specs.Atoms.{Atom, atom_holds, atoms_in}
+use Rattle.mg_normal.specs.Form.{Form as FormValue, Forms, all_of, any_of, within, asked, no_forms, form, form_holds, every_form}
+use Rattle.mg_normal.specs.Normal.{all_hold, rest_holds}
+use Rattle.mg_normal.specs.Stands.{Says, form_atoms, forms_atoms, rest_of, rests_of, all_left, with_left}
+use Rattle.mg_normal.specs.View.{form_of, forms_view}
+use Rattle.mg_normal.specs.declared.form.Form.{Form}
+use Rattle.mg_normal.proofs.Necessary.{part_of-append}
+
+-- the forms, before the rest
+abbrev pub forms_before : List Form → Forms → Forms
+forms_before [] rest = rest
+forms_before (f ∷ fs) rest = form (form_of f) (forms_before fs rest)
+
+pub forms_before-all : (fs : List Form) → forms_before fs no_forms ≡ forms_view fs
+forms_before-all [] = refl
+forms_before-all (f ∷ fs) = ap (form (form_of f)) (forms_before-all fs)
+
+pub forms_before-push : (fs : List Form) (f : Form) (rest : Forms) → forms_before fs (form (form_of f) rest) ≡ forms_before (fs ++ f ∷ []) rest
+forms_before-push [] f rest = refl
+forms_before-push (g ∷ fs) f rest = ap (form (form_of g)) (forms_before-push fs f rest)
+
+and_true : (b : Bool) → b ≡ ((b && true) && true)
+and_true true = refl
+and_true false = refl
+
+-- a conjunction of pairs, the firsts and then the seconds
+pairs : (a r b s : Bool) → ((a && r) && (b && s)) ≡ ((a && b) && (r && s))
+pairs true true b s = refl
+pairs true false true s = refl
+pairs true false false s = refl
+pairs false r b s = refl
+
+and_assoc : (a b d : Bool) → (a && (b && d)) ≡ ((a && b) && d)
+and_assoc true b d = refl
+and_assoc false b d = refl
+
+all_hold-append : (x : Option Value) (atoms more : List Atom) → all_hold x (atoms ++ more) ≡ (all_hold x atoms && all_hold x more)
+all_hold-append x [] more = refl
+all_hold-append x (a ∷ atoms) more = ap (λ b. atom_holds x a && b) (all_hold-append x atoms more) ∙ and_assoc (atom_holds x a) (all_hold x atoms) (all_hold x more)
+
+rest_holds-all_left : (fs : Forms) (x : Option Value) → every_form fs x ≡ rest_holds (all_left fs) x
+rest_holds-all_left no_forms x = refl
+rest_holds-all_left (form f fs) x = refl
+
+rest_holds-within : (more : List (List ℕ)) (r : Option FormValue) (x : Option Value) → rest_holds r (option_and_then (part_of more) x) ≡ rest_holds (option_map (within more) r) x
+rest_holds-within more None x = refl
+rest_holds-within more (Some f) x = refl
+
+every_form-with_left : (r : Option FormValue) (fs : Forms) (x : Option Value) → (rest_holds r x && every_form fs x) ≡ every_form (with_left r fs) x
+every_form-with_left None fs x = refl
+every_form-with_left (Some f) fs x = refl
+
+-- of the part at the steps
+mutual
+  parted : (f : FormValue) (steps : List (List ℕ)) (x : Option Value)
+      → form_holds f (option_and_then (part_of steps) x) ≡ (all_hold x (form_atoms f steps) && rest_holds (rest_of f) (option_and_then (part_of steps) x))
+  parted (all_of fs) steps x = all_parted fs steps x ∙ ap (λ b. all_hold x (forms_atoms fs steps) && b) (rest_holds-all_left (rests_of fs) (option_and_then (part_of steps) x))
+  parted (any_of fs) steps x = refl
+  parted (within more f) steps x =
+      sym (ap (form_holds f) (part_of-append steps more x)) ∙ parted f (steps ++ more) x
+      ∙ ap (λ b. all_hold x (form_atoms f (steps ++ more)) && b)
+      (ap (rest_holds (rest_of f)) (part_of-append steps more x) ∙ rest_holds-within more (rest_of f) (option_and_then (part_of steps) x))
+  parted (asked o sense) steps x = and_true (operator_holds o sense (option_and_then (part_of steps) x))
+
+  all_parted : (fs : Forms) (steps : List (List ℕ)) (x : Option Value)
+      → every_form fs (option_and_then (part_of steps) x) ≡ (all_hold x (forms_atoms fs steps) && every_form (rests_of fs) (option_and_then (part_of steps) x))
+  all_parted no_forms steps x = refl
+  all_parted (form f fs) steps x =
+      let y = option_and_then (part_of steps) x in
+      ap₂ ◌&&◌ (parted f steps x) (all_parted fs steps x)
+      ∙ pairs (all_hold x (form_atoms f steps)) (rest_holds (rest_of f) y) (all_hold x (forms_atoms fs steps)) (every_form (rests_of fs) y)
+      ∙ ap₂ ◌&&◌ (sym (all_hold-append x (form_atoms f steps) (forms_atoms fs steps))) (every_form-with_left (rest_of f) (rests_of fs) y)
+
+parted_whole : (f : FormValue) (x : Option Value) → form_holds f x ≡ (all_hold x (form_atoms f []) && rest_holds (rest_of f) x)
+parted_whole f None = parted f [] None
+parted_whole f (Some v) = parted f [] (Some v)
+
+-- atoms and the rest of a form that says what a selector does hold where the selector does
+pub normal_meaning : (s : Selector) (f : FormValue) (atoms : List Atom) (rest : Option FormValue) → Says (holds_in s Plain) (atoms_in s Plain) f
+    → atoms ≡ form_atoms f [] → rest ≡ rest_of f → (x : Option Value) → (all_hold x atoms && rest_holds rest x) ≡ holds_in s Plain x
+normal_meaning s f atoms rest says a r x = ap₂ (λ ys q. all_hold x ys && rest_holds q x) a r ∙ sym (parted_whole f x) ∙ says.0 x

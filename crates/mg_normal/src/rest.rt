@@ -1,0 +1,119 @@
+ghost use Rattle.std.specs.Prelude.{◌≡◌, ◌++◌, IfOk, OnOk, map, option_map, string_bytes};
+ghost use Rattle.mg_normal.specs.Form.{within};
+ghost use Rattle.mg_normal.specs.Stands.{form_atoms, forms_atoms, rest_of, rests_of};
+ghost use Rattle.mg_normal.specs.View.{form_of, forms_view, atoms_view};
+
+use crate::atom::Atom;
+use crate::form::Form;
+use mg_path::Path;
+use mg_selector::Sense;
+use mg_value::NoMemory;
+use std::alloc::Global;
+
+// Moves the operators that the form asks under no choice into atoms, on the part at the steps, and
+// gives what else the form asks, if anything. The steps are lent: they are as they were at the end.
+// Where it fails, some of the atoms may be there, and some of the steps.
+#[cycle(take_atoms)]
+pub(crate) fn take_atoms(
+    alloc: Global,
+    form: Form,
+    steps: &mut Vec<String>,
+    atoms: &mut Vec<Atom>,
+) -> Result<Option<Form>, NoMemory>
+    ensures atoms { OnOk result (atoms_view atoms.new.items ≡ atoms_view atoms.old.items
+        ++ form_atoms (form_of form) (map string_bytes steps.old.items)) }
+    ensures steps { OnOk result
+        (map string_bytes steps.new.items ≡ map string_bytes steps.old.items) }
+    ensures rest { IfOk result (λ rest. option_map form_of rest ≡ rest_of (form_of form)) }
+{
+    match form {
+        Form::All(forms) => {
+            let rest = take_all(alloc, forms, steps, atoms)?;
+            if rest.is_empty() {
+                return Ok(None);
+            }
+            Ok(Some(Form::All(rest)))
+        }
+        Form::Any(forms) => Ok(Some(Form::Any(forms))),
+        Form::At(path, inner) => take_below(alloc, path, *inner, steps, atoms),
+        Form::Ask(op, sense) => {
+            atoms.push(Atom {
+                steps: copied(alloc, steps)?,
+                op,
+                negated: sense == Sense::Negated,
+            })?;
+            Ok(None)
+        }
+    }
+}
+
+// What is left of the forms, without those of which nothing is.
+#[cycle(take_atoms)]
+fn take_all(
+    alloc: Global,
+    forms: Vec<Form>,
+    steps: &mut Vec<String>,
+    atoms: &mut Vec<Atom>,
+) -> Result<Vec<Form>, NoMemory>
+    ensures atoms { OnOk result (atoms_view atoms.new.items ≡ atoms_view atoms.old.items
+        ++ forms_atoms (forms_view forms.items) (map string_bytes steps.old.items)) }
+    ensures steps { OnOk result
+        (map string_bytes steps.new.items ≡ map string_bytes steps.old.items) }
+    ensures rest { IfOk result
+        (λ rest. forms_view rest.items ≡ rests_of (forms_view forms.items)) }
+{
+    let mut rest = Vec::new(alloc);
+    for form in forms {
+        if let Some(left) = take_atoms(alloc, form, steps, atoms)? {
+            rest.push(left)?;
+        }
+    }
+    Ok(rest)
+}
+
+// The same of the form on the part at the path.
+#[cycle(take_atoms)]
+fn take_below(
+    alloc: Global,
+    path: Path,
+    inner: Form,
+    steps: &mut Vec<String>,
+    atoms: &mut Vec<Atom>,
+) -> Result<Option<Form>, NoMemory>
+    ensures atoms { OnOk result (atoms_view atoms.new.items ≡ atoms_view atoms.old.items
+        ++ form_atoms (form_of inner) (map string_bytes steps.old.items ++ path)) }
+    ensures steps { OnOk result
+        (map string_bytes steps.new.items ≡ map string_bytes steps.old.items) }
+    ensures rest { IfOk result (λ rest. option_map form_of rest
+        ≡ option_map (within path) (rest_of (form_of inner))) }
+{
+    let above = steps.len();
+    extend(steps, path.steps())?;
+    let rest = take_atoms(alloc, inner, steps, atoms)?;
+    steps.truncate(above);
+    let Some(rest) = rest else {
+        return Ok(None);
+    };
+    Ok(Some(Form::At(path, Box::new(alloc, rest)?)))
+}
+
+// Adds copies of more steps. Where it fails, some of them may be there.
+fn extend(steps: &mut Vec<String>, more: &[String]) -> Result<(), NoMemory>
+    ensures { OnOk result (map string_bytes steps.new.items
+        ≡ map string_bytes steps.old.items ++ map string_bytes more.now) }
+{
+    for step in more {
+        steps.push(step.clone()?)?;
+    }
+    Ok(())
+}
+
+fn copied(alloc: Global, steps: &[String]) -> Result<Vec<String>, NoMemory>
+    ensures { IfOk result (λ copies. map string_bytes copies.items ≡ map string_bytes steps.now) }
+{
+    let mut copies = Vec::with_capacity(alloc, steps.len())?;
+    for step in steps {
+        copies.push(step.clone()?)?;
+    }
+    Ok(copies)
+}
