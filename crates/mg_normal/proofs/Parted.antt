@@ -1,5 +1,5 @@
 -- A form holds where its atoms and what else it asks do.
-use Rattle.std.proofs.Common.{◌≡◌, ℕ, Bool, true, false, ◌&&◌, ◌||◌, List, [], ◌∷◌, ◌++◌, Option, Some, None, option_and_then, option_map, refl, ap, ap₂, sym, ◌∙◌}
+use Rattle.std.proofs.Common.{◌≡◌, ℕ, Bool, true, false, ◌&&◌, ◌||◌, List, [], ◌∷◌, ◌++◌, length, take, map, String, Global, string_bytes, Option, Some, None, option_and_then, option_map, refl, ap, ap₂, sym, ◌∙◌}
 use Rattle.std.specs.List.{list_all}
 use Rattle.mg_value.specs.Value.{Value}
 use Rattle.mg_path.specs.Part.{part_of}
@@ -26,6 +26,23 @@ forms_before-all (f ∷ fs) = ap (form (form_of f)) (forms_before-all fs)
 pub forms_before-push : (fs : List Form) (f : Form) (rest : Forms) → forms_before fs (form (form_of f) rest) ≡ forms_before (fs ++ f ∷ []) rest
 forms_before-push [] f rest = refl
 forms_before-push (g ∷ fs) f rest = ap (form (form_of g)) (forms_before-push fs f rest)
+
+-- one more form of which something is left
+pub one_left : (rest : List Form) (left : Form) (f : FormValue) (rs : Forms) → Some (form_of left) ≡ rest_of f → forms_before rest (with_left (rest_of f) rs) ≡ forms_before (rest ++ left ∷ []) rs
+one_left rest left f rs e = ap (λ r. forms_before rest (with_left r rs)) (sym e) ∙ forms_before-push rest left rs
+
+pub all_left-some : (fs : List Form) → (length fs ≡ 0 → ⊥) → all_left (forms_view fs) ≡ Some (all_of (forms_view fs))
+all_left-some [] some = absurd (some refl)
+all_left-some (f ∷ fs) some = refl
+
+-- the first steps are those that were there
+pub truncated : (steps olds : List (String Global)) (more : List (List ℕ)) → map string_bytes steps ≡ map string_bytes olds ++ more → map string_bytes (take (length olds) steps) ≡ map string_bytes olds
+truncated steps [] more e = refl
+truncated [] (o ∷ olds) more e = absurd cc
+truncated (s ∷ steps) (o ∷ olds) more e =
+    let first : string_bytes s ≡ string_bytes o = cc in
+    let others : map string_bytes steps ≡ map string_bytes olds ++ more = cc in
+    ap₂ ◌∷◌ first (truncated steps olds more others)
 
 and_true : (b : Bool) → b ≡ ((b && true) && true)
 and_true true = refl

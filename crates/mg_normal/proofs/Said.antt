@@ -51,7 +51,7 @@ atoms_said (arm s ss) sense no_forms h steps = absurd h
 atoms_said (arm s ss) sense (form f fs) h steps = ap₂ ◌++◌ (h.0.1 steps) (atoms_said ss sense fs h.1 steps)
 
 -- one level of the view
-form_of-All : (forms : Vec Form Global) → form_of (made.All forms) ≡ all_of (forms_view forms.items)
+pub form_of-All : (forms : Vec Form Global) → form_of (made.All forms) ≡ all_of (forms_view forms.items)
 form_of-All forms = search (rules, the_lemmas)
 
 form_of-Any : (forms : Vec Form Global) → form_of (made.Any forms) ≡ any_of (forms_view forms.items)

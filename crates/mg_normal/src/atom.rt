@@ -42,3 +42,13 @@ fn sense_of(negated: bool) -> Sense
 {
     if negated { Sense::Negated } else { Sense::Plain }
 }
+
+// Whether the sense is the negated one, as an atom marks it.
+pub(crate) fn is_negated(sense: Sense) -> bool
+    ensures { sense_of result ≡ sense }
+{
+    match sense {
+        Sense::Plain => false,
+        Sense::Negated => true,
+    }
+}

@@ -3,10 +3,9 @@ ghost use Rattle.mg_normal.specs.Form.{within};
 ghost use Rattle.mg_normal.specs.Stands.{form_atoms, forms_atoms, rest_of, rests_of};
 ghost use Rattle.mg_normal.specs.View.{form_of, forms_view, atoms_view};
 
-use crate::atom::Atom;
+use crate::atom::{Atom, is_negated};
 use crate::form::Form;
 use mg_path::Path;
-use mg_selector::Sense;
 use mg_value::NoMemory;
 use std::alloc::Global;
 
@@ -35,12 +34,12 @@ pub(crate) fn take_atoms(
             Ok(Some(Form::All(rest)))
         }
         Form::Any(forms) => Ok(Some(Form::Any(forms))),
-        Form::At(path, inner) => take_below(alloc, path, *inner, steps, atoms),
+        Form::At(path, inner) => take_below(alloc, path, Box::into_inner(inner), steps, atoms),
         Form::Ask(op, sense) => {
             atoms.push(Atom {
                 steps: copied(alloc, steps)?,
                 op,
-                negated: sense == Sense::Negated,
+                negated: is_negated(sense),
             })?;
             Ok(None)
         }
