@@ -1,3 +1,3 @@
 mod Places
-pub mod Pieces
+mod Cutting
 mod Members

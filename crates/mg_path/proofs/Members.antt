@@ -13,7 +13,7 @@ use Rattle.mg_value.specs.View.{view, members_view}
 use Rattle.mg_value.specs.declared.value.Json.{Json}
 use Rattle.mg_value.proofs.Views.{Entry, members_view-insert_entry}
 use Rattle.mg_value.proofs.Lookup.{view-lookup}
-use Rattle.mg_path.specs.Part.{placed, with_member}
+use Rattle.mg_path.specs.Part.{placed}
 
 -- the test of a name
 abbrev pub at_name : List ℕ → String Global → Bool
@@ -54,14 +54,15 @@ there-none name es is = ap (λ o. unwrap_or o (value.object value.no_members)) (
 -- the part is placed in what stands at the name
 pub placed-there : (name : List ℕ) (deeper : List (List ℕ)) (part : Value) (es after : List Entry) (old new : Json)
     → view new ≡ placed deeper part (view old) → IsStrictlySortedBy string_cmp (keys_of es) → lookup (at_name name) es ≡ Some old → after ≡ set_value (at_name name) es new
-    → members_view after ≡ with_member name deeper part (members_view es)
+    → value.object (members_view after) ≡ placed (name ∷ deeper) part (value.object (members_view es))
 placed-there name deeper part es after old new h sorted is e =
-    ap members_view e ∙ set_value-put name es old new sorted is ∙ ap (λ v. put name v (members_view es)) (h ∙ ap (placed deeper part) (sym (there-some name es old is)))
+    ap value.object (ap members_view e ∙ set_value-put name es old new sorted is ∙ ap (λ v. put name v (members_view es)) (h ∙ ap (placed deeper part) (sym (there-some name es old is))))
 
 -- the part is placed where nothing stands
 pub placed-new : (name : List ℕ) (deeper : List (List ℕ)) (part : Value) (es after : List Entry) (key : String Global) (new : Json)
     → view new ≡ placed deeper part (value.object value.no_members) → lookup (at_name name) es ≡ None → string_bytes key ≡ name → after ≡ insert_entry string_cmp es key new
-    → members_view after ≡ with_member name deeper part (members_view es)
+    → value.object (members_view after) ≡ placed (name ∷ deeper) part (value.object (members_view es))
 placed-new name deeper part es after key new h is same e =
-    ap members_view e ∙ members_view-insert_entry es key new ∙ ap (λ k. put k (view new) (members_view es)) same
-    ∙ ap (λ v. put name v (members_view es)) (h ∙ ap (placed deeper part) (sym (there-none name es is)))
+    ap value.object
+    (ap members_view e ∙ members_view-insert_entry es key new ∙ ap (λ k. put k (view new) (members_view es)) same
+    ∙ ap (λ v. put name v (members_view es)) (h ∙ ap (placed deeper part) (sym (there-none name es is))))

@@ -1,11 +1,11 @@
 -- Paths and the parts of a value, after the field syntax of CouchDB's `_find`: a clause sees a `Path` as the list of
 -- its steps, and a step as its bytes.
-use Rattle.std.specs.Prelude.{ℕ, Bool, true, false, not, ◌&&◌, ◌==◌, if◌then◌else◌, List, [], ◌∷◌, Option, Some, None, option_and_then, slice_get}
+use Rattle.std.specs.Prelude.{ℕ, Bool, true, false, ◌&&◌, ◌==◌, if◌then◌else◌, List, [], ◌∷◌, Option, Some, None, option_and_then, slice_get}
 use Rattle.std.specs.List.{list_any, fold}
 use Rattle.std.specs.Option.{option_map_or, unwrap_or}
 use Rattle.std.specs.Str.{all_ascii_digits}
 use Rattle.std.specs.Str.Parse.{digits_value}
-use Rattle.mg_value.specs.Value.{Value, list, object, Members, no_members, put, get_member, item_list}
+use Rattle.mg_value.specs.Value.{Value, list, object, no_members, put, get_member, item_list}
 
 -- the character is a dot
 abbrev pub is_dot : ℕ → Bool
@@ -20,30 +20,20 @@ abbrev pub is_empty : List ℕ → Bool
 is_empty [] = true
 is_empty (c ∷ cs) = false
 
--- the text begins with a dot
-abbrev pub starts_with_dot : List ℕ → Bool
-starts_with_dot [] = false
-starts_with_dot (c ∷ cs) = is_dot c
-
--- the steps, with the character before those of the first
+-- the pieces, with one more character before those of the first
 abbrev pub before_first_step : ℕ → List (List ℕ) → List (List ℕ)
 before_first_step c [] = (c ∷ []) ∷ []
 before_first_step c (step ∷ steps) = (c ∷ step) ∷ steps
 
--- one character, with the pieces that come after it. A dot that is not escaped cuts, a backslash right before a dot is
--- dropped, and all else stands for itself.
-abbrev pub with_character : Bool → Bool → ℕ → List (List ℕ) → List (List ℕ)
-with_character escaped before_dot c pieces =
-    if is_dot c && not escaped then [] ∷ pieces else if is_backslash c && before_dot then pieces else before_first_step c pieces
-
--- what stands between the dots of the rest of a text; `escaped` says whether a backslash stands right before that rest
-abbrev pub pieces_after : Bool → List ℕ → List (List ℕ)
-pieces_after escaped [] = [] ∷ []
-pieces_after escaped (c ∷ cs) = with_character escaped (starts_with_dot cs) c (pieces_after (is_backslash c) cs)
-
--- what stands between the dots of a text, empty pieces too
+-- what stands between the dots of a text, empty pieces too: a dot cuts, a backslash with a dot right after it is that
+-- dot, and all else is itself
 abbrev pub pieces_of : List ℕ → List (List ℕ)
-pieces_of t = pieces_after false t
+pieces_of [] = [] ∷ []
+pieces_of (c ∷ []) = if is_dot c then [] ∷ [] ∷ [] else (c ∷ []) ∷ []
+pieces_of (c ∷ d ∷ cs) =
+    if is_dot c then [] ∷ pieces_of (d ∷ cs)
+    else if is_backslash c && is_dot d then before_first_step d (pieces_of cs)
+    else before_first_step c (pieces_of (d ∷ cs))
 
 -- the steps of a text: its pieces, none of which may be empty
 abbrev pub steps_of : List ℕ → Option (List (List ℕ))
@@ -75,10 +65,6 @@ abbrev pub placed : List (List ℕ) → Value → Value → Value
 placed [] part v = part
 placed (step ∷ steps) part (object ms) = object (put step (placed steps part (unwrap_or (get_member step ms) (object no_members))) ms)
 placed (step ∷ steps) part v = v
-
--- the members with the part under the name and the steps below it
-abbrev pub with_member : List ℕ → List (List ℕ) → Value → Members → Members
-with_member name steps part ms = put name (placed steps part (unwrap_or (get_member name ms) (object no_members))) ms
 
 -- what is projected so far, with the part at one more path, where it is there
 abbrev pub with_part : Value → Value → List (List ℕ) → Value

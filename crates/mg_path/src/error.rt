@@ -1,3 +1,4 @@
+use mg_value::NoMemory;
 use std::alloc::{AllocError, AllocFailed};
 use thiserror::Error;
 
@@ -30,6 +31,17 @@ impl<T: Drop> From<AllocFailed<T>> for PathError {
     ghost from_gives = { λ _ error. error ≡ refused };
 
     fn from(_refused: AllocFailed<T>) -> PathError {
+        PathError::NoMemory
+    }
+}
+
+impl From<NoMemory> for PathError {
+    ghost use Rattle.std.specs.Prelude.{◌≡◌};
+    ghost use Rattle.mg_path.specs.declared.error.PathError.TheVariants.{NoMemory as refused};
+
+    ghost from_gives = { λ _ error. error ≡ refused };
+
+    fn from(_refused: NoMemory) -> PathError {
         PathError::NoMemory
     }
 }

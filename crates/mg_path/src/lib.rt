@@ -4,6 +4,7 @@
 mod error;
 mod part;
 mod path;
+mod pieces;
 mod projection;
 
 pub use error::PathError;

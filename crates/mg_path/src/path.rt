@@ -1,10 +1,11 @@
-ghost use Rattle.std.specs.Prelude.{◌≡◌, ℕ, List, map, string_bytes, Some, None, Err, IfOk, option_map};
+ghost use Rattle.std.specs.Prelude.{◌≡◌, ◌↔◌, ℕ, List, map, string_bytes, Some, None, Err, IfOk, option_map};
 ghost use Rattle.std.specs.Coded.{coded_ℕ, coded_list};
 ghost use Rattle.mg_value.specs.View.{view as json_view};
 ghost use Rattle.mg_path.specs.Part.{steps_of, part_of};
 
 use crate::error::PathError;
 use crate::part::part_of;
+use crate::pieces::{has_empty_piece, pieces};
 use mg_value::{Json, NoMemory};
 use std::alloc::Global;
 use std::marker::Model;
@@ -45,32 +46,19 @@ impl Path {
     /// Reads a text such as `a.b.0`: steps between dots. `\.` is a dot within a step; any other
     /// backslash stands for itself.
     ///
-    /// Errors: `Empty` where a step is empty, `NoMemory` where a growth is refused.
+    /// Errors: `Empty` exactly where a step is empty, which is found before memory is taken;
+    /// `NoMemory` where a growth is refused.
     /// Cost: the length of the text. Source: the field syntax of CouchDB's `_find`.
     pub fn parse(alloc: Global, text: &str) -> Result<Path, PathError>
         ensures ok { IfOk result (λ path. steps_of text.now ≡ Some path) }
-        ensures empty { result ≡ Err PathError.Empty → steps_of text.now ≡ None }
+        ensures empty { (result ≡ Err PathError.Empty) ↔ (steps_of text.now ≡ None) }
     {
-        let mut steps = Vec::new(alloc);
-        let mut step = String::new(alloc);
-        for letter in text.chars() {
-            if letter != '.' {
-                step.push(letter)?;
-            } else if step.ends_with('\\') {
-                step.pop();
-                step.push('.')?;
-            } else if step.is_empty() {
-                return Err(PathError::Empty);
-            } else {
-                steps.push(step)?;
-                step = String::new(alloc);
-            }
-        }
-        if step.is_empty() {
+        if has_empty_piece(text) {
             return Err(PathError::Empty);
         }
-        steps.push(step)?;
-        Ok(Path { steps })
+        Ok(Path {
+            steps: pieces(alloc, text)?,
+        })
     }
 
     /// The steps, in order.

@@ -1,6 +1,7 @@
-ghost use Rattle.std.specs.Prelude.{◌≡◌, IfOk, map, string_bytes};
+ghost use Rattle.std.specs.Prelude.{◌≡◌, ◌∷◌, IfOk, map, string_bytes};
+ghost use Rattle.mg_value.specs.Value.{object};
 ghost use Rattle.mg_value.specs.View.{view, members_view};
-ghost use Rattle.mg_path.specs.Part.{placed, with_member, projection_of};
+ghost use Rattle.mg_path.specs.Part.{placed, projection_of};
 
 use crate::path::Path;
 use mg_value::{Json, NoMemory};
@@ -17,7 +18,7 @@ use std::mem;
 pub fn project(alloc: Global, value: &Json, paths: &[Path]) -> Result<Json, NoMemory>
     ensures { IfOk result (λ projected. view projected ≡ projection_of paths.now (view value.now)) }
 {
-    let mut projected = Json::Object(BTreeMap::new(alloc));
+    let mut projected = Json::empty_object(alloc);
     for path in paths {
         if let Some(part) = path.get(value) {
             let part = part.copy(alloc)?;
@@ -27,7 +28,7 @@ pub fn project(alloc: Global, value: &Json, paths: &[Path]) -> Result<Json, NoMe
     Ok(projected)
 }
 
-/// The value with the part under the steps.
+// The value with the part under the steps.
 #[cycle(place)]
 fn place(alloc: Global, value: Json, steps: &[String], part: Json) -> Result<Json, NoMemory>
     ensures { IfOk result (λ filled. view filled
@@ -52,16 +53,16 @@ fn place_member(
     deeper: &[String],
     part: Json,
 ) -> Result<BTreeMap<String, Json>, NoMemory>
-    ensures { IfOk result (λ filled. members_view filled.entries
-        ≡ with_member (string_bytes name.now) (map string_bytes deeper.now) (view part)
-        (members_view members.entries)) }
+    ensures { IfOk result (λ filled. object (members_view filled.entries)
+        ≡ placed (string_bytes name.now ∷ map string_bytes deeper.now) (view part)
+        (object (members_view members.entries))) }
 {
     if let Some(there) = members.get_mut(name.as_str()) {
         let filled = place(alloc, mem::replace(there, Json::Null), deeper, part)?;
         drop(mem::replace(there, filled));
         return Ok(members);
     }
-    let filled = place(alloc, Json::Object(BTreeMap::new(alloc)), deeper, part)?;
+    let filled = place(alloc, Json::empty_object(alloc), deeper, part)?;
     drop(members.insert(name.clone()?, filled)?);
     Ok(members)
 }

@@ -19,7 +19,7 @@ place_member-returns-in-Some t c =
 pub place_member-returns : goal.place_member-returns
 place_member-returns t c =
     placed-new (string_bytes c.args.name.now) (map string_bytes c.args.deeper.now) (view c.args.part) c.args.members.entries c.insert.new.self.entries c.in_ok-clone.field-0 c.in_ok-filled-2.filled
-    (c.in_ok-filled-2.ensures ∙ ap (placed (map string_bytes c.args.deeper.now) (view c.args.part)) (view-Object c.new.result ∙ ap (λ es. value.object (members_view es)) c.new.ensures.empty))
+    (c.in_ok-filled-2.ensures ∙ ap (placed (map string_bytes c.args.deeper.now) (view c.args.part)) c.empty_object.ensures)
     (ap (λ name. lookup (at_name name) c.args.members.entries) (sym c.as_str.ensures.value) ∙ sym c.in_default.ensures.value)
     c.in_ok-clone.ensures.cases
     (c.in_ok-insert.ensures.entries ∙ ap (λ members. insert_entry string_cmp members.entries c.in_ok-clone.field-0 c.in_ok-filled-2.filled) c.get_mut.follows.holds-at-none)

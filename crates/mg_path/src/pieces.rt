@@ -1,0 +1,48 @@
+//! What stands between the dots of a text.
+ghost use Rattle.std.specs.Prelude.{◌≡◌, map, string_bytes, IfOk};
+ghost use Rattle.std.specs.List.{list_any};
+ghost use Rattle.mg_path.specs.Part.{pieces_of, is_empty};
+
+use mg_value::NoMemory;
+use std::alloc::Global;
+
+// Whether a piece is empty. Takes no memory.
+pub(crate) fn has_empty_piece(text: &str) -> bool
+    ensures { result ≡ list_any is_empty (pieces_of text.now) }
+{
+    let bytes = text.as_bytes();
+    let mut is_empty = true;
+    let mut escaped = false;
+    for byte in bytes {
+        if *byte != b'.' || escaped {
+            is_empty = false;
+            escaped = *byte == b'\\';
+        } else if is_empty {
+            return true;
+        } else {
+            is_empty = true;
+        }
+    }
+    is_empty
+}
+
+// The pieces, empty ones too.
+pub(crate) fn pieces(alloc: Global, text: &str) -> Result<Vec<String>, NoMemory>
+    ensures { IfOk result (λ pieces. map string_bytes pieces.items ≡ pieces_of text.now) }
+{
+    let mut pieces = Vec::new(alloc);
+    let mut piece = String::new(alloc);
+    for letter in text.chars() {
+        if letter != '.' {
+            piece.push(letter)?;
+        } else if piece.ends_with('\\') {
+            piece.pop();
+            piece.push('.')?;
+        } else {
+            pieces.push(piece)?;
+            piece = String::new(alloc);
+        }
+    }
+    pieces.push(piece)?;
+    Ok(pieces)
+}
