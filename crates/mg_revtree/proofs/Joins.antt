@@ -1,9 +1,9 @@
 -- What the links of a history say after one more.
-use Rattle.std.proofs.Common.{◌≡◌, true, false, ◌||◌, Option, Some, None, List, [], ◌∷◌, ◌++◌, inl, inr, refl, ap, sym, ◌∙◌, append_assoc}
+use Rattle.std.proofs.Common.{◌≡◌, true, false, ◌||◌, ◌&&◌, Option, Some, None, List, [], ◌∷◌, ◌++◌, inl, inr, refl, ap, sym, ◌∙◌, append_assoc}
 use Rattle.mg_revtree.specs.Revision.{Revision, same_revision}
-use Rattle.mg_revtree.specs.History.{Link, History, agrees, is_known, parent_of, has_child, is_at, links, all_links, or_else}
+use Rattle.mg_revtree.specs.History.{Link, History, agrees, gives, is_known, parent_of, has_child, is_at, links, all_links, or_else}
 use Rattle.mg_revtree.specs.Tree.{node}
-use Rattle.mg_revtree.specs.Steps.{agrees_found, put}
+use Rattle.mg_revtree.specs.Steps.{agrees_found, held_found, put}
 use Rattle.mg_revtree.proofs.Same.{two, same_is}
 
 pub known-append : (r : Revision) (ls ms : List Link) → is_known r (ls ++ ms) ≡ is_known r ls || is_known r ms
@@ -63,4 +63,11 @@ pub agrees_node : (r : Revision) (ls : List Link) (q : Option Revision) → agre
 agrees_node r ls q = elim (two (is_known r ls)) [
   | inl k ↦ rw k refl
   | inr k ↦ rw (k, unknown_parent r ls k) refl
+]
+
+-- a kept node is held where the known revision is
+pub held_node : (r : Revision) (ls : List Link) (q : Option Revision) → held_found (node r ls) q ≡ is_known r ls && gives (parent_of r ls) q
+held_node r ls q = elim (two (is_known r ls)) [
+  | inl k ↦ rw k refl
+  | inr k ↦ rw k refl
 ]

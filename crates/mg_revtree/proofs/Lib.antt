@@ -4,6 +4,7 @@ pub mod Runs
 pub mod Find
 pub mod Joins
 pub mod Texts
+pub mod Rooms
 pub mod Leaves
 pub mod Ranks
 pub mod Winners

@@ -1,11 +1,11 @@
 -- Runs of revisions.
-use Rattle.std.proofs.Common.{◌≡◌, ◌∙◌, Bor, MatchOption, option_copied, option_map, Option, drop, nat_cmp, is_eq, subst, ℕ, ◌+◌, ◌<◌, ◌≤◌, ◌-◌, ◌||◌, inl, inr, ap, sym, Bool, true, false, Some, None, List, [], ◌∷◌, zero, suc, nat_lt, nat_le, length, get_or, map, refl, arith}
+use Rattle.std.proofs.Common.{◌≡◌, ◌∙◌, Bor, MatchOption, option_copied, option_map, Option, drop, nat_cmp, is_eq, subst, ℕ, ◌+◌, ◌<◌, ◌≤◌, ◌-◌, ◌||◌, ◌&&◌, inl, inr, ap, sym, Bool, true, false, Some, None, List, [], ◌∷◌, zero, suc, nat_lt, nat_le, length, get_or, map, refl, arith}
 use Rattle.std.specs.List.{list_all, HoldsAt}
 use Rattle.std.specs.Cmp.Lexicographic.{slice_cmp}
 use Rattle.std.proofs.lemmas.List.{drop_more, drop_all, get_or-map}
 use Rattle.std.proofs.lemmas.Bool.Decides.{nat_tests}
 use Rattle.mg_revtree.specs.Revision.{Revision, is_revision_id, run_from, run_of, same_revision}
-use Rattle.mg_revtree.specs.History.{Link, is_at, agrees, fit, links, has_child, is_known, newest_of, parent_of}
+use Rattle.mg_revtree.specs.History.{Link, is_at, links, has_child, is_known, newest_of}
 use Rattle.mg_revtree.proofs.Same.{two, same_is, same_at}
 
 module _ {X : Type 0} (f : X → List ℕ) where
@@ -110,12 +110,13 @@ pub newest_got : {X : Type 0} (f : X → List ℕ) (n : ℕ) (xs : List X) (i : 
 newest_got f n xs i None le = rw (drop_all i xs le) refl
 newest_got f n xs i (Some x) h = rw (drop_more xs i x.now h.0) (ap (λ (s : List ℕ). (let q : Option Revision = Some (n, s) in q)) (ap f (h.1 x.now)))
 
--- a run fits where its newest revision does and the rest
-pub fit-next : {X : Type 0} (f : X → List ℕ) (ls : List Link) (n : ℕ) (xs : List X) (i : ℕ) (x : X) (o : Option Revision) → i < length xs → x ≡ get_or xs i x → o ≡ newest_of (run_from (n - 1) (map f (drop (i + 1) xs))) → agrees (parent_of (n, f x) ls) o ≡ true → fit ls (links (run_from n (map f (drop i xs)))) ≡ fit ls (links (run_from (n - 1) (map f (drop (i + 1) xs))))
-fit-next f ls n xs i x o lt is newest agreed =
+-- what is asked of each link of a run, where it holds of the first: asked of the rest
+pub all-next : {X : Type 0} (P : Link → Bool) (f : X → List ℕ) (n : ℕ) (xs : List X) (i : ℕ) (x : X) (o : Option Revision) → i < length xs → x ≡ get_or xs i x → o ≡ newest_of (run_from (n - 1) (map f (drop (i + 1) xs))) → (b : Bool) → P (record { rev = (n, f x); parent = o }) ≡ b → list_all P (links (run_from n (map f (drop i xs)))) ≡ b && list_all P (links (run_from (n - 1) (map f (drop (i + 1) xs))))
+all-next {X} P f n xs i x o lt is newest b holds =
     let rest = run_from (n - 1) (map f (drop (i + 1) xs)) in
-    let a : agrees (parent_of (n, f (get_or xs i x)) ls) (newest_of rest) ≡ true = subst (λ (z : _). agrees (parent_of (n, f z) ls) (newest_of rest) ≡ true) is (subst (λ (q : Option Revision). agrees (parent_of (n, f x) ls) q ≡ true) newest agreed) in
-    rw (drop_more xs i x lt, a) refl
+    let link = λ (s : List ℕ) (q : Option Revision). (let l : Link = record { rev = (n, s); parent = q } in l) in
+    let same : link (f (get_or xs i x)) (newest_of rest) ≡ link (f x) o = ap (λ (s : List ℕ). link s (newest_of rest)) (ap f (sym is)) ∙ ap (link (f x)) (sym newest) in
+    ap (λ (ys : List X). list_all P (links (run_from n (map f ys)))) (drop_more xs i x lt) ∙ ap (λ (c : Bool). c && list_all P (links rest)) (ap P same ∙ holds)
 
 -- the revision of a run at another's position tells whether that is a parent in it
 pub parent_found : {X : Type 0} (f : X → List ℕ) (n : ℕ) (xs : List X) (r : Revision) (j : ℕ) (x : X) → r.0 + j ≡ n → 0 < j → j < length xs → length xs ≤ n + 1 → x ≡ get_or xs j x → is_eq (slice_cmp nat_cmp r.1 (f x)) ≡ has_child r (links (run_from n (map f xs)))

@@ -129,48 +129,16 @@ module _ (t : List ℕ) where
       pub find-joined : (r : Revision) → find r (map (link_in t) (set ns i now)) ≡ put (link_in t given) r (find r (map (link_in t) ns))
       find-joined = rw (map-set (link_in t) ns i now) (find-set (link_in t given) (link_in t kept) (link_in t now) (map (link_in t) ns) i place kept_at now_is)
 
-  -- ---- a run joined, oldest first
-
-  newest_first : (n : ℕ) (ps : List Part) → option_map {U = Revision} (λ p. (n, part_of t p)) (first ps) ≡ newest_of (run_from n (map (part_of t) ps))
-  newest_first n [] = refl
-  newest_first n (p ∷ ps) = refl
-
-  pub nodes-before : (n : ℕ) (p : Part) (ps : List Part) (kept now ls : List Link) → length ps ≤ n → AreNodes kept (ls ++ links (run_from (n - 1) (map (part_of t) ps))) → ((r : Revision) → find r now ≡ put (link_in t (record { pos = n; id = p; parent = first ps })) r (find r kept)) → AreSorted now → AreNodes now (ls ++ links (run_from n (map (part_of t) (p ∷ ps))))
-  nodes-before n p ps kept now ls fits nodes puts sorted =
-      let ms = links (run_from (n - 1) (map (part_of t) ps)) in
-      let l : Link = record { rev = (n, part_of t p); parent = newest_of (run_from (n - 1) (map (part_of t) ps)) } in
-      let e : link_in t (record { pos = n; id = p; parent = first ps }) ≡ l = ap (λ o. (let x : Link = record { rev = (n, part_of t p); parent = o } in x)) (newest_first (n - 1) ps) in
-      record {
-        same = λ r. puts r ∙ ap (λ x. put x r (find r kept)) e ∙ ap (put l r) (nodes.same r) ∙ node-put-before r ls ms l (unknown_before n (part_of t p) (map (part_of t) ps) (omega (arith, length-map-of ps)));
-        sorted = sorted;
-      }
-    where
-      length-map-of : (qs : List Part) → length (map (part_of t) qs) ≡ length qs
-      length-map-of [] = refl
-      length-map-of (q ∷ qs) = rw (length-map-of qs) refl
-
-  -- the same, by places
-  pub nodes-step : (start at k : ℕ) (ps : List Part) (d : Part) (o : Option Part) (kept now ls : List Link) → k + 1 ≡ at → k < length ps → length ps ≤ start + 1 → o ≡ first (drop at ps) → AreNodes kept (ls ++ links (run_from (start - at) (map (part_of t) (drop at ps)))) → ((r : Revision) → find r now ≡ put (link_in t (record { pos = start - k; id = get_or ps k d; parent = o })) r (find r kept)) → AreSorted now → AreNodes now (ls ++ links (run_from (start - k) (map (part_of t) (drop k ps))))
-  nodes-step start at k ps d o kept now ls next lt fits newest nodes puts sorted =
-      let e : drop k ps ≡ get_or ps k d ∷ drop at ps = drop_more ps k d lt ∙ ap (λ i. get_or ps k d ∷ drop i ps) next in
-      let m : start - at ≡ start - k - 1 = omega arith in
-      rw e (
-      nodes-before (start - k) (get_or ps k d) (drop at ps) kept now ls (omega (arith, length-drop at ps))
-      (subst (λ (i : ℕ). AreNodes kept (ls ++ links (run_from i (map (part_of t) (drop at ps))))) m nodes)
-      (subst (λ (x : Option Part). (r : Revision) → find r now ≡ put (link_in t (record { pos = start - k; id = get_or ps k d; parent = x })) r (find r kept)) newest puts)
-      sorted
-      )
-
   -- ---- what a revision has been given
 
-  -- the node at a revision's place tells whether a parent is no other than the known one
-  pub agrees-at : {X : Type 0} (f : X → List ℕ) (pos : ℕ) (id : List ℕ) (ns : List Node) (i : ℕ) (d : Node) (o : Option X) (b : Bool) → i < length ns → IsPlace (pos, id) (map (link_in t) ns) i → b ≡ agrees (link_in t (get_or ns i d)).parent (option_map {U = Revision} (λ p. ((get_or ns i d).pos - 1, f p)) o) → b ≡ agrees_found (find (pos, id) (map (link_in t) ns)) (option_map {U = Revision} (λ p. (pos - 1, f p)) o)
-  agrees-at f pos id ns i d o b lt place h =
+  -- the node at a revision's place tells what the revision has been given
+  pub told-at : {X : Type 0} (F : Option Revision → Option Revision → Bool) (G : Option (Option Revision) → Option Revision → Bool) (same : (p q : Option Revision) → F p q ≡ G (Some p) q) (f : X → List ℕ) (pos : ℕ) (id : List ℕ) (ns : List Node) (i : ℕ) (d : Node) (o : Option X) (b : Bool) → i < length ns → IsPlace (pos, id) (map (link_in t) ns) i → b ≡ F (link_in t (get_or ns i d)).parent (option_map {U = Revision} (λ p. ((get_or ns i d).pos - 1, f p)) o) → b ≡ G (find (pos, id) (map (link_in t) ns)) (option_map {U = Revision} (λ p. (pos - 1, f p)) o)
+  told-at F G same f pos id ns i d o b lt place h =
       let x = get_or ns i d in
       let is : link_in t x ≡ get_or (map (link_in t) ns) i (link_in t x) = sym (get_or-map (link_in t) ns i d (link_in t x) lt) in
       let e : x.pos ≡ pos = ap (λ (r : Revision). r.0) (place_is (pos, id) (map (link_in t) ns) i (link_in t x) place is) in
       let g : find (pos, id) (map (link_in t) ns) ≡ Some (link_in t x).parent = place_find (pos, id) (map (link_in t) ns) i (link_in t x) place is in
-      h ∙ ap (λ (n : ℕ). agrees (link_in t x).parent (option_map {U = Revision} (λ p. (n - 1, f p)) o)) e ∙ ap (λ v. agrees_found v (option_map {U = Revision} (λ p. (pos - 1, f p)) o)) (sym g)
+      h ∙ ap (λ (n : ℕ). F (link_in t x).parent (option_map {U = Revision} (λ p. (n - 1, f p)) o)) e ∙ same (link_in t x).parent (option_map {U = Revision} (λ p. (pos - 1, f p)) o) ∙ ap (λ v. G v (option_map {U = Revision} (λ p. (pos - 1, f p)) o)) (sym g)
 
 -- ---- a text that grew
 

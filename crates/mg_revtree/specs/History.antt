@@ -1,6 +1,6 @@
 -- Revision histories, after the replication and conflict model of CouchDB: the paths that a document accepted, in order.
-use Rattle.std.specs.Prelude.{◌≡◌, List, [], ◌∷◌, ◌++◌, Bool, true, false, not, ◌||◌, if◌then◌else◌, Option, Some, None, option_and_then, option_map}
-use Rattle.std.specs.List.{filter_map}
+use Rattle.std.specs.Prelude.{◌≡◌, List, [], ◌∷◌, ◌++◌, Bool, true, false, not, ◌||◌, ◌&&◌, if◌then◌else◌, Option, Some, None, option_and_then, option_map}
+use Rattle.std.specs.List.{filter_map, list_all}
 use Rattle.std.specs.Ordering.{on, then_cmp, bool_cmp, is_lt}
 use Rattle.std.specs.declared.cmp.Ordering.{Ordering}
 use Rattle.mg_value.specs.Value.{Value}
@@ -124,9 +124,24 @@ agrees (Some p) (Some q) = same_revision p q
 
 -- whether links give no known revision another parent
 abbrev pub fit : List Link → List Link → Bool
-fit known [] = true
-fit known (l ∷ ls) = if agrees (parent_of l.rev known) l.parent then fit known ls else false
+fit known ls = list_all (λ l. agrees (parent_of l.rev known) l.parent) ls
 
 -- whether a path contradicts no parent that is known already
 abbrev pub fits : History → Path → Bool
 fits h p = fit (all_links h) (links p.revs)
+
+-- ---- when a path brings nothing
+
+-- whether a parent that is given, if one is, is the known one
+abbrev pub gives : Option Revision → Option Revision → Bool
+gives p None = true
+gives None (Some q) = false
+gives (Some p) (Some q) = same_revision p q
+
+-- whether links are known: each revision, with the parent that it is given
+abbrev pub are_held : List Link → List Link → Bool
+are_held known ls = list_all (λ l. is_known l.rev known && gives (parent_of l.rev known) l.parent) ls
+
+-- whether a path is known whole
+abbrev pub is_whole : History → Path → Bool
+is_whole h p = are_held (all_links h) (links p.revs)

@@ -5,3 +5,4 @@ pub mod Changes
 pub mod Nodes
 pub mod Steps
 pub mod Laws
+pub mod Room

@@ -3,7 +3,7 @@ use Rattle.std.specs.Prelude.{◌≡◌, ℕ, zero, suc, List, [], ◌∷◌, Bo
 use Rattle.std.specs.Ordering.{is_lt}
 use Rattle.std.specs.declared.cmp.Ordering.TheVariants.{Less}
 use Rattle.mg_revtree.specs.Revision.{Revision, revision_order, same_revision}
-use Rattle.mg_revtree.specs.History.{Link, Leaf, or_else, agrees, leaf_order}
+use Rattle.mg_revtree.specs.History.{Link, Leaf, or_else, agrees, gives, leaf_order}
 use Rattle.mg_revtree.specs.Tree.{IsBelow, leaf_in}
 
 -- what is kept of a revision after one more link of it
@@ -31,6 +31,11 @@ IsGap r (l ∷ ls) (suc i) = (revision_order l.rev r ≡ Less) × IsGap r ls i
 abbrev pub agrees_found : Option (Option Revision) → Option Revision → Bool
 agrees_found None q = true
 agrees_found (Some p) q = agrees p q
+
+-- whether a revision is kept, with the parent that it is given
+abbrev pub held_found : Option (Option Revision) → Option Revision → Bool
+held_found None q = false
+held_found (Some p) q = gives p q
 
 -- a leaf put before the first that is worse
 abbrev pub ranked : Leaf → List Leaf → List Leaf

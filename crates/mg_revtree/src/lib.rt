@@ -6,8 +6,11 @@ pub mod history;
 pub mod laws;
 pub mod leaf;
 mod links;
+mod lookup;
 mod node;
+mod parts;
 pub mod revision;
+mod room;
 pub mod tree;
 
 pub use error::{MergeError, Merged, NoMemory, RevError, TreeError};

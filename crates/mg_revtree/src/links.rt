@@ -1,128 +1,15 @@
-ghost use Rattle.std.specs.Prelude.{◌≡◌, ◌+◌, ◌-◌, ◌<◌, ◌≤◌, ◌++◌, ℕ, List, [], IfErr, IfOk, OnErr, OnOk, is_some, length, map, option_copied, option_map, string_bytes, vec_capacity, vec_len};
-ghost use Rattle.mg_revtree.specs.Revision.{Revision, run_from};
-ghost use Rattle.mg_revtree.specs.History.{Link, fit, links};
+ghost use Rattle.std.specs.Prelude.{◌≡◌, ◌+◌, ◌≤◌, ◌++◌, List, [], IfOk, OnErr, OnOk, is_some, length, map, string_bytes};
+ghost use Rattle.mg_revtree.specs.Revision.{run_from};
+ghost use Rattle.mg_revtree.specs.History.{Link, are_held, fit, links};
 ghost use Rattle.mg_revtree.specs.Tree.{AreNodes, AreSorted, find};
-ghost use Rattle.mg_revtree.specs.Nodes.{AreWithin, Grows, IsWithin, PartsWithin, NodeWithin, link_in, links_in, part_of};
-ghost use Rattle.mg_revtree.specs.Steps.{IsGap, IsPlace, agrees_found, put};
 
 use crate::error::NoMemory;
-use crate::node::{Node, Part};
+use crate::lookup::{all_agree, all_held, place};
+use crate::node::Node;
+use crate::parts::parts_for;
+use crate::room::join_all;
 use std::alloc::Global;
 use std::marker::Model;
-
-// Where a revision is, or where it would go.
-fn place(texts: &[u8], nodes: &[Node], pos: u32, id: &[u8]) -> Result<usize, usize>
-    ensures found { IfOk result (λ i. (i < length nodes.now) × (AreSorted (links_in texts.now nodes.now) → IsPlace (pos, id.now) (links_in texts.now nodes.now) i)) }
-    ensures absent { IfErr result (λ i. (i ≤ length nodes.now) × (AreSorted (links_in texts.now nodes.now) → IsGap (pos, id.now) (links_in texts.now nodes.now) i)) }
-{
-    nodes.binary_search_by(|node| node.order(texts, pos, id))
-}
-
-// Whether a parent that a revision is given is no other than its known one.
-fn agrees(texts: &[u8], nodes: &[Node], pos: u32, id: &String, parent: Option<&String>) -> bool
-    ensures { AreSorted (links_in texts.now nodes.now) → result ≡ agrees_found (find (pos, string_bytes id.now) (links_in texts.now nodes.now)) (option_map (λ p. (pos - 1, string_bytes p)) (option_copied parent.entry)) }
-{
-    match place(texts, nodes, pos, id.as_bytes()) {
-        Ok(at) => nodes[at].agrees(texts, parent),
-        Err(_) => true,
-    }
-}
-
-// Whether all parents that a run gives are no others than the known ones.
-fn all_agree(texts: &[u8], nodes: &[Node], start: u32, ids: &[String]) -> bool
-    ensures { (ls : List Link) → AreNodes (links_in texts.now nodes.now) ls → result ≡ fit ls (links (run_from start (map string_bytes ids.now))) }
-{
-    let mut pos = start;
-    for (i, id) in ids.iter().enumerate() {
-        if !agrees(texts, nodes, pos, id, ids.get(i + 1)) {
-            return false;
-        }
-        pos = pos.saturating_sub(1);
-    }
-    true
-}
-
-// Adds an id to the texts.
-fn add(texts: &mut Vec<u8>, id: &[u8]) -> Result<Part, NoMemory>
-    ensures grows { Grows texts.old.items texts.new.items }
-    ensures part { IfOk result (λ p. IsWithin (length texts.new.items) p × (part_of texts.new.items p ≡ id.now)) }
-{
-    let Ok(from) = u32::try_from(texts.len()) else {
-        return Err(NoMemory);
-    };
-    let Ok(len) = u32::try_from(id.len()) else {
-        return Err(NoMemory);
-    };
-    texts.extend_from_slice(id)?;
-    Ok(Part { from, len })
-}
-
-// The part of an id, which is added where the revision is unknown.
-fn part_for(texts: &mut Vec<u8>, nodes: &[Node], pos: u32, id: &String) -> Result<Part, NoMemory>
-    ensures grows { Grows texts.old.items texts.new.items }
-    ensures within { IfOk result (λ p. AreWithin (length texts.old.items) nodes.now → IsWithin (length texts.new.items) p) }
-    ensures part { IfOk result (λ p. AreSorted (links_in texts.old.items nodes.now) → part_of texts.new.items p ≡ string_bytes id.now) }
-{
-    match place(texts, nodes, pos, id.as_bytes()) {
-        Ok(at) => Ok(nodes[at].id),
-        Err(_) => add(texts, id.as_bytes()),
-    }
-}
-
-// The parts of a run's ids. Those of unknown revisions are added.
-fn parts_for(
-    texts: &mut Vec<u8>,
-    nodes: &[Node],
-    start: u32,
-    ids: &[String],
-) -> Result<Vec<Part>, NoMemory>
-    ensures grows { Grows texts.old.items texts.new.items }
-    ensures within { IfOk result (λ ps. AreWithin (length texts.old.items) nodes.now → PartsWithin (length texts.new.items) ps.items) }
-    ensures parts { IfOk result (λ ps. AreWithin (length texts.old.items) nodes.now → AreSorted (links_in texts.old.items nodes.now) → map (part_of texts.new.items) ps.items ≡ map string_bytes ids.now) }
-    ensures len { IfOk result (λ ps. length ps.items ≡ length ids.now) }
-{
-    let mut parts = Vec::with_capacity(*texts.allocator(), ids.len())?;
-    let mut pos = start;
-    for id in ids {
-        let part = part_for(texts, nodes, pos, id)?;
-        parts.push(part)?;
-        pos = pos.saturating_sub(1);
-    }
-    Ok(parts)
-}
-
-// Adds a node, for which there is room, or joins it to the known one.
-fn join(texts: &[u8], nodes: &mut Vec<Node>, node: Node)
-    requires { vec_len nodes.old < vec_capacity nodes.old }
-    ensures put { AreSorted (links_in texts.now nodes.old.items) → (r : Revision) → find r (links_in texts.now nodes.new.items) ≡ put (link_in texts.now node) r (find r (links_in texts.now nodes.old.items)) }
-    ensures sorted { AreSorted (links_in texts.now nodes.old.items) → AreSorted (links_in texts.now nodes.new.items) }
-    ensures within { (n : ℕ) → AreWithin n nodes.old.items → NodeWithin n node → AreWithin n nodes.new.items }
-    ensures capacity { vec_capacity nodes.old ≤ vec_capacity nodes.new }
-    ensures len { vec_len nodes.new ≤ vec_len nodes.old + 1 }
-{
-    match place(texts, nodes, node.pos, node.id.of(texts)) {
-        Ok(at) => nodes[at].join(node.parent),
-        Err(at) => drop(nodes.insert(at, node)),
-    }
-}
-
-// Joins a run, given by the parts of its ids, oldest first, so that a line is added at the end. There is room.
-fn join_all(texts: &[u8], nodes: &mut Vec<Node>, start: u32, parts: &[Part])
-    requires room { vec_len nodes.old + length parts.now ≤ vec_capacity nodes.old }
-    requires run { length parts.now ≤ start + 1 }
-    ensures nodes { (ls : List Link) → AreNodes (links_in texts.now nodes.old.items) ls → AreNodes (links_in texts.now nodes.new.items) (ls ++ links (run_from start (map (part_of texts.now) parts.now))) }
-    ensures within { (n : ℕ) → AreWithin n nodes.old.items → PartsWithin n parts.now → AreWithin n nodes.new.items }
-{
-    let mut at = parts.len();
-    let mut parent = None;
-    while at > 0 {
-        at -= 1;
-        let id = parts[at];
-        let pos = start - at as u32;
-        join(texts, nodes, Node { pos, id, parent });
-        parent = Some(id);
-    }
-}
 
 // The room that a copy leaves, so that an edit of it does not move it once more.
 const SPARE_BYTES: usize = 64;
@@ -141,8 +28,7 @@ fn copied<T: Copy>(alloc: Global, items: &[T], more: usize) -> Result<Vec<T>, No
 /// The known revisions with their parents, in the order of the revisions. Contracts see the list of them.
 ///
 /// The id of each revision is kept once, in one text of all ids, and a revision with its parent is a node of a few
-/// numbers: no revision has a block of memory of its own. An id that would begin past 4 GiB of the text, or is longer,
-/// is refused as a want of memory.
+/// numbers: no revision has a block of memory of its own.
 #[derive(Drop)]
 pub struct Links {
     texts: Vec<u8>,
@@ -191,8 +77,17 @@ impl Links {
         all_agree(&self.texts, &self.nodes, start, ids)
     }
 
+    /// Whether all revisions of a run, given by its start and its ids, newest first, are known with the parents that
+    /// the run gives them. Cost: as that of `fits`.
+    pub fn holds(&self, start: u32, ids: &[String]) -> bool
+        ensures { (ls : List Link) → AreNodes self.now ls → result ≡ are_held ls (links (run_from start (map string_bytes ids.now))) }
+    {
+        all_held(&self.texts, &self.nodes, start, ids)
+    }
+
     /// Adds a run, given by its start and its ids, newest first, or nothing where memory is refused. Cost: as that of
-    /// `fits`, and each unknown revision moves the nodes after it: none where the run goes on a line at its end.
+    /// `fits`, and one pass over the run and the nodes that are above its lowest unknown revision: none where the run
+    /// goes on a line at its end.
     pub fn join(&mut self, start: u32, ids: &[String]) -> Result<(), NoMemory>
         requires { length ids.now ≤ start + 1 }
         ensures nodes { OnOk result ((ls : List Link) → AreNodes self.old ls → AreNodes self.new (ls ++ links (run_from start (map string_bytes ids.now)))) }

@@ -1,6 +1,6 @@
 ghost use Rattle.std.specs.Prelude.{◌≡◌, ◌-◌, option_copied, option_map, string_bytes};
 ghost use Rattle.mg_revtree.specs.Revision.{revision_order};
-ghost use Rattle.mg_revtree.specs.History.{agrees, or_else};
+ghost use Rattle.mg_revtree.specs.History.{agrees, gives, or_else};
 ghost use Rattle.mg_revtree.specs.Nodes.{link_in, part_of};
 
 use std::cmp::Ordering;
@@ -8,8 +8,8 @@ use std::cmp::Ordering;
 /// An id among the texts of all ids: the place of its first byte, and its length.
 #[derive(Clone, Copy, Debug)]
 pub struct Part {
-    pub from: u32,
-    pub len: u32,
+    pub from: usize,
+    pub len: usize,
 }
 
 impl Part {
@@ -17,8 +17,8 @@ impl Part {
     pub fn of(self, texts: &[u8]) -> &[u8]
         ensures { result.now ≡ part_of texts.now self }
     {
-        let rest = &texts[texts.len().min(self.from as usize)..];
-        &rest[..rest.len().min(self.len as usize)]
+        let rest = &texts[texts.len().min(self.from)..];
+        &rest[..rest.len().min(self.len)]
     }
 }
 
@@ -55,6 +55,17 @@ impl Node {
         match (self.parent, parent) {
             (Some(kept), Some(given)) => kept.of(texts).cmp(given.as_bytes()).is_eq(),
             _ => true,
+        }
+    }
+
+    /// Whether a parent that is given, if one is, is the known one.
+    pub fn gives(&self, texts: &[u8], parent: Option<&String>) -> bool
+        ensures { result ≡ gives (link_in texts.now self.now).parent (option_map (λ p. (self.now.pos - 1, string_bytes p)) (option_copied parent.entry)) }
+    {
+        match (self.parent, parent) {
+            (Some(kept), Some(given)) => kept.of(texts).cmp(given.as_bytes()).is_eq(),
+            (None, Some(_)) => false,
+            (_, None) => true,
         }
     }
 }

@@ -1,7 +1,7 @@
 use Rattle.std.proofs.Common.{◌≡◌, ◌++◌, [], ◌∷◌, length, length-append, string_bytes, sym, ap, subst, arith}
 use Rattle.mg_revtree.specs.Tree.{AreSorted}
 use Rattle.mg_revtree.proofs.Texts.{grown-grown, grown-length, grown-links, parts-more, parts-push, parts-step, within-more}
-use Rattle.mg_revtree.proofs.links.parts_for.Goals as goal
+use Rattle.mg_revtree.proofs.parts.parts_for.Goals as goal
 
 pub loop-id-preserved : goal.loop-id-preserved
 loop-id-preserved c =

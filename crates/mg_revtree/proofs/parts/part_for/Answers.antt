@@ -4,7 +4,7 @@ use Rattle.mg_revtree.specs.Nodes.{link_in}
 use Rattle.mg_revtree.specs.Steps.{IsPlace}
 use Rattle.mg_revtree.specs.declared.node.Node.{Node}
 use Rattle.mg_revtree.proofs.Texts.{node-within, part_at}
-use Rattle.mg_revtree.proofs.links.part_for.Goals as goal
+use Rattle.mg_revtree.proofs.parts.part_for.Goals as goal
 
 pub returns-in-Ok-clause-within : goal.returns-in-Ok-clause-within
 returns-in-Ok-clause-within c = λ within.

@@ -5,7 +5,7 @@ use Rattle.mg_revtree.specs.Revision.{revision_order}
 use Rattle.mg_revtree.specs.Nodes.{link_in}
 use Rattle.mg_revtree.specs.declared.node.Node.{Node}
 use Rattle.mg_revtree.proofs.Find.{searched}
-use Rattle.mg_revtree.proofs.links.place.Goals as goal
+use Rattle.mg_revtree.proofs.lookup.place.Goals as goal
 
 pub returns : goal.returns
 returns c =

@@ -1,7 +1,7 @@
 use Rattle.std.proofs.Common.{◌≡◌, length, map, string_bytes, take}
 use Rattle.mg_revtree.specs.Tree.{AreSorted}
 use Rattle.mg_revtree.specs.Nodes.{link_in, part_of, AreWithin, PartsWithin, Grows}
-use Rattle.mg_revtree.proofs.links.parts_for.Given as goal
+use Rattle.mg_revtree.proofs.parts.parts_for.Given as goal
 
 abbrev pub invariant-loop-id : goal.invariant-loop-id
 invariant-loop-id l = record {

@@ -1,0 +1,64 @@
+ghost use Rattle.std.specs.Prelude.{◌≡◌, ◌-◌, ◌<◌, ◌≤◌, IfErr, IfOk, List, length, map, option_copied, option_map, string_bytes};
+ghost use Rattle.mg_revtree.specs.Revision.{run_from};
+ghost use Rattle.mg_revtree.specs.History.{Link, fit, are_held, links};
+ghost use Rattle.mg_revtree.specs.Tree.{AreNodes, AreSorted, find};
+ghost use Rattle.mg_revtree.specs.Nodes.{links_in};
+ghost use Rattle.mg_revtree.specs.Steps.{IsGap, IsPlace, agrees_found, held_found};
+
+use crate::node::Node;
+
+/// Where a revision is, or where it would go.
+pub fn place(texts: &[u8], nodes: &[Node], pos: u32, id: &[u8]) -> Result<usize, usize>
+    ensures found { IfOk result (λ i. (i < length nodes.now) × (AreSorted (links_in texts.now nodes.now) → IsPlace (pos, id.now) (links_in texts.now nodes.now) i)) }
+    ensures absent { IfErr result (λ i. (i ≤ length nodes.now) × (AreSorted (links_in texts.now nodes.now) → IsGap (pos, id.now) (links_in texts.now nodes.now) i)) }
+{
+    nodes.binary_search_by(|node| node.order(texts, pos, id))
+}
+
+// Whether a parent that a revision is given is no other than its known one.
+fn agrees(texts: &[u8], nodes: &[Node], pos: u32, id: &String, parent: Option<&String>) -> bool
+    ensures { AreSorted (links_in texts.now nodes.now) → result ≡ agrees_found (find (pos, string_bytes id.now) (links_in texts.now nodes.now)) (option_map (λ p. (pos - 1, string_bytes p)) (option_copied parent.entry)) }
+{
+    match place(texts, nodes, pos, id.as_bytes()) {
+        Ok(at) => nodes[at].agrees(texts, parent),
+        Err(_) => true,
+    }
+}
+
+/// Whether all parents that a run gives are no others than the known ones.
+pub fn all_agree(texts: &[u8], nodes: &[Node], start: u32, ids: &[String]) -> bool
+    ensures { (ls : List Link) → AreNodes (links_in texts.now nodes.now) ls → result ≡ fit ls (links (run_from start (map string_bytes ids.now))) }
+{
+    let mut pos = start;
+    for (i, id) in ids.iter().enumerate() {
+        if !agrees(texts, nodes, pos, id, ids.get(i + 1)) {
+            return false;
+        }
+        pos = pos.saturating_sub(1);
+    }
+    true
+}
+
+// Whether a revision is known, with the parent that it is given, if it is given one.
+fn holds(texts: &[u8], nodes: &[Node], pos: u32, id: &String, parent: Option<&String>) -> bool
+    ensures { AreSorted (links_in texts.now nodes.now) → result ≡ held_found (find (pos, string_bytes id.now) (links_in texts.now nodes.now)) (option_map (λ p. (pos - 1, string_bytes p)) (option_copied parent.entry)) }
+{
+    match place(texts, nodes, pos, id.as_bytes()) {
+        Ok(at) => nodes[at].gives(texts, parent),
+        Err(_) => false,
+    }
+}
+
+/// Whether all revisions of a run are known, with the parents that the run gives them.
+pub fn all_held(texts: &[u8], nodes: &[Node], start: u32, ids: &[String]) -> bool
+    ensures { (ls : List Link) → AreNodes (links_in texts.now nodes.now) ls → result ≡ are_held ls (links (run_from start (map string_bytes ids.now))) }
+{
+    let mut pos = start;
+    for (i, id) in ids.iter().enumerate() {
+        if !holds(texts, nodes, pos, id, ids.get(i + 1)) {
+            return false;
+        }
+        pos = pos.saturating_sub(1);
+    }
+    true
+}

@@ -1,0 +1,54 @@
+ghost use Rattle.std.specs.Prelude.{◌≡◌, IfOk, length, map, string_bytes};
+ghost use Rattle.mg_revtree.specs.Tree.{AreSorted};
+ghost use Rattle.mg_revtree.specs.Nodes.{AreWithin, Grows, IsWithin, PartsWithin, links_in, part_of};
+
+use crate::error::NoMemory;
+use crate::lookup::place;
+use crate::node::{Node, Part};
+
+// Adds an id to the texts.
+fn add(texts: &mut Vec<u8>, id: &[u8]) -> Result<Part, NoMemory>
+    ensures grows { Grows texts.old.items texts.new.items }
+    ensures part { IfOk result (λ p. IsWithin (length texts.new.items) p × (part_of texts.new.items p ≡ id.now)) }
+{
+    let from = texts.len();
+    texts.extend_from_slice(id)?;
+    Ok(Part {
+        from,
+        len: id.len(),
+    })
+}
+
+// The part of an id, which is added where the revision is unknown.
+fn part_for(texts: &mut Vec<u8>, nodes: &[Node], pos: u32, id: &String) -> Result<Part, NoMemory>
+    ensures grows { Grows texts.old.items texts.new.items }
+    ensures within { IfOk result (λ p. AreWithin (length texts.old.items) nodes.now → IsWithin (length texts.new.items) p) }
+    ensures part { IfOk result (λ p. AreSorted (links_in texts.old.items nodes.now) → part_of texts.new.items p ≡ string_bytes id.now) }
+{
+    match place(texts, nodes, pos, id.as_bytes()) {
+        Ok(at) => Ok(nodes[at].id),
+        Err(_) => add(texts, id.as_bytes()),
+    }
+}
+
+/// The parts of a run's ids. Those of unknown revisions are added.
+pub fn parts_for(
+    texts: &mut Vec<u8>,
+    nodes: &[Node],
+    start: u32,
+    ids: &[String],
+) -> Result<Vec<Part>, NoMemory>
+    ensures grows { Grows texts.old.items texts.new.items }
+    ensures within { IfOk result (λ ps. AreWithin (length texts.old.items) nodes.now → PartsWithin (length texts.new.items) ps.items) }
+    ensures parts { IfOk result (λ ps. AreWithin (length texts.old.items) nodes.now → AreSorted (links_in texts.old.items nodes.now) → map (part_of texts.new.items) ps.items ≡ map string_bytes ids.now) }
+    ensures len { IfOk result (λ ps. length ps.items ≡ length ids.now) }
+{
+    let mut parts = Vec::with_capacity(*texts.allocator(), ids.len())?;
+    let mut pos = start;
+    for id in ids {
+        let part = part_for(texts, nodes, pos, id)?;
+        parts.push(part)?;
+        pos = pos.saturating_sub(1);
+    }
+    Ok(parts)
+}
