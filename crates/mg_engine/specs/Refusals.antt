@@ -3,7 +3,7 @@ use Rattle.std.specs.Prelude.{ℕ, List, codes}
 use Rattle.mg_value.specs.Value.{object, member, no_members, text}
 use Rattle.mg_engine.specs.Bodies.{line_of}
 use Rattle.mg_engine.specs.declared.refusal.Refusal.{Refusal}
-use Rattle.mg_engine.specs.declared.refusal.Refusal.TheVariants.{InvalidJson, WrongShape, InvalidOperator, BadArg, BadMember, BadId, BadRev, Missing, Deleted, OutOfMemory, BadHead}
+use Rattle.mg_engine.specs.declared.refusal.Refusal.TheVariants.{InvalidJson, WrongShape, InvalidOperator, BadArg, BadMember, BadId, BadRev, Missing, Deleted, NoDatabase, MethodNotAllowed, LengthRequired, TooLarge, HeadTooLarge, OutOfMemory, BadHead}
 
 -- the status of a refusal, as in RFC 9110
 abbrev pub status_of : Refusal → ℕ
@@ -16,6 +16,11 @@ status_of BadId = 400
 status_of BadRev = 400
 status_of Missing = 404
 status_of Deleted = 404
+status_of NoDatabase = 404
+status_of MethodNotAllowed = 405
+status_of LengthRequired = 411
+status_of TooLarge = 413
+status_of HeadTooLarge = 431
 status_of OutOfMemory = 503
 status_of BadHead = 400
 
@@ -34,5 +39,10 @@ refusal_body BadId = refusal_line (codes "doc_validation") (codes "Bad document 
 refusal_body BadRev = refusal_line (codes "doc_validation") (codes "Invalid rev format.")
 refusal_body Missing = refusal_line (codes "not_found") (codes "missing")
 refusal_body Deleted = refusal_line (codes "not_found") (codes "deleted")
+refusal_body NoDatabase = refusal_line (codes "not_found") (codes "Database does not exist.")
+refusal_body MethodNotAllowed = refusal_line (codes "method_not_allowed") (codes "Method not allowed.")
+refusal_body LengthRequired = refusal_line (codes "length_required") (codes "Content-Length required.")
+refusal_body TooLarge = refusal_line (codes "too_large") (codes "Request too large.")
+refusal_body HeadTooLarge = refusal_line (codes "head_too_large") (codes "Request head too large.")
 refusal_body OutOfMemory = refusal_line (codes "out_of_memory") (codes "Out of memory.")
 refusal_body BadHead = refusal_line (codes "bad_head") (codes "Bad request head.")

@@ -21,6 +21,20 @@ pub const BAD_REV: &str = "{\"error\":\"doc_validation\",\"reason\":\"Invalid re
 pub const MISSING: &str = "{\"error\":\"not_found\",\"reason\":\"missing\"}\n";
 /// The body of `Deleted`.
 pub const DELETED: &str = "{\"error\":\"not_found\",\"reason\":\"deleted\"}\n";
+/// The body of `NoDatabase`.
+pub const NO_DATABASE: &str =
+    "{\"error\":\"not_found\",\"reason\":\"Database does not exist.\"}\n";
+/// The body of `MethodNotAllowed`.
+pub const METHOD_NOT_ALLOWED: &str =
+    "{\"error\":\"method_not_allowed\",\"reason\":\"Method not allowed.\"}\n";
+/// The body of `LengthRequired`.
+pub const LENGTH_REQUIRED: &str =
+    "{\"error\":\"length_required\",\"reason\":\"Content-Length required.\"}\n";
+/// The body of `TooLarge`.
+pub const TOO_LARGE: &str = "{\"error\":\"too_large\",\"reason\":\"Request too large.\"}\n";
+/// The body of `HeadTooLarge`.
+pub const HEAD_TOO_LARGE: &str =
+    "{\"error\":\"head_too_large\",\"reason\":\"Request head too large.\"}\n";
 /// The body of `OutOfMemory`.
 pub const OUT_OF_MEMORY: &str = "{\"error\":\"out_of_memory\",\"reason\":\"Out of memory.\"}\n";
 /// The body of `BadHead`.
@@ -56,9 +70,19 @@ pub enum Refusal {
     Missing,
     /// The document is deleted.
     Deleted,
+    /// The target names another database.
+    NoDatabase,
+    /// The path is one of a route, but not with this method.
+    MethodNotAllowed,
+    /// The head gives no length of the body where it has to, or asks for another framing.
+    LengthRequired,
+    /// The body would be longer than one may be.
+    TooLarge,
+    /// The head is longer than one may be, or has more fields.
+    HeadTooLarge,
     /// A growth was refused.
     OutOfMemory,
-    /// The bytes begin with no head that is served.
+    /// The bytes begin with nothing that a head could be, or with a head whose lengths are none or differ.
     BadHead,
 }
 
@@ -68,7 +92,11 @@ impl Refusal {
         ensures { result ≡ status_of self }
     {
         match self {
-            Refusal::Missing | Refusal::Deleted => 404,
+            Refusal::Missing | Refusal::Deleted | Refusal::NoDatabase => 404,
+            Refusal::MethodNotAllowed => 405,
+            Refusal::LengthRequired => 411,
+            Refusal::TooLarge => 413,
+            Refusal::HeadTooLarge => 431,
             Refusal::OutOfMemory => 503,
             _ => 400,
         }
@@ -88,6 +116,11 @@ impl Refusal {
             Refusal::BadRev => BAD_REV,
             Refusal::Missing => MISSING,
             Refusal::Deleted => DELETED,
+            Refusal::NoDatabase => NO_DATABASE,
+            Refusal::MethodNotAllowed => METHOD_NOT_ALLOWED,
+            Refusal::LengthRequired => LENGTH_REQUIRED,
+            Refusal::TooLarge => TOO_LARGE,
+            Refusal::HeadTooLarge => HEAD_TOO_LARGE,
             Refusal::OutOfMemory => OUT_OF_MEMORY,
             Refusal::BadHead => BAD_HEAD,
         }

@@ -40,6 +40,26 @@ pub returns-in-Deleted : goal.returns-in-Deleted
 unfolding escape_byte
 returns-in-Deleted c = sym (ap refusal_body c.in-Deleted.is)
 
+pub returns-in-NoDatabase : goal.returns-in-NoDatabase
+unfolding escape_byte
+returns-in-NoDatabase c = sym (ap refusal_body c.in-NoDatabase.is)
+
+pub returns-in-MethodNotAllowed : goal.returns-in-MethodNotAllowed
+unfolding escape_byte
+returns-in-MethodNotAllowed c = sym (ap refusal_body c.in-MethodNotAllowed.is)
+
+pub returns-in-LengthRequired : goal.returns-in-LengthRequired
+unfolding escape_byte
+returns-in-LengthRequired c = sym (ap refusal_body c.in-LengthRequired.is)
+
+pub returns-in-TooLarge : goal.returns-in-TooLarge
+unfolding escape_byte
+returns-in-TooLarge c = sym (ap refusal_body c.in-TooLarge.is)
+
+pub returns-in-HeadTooLarge : goal.returns-in-HeadTooLarge
+unfolding escape_byte
+returns-in-HeadTooLarge c = sym (ap refusal_body c.in-HeadTooLarge.is)
+
 pub returns-in-OutOfMemory : goal.returns-in-OutOfMemory
 unfolding escape_byte
 returns-in-OutOfMemory c = sym (ap refusal_body c.in-OutOfMemory.is)
