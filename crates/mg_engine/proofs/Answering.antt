@@ -169,9 +169,9 @@ pub found_is_answer : (place : Placing) (shards : List KeptDocuments) (hs : Hist
 found_is_answer place shards hs q st =
     let rows = page_rows q (filter_map served_row (entries hs)) in
     let all = all_weaker (λ e. get hs e.0 ≡ Some e.1) (λ e. form_at place shards e.0 ≡ served_of e.0 e.1) (λ e k. form_kept e.0 (kept_at place shards e.0) (get hs e.0) e.1 (stands_at place shards hs e.0 st) k) (entries hs) (own_histories hs) in
-    let shown = all_taken place shards page_limit (filter (is_asked q) (filter_map served_row (entries hs))) (all_filtered place shards (is_asked q) (filter_map served_row (entries hs)) (all_served place shards (entries hs) all)) in
+    let documents_seen = all_taken place shards page_limit (filter (is_asked q) (filter_map served_row (entries hs))) (all_filtered place shards (is_asked q) (filter_map served_row (entries hs)) (all_served place shards (entries hs) all)) in
     let merged_is : merged_rows q shards ≡ map row_key rows = same_merged place shards hs q st in
-    ap₂ made (ap (shown_rows place shards q) merged_is ∙ shown_are place shards q rows shown) (ap row_bookmark merged_is ∙ same_bookmark rows)
+    ap₂ made (ap (shown_rows place shards q) merged_is ∙ shown_are place shards q rows documents_seen) (ap row_bookmark merged_is ∙ same_bookmark rows)
 
 -- the bookmark after a last row
 at_last : (rows : List RowValue) (r : RowValue) → slice_get (rows ++ r ∷ []) (length rows) ≡ Some r

@@ -13,7 +13,7 @@ use Rattle.mg_doc.specs.Document.{Edit}
 use Rattle.mg_doc.specs.Edit.{edited}
 use Rattle.mg_doc.specs.declared.error.EditError.{EditError}
 use Rattle.mg_revtree.specs.Revision.{Revision}
-use Rattle.mg_engine.specs.Bodies.{items_before}
+use Rattle.mg_engine.specs.Before.{items_before}
 use Rattle.mg_engine.specs.Commands.{Answer, got, refused, shown_or_deleted}
 use Rattle.mg_engine.specs.declared.refusal.Refusal.TheVariants.{Missing}
 use Rattle.mg_engine.specs.Bulk.{id_in, outcome_in, after_edit, history_put}

@@ -1,8 +1,7 @@
 -- The bodies of replies: the compact text of a value and a line feed.
 use Rattle.std.specs.Prelude.{ℕ, List, [], ◌∷◌, ◌++◌, codes}
-use Rattle.mg_value.specs.Value.{Value, text, list, object, Items, item, member, no_members}
-use Rattle.mg_value.specs.View.{view, items_of}
-use Rattle.mg_value.specs.declared.value.Json.{Json}
+use Rattle.mg_value.specs.Value.{Value, text, list, object, member, no_members}
+use Rattle.mg_value.specs.View.{items_of}
 use Rattle.mg_value.specs.Text.{compact}
 use Rattle.mg_query.specs.Page.{Page}
 
@@ -13,8 +12,3 @@ line_of v = compact v ++ 10 ∷ []
 -- `{"bookmark":..,"docs":[..]}`
 abbrev pub page_value : Page → Value
 page_value p = object (member (codes "bookmark") (text p.bookmark) (member (codes "docs") (list (items_of p.docs)) no_members))
-
--- items that begin with these
-abbrev pub items_before : List Json → Items → Items
-items_before [] vs = vs
-items_before (x ∷ xs) vs = item (view x) (items_before xs vs)

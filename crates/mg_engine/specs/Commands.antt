@@ -35,14 +35,14 @@ refused r = record { status = status_of r; body = refusal_body r }
 -- ---- `_bulk_docs`
 
 -- the answer to a bulk whose documents were read, or refused
-abbrev pub told_of : World → Bool → Result (List Edit) Refusal → Answer
-told_of w new_edits (Ok es) = record { status = 201; body = line_of (list (entries_of new_edits (outcomes w.docs (numbered w.counter es)))) }
-told_of w new_edits (Err r) = refused r
+abbrev pub bulk_reply : World → Bool → Result (List Edit) Refusal → Answer
+bulk_reply w new_edits (Ok es) = record { status = 201; body = line_of (list (entries_of new_edits (outcomes w.docs (numbered w.counter es)))) }
+bulk_reply w new_edits (Err r) = refused r
 
 -- the answer to a bulk; a body of another shape is refused
 abbrev pub bulk_answer : World → Option Bulk → Answer
 bulk_answer w None = refused WrongShape
-bulk_answer w (Some b) = told_of w b.new_edits (edits_read (Some b))
+bulk_answer w (Some b) = bulk_reply w b.new_edits (edits_read (Some b))
 
 -- the world after the edits of a bulk, or as it was where the bulk is refused
 abbrev pub world_with : World → Result (List Edit) Refusal → World

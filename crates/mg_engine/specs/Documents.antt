@@ -25,16 +25,16 @@ abbrev pub kept_of : Document → Kept
 kept_of d = (d.tree, option_map view d.served)
 
 -- an id with its document
-abbrev pub entry_of : String Global × Arc Document Global → List ℕ × Kept
-entry_of e = (string_bytes e.0, kept_of (arc_value e.1))
+abbrev pub kept_entry : String Global × Arc Document Global → List ℕ × Kept
+kept_entry e = (string_bytes e.0, kept_of (arc_value e.1))
 
 -- documents by their ids
 abbrev pub KeptDocuments : Type 0
 KeptDocuments = FinMap (slice_cmp nat_cmp) Kept
 
 -- the documents of the code, by their ids
-abbrev pub shown : List (String Global × Arc Document Global) → KeptDocuments
-shown es = from_entries (map entry_of es)
+abbrev pub documents_seen : List (String Global × Arc Document Global) → KeptDocuments
+documents_seen es = from_entries (map kept_entry es)
 
 -- a document stands for a history where its tree does, and is kept in the form in which that history is served
 abbrev pub StandsAt : List ℕ → Option Kept → Option History → Type 0

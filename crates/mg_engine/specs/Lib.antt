@@ -3,6 +3,7 @@ pub mod World
 pub mod Bulk
 pub mod Commands
 pub mod Bodies
+pub mod Before
 pub mod View
 pub mod BulkView
 pub mod Documents

@@ -4,7 +4,7 @@ use Rattle.std.specs.Arc.{arc_value}
 use Rattle.std.specs.BTreeMap.{BTreeMap}
 use Rattle.std.specs.declared.alloc.Global.{Global}
 use Rattle.std.specs.declared.sync.Arc.{Arc}
-use Rattle.mg_engine.specs.Documents.{KeptDocuments, shown}
+use Rattle.mg_engine.specs.Documents.{KeptDocuments, documents_seen}
 use Rattle.mg_engine.specs.Stands.{Shown}
 use Rattle.mg_engine.specs.declared.document.Document.{Document}
 use Rattle.mg_engine.specs.declared.draft.Draft.{Draft}
@@ -17,7 +17,7 @@ Documents = BTreeMap (String Global) (Arc Document Global)
 
 -- the documents of a shard
 abbrev pub shard_seen : Arc Documents Global → KeptDocuments
-shard_seen shard = shown (arc_value shard).entries
+shard_seen shard = documents_seen (arc_value shard).entries
 
 -- the documents of each shard
 abbrev pub shards_seen : List (Arc Documents Global) → List KeptDocuments
@@ -26,7 +26,7 @@ shards_seen shards = map shard_seen shards
 -- the documents of a shard while a bulk is applied
 abbrev pub draft_seen : Draft → KeptDocuments
 draft_seen (Shared shard) = shard_seen shard
-draft_seen (Changed docs) = shown docs.entries
+draft_seen (Changed docs) = documents_seen docs.entries
 
 -- the documents of each of them
 abbrev pub drafts_seen : List Draft → List KeptDocuments

@@ -3,12 +3,12 @@ ghost use Rattle.std.specs.Prelude.{◌≡◌, List, ℕ, IfOk, OnOk, option_map
 ghost use Rattle.std.specs.FinMap.{get, insert};
 ghost use Rattle.mg_value.specs.Value.{Items};
 ghost use Rattle.mg_value.specs.View.{view};
-ghost use Rattle.mg_engine.specs.Bodies.{items_before};
+ghost use Rattle.mg_engine.specs.Before.{items_before};
 ghost use Rattle.mg_revtree.specs.History.{History};
 ghost use Rattle.mg_revtree.specs.Tree.{StandsFor};
 ghost use Rattle.mg_engine.specs.World.{Histories, history_at};
 ghost use Rattle.mg_engine.specs.Bulk.{after_edit, id_in, outcome_in, entry_before};
-ghost use Rattle.mg_engine.specs.Documents.{kept_of, shown, StandFor};
+ghost use Rattle.mg_engine.specs.Documents.{kept_of, documents_seen, StandFor};
 
 use crate::document::Document;
 use mg_doc::{Edit, EditError, served};
@@ -23,7 +23,7 @@ pub(crate) type Documents = BTreeMap<String, Arc<Document>>;
 
 /// The same documents, each of them shared. Cost: the number of documents.
 pub(crate) fn copied(docs: &Documents) -> Result<Documents, NoMemory>
-    ensures { IfOk result (λ m. shown m.entries ≡ shown docs.now.entries) }
+    ensures { IfOk result (λ m. documents_seen m.entries ≡ documents_seen docs.now.entries) }
 {
     Ok(docs.clone()?)
 }
@@ -31,7 +31,7 @@ pub(crate) fn copied(docs: &Documents) -> Result<Documents, NoMemory>
 /// The form in which the document of an id is served, none where it is deleted, and none at all where it is not there.
 /// Cost: one look-up.
 pub(crate) fn served_at<'a>(docs: &'a Documents, id: &str) -> Option<Option<&'a Json>>
-    ensures { option_map (option_map (λ j. view j.now)) result ≡ option_map (λ d. d.1) (get (shown docs.now.entries) id.now) }
+    ensures { option_map (option_map (λ j. view j.now)) result ≡ option_map (λ d. d.1) (get (documents_seen docs.now.entries) id.now) }
 {
     match docs.get(id) {
         Some(document) => Some(form_of(document)),
@@ -51,7 +51,7 @@ fn form_of(document: &Document) -> Option<&Json>
 
 // A copy of the tree of an id, which is empty where there is none.
 fn tree_at(alloc: Global, docs: &Documents, id: &str) -> Result<RevTree, NoMemory>
-    ensures { IfOk result (λ t. (hs : Histories) → StandFor (shown docs.now.entries) hs → StandsFor t (history_at hs id.now)) }
+    ensures { IfOk result (λ t. (hs : Histories) → StandFor (documents_seen docs.now.entries) hs → StandsFor t (history_at hs id.now)) }
 {
     match docs.get(id) {
         Some(document) => Ok(document.tree.copy()?),
@@ -61,8 +61,8 @@ fn tree_at(alloc: Global, docs: &Documents, id: &str) -> Result<RevTree, NoMemor
 
 // Keeps a tree under an id, with the form in which it is served.
 fn keep(alloc: Global, docs: &mut Documents, id: &str, tree: RevTree) -> Result<(), NoMemory>
-    ensures { OnOk result ((hs : Histories) (h : History) → StandFor (shown docs.old.entries) hs → StandsFor tree h
-        → StandFor (shown docs.new.entries) (insert hs id.now h)) }
+    ensures { OnOk result ((hs : Histories) (h : History) → StandFor (documents_seen docs.old.entries) hs → StandsFor tree h
+        → StandFor (documents_seen docs.new.entries) (insert hs id.now h)) }
 {
     let served = served(alloc, id, &tree)?;
     let document = Arc::new(alloc, Document { tree, served })?;
@@ -87,8 +87,8 @@ pub(crate) fn apply(
     docs: &mut Documents,
     edit: &Edit,
 ) -> Result<Result<Rev, EditError>, NoMemory>
-    ensures { IfOk result (λ o. (hs : Histories) → StandFor (shown docs.old.entries) hs
-        → StandFor (shown docs.new.entries) (after_edit hs edit.now) × (o ≡ outcome_in hs edit.now)) }
+    ensures { IfOk result (λ o. (hs : Histories) → StandFor (documents_seen docs.old.entries) hs
+        → StandFor (documents_seen docs.new.entries) (after_edit hs edit.now) × (o ≡ outcome_in hs edit.now)) }
 {
     let id = id_in(edit);
     let mut tree = tree_at(alloc, docs, id)?;

@@ -1,7 +1,7 @@
 //! Shards while a bulk is applied.
 ghost use Rattle.std.specs.Prelude.{◌≡◌, IfOk, length};
 ghost use Rattle.std.specs.Arc.{arc_value};
-ghost use Rattle.mg_engine.specs.Documents.{shown};
+ghost use Rattle.mg_engine.specs.Documents.{documents_seen};
 ghost use Rattle.mg_engine.specs.StateView.{draft_seen, drafts_seen, shard_seen, shards_seen};
 
 use crate::documents::{Documents, copied};
@@ -19,7 +19,7 @@ pub(crate) enum Draft {
 impl Draft {
     /// The documents, to be changed. Cost: none, or, where they are shared, the number of the shard's documents.
     pub(crate) fn into_changed(self) -> Result<Documents, NoMemory>
-        ensures { IfOk result (λ m. shown m.entries ≡ draft_seen self) }
+        ensures { IfOk result (λ m. documents_seen m.entries ≡ draft_seen self) }
     {
         match self {
             Draft::Shared(shard) => copied(&shard),

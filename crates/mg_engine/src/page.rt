@@ -9,8 +9,9 @@ ghost use Rattle.mg_normal.specs.Normal.{IsNormalOf};
 ghost use Rattle.mg_query.specs.Page.{page_limit};
 ghost use Rattle.mg_query.specs.Query.{Query as QueryValue};
 ghost use Rattle.mg_query.specs.Seen.{query_seen};
-ghost use Rattle.mg_engine.specs.Bodies.{page_value, items_before};
-ghost use Rattle.mg_engine.specs.Documents.{kept_of, shown};
+ghost use Rattle.mg_engine.specs.Bodies.{page_value};
+ghost use Rattle.mg_engine.specs.Before.{items_before};
+ghost use Rattle.mg_engine.specs.Documents.{kept_of, documents_seen};
 ghost use Rattle.mg_engine.specs.Found.{bookmark_of_row, found_page, handed, keyed, keyed_if_asked, row_bookmark, shard_rows, shown_before, shown_rows};
 ghost use Rattle.mg_engine.specs.Shards.{form_at};
 ghost use Rattle.mg_engine.specs.StateView.{shards_seen};
@@ -75,7 +76,7 @@ fn handed_over(
 // The first rows of a shard that a query of the normal form asks for, as many as a page has.
 fn rows_of(alloc: Global, docs: &Documents, normal: &Normal) -> Result<Vec<Row>, NoMemory>
     ensures { IfOk result (λ v. (q : QueryValue) → IsNormalOf q.selector normal.now
-        → rows_view v.items ≡ take page_limit (shard_rows q (shown docs.now.entries))) }
+        → rows_view v.items ≡ take page_limit (shard_rows q (documents_seen docs.now.entries))) }
 {
     let mut rows = Vec::new(alloc);
     for (id, document) in docs.iter() {

@@ -2,7 +2,7 @@
 ghost use Rattle.std.specs.Prelude.{◌≡◌, ◌<◌, IfOk, IfNone, IfSome, IsSome, None, Ok, Some, length, unwrap_or};
 ghost use Rattle.mg_value.specs.View.{view};
 ghost use Rattle.mg_engine.specs.World.{World, empty_world};
-ghost use Rattle.mg_engine.specs.Commands.{bulk, find, got, next, reply_of, told_of, world_with};
+ghost use Rattle.mg_engine.specs.Commands.{bulk, find, got, next, reply_of, bulk_reply, world_with};
 ghost use Rattle.std.specs.FinMap as finite;
 ghost use Rattle.mg_engine.specs.View.{asked, said};
 ghost use Rattle.mg_engine.specs.Shards.{Placing};
@@ -134,7 +134,7 @@ impl State {
     ) -> Result<(Reply, State), NoMemory>
         ensures whole { IfOk result (λ r. IsSome (said r.0)) }
         ensures does { IfOk result (λ r. (w : World) → Holds (P.place placement.now) self.now w
-            → (said r.0 ≡ Some (told_of w new_edits (Ok edits.items)))
+            → (said r.0 ≡ Some (bulk_reply w new_edits (Ok edits.items)))
             × Holds (P.place placement.now) r.1 (world_with w (Ok edits.items))) }
         ensures number { IfOk result (λ r. length r.1.shards ≡ length self.now.shards) }
     {

@@ -2,7 +2,7 @@ use Rattle.std.proofs.Common.{◌≡◌, ap, sym, ◌∙◌, subst}
 use Rattle.std.specs.FinMap.{insert}
 use Rattle.mg_revtree.specs.Tree.{StandsFor}
 use Rattle.mg_doc.specs.Served.{served_of}
-use Rattle.mg_engine.specs.Documents.{KeptDocuments, Kept, kept_of, shown, StandFor}
+use Rattle.mg_engine.specs.Documents.{KeptDocuments, Kept, kept_of, documents_seen, StandFor}
 use Rattle.mg_engine.proofs.Shown.{kept_in, shown-insert}
 use Rattle.mg_engine.proofs.Standing.{stand_insert}
 use Rattle.mg_engine.proofs.documents.keep.Goals as goal
@@ -12,9 +12,9 @@ returns c = λ hs h st stands.
     let docs = c.args.docs.now.entries in
     let id = c.args.id.now in
     let document = c.in_ok-document.document in
-    let put_in : shown c.insert.new.self.entries ≡ insert (shown docs) id (kept_in document) =
-    ap shown c.in_ok-insert.ensures.entries ∙ shown-insert docs c.in_ok-key.key document ∙ ap (λ k. insert (shown docs) k (kept_in document)) c.in_ok-key.ensures.ok in
+    let put_in : documents_seen c.insert.new.self.entries ≡ insert (documents_seen docs) id (kept_in document) =
+    ap documents_seen c.in_ok-insert.ensures.entries ∙ shown-insert docs c.in_ok-key.key document ∙ ap (λ k. insert (documents_seen docs) k (kept_in document)) c.in_ok-key.ensures.ok in
     let made = ap kept_of c.in_ok-document.ensures.ok in
     let tree : StandsFor (kept_in document).0 h = subst (λ (d : Kept). StandsFor d.0 h) (sym made) stands in
     let served : (kept_in document).1 ≡ served_of id h = ap (λ (d : Kept). d.1) made ∙ c.in_ok-served.ensures h stands in
-    subst (λ (m : KeptDocuments). StandFor m (insert hs id h)) (sym put_in) (stand_insert (shown docs) hs id (kept_in document) h st tree served)
+    subst (λ (m : KeptDocuments). StandFor m (insert hs id h)) (sym put_in) (stand_insert (documents_seen docs) hs id (kept_in document) h st tree served)

@@ -1,6 +1,6 @@
 use Rattle.std.proofs.Common.{ap, sym, ◌∙◌, option_map}
 use Rattle.mg_value.specs.View.{view}
-use Rattle.mg_engine.specs.Bodies.{items_before}
+use Rattle.mg_engine.specs.Before.{items_before}
 use Rattle.mg_engine.specs.Bulk.{entry_before}
 use Rattle.mg_engine.proofs.Standing.{items_before-push}
 use Rattle.mg_engine.proofs.documents.push_entry.Goals as goal

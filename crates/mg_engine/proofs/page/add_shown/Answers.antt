@@ -2,7 +2,7 @@ use Rattle.std.proofs.Common.{option_map, ap, sym, ◌∙◌}
 use Rattle.mg_value.specs.Value.{item}
 use Rattle.mg_value.specs.View.{view}
 use Rattle.mg_query.specs.Seen.{query_seen}
-use Rattle.mg_engine.specs.Bodies.{items_before}
+use Rattle.mg_engine.specs.Before.{items_before}
 use Rattle.mg_engine.specs.Found.{shown_before}
 use Rattle.mg_engine.proofs.Standing.{items_before-push}
 use Rattle.mg_engine.proofs.page.add_shown.Goals as goal

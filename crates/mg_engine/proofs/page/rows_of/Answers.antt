@@ -4,7 +4,7 @@ use Rattle.std.specs.Arc.{arc_value}
 use Rattle.mg_collate.specs.Row.{RowValue, row_view, rows_view}
 use Rattle.mg_normal.specs.Normal.{IsNormalOf}
 use Rattle.mg_query.specs.Query.{Query}
-use Rattle.mg_engine.specs.Documents.{entry_of, kept_of}
+use Rattle.mg_engine.specs.Documents.{kept_entry, kept_of}
 use Rattle.mg_engine.specs.Found.{asked_rows, keyed_if_asked}
 use Rattle.mg_engine.proofs.Pages.{one_document, at_most_one, filled, full, at_end}
 use Rattle.mg_engine.proofs.Shown.{Entry, entries-shown}
@@ -14,7 +14,7 @@ pub returns-then-len-eq-PAGE_LIMIT : goal.returns-then-len-eq-PAGE_LIMIT
 returns-then-len-eq-PAGE_LIMIT c = λ q normal.
     let l = c.loop-id in
     let long : length (rows_view l.rows.items) ≡ 25 = length-map l.rows.items row_view ∙ sym l.rows.ok.0 ∙ sym c.len.ensures ∙ c.if-len-eq-PAGE_LIMIT.true in
-    sym (full (rows_view l.rows.items) (asked_rows q (map entry_of l.id-iterator)) long) ∙ sym (l.invariant.rows q normal)
+    sym (full (rows_view l.rows.items) (asked_rows q (map kept_entry l.id-iterator)) long) ∙ sym (l.invariant.rows q normal)
     ∙ ap (λ es. take 25 (asked_rows q es)) (sym (entries-shown c.args.docs.now.entries c.iter-id-items.ensures.ordered))
 
 pub loop-id-preserved : goal.loop-id-preserved
@@ -36,9 +36,9 @@ loop-id-preserved c =
           omega (arith, more, before, short, c.in_ok-add_if_asked.ensures.at_most_one);
       rows = λ q normal.
           let add = keyed_if_asked q id kept.1 in
-          let rest = asked_rows q (map entry_of c.next.new.self) in
-          l.invariant.rows q normal ∙ ap (λ es. found ++ take (25 - length found) (asked_rows q (map entry_of es))) c.in-Some.ensures.steps
-          ∙ ap (λ rows. found ++ take (25 - length found) rows) (one_document q id kept.0 kept.1 (map entry_of c.next.new.self)) ∙ filled found add rest short (at_most_one q id kept.1)
+          let rest = asked_rows q (map kept_entry c.next.new.self) in
+          l.invariant.rows q normal ∙ ap (λ es. found ++ take (25 - length found) (asked_rows q (map kept_entry es))) c.in-Some.ensures.steps
+          ∙ ap (λ rows. found ++ take (25 - length found) rows) (one_document q id kept.0 kept.1 (map kept_entry c.next.new.self)) ∙ filled found add rest short (at_most_one q id kept.1)
           ∙ ap (λ (rows : List RowValue). rows ++ take (25 - length rows) rest) (sym (added q normal));
     }
 
@@ -46,5 +46,5 @@ pub returns : goal.returns
 returns c = λ q normal.
     let l = c.loop-id in
     let found = rows_view l.rows.items in
-    sym (l.invariant.rows q normal ∙ ap (λ es. found ++ take (25 - length found) (asked_rows q (map entry_of es))) c.in-None.ensures.steps.0 ∙ at_end found (25 - length found))
+    sym (l.invariant.rows q normal ∙ ap (λ es. found ++ take (25 - length found) (asked_rows q (map kept_entry es))) c.in-None.ensures.steps.0 ∙ at_end found (25 - length found))
     ∙ ap (λ es. take 25 (asked_rows q es)) (sym (entries-shown c.args.docs.now.entries c.iter-id-items.ensures.ordered))

@@ -2,7 +2,7 @@ use Rattle.std.proofs.Common.{◌≡◌, drop}
 use Rattle.mg_value.specs.View.{items_of}
 use Rattle.mg_collate.specs.Row.{rows_view}
 use Rattle.mg_query.specs.Seen.{query_seen}
-use Rattle.mg_engine.specs.Bodies.{items_before}
+use Rattle.mg_engine.specs.Before.{items_before}
 use Rattle.mg_engine.specs.Found.{shown_rows}
 use Rattle.mg_engine.specs.StateView.{shards_seen}
 use Rattle.mg_engine.proofs.page.show_all.Given as goal

@@ -1,6 +1,6 @@
 use Rattle.std.proofs.Common.{◌≡◌, ◌+◌, [], ◌∷◌, drop, refl, ap, sym, ◌∙◌, subst}
 use Rattle.std.proofs.Math.ListN.{drop_of_length-le}
-use Rattle.mg_engine.specs.Bodies.{items_before}
+use Rattle.mg_engine.specs.Before.{items_before}
 use Rattle.mg_engine.specs.Bulk.{after_edit, after_edits, id_in, outcomes, entries_of, entry_of, entry_before}
 use Rattle.mg_engine.specs.Shards.{ShardsStandFor}
 use Rattle.mg_engine.specs.StateView.{drafts_seen}

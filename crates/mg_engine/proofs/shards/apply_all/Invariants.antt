@@ -3,7 +3,7 @@ use Rattle.mg_engine.specs.Bulk.{after_edits, outcomes, entries_of}
 use Rattle.mg_engine.specs.Shards.{ShardsStandFor}
 use Rattle.mg_engine.specs.StateView.{drafts_seen}
 use Rattle.mg_engine.specs.World.{Histories}
-use Rattle.mg_engine.specs.Bodies.{items_before}
+use Rattle.mg_engine.specs.Before.{items_before}
 use Rattle.mg_engine.proofs.shards.apply_all.Given as goal
 
 -- what is left decides, from the histories for which the shards stand now

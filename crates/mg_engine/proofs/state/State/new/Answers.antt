@@ -1,7 +1,7 @@
 use Rattle.std.proofs.Common.{◌≡◌, string_bytes, ◌<◌, [], ◌∷◌, ◌++◌, length, refl, ap, ap₂, sym, ◌∙◌, subst, arith}
 use Rattle.std.proofs.lemmas.List.{get_or-replicate, length-replicate, map-append, replicate_more}
 use Rattle.std.specs.FinMap as finite
-use Rattle.mg_engine.specs.Documents.{KeptDocuments, shown}
+use Rattle.mg_engine.specs.Documents.{KeptDocuments, documents_seen}
 use Rattle.mg_engine.specs.Shards.{shard_at}
 use Rattle.mg_engine.specs.StateView.{Documents, shard_seen, shards_seen}
 use Rattle.mg_engine.proofs.Dealing.{no_documents}
@@ -15,7 +15,7 @@ pub loop-preserved : goal.loop-preserved
 loop-preserved c =
     let made = c.loop.made.items in
     let shard = c.in_ok-new.field-0 in
-    let new : shard_seen shard ≡ none = ap (λ (d : Documents). shown d.entries) c.in_ok-new.ensures.ok ∙ ap shown c.new-in-loop.ensures.empty in
+    let new : shard_seen shard ≡ none = ap (λ (d : Documents). documents_seen d.entries) c.in_ok-new.ensures.ok ∙ ap documents_seen c.new-in-loop.ensures.empty in
     ap shards_seen c.in_ok-push.ensures.items ∙ map-append shard_seen made (shard ∷ []) ∙ ap₂ (λ xs x. xs ++ x ∷ []) c.loop.invariant new ∙ replicate_more c.loop.counter none
 
 pub invariant_of-result : goal.invariant_of-result
