@@ -1,2 +1,3 @@
 mod Arms
 mod Elements
+mod Names

@@ -5,3 +5,4 @@ pub mod Meaning
 pub mod Reading
 pub mod Selector
 pub mod View
+pub mod Word

@@ -1,6 +1,7 @@
 -- When a selector holds, after the selector syntax of the CouchDB 3.x API reference: of a part that may be missing, and in a sense.
--- Negation, missing parts and empty lists of arms are this project's own choice: `$not` turns the sense of all below it, so that
--- it is no complement. A missing part meets no operator in either sense but `$exists`, and no arms hold in both senses.
+-- Negation, missing parts and empty lists of arms are this project's own choice. `$not` asks its selector in the other sense, which is
+-- handed down to the operators, so that it is no complement. On a missing part `$exists` alone can hold, in either sense; where there
+-- is no arm, a list of arms holds in both.
 use Rattle.std.specs.Prelude.{Bool, true, false, not, ◌&&◌, ◌||◌, Option, Some, None, option_and_then, is_some, if◌then◌else◌}
 use Rattle.std.specs.Ordering.{is_lt, is_le, is_eq, is_ne, is_ge, is_gt}
 use Rattle.mg_value.specs.Value.{Value}

@@ -5,14 +5,11 @@ use Rattle.std.specs.Str.{bytes_eq}
 use Rattle.std.specs.Option.{option_map_or}
 use Rattle.mg_value.specs.Value.{Value, null, flag, whole, text, list, object, Items, no_items, item, Members, no_members, member}
 use Rattle.mg_path.specs.Part.{steps_of}
-use Rattle.mg_selector.specs.Argument.{operator_with}
+use Rattle.mg_selector.specs.Argument.{exists_of, type_of, size_of, modulo_of, array_of}
 use Rattle.mg_selector.specs.Fault.{◌>>=◌, fmap}
-use Rattle.mg_selector.specs.Selector.{Selector, members, every, some, none, opposite, at, asks, Arms, no_arms, arm, equal, some_element, each_element}
+use Rattle.mg_selector.specs.Selector.{Selector, members, every, some, none, opposite, at, asks, Arms, no_arms, arm, less, at_most, equal, unequal, at_least, greater, among, not_among, containing, some_element, each_element}
 use Rattle.mg_selector.specs.declared.error.SelError.{SelError}
 use Rattle.mg_selector.specs.declared.error.SelError.TheVariants.{InvalidOperator, BadArg, Shape, NoMemory}
-use Rattle.mg_selector.specs.declared.word.Word.{Word}
-use Rattle.mg_selector.specs.declared.word.Word.TheVariants as word
-use Rattle.mg_selector.specs.declared.word.Test.TheVariants as test
 
 -- the result is the fault, or anything where a growth was refused
 abbrev pub Fails : {Y : Type 0} → SelError → Result Y SelError → Type 0
@@ -26,35 +23,6 @@ abbrev pub Gives : {X Y : Type 0} → (X → Y) → Result X SelError → Result
 Gives seen (Ok x) r = r ≡ Ok (seen x)
 Gives seen (Err e) r = Fails e r
 
--- a name that is no operator's: unknown where it begins with `$`, and else a path
-abbrev pub other_word : List ℕ → Word
-other_word [] = word.Path
-other_word (c ∷ k) = if bytes_eq (c ∷ []) (codes "$") then word.Unknown else word.Path
-
--- what the name of a member asks for
-abbrev pub word_of : List ℕ → Word
-word_of k =
-    if bytes_eq k (codes "$and") then word.And
-    else if bytes_eq k (codes "$or") then word.Or
-    else if bytes_eq k (codes "$nor") then word.Nor
-    else if bytes_eq k (codes "$not") then word.Not
-    else if bytes_eq k (codes "$elemMatch") then word.ElemMatch
-    else if bytes_eq k (codes "$allMatch") then word.AllMatch
-    else if bytes_eq k (codes "$lt") then word.Test test.Lt
-    else if bytes_eq k (codes "$lte") then word.Test test.Lte
-    else if bytes_eq k (codes "$eq") then word.Test test.Eq
-    else if bytes_eq k (codes "$ne") then word.Test test.Ne
-    else if bytes_eq k (codes "$gte") then word.Test test.Gte
-    else if bytes_eq k (codes "$gt") then word.Test test.Gt
-    else if bytes_eq k (codes "$exists") then word.Test test.Exists
-    else if bytes_eq k (codes "$type") then word.Test test.Type
-    else if bytes_eq k (codes "$in") then word.Test test.In
-    else if bytes_eq k (codes "$nin") then word.Test test.Nin
-    else if bytes_eq k (codes "$size") then word.Test test.Size
-    else if bytes_eq k (codes "$mod") then word.Test test.Mod
-    else if bytes_eq k (codes "$all") then word.Test test.All
-    else other_word k
-
 -- the argument of a path, where `inner` is what it is as a selector: an object with members is one, and all else is compared
 abbrev pub argument : Value → Result Selector SelError → Result Selector SelError
 argument (object (member k v ms)) inner = inner
@@ -64,21 +32,34 @@ argument v inner = Ok (asks (equal v))
 abbrev pub path_named : List ℕ → Value → Result Selector SelError → Result Selector SelError
 path_named k v inner = option_map_or (λ steps. fmap (at steps) (argument v inner)) (steps_of k) (Err BadArg)
 
--- a member by what its name asks for, where `inner` is what its value is as a selector, and `arms` what it is as an array of selectors
-abbrev pub by_word : Word → List ℕ → Value → Result Selector SelError → Result Arms SelError → Result Selector SelError
-by_word word.And k v inner arms = fmap every arms
-by_word word.Or k v inner arms = fmap some arms
-by_word word.Nor k v inner arms = fmap none arms
-by_word word.Not k v inner arms = fmap opposite inner
-by_word word.ElemMatch k v inner arms = fmap (λ s. asks (some_element s)) inner
-by_word word.AllMatch k v inner arms = fmap (λ s. asks (each_element s)) inner
-by_word (word.Test o) k v inner arms = fmap asks (operator_with o v)
-by_word word.Unknown k v inner arms = Err InvalidOperator
-by_word word.Path k v inner arms = path_named k v inner
+-- a member whose name is no operator's: unknown where it begins with `$`, and else at a path
+abbrev pub other_named : List ℕ → Value → Result Selector SelError → Result Selector SelError
+other_named [] v inner = path_named [] v inner
+other_named (c ∷ k) v inner = if bytes_eq (c ∷ []) (codes "$") then Err InvalidOperator else path_named (c ∷ k) v inner
 
--- a member by its name
+-- a member by its name, where `inner` is what its value is as a selector, and `arms` what it is as an array of selectors
 abbrev pub named : List ℕ → Value → Result Selector SelError → Result Arms SelError → Result Selector SelError
-named k v inner arms = by_word (word_of k) k v inner arms
+named k v inner arms =
+    if bytes_eq k (codes "$and") then fmap every arms
+    else if bytes_eq k (codes "$or") then fmap some arms
+    else if bytes_eq k (codes "$nor") then fmap none arms
+    else if bytes_eq k (codes "$not") then fmap opposite inner
+    else if bytes_eq k (codes "$elemMatch") then fmap (λ s. asks (some_element s)) inner
+    else if bytes_eq k (codes "$allMatch") then fmap (λ s. asks (each_element s)) inner
+    else if bytes_eq k (codes "$lt") then Ok (asks (less v))
+    else if bytes_eq k (codes "$lte") then Ok (asks (at_most v))
+    else if bytes_eq k (codes "$eq") then Ok (asks (equal v))
+    else if bytes_eq k (codes "$ne") then Ok (asks (unequal v))
+    else if bytes_eq k (codes "$gte") then Ok (asks (at_least v))
+    else if bytes_eq k (codes "$gt") then Ok (asks (greater v))
+    else if bytes_eq k (codes "$exists") then fmap asks (exists_of v)
+    else if bytes_eq k (codes "$type") then fmap asks (type_of v)
+    else if bytes_eq k (codes "$in") then fmap asks (fmap among (array_of v))
+    else if bytes_eq k (codes "$nin") then fmap asks (fmap not_among (array_of v))
+    else if bytes_eq k (codes "$size") then fmap asks (size_of v)
+    else if bytes_eq k (codes "$mod") then fmap asks (modulo_of v)
+    else if bytes_eq k (codes "$all") then fmap asks (fmap containing (array_of v))
+    else other_named k v inner
 
 abbrev mutual
   -- a selector inside another, which has to be an object
@@ -113,3 +94,8 @@ abbrev mutual
 abbrev pub reading : Value → Result Selector SelError
 reading (object ms) = fmap members (of_members ms)
 reading v = Err Shape
+
+-- the value is an object
+abbrev pub IsObject : Value → Type 0
+IsObject (object ms) = Unit {0}
+IsObject v = ⊥

@@ -1,9 +1,10 @@
 ghost use Rattle.std.specs.Prelude.{◌≡◌};
 ghost use Rattle.mg_value.specs.Value.{list};
 ghost use Rattle.mg_value.specs.View.{view, items_view};
-ghost use Rattle.mg_selector.specs.Argument.{operator_with, exists_of, type_of, size_of, modulo_of, modulo_by, array_of};
+ghost use Rattle.mg_selector.specs.Argument.{exists_of, type_of, size_of, modulo_of, modulo_by, array_of};
 ghost use Rattle.mg_selector.specs.Reading.{Gives};
 ghost use Rattle.mg_selector.specs.View.{operator_of};
+ghost use Rattle.mg_selector.specs.Word.{operator_with};
 
 use crate::copy;
 use crate::error::SelError;

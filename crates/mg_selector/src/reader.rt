@@ -1,8 +1,9 @@
-ghost use Rattle.std.specs.Prelude.{◌≡◌, Ok};
+ghost use Rattle.std.specs.Prelude.{◌≡◌, Ok, Err};
 ghost use Rattle.mg_value.specs.View.{view, items_view, members_view};
-ghost use Rattle.mg_selector.specs.Reading.{Gives, reading, of_object, of_arms, of_items, of_members, named, path_named, argument};
+ghost use Rattle.mg_selector.specs.Reading.{Gives, IsObject, reading, of_object, of_arms, of_items, of_members, named, path_named, argument};
 ghost use Rattle.mg_selector.specs.Selector.{asks, equal};
 ghost use Rattle.mg_selector.specs.View.{selector_of, arms_view};
+ghost use Rattle.mg_selector.specs.Word.{by_word};
 
 use crate::argument::read_operator;
 use crate::error::SelError;
@@ -14,9 +15,10 @@ use mg_value::Json;
 use std::alloc::Global;
 use std::collections::BTreeMap;
 
-/// The selector that the value spells.
+// The selector that the value spells.
 pub(crate) fn read(alloc: Global, value: &Json) -> Result<Sel, SelError>
-    ensures { Gives selector_of result (reading (view value.now)) }
+    ensures reading { Gives selector_of result (reading (view value.now)) }
+    ensures shape { ¬ IsObject (view value.now) → result ≡ Err SelError.Shape }
 {
     match value {
         Json::Object(members) => Ok(Sel::Members(read_members(alloc, members)?)),
@@ -73,7 +75,15 @@ fn read_member(alloc: Global, name: &str, value: &Json) -> Result<Sel, SelError>
     ensures { Gives selector_of result
         (named name.now (view value.now) (of_object (view value.now)) (of_arms (view value.now))) }
 {
-    match word_of(name) {
+    read_by_word(alloc, word_of(name), name, value)
+}
+
+#[cycle(reading)]
+fn read_by_word(alloc: Global, word: Word, name: &str, value: &Json) -> Result<Sel, SelError>
+    ensures { Gives selector_of result (by_word word name.now
+        (view value.now) (of_object (view value.now)) (of_arms (view value.now))) }
+{
+    match word {
         Word::And => Ok(Sel::And(read_arms(alloc, value)?)),
         Word::Or => Ok(Sel::Or(read_arms(alloc, value)?)),
         Word::Nor => Ok(Sel::Nor(read_arms(alloc, value)?)),

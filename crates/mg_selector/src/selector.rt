@@ -1,4 +1,4 @@
-ghost use Rattle.std.specs.Prelude.{◌≡◌, Some, IfOk};
+ghost use Rattle.std.specs.Prelude.{◌≡◌, Some, Err, IfOk};
 ghost use Rattle.mg_value.specs.View.{view};
 
 use crate::error::SelError;
@@ -21,7 +21,7 @@ pub enum Sel {
     Or(Vec<Sel>),
     /// `$nor`: no arm.
     Nor(Vec<Sel>),
-    /// `$not`: the negation; it turns the sense of all below it.
+    /// `$not`: the selector, asked in the other sense.
     Not(Box<Sel>),
     /// A selector on the part at the path.
     At(Path, Box<Sel>),
@@ -31,7 +31,7 @@ pub enum Sel {
 
 impl Sel {
     ghost use Rattle.mg_selector.specs.Meaning.{holds_in};
-    ghost use Rattle.mg_selector.specs.Reading.{Gives, reading};
+    ghost use Rattle.mg_selector.specs.Reading.{Gives, IsObject, reading};
     ghost use Rattle.mg_selector.specs.View.{selector_of};
 
     /// Reads a selector such as `{"a":{"$gt":1},"b.c":2}`. A name that begins with `$` is an operator
@@ -39,10 +39,12 @@ impl Sel {
     ///
     /// Errors: `Shape` where the value is not an object; else the first fault, members in the order
     /// of their names, depth first: `InvalidOperator` for an unknown operator, `BadArg` for a wrong
-    /// argument or a path with an empty step. `NoMemory` where a growth is refused.
+    /// argument or a path with an empty step. `NoMemory` where a growth is refused, and never in
+    /// place of `Shape`.
     /// Cost: the size of the value. Source: the selector syntax of CouchDB's `_find`.
     pub fn read(alloc: Global, value: &Json) -> Result<Sel, SelError>
-        ensures { Gives selector_of result (reading (view value.now)) }
+        ensures reading { Gives selector_of result (reading (view value.now)) }
+        ensures shape { ¬ IsObject (view value.now) → result ≡ Err SelError.Shape }
     {
         reader::read(alloc, value)
     }

@@ -1,5 +1,5 @@
 ghost use Rattle.std.specs.Prelude.{◌≡◌};
-ghost use Rattle.mg_selector.specs.Reading.{word_of, other_word};
+ghost use Rattle.mg_selector.specs.Word.{word_of, other_word};
 
 /// What the name of a member asks for.
 #[derive(Clone, Copy, PartialEq, Eq, Debug, Drop)]
