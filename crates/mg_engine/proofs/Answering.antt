@@ -19,7 +19,7 @@ use Rattle.mg_collate.proofs.Sorting.{all_weaker, in_order}
 use Rattle.mg_doc.specs.Served.{served_of}
 use Rattle.mg_merge.proofs.Cuts.{cut_in_order, cut_lists}
 use Rattle.mg_query.specs.Query.{Query}
-use Rattle.mg_query.specs.Page.{Page, Row, answer_of, bookmark_after, bookmark_of, is_asked, page_limit, page_rows, shown_of}
+use Rattle.mg_query.specs.Page.{Page, Row, bookmark_after, bookmark_of, is_asked, page_limit, page_of, page_rows, shown_of}
 use Rattle.mg_revtree.specs.History.{History}
 use Rattle.mg_engine.specs.Documents.{Kept, KeptDocuments, StandsAt}
 use Rattle.mg_engine.specs.Found.{bookmark_of_row, found_page, handed, merged_rows, row_bookmark, row_key, shard_rows, shown_rows}
@@ -165,7 +165,7 @@ made docs bookmark = record { docs = docs; bookmark = bookmark }
 
 -- the page that is found is the answer
 pub found_is_answer : (place : Placing) (shards : List KeptDocuments) (hs : Histories) (q : Query) → ShardsStandFor place shards hs
-    → found_page place shards q ≡ answer_of q (filter_map served_row (entries hs))
+    → found_page place shards q ≡ page_of q (page_rows q (filter_map served_row (entries hs)))
 found_is_answer place shards hs q st =
     let rows = page_rows q (filter_map served_row (entries hs)) in
     let all = all_weaker (λ e. get hs e.0 ≡ Some e.1) (λ e. form_at place shards e.0 ≡ served_of e.0 e.1) (λ e k. form_kept e.0 (kept_at place shards e.0) (get hs e.0) e.1 (stands_at place shards hs e.0 st) k) (entries hs) (own_histories hs) in

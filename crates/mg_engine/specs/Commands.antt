@@ -6,11 +6,11 @@ use Rattle.mg_revtree.specs.History.{History}
 use Rattle.mg_doc.specs.Document.{Edit}
 use Rattle.mg_doc.specs.Served.{served_of}
 use Rattle.mg_query.specs.Query.{Query, query_of}
-use Rattle.mg_query.specs.Page.{answer_of}
+use Rattle.mg_query.specs.Page.{Page, Unanswered, no_usable_index, answer_of}
 use Rattle.mg_query.specs.declared.error.QueryError.{QueryError}
 use Rattle.mg_query.specs.declared.error.QueryError.TheVariants as query_fault
 use Rattle.mg_engine.specs.declared.refusal.Refusal.{Refusal}
-use Rattle.mg_engine.specs.declared.refusal.Refusal.TheVariants.{WrongShape, InvalidOperator, BadArg, OutOfMemory, Missing, Deleted}
+use Rattle.mg_engine.specs.declared.refusal.Refusal.TheVariants.{WrongShape, InvalidOperator, BadArg, NoUsableIndex, OutOfMemory, Missing, Deleted}
 use Rattle.mg_engine.specs.Refusals.{status_of, refusal_body}
 use Rattle.mg_engine.specs.World.{World, documents_of}
 use Rattle.mg_engine.specs.Bulk.{Bulk, bulk_of, edits_read, numbered, last_number, after_edits, outcomes, entries_of}
@@ -58,9 +58,18 @@ refusal_of query_fault.InvalidOperator = InvalidOperator
 refusal_of query_fault.BadArg = BadArg
 refusal_of query_fault.NoMemory = OutOfMemory
 
+-- why a query that was read is not answered, as a refusal
+abbrev pub refusal_for : Unanswered → Refusal
+refusal_for no_usable_index = NoUsableIndex
+
+-- a page, or why there is none
+abbrev pub page_or_refusal : Result Page Unanswered → Answer
+page_or_refusal (Ok page) = record { status = 200; body = line_of (page_value page) }
+page_or_refusal (Err why) = refused (refusal_for why)
+
 -- the answer to a query: its page, or its refusal
 abbrev pub found : World → Result Query QueryError → Answer
-found w (Ok q) = record { status = 200; body = line_of (page_value (answer_of q (documents_of w))) }
+found w (Ok q) = page_or_refusal (answer_of w.indexes q (documents_of w))
 found w (Err e) = refused (refusal_of e)
 
 -- ---- `GET` of a document

@@ -10,6 +10,9 @@ pub const INVALID_OPERATOR: &str =
     "{\"error\":\"invalid_operator\",\"reason\":\"Unknown operator.\"}\n";
 /// The body of `BadArg`.
 pub const BAD_ARG: &str = "{\"error\":\"bad_arg\",\"reason\":\"Bad argument for an operator.\"}\n";
+/// The body of `NoUsableIndex`.
+pub const NO_USABLE_INDEX: &str =
+    "{\"error\":\"no_usable_index\",\"reason\":\"No index exists for this sort, try indexing by the sort fields.\"}\n";
 /// The body of `BadMember`.
 pub const BAD_MEMBER: &str =
     "{\"error\":\"doc_validation\",\"reason\":\"Bad special document member.\"}\n";
@@ -60,6 +63,8 @@ pub enum Refusal {
     InvalidOperator,
     /// An operator of a selector has an argument that it does not take.
     BadArg,
+    /// No index serves the sort of a query.
+    NoUsableIndex,
     /// A document has a reserved member that is not known.
     BadMember,
     /// A document has an id that is none.
@@ -111,6 +116,7 @@ impl Refusal {
             Refusal::WrongShape => WRONG_SHAPE,
             Refusal::InvalidOperator => INVALID_OPERATOR,
             Refusal::BadArg => BAD_ARG,
+            Refusal::NoUsableIndex => NO_USABLE_INDEX,
             Refusal::BadMember => BAD_MEMBER,
             Refusal::BadId => BAD_ID,
             Refusal::BadRev => BAD_REV,

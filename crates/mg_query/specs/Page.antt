@@ -1,12 +1,13 @@
 -- The page that answers a query, after CouchDB's `_find`: of the documents that the selector holds of, in the order of the
 -- index that serves them, the first of them, and the bookmark of the last.
-use Rattle.std.specs.Prelude.{ℕ, List, [], ◌∷◌, Bool, codes, Some, None, filter, take, map, length, ◌-◌, slice_get}
+use Rattle.std.specs.Prelude.{ℕ, List, [], ◌∷◌, Bool, codes, Some, None, Result, Ok, filter, take, map, length, ◌-◌, slice_get}
 use Rattle.std.specs.Option.{option_map_or}
 use Rattle.mg_value.specs.Value.{Value, text, item, no_items}
 use Rattle.mg_collate.specs.declared.direction.Direction.TheVariants.{Asc}
 use Rattle.mg_selector.specs.Meaning.{holds_in}
 use Rattle.mg_selector.specs.declared.sense.Sense.TheVariants.{Plain}
 use Rattle.mg_bookmark.specs.Bookmark.{spelled}
+use Rattle.mg_index.specs.Definition.{IndexDefinition}
 use Rattle.mg_path.specs.Part.{projection_of}
 use Rattle.mg_query.specs.Query.{Query, Steps}
 
@@ -52,6 +53,10 @@ shown_of (field ∷ fields) v = projection_of (field ∷ fields) v
 abbrev pub page_of : Query → List Row → Page
 page_of q rows = record { docs = map (λ r. shown_of q.fields r.1) rows; bookmark = bookmark_after rows }
 
--- the answer to a query, over all served documents in the order of their ids
-abbrev pub answer_of : Query → List Row → Page
-answer_of q rows = page_of q (page_rows q rows)
+-- why a query that was read has no page. Queries of today always have one; a sort that no index serves will not
+pub data Unanswered : Type 0 where
+  no_usable_index : Unanswered
+
+-- the answer to a query, over the index definitions and all served documents in the order of their ids
+abbrev pub answer_of : List IndexDefinition → Query → List Row → Result Page Unanswered
+answer_of indexes q rows = Ok (page_of q (page_rows q rows))

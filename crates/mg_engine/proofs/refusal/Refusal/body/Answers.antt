@@ -20,6 +20,10 @@ pub returns-in-BadArg : goal.returns-in-BadArg
 unfolding escape_byte
 returns-in-BadArg c = sym (ap refusal_body c.in-BadArg.is)
 
+pub returns-in-NoUsableIndex : goal.returns-in-NoUsableIndex
+unfolding escape_byte
+returns-in-NoUsableIndex c = sym (ap refusal_body c.in-NoUsableIndex.is)
+
 pub returns-in-BadMember : goal.returns-in-BadMember
 unfolding escape_byte
 returns-in-BadMember c = sym (ap refusal_body c.in-BadMember.is)
