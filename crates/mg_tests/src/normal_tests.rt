@@ -17,15 +17,8 @@ fn normal(alloc: Global, text: &str) -> Result<Normal, Fail> {
 fn negations_go_inwards(rt: HostRuntime) -> Result<(), Fail> {
     let alloc = rt.alloc();
     let normal = normal(alloc, r#"{"$not":{"$or":[{"a":1},{"b":{"$gt":2}}]}}"#)?;
-    for (text, held) in [
-        (r#"{"a":2,"b":2}"#, true),
-        (r#"{"a":1,"b":2}"#, false),
-        (r#"{"a":2,"b":3}"#, false),
-        (r#"{"a":2}"#, false),
-    ] {
-        let document = read(alloc, text.as_bytes())?;
-        assert!(rt; normal.holds(&document) == held, "at {text}");
-    }
+    assert!(rt; normal.holds(&read(alloc, br#"{"a":2,"b":2}"#)?));
+    assert!(rt; !normal.holds(&read(alloc, br#"{"a":2}"#)?));
     Ok(())
 }
 

@@ -34,6 +34,9 @@ fn projections(rt: HostRuntime) -> Result<(), Fail> {
     let siblings = "{\"a\":{\"b\":1,\"c\":2},\"d\":3}";
     let found = projected(alloc, siblings, &["a.b", "d", "z"])?;
     assert_eq!(rt; found.as_slice(), "{\"a\":{\"b\":1},\"d\":3}".as_bytes());
-    assert_eq!(rt; projected(alloc, siblings, &[])?.as_slice(), "{}".as_bytes());
+    assert_eq!(rt;
+        projected(alloc, siblings, &[])?.as_slice(),
+        "{}".as_bytes()
+    );
     Ok(())
 }

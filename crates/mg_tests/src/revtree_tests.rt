@@ -50,20 +50,42 @@ fn revision_texts(rt: HostRuntime) -> Result<(), Fail> {
     Ok(())
 }
 
-#[test]
-fn winner_and_losers(rt: HostRuntime) -> Result<(), Fail> {
-    let alloc = rt.alloc();
+// The tree of the paths, each by its newest position, its ids and whether it is deleted.
+fn tree_of(alloc: Global, paths: &[(u32, &[&str], bool)]) -> Result<RevTree, Fail> {
     let mut tree = RevTree::new(alloc);
-    assert!(rt; tree.winner().is_none());
-    let first = merged(alloc, &mut tree, 2, &["b", "a"], false)?;
-    assert!(rt; matches!(first, Some(Ok(Merged::New))));
-    let second = merged(alloc, &mut tree, 2, &["c", "a"], false)?;
-    assert!(rt; matches!(second, Some(Ok(Merged::New))));
+    for (start, ids, deleted) in paths {
+        let answer = merged(alloc, &mut tree, *start, ids, *deleted)?;
+        if !matches!(answer, Some(Ok(Merged::New))) {
+            return Err(Fail::from("no new path"));
+        }
+    }
+    Ok(tree)
+}
+
+#[test]
+fn leaves_best_first(rt: HostRuntime) -> Result<(), Fail> {
+    let alloc = rt.alloc();
+    let paths: [(u32, &[&str], bool); 3] = [
+        (2, &["b", "a"], false),
+        (2, &["c", "a"], false),
+        (3, &["d", "c", "a"], true),
+    ];
+    let tree = tree_of(alloc, &paths)?;
+    assert_eq!(rt; shown(alloc, &tree.leaves()?)?.as_str(), "2-b;3-d;");
+    assert!(rt; matches!(tree.winner(), Some(leaf) if !leaf.deleted));
+    Ok(())
+}
+
+#[test]
+fn losers(rt: HostRuntime) -> Result<(), Fail> {
+    let alloc = rt.alloc();
+    let paths: [(u32, &[&str], bool); 3] = [
+        (1, &["a"], true),
+        (2, &["c"], false),
+        (2, &["b"], false),
+    ];
+    let tree = tree_of(alloc, &paths)?.copy()?;
     assert_eq!(rt; shown(alloc, &tree.losers()?)?.as_str(), "2-b;");
-    let third = merged(alloc, &mut tree, 3, &["d", "c", "a"], true)?;
-    assert!(rt; matches!(third, Some(Ok(Merged::New))));
-    assert_eq!(rt; shown(alloc, &tree.copy()?.leaves()?)?.as_str(), "2-b;3-d;");
-    assert_eq!(rt; shown(alloc, &tree.losers()?)?.as_str(), "");
     Ok(())
 }
 
@@ -102,12 +124,22 @@ fn extensions(rt: HostRuntime) -> Result<(), Fail> {
     assert!(rt; extended(alloc, &mut tree, "1-a", "b")?.is_ok());
     let inner = extended(alloc, &mut tree, "1-a", "c")?;
     assert!(rt; matches!(inner, Err(TreeError::NotLeaf)));
-    assert!(rt; merged(alloc, &mut tree, 1, &["z"], false)?.is_some());
+    assert_eq!(rt; shown(alloc, &tree.leaves()?)?.as_str(), "2-b;");
+    Ok(())
+}
+
+#[test]
+fn extensions_that_are_known_or_have_no_room(rt: HostRuntime) -> Result<(), Fail> {
+    let alloc = rt.alloc();
+    let roots: [(u32, &[&str], bool); 3] = [
+        (2, &["b"], false),
+        (1, &["z"], false),
+        (4294967295, &["y"], false),
+    ];
+    let mut tree = tree_of(alloc, &roots)?;
     let known = extended(alloc, &mut tree, "1-z", "b")?;
     assert!(rt; matches!(known, Err(TreeError::Known)));
-    assert!(rt; merged(alloc, &mut tree, 4294967295, &["y"], false)?.is_some());
-    let full = extended(alloc, &mut tree, "4294967295-y", "x")?;
+    let full = extended(alloc, &mut tree, "4294967295-y", "w")?;
     assert!(rt; matches!(full, Err(TreeError::Full)));
-    assert_eq!(rt; shown(alloc, &tree.leaves()?)?.as_str(), "4294967295-y;2-b;1-z;");
     Ok(())
 }

