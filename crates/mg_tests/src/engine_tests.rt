@@ -30,7 +30,7 @@ const PAGE: &str =
 #[test]
 fn documents_placed_by_number(rt: HostRuntime) -> Result<(), Fail> {
     let alloc = rt.alloc();
-    let mut engine = Engine::new(alloc, ByNumber, 4)?;
+    let mut engine = Engine::new(alloc, "db", ByNumber, 4)?;
     let bulk = Command::Bulk(read(alloc, DOCUMENTS.as_bytes())?);
     assert_eq!(rt; engine.step(&rt, alloc, &bulk, 1).status(), 201);
     let find = Command::Find(read(alloc, br#"{"selector":{},"fields":["_id"]}"#)?);
@@ -42,7 +42,7 @@ fn documents_placed_by_number(rt: HostRuntime) -> Result<(), Fail> {
 #[test]
 fn commands_in_order(rt: HostRuntime) -> Result<(), Fail> {
     let alloc = rt.alloc();
-    let mut engine = Engine::new(alloc, ByNumber, 4)?;
+    let mut engine = Engine::new(alloc, "db", ByNumber, 4)?;
     let mut commands = Vec::new(alloc);
     for id in ["d1", "d3"] {
         commands.push(Command::Get {

@@ -139,7 +139,7 @@ fn run(
         writes: 0,
     });
     let mut service = Solo {
-        engine: Engine::new(alloc, OneShard, 1)?,
+        engine: Engine::new(alloc, "db", OneShard, 1)?,
         workers: 1,
     };
     let end = session(rt, alloc, "db", &mut reader, &mut writer, &mut service);
