@@ -1,13 +1,16 @@
 -- What an extension needs.
-use Rattle.std.proofs.Common.{◌≡◌, ℕ, ◌<◌, ◌^◌, ◌==◌, Result, Ok, Err, IfErr, true, false, ◌+◌, ◌-◌, Option, Some, None, is_some, is_none, List, [], ◌∷◌, refl, ap, sym, subst, arith}
+use Rattle.std.proofs.Common.{◌≡◌, ℕ, ◌<◌, ◌^◌, ◌==◌, Result, Ok, Err, IsOkUnless, ok_or, IfOk, ◌∙◌, true, false, ◌+◌, ◌-◌, Option, Some, None, is_some, is_none, List, [], ◌∷◌, refl, ap, sym, subst, arith}
+use Rattle.std.specs.Option.{SomeIff}
 use Rattle.std.specs.Result.{IsErrAnd}
 use Rattle.std.proofs.lemmas.Bool.Decides.{nat_tests}
 use Rattle.mg_revtree.specs.declared.error.TreeError.{TreeError}
-use Rattle.mg_revtree.specs.declared.error.TreeError.TheVariants.{NotLeaf, Known, NoMemory}
+use Rattle.mg_revtree.specs.declared.error.TreeError.TheVariants.{NoMemory as no_memory}
+use Rattle.mg_revtree.specs.declared.error.Refusal.{Refusal}
+use Rattle.mg_revtree.specs.declared.error.Refusal.TheVariants.{NotLeaf, Full, Known}
 use Rattle.mg_revtree.specs.Revision.{Revision, run_from}
 use Rattle.mg_revtree.specs.History.{History, all_links, Leaf, is_known}
 use Rattle.mg_revtree.specs.Tree.{AreLeaves}
-use Rattle.mg_revtree.specs.Changes.{may_extend, next_revision, position_below, refusal_of, run_over}
+use Rattle.mg_revtree.specs.Changes.{Decides, error_of, may_extend, next_position, next_revision, position_below, refusal_at, refusal_of, run_over}
 use Rattle.mg_revtree.specs.Steps.{base_in, ids_over}
 use Rattle.mg_revtree.proofs.Winners.{no_winner, first_wins}
 
@@ -22,18 +25,48 @@ base_is h (l ∷ ls) leaves None = sym (ap is_none (first_wins h l ls leaves))
 base_is h [] leaves (Some q) = ap is_some (leaves.same q)
 base_is h (l ∷ ls) leaves (Some q) = ap is_some (leaves.same q)
 
--- ---- why an extension is refused
+-- ---- where a new revision may be made
 
-pub refused_leaf : (h : History) (base : Option Revision) (id : List ℕ) → may_extend h base ≡ false → refusal_of h base id ≡ Some NotLeaf
-refused_leaf h base id e = rw e refl
+pub position_refused : (h : History) (base : Option Revision) → may_extend h base ≡ false → Err NotLeaf ≡ next_position h base
+position_refused h base e = rw e refl
 
-pub refused_known : (h : History) (base : Option Revision) (id : List ℕ) → may_extend h base ≡ true → position_below base + 1 < 2 ^ 32 → is_known (next_revision base id) (all_links h) ≡ true → refusal_of h base id ≡ Some Known
-refused_known h base id e f k = let t : (position_below base == 4294967295) ≡ false = grind (arith, nat_tests) in rw (e, t, k) refl
+-- the position above the one below, or none
+pub position_is : (h : History) (base : Option Revision) (n : ℕ) (o : Option ℕ) (r : Result ℕ Refusal) → may_extend h base ≡ true → n ≡ position_below base → SomeIff o (n + 1 < 2 ^ 32) (n + 1) → n < 2 ^ 32 → r ≡ ok_or o Full → r ≡ next_position h base
+position_is h base n None r e is none fits to =
+    let top : n ≡ 4294967295 = omega (arith, none, fits) in
+    let t : (position_below base == 4294967295) ≡ true = grind (arith, nat_tests) in
+    to ∙ rw (e, t) refl
+position_is h base n (Some m) r e is some fits to =
+    let t : (position_below base == 4294967295) ≡ false = grind (arith, nat_tests) in
+    to ∙ rw (e, t) (ap Ok (some.1 ∙ ap (λ k. k + 1) is))
 
-pub not_refused : (h : History) (base : Option Revision) (id : List ℕ) → may_extend h base ≡ true → position_below base + 1 < 2 ^ 32 → is_known (next_revision base id) (all_links h) ≡ false → refusal_of h base id ≡ None
-not_refused h base id e f k = let t : (position_below base == 4294967295) ≡ false = grind (arith, nat_tests) in rw (e, t, k) refl
+pub position_ok : (base : Option Revision) (n : ℕ) (o : Option ℕ) (r : Result ℕ Refusal) → n ≡ position_below base → SomeIff o (n + 1 < 2 ^ 32) (n + 1) → r ≡ ok_or o Full → IfOk r (λ m. m ≡ position_below base + 1)
+position_ok base n None (Ok m) is none to = absurd cc
+position_ok base n None (Err e) is none to = tt
+position_ok base n (Some k) (Ok m) is some to = let e : m ≡ k = cc in e ∙ some.1 ∙ ap (λ j. j + 1) is
+position_ok base n (Some k) (Err e) is some to = tt
+
+-- ---- why a new revision is not made
+
+pub refused_position : (h : History) (base : Option Revision) (id : List ℕ) (refusal : Refusal) → Err refusal ≡ next_position h base → Some refusal ≡ refusal_of h base id
+refused_position h base id refusal e = ap (λ p. refusal_at p id (all_links h)) e
+
+pub refused_known : (h : History) (base : Option Revision) (id : List ℕ) (n : ℕ) → Ok n ≡ next_position h base → is_known (n, id) (all_links h) ≡ true → Some Known ≡ refusal_of h base id
+refused_known h base id n e k = (let t : Some Known ≡ refusal_at (Ok n) id (all_links h) = rw k refl in t) ∙ ap (λ p. refusal_at p id (all_links h)) e
+
+pub not_refused : (h : History) (base : Option Revision) (id : List ℕ) (n : ℕ) → Ok n ≡ next_position h base → is_known (n, id) (all_links h) ≡ false → None ≡ refusal_of h base id
+not_refused h base id n e k = (let t : None ≡ refusal_at (Ok n) id (all_links h) = rw k refl in t) ∙ ap (λ p. refusal_at p id (all_links h)) e
+
+-- ---- what is answered
+
+pub decides_refused : (o : Option Refusal) (refusal : Refusal) (r : Result (Unit {0}) TreeError) → Some refusal ≡ o → IsErrAnd r (λ e. e ≡ error_of refusal) → Decides o r
+decides_refused o refusal (Ok u) is h = absurd h
+decides_refused o refusal (Err e) is h = subst (λ (x : Option Refusal). Decides x (Err e)) is (ap Err h)
+
+pub decides_made : (o : Option Refusal) (r : Result (Unit {0}) TreeError) → None ≡ o → IsOkUnless r no_memory → Decides o r
+decides_made o r is h = subst (λ (x : Option Refusal). Decides x r) is h
 
 -- want of memory
-pub err_named : {A : Type 0} (r : Result A TreeError) (P : TreeError → Type 0) → IsErrAnd r (λ e. e ≡ NoMemory) → P NoMemory → IfErr r P
-err_named (Ok a) P h p = tt
-err_named (Err e) P h p = subst P (sym h) p
+pub only_memory : (r : Result (Unit {0}) TreeError) → IsErrAnd r (λ e. e ≡ no_memory) → IsOkUnless r no_memory
+only_memory (Ok u) h = tt
+only_memory (Err e) h = h

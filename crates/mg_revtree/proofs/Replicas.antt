@@ -1,10 +1,13 @@
 -- Replicas with the same paths agree.
-use Rattle.std.proofs.Common.{◌≡◌, Bool, true, false, ◌||◌, Option, Some, None, is_some, List, [], ◌∷◌, ◌++◌, ◌⊎◌, inl, inr, refl, ap, sym, ◌∙◌, subst}
+use Rattle.std.proofs.Common.{◌≡◌, Bool, true, false, ◌||◌, ◌&&◌, Option, Some, None, is_some, List, [], ◌∷◌, ◌++◌, ◌⊎◌, inl, inr, refl, ap, sym, ◌∙◌, subst, length, ℕ, ◌-◌, ◌<◌, arith, if◌then◌else◌}
+use Rattle.std.specs.List.{list_all}
 use Rattle.mg_value.specs.Value.{Value}
-use Rattle.mg_revtree.specs.Revision.{Revision, same_revision}
-use Rattle.mg_revtree.specs.History.{Path, History, Link, newest_of, is_at, is_known, parent_of, or_else, has_child, marked, links, all_links, leaf_at}
-use Rattle.mg_revtree.specs.Changes.{with_path}
-use Rattle.mg_revtree.specs.Laws.{Among, AmongLinks, SamePaths, SameMarks, OneParent, ReplicasAgree, IsKnownWhole, KnownChangesNothing, NothingIsLost}
+use Rattle.mg_revtree.specs.Revision.{Revision, run_from, same_revision}
+use Rattle.mg_revtree.specs.History.{Path, History, Link, newest_of, agrees, are_held, fit, gives, is_whole, is_at, is_known, parent_of, or_else, has_child, marked, links, all_links, leaf_at}
+use Rattle.mg_revtree.specs.Changes.{found_of, path_of, with_path}
+use Rattle.mg_revtree.specs.Tree.{StandsFor, Tree}
+use Rattle.mg_revtree.specs.declared.error.Merged.TheVariants.{Known}
+use Rattle.mg_revtree.specs.Laws.{Among, AmongLinks, SamePaths, SameMarks, OneParent, ReplicasAgree, KnownChangesNothing, NothingIsLost}
 use Rattle.mg_revtree.proofs.Same.{two, same_is, same_refl}
 use Rattle.mg_revtree.proofs.Joins.{known-append, parent-append, has_child-append, all_links-append}
 use Rattle.mg_revtree.proofs.Leaves.{leaf_marked, head_known}
@@ -182,7 +185,27 @@ or_same true b h = refl
 or_same false true h = sym (h refl)
 or_same false false h = refl
 
-module _ (h : History) (p : Path) (whole : IsKnownWhole h p) where
+and_both : (a b : Bool) → (a && b) ≡ true → (a ≡ true) × (b ≡ true)
+and_both true b e = (refl, e)
+and_both false b e = cc
+
+all_true : (P : Link → Bool) (ls : List Link) → list_all P ls ≡ true → (l : Link) → AmongLinks l ls → P l ≡ true
+all_true P [] e l a = absurd a
+all_true P (m ∷ ls) e l (inl is) = ap P is ∙ (and_both (P m) (list_all P ls) e).0
+all_true P (m ∷ ls) e l (inr a) = all_true P ls (and_both (P m) (list_all P ls) e).1 l a
+
+gives_known : (p o : Option Revision) (q : Revision) → gives p o ≡ true → o ≡ Some q → p ≡ Some q
+gives_known p None q e is = cc
+gives_known None (Some r) q e is = cc
+gives_known (Some p) (Some r) q e is = let s : r ≡ q = cc in ap Some (same_is p r e ∙ s)
+
+-- each link of a path that is known whole: its revision is known, with the parent that it gives
+held_links : (known ls : List Link) → are_held known ls ≡ true → (l : Link) → AmongLinks l ls → (is_known l.rev known ≡ true) × ((q : Revision) → l.parent ≡ Some q → parent_of l.rev known ≡ Some q)
+held_links known ls e l a =
+    let both = and_both (is_known l.rev known) (gives (parent_of l.rev known) l.parent) (all_true (λ m. is_known m.rev known && gives (parent_of m.rev known) m.parent) ls e l a) in
+    (both.0, λ q is. gives_known (parent_of l.rev known) l.parent q both.1 is)
+
+module _ (h : History) (p : Path) (whole : (l : Link) → AmongLinks l (links p.revs) → (is_known l.rev (all_links h) ≡ true) × ((q : Revision) → l.parent ≡ Some q → parent_of l.rev (all_links h) ≡ Some q)) where
   whole_known : (r : Revision) → is_known r (links p.revs) ≡ true → is_known r (all_links h) ≡ true
   whole_known r e = let d = known_link r (links p.revs) e in subst (λ (x : Revision). is_known x (all_links h) ≡ true) (sym d.2) (whole d.0 d.1).0
 
@@ -224,7 +247,7 @@ module _ (h : History) (p : Path) (whole : IsKnownWhole h p) where
       or_none (Some x) = refl
 
 pub known_changes_nothing : KnownChangesNothing
-known_changes_nothing h p whole = record {
+known_changes_nothing h p e = let whole = held_links (all_links h) (links p.revs) e in record {
   known = λ r. ap (is_known r) (all_links-one h p) ∙ known-append r (all_links h) (links p.revs) ∙ or_same (is_known r (all_links h)) (is_known r (links p.revs)) (whole_known h p whole r);
   parents = whole_parent h p whole;
   leaves = whole_leaf h p whole;
@@ -236,3 +259,40 @@ nothing_is_lost h ps = record {
   revisions = λ r e. ap (is_known r) (all_links-append h ps) ∙ known-append r (all_links h) (all_links ps) ∙ or_left _ _ e;
   parents = λ r q e. ap (parent_of r) (all_links-append h ps) ∙ parent-append r (all_links h) (all_links ps) ∙ rw e refl;
 }
+
+-- a tree stands for a history with a path that is known whole as it did before
+pub whole_stands : (t : Tree) (h : History) (rs : List Revision) (d : Bool) (b : Value) → is_whole h rs ≡ true → StandsFor t h → StandsFor t (with_path h (path_of rs d b))
+whole_stands t h rs d b e s =
+    let same = known_changes_nothing h (path_of rs d b) e in
+    record {
+      nodes = record {
+        same = λ r. s.nodes.same r ∙ sym (ap (λ k. if k then Some (parent_of r (all_links h)) else None) (same.known r)) ∙ sym (ap (λ p. if is_known r (all_links (with_path h (path_of rs d b))) then Some p else None) (same.parents r));
+        sorted = s.nodes.sorted;
+      };
+      leaves = record {
+        same = λ r. s.leaves.same r ∙ sym (same.leaves r);
+        apart = s.leaves.apart;
+        ranked = s.leaves.ranked;
+      };
+    }
+
+-- the newest revision of such a path is known
+pub whole_found : (h : History) (n : ℕ) (ids : List (List ℕ)) → 0 < length ids → is_whole h (run_from n ids) ≡ true → Known ≡ found_of h (run_from n ids)
+whole_found h n [] lt e = absurd (omega arith)
+whole_found h n (id ∷ ids) lt e =
+    let rest = run_from (n - 1) ids in
+    let k : is_known (n, id) (all_links h) ≡ true = (held_links (all_links h) (links (run_from n (id ∷ ids))) e (record { rev = (n, id); parent = newest_of rest }) (inl refl)).0 in
+    rw k refl
+
+agrees_held : (p o : Option Revision) → gives p o ≡ true → agrees p o ≡ true
+agrees_held None o e = refl
+agrees_held (Some p) None e = refl
+agrees_held (Some p) (Some q) e = e
+
+-- and it fits
+pub whole_fits : (known ls : List Link) → are_held known ls ≡ true → fit known ls ≡ true
+whole_fits known [] e = refl
+whole_fits known (l ∷ ls) e =
+    let both = and_both (is_known l.rev known && gives (parent_of l.rev known) l.parent) (are_held known ls) e in
+    let a : agrees (parent_of l.rev known) l.parent ≡ true = agrees_held (parent_of l.rev known) l.parent (and_both (is_known l.rev known) (gives (parent_of l.rev known) l.parent) both.0).1 in
+    rw a (whole_fits known ls both.1)

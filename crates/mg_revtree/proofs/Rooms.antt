@@ -1,5 +1,5 @@
 -- A run joined in a room: how nodes move, and what lies above the room.
-use Rattle.std.proofs.Common.{◌≡◌, ◌∙◌, ℕ, zero, suc, ◌+◌, ◌-◌, ◌<◌, ◌≤◌, List, [], ◌∷◌, ◌++◌, length, length-append, length-drop, append_assoc, append-nil, take, drop, set, get_or, map, refl, ap, sym, subst, arith, Bor, MatchOption, Option, Some, None, option_copied, option_map, length-take, Result, Ok, Err, is_ok, if◌then◌else◌}
+use Rattle.std.proofs.Common.{◌≡◌, ◌∙◌, ℕ, zero, suc, ◌+◌, ◌-◌, ◌<◌, ◌≤◌, List, [], ◌∷◌, ◌++◌, length, length-append, append_assoc, append-nil, take, drop, set, get_or, map, refl, ap, sym, subst, arith, Bor, MatchOption, Option, Some, None, option_copied, option_map, length-take, Result, Ok, Err, is_ok, if◌then◌else◌}
 use Rattle.std.specs.Ordering.{nat_cmp}
 use Rattle.std.specs.List.{copy_within, insert}
 use Rattle.std.specs.declared.cmp.Ordering.{Ordering}
@@ -218,11 +218,11 @@ module _ (t : List ℕ) (start : ℕ) (ps : List Part) where
       let rest = run_from (pos - 1) (map (part_of t) (drop (i + 1) ps)) in
       let link = λ (n : ℕ) (s : List ℕ) (o : Option Revision). (let l : Link = record { rev = (n, s); parent = o } in l) in
       let head : link pos (part_of t (get_or ps i x.id)) (newest_of rest) ≡ link_in t x =
-          ap (λ (p : Part). link pos (part_of t p) (newest_of rest)) (sym id)
-          ∙ ap (link pos (part_of t x.id)) (sym newest)
-          ∙ ap (λ (n : ℕ). link n (part_of t x.id) (option_map {U = Revision} (λ p. (n - 1, part_of t p)) x.parent)) (sym here) in
+      ap (λ (p : Part). link pos (part_of t p) (newest_of rest)) (sym id)
+      ∙ ap (link pos (part_of t x.id)) (sym newest)
+      ∙ ap (λ (n : ℕ). link n (part_of t x.id) (option_map {U = Revision} (λ p. (n - 1, part_of t p)) x.parent)) (sym here) in
       let split : links (run_from pos (map (part_of t) (drop i ps))) ≡ link_in t x ∷ links rest =
-          ap (λ (qs : List Part). links (run_from pos (map (part_of t) qs))) (drop_more ps i x.id lt) ∙ ap (λ (l : Link). l ∷ links rest) head in
+      ap (λ (qs : List Part). links (run_from pos (map (part_of t) qs))) (drop_more ps i x.id lt) ∙ ap (λ (l : Link). l ∷ links rest) head in
       record {
         so_far = g.so_far ++ link_in t x ∷ [];
         nodes = nodes-put (link_in t x) (links_in t now) (links_in t new) g.so_far g.nodes j.kept j.sorted;

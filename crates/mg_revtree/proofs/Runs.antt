@@ -1,5 +1,5 @@
 -- Runs of revisions.
-use Rattle.std.proofs.Common.{◌≡◌, ◌∙◌, Bor, MatchOption, option_copied, option_map, Option, drop, nat_cmp, is_eq, subst, ℕ, ◌+◌, ◌<◌, ◌≤◌, ◌-◌, ◌||◌, ◌&&◌, inl, inr, ap, sym, Bool, true, false, Some, None, List, [], ◌∷◌, zero, suc, nat_lt, nat_le, length, get_or, map, refl, arith}
+use Rattle.std.proofs.Common.{◌≡◌, ◌∙◌, Bor, MatchOption, option_copied, option_map, Option, drop, nat_cmp, is_eq, ℕ, ◌+◌, ◌<◌, ◌≤◌, ◌-◌, ◌||◌, ◌&&◌, inl, inr, ap, sym, Bool, true, false, Some, None, List, [], ◌∷◌, zero, suc, nat_lt, nat_le, length, get_or, map, refl, arith}
 use Rattle.std.specs.List.{list_all, HoldsAt}
 use Rattle.std.specs.Cmp.Lexicographic.{slice_cmp}
 use Rattle.std.proofs.lemmas.List.{drop_more, drop_all, get_or-map}

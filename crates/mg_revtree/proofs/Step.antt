@@ -4,8 +4,7 @@ use Rattle.mg_value.specs.Value.{Value}
 use Rattle.mg_revtree.specs.Revision.{Revision, same_revision}
 use Rattle.mg_revtree.specs.History.{Link, Leaf, Path, History, is_known, has_child, is_at, newest_of, links, all_links, marked, leaf_at, or_else}
 use Rattle.mg_revtree.specs.Tree.{StandsFor, AreNodes, node, find, leaf_in}
-use Rattle.mg_revtree.specs.Changes.{path_of, with_path, knows, found_of}
-use Rattle.mg_revtree.specs.declared.error.Merged.TheVariants.{New, Known}
+use Rattle.mg_revtree.specs.Changes.{path_of, with_path}
 use Rattle.mg_revtree.specs.Steps.{ranked}
 use Rattle.mg_revtree.proofs.Same.{two, same_is}
 use Rattle.mg_revtree.proofs.Runs.{IsRun}

@@ -1,17 +1,15 @@
 -- Parts of a text, and the nodes made of them.
 use Rattle.std.proofs.Common.{◌≡◌, ℕ, zero, suc, ◌+◌, ◌-◌, ◌<◌, ◌≤◌, Bool, Option, Some, None, is_some, Result, Ok, Err, is_ok, IfOk, IfErr, List, [], ◌∷◌, ◌++◌, length, length-append, length-drop, append_assoc, get_or, map, option_map, set, take, drop, refl, ap, sym, ◌∙◌, subst, arith}
 use Rattle.std.specs.List.{insert}
-use Rattle.std.proofs.lemmas.List.{map-set, get_or-map, take-append-le, drop-append-le, drop_more, map_push, map_more}
-use Rattle.mg_revtree.specs.Revision.{Revision, run_from}
-use Rattle.mg_revtree.specs.History.{Link, agrees, links, newest_of, or_else}
-use Rattle.mg_revtree.specs.Tree.{AreNodes, AreSorted, find}
+use Rattle.std.proofs.lemmas.List.{map-set, get_or-map, take-append-le, drop-append-le, map_push, map_more}
+use Rattle.mg_revtree.specs.Revision.{Revision}
+use Rattle.mg_revtree.specs.History.{Link, or_else}
+use Rattle.mg_revtree.specs.Tree.{AreSorted, find}
 use Rattle.mg_revtree.specs.Nodes.{part_of, link_in, IsWithin, ParentWithin, NodeWithin, AreWithin, PartsWithin, Grows}
-use Rattle.mg_revtree.specs.Steps.{agrees_found, put, IsPlace, IsGap}
+use Rattle.mg_revtree.specs.Steps.{put, IsPlace, IsGap}
 use Rattle.mg_revtree.specs.declared.node.Part.{Part}
 use Rattle.mg_revtree.specs.declared.node.Node.{Node}
 use Rattle.mg_revtree.proofs.Find.{find-set, gap_none, place_find, place_is, place_some, sorted-set}
-use Rattle.mg_revtree.proofs.Joins.{node-put-before}
-use Rattle.mg_revtree.proofs.Runs.{unknown_before}
 
 -- ---- a text that grows
 

@@ -1,12 +1,14 @@
 -- How a history grows, after the replication and conflict model of CouchDB: by a path of a replica, or by a new revision.
-use Rattle.std.specs.Prelude.{◌==◌, ℕ, ◌+◌, List, [], ◌∷◌, ◌++◌, Bool, false, not, is_none, is_some, if◌then◌else◌, Option, Some, None}
+use Rattle.std.specs.Prelude.{◌≡◌, ◌==◌, Result, Ok, Err, IsOkUnless, ℕ, ◌+◌, List, [], ◌∷◌, ◌++◌, Bool, false, not, is_none, is_some, if◌then◌else◌, Option, Some, None}
 use Rattle.mg_value.specs.Value.{Value}
 use Rattle.mg_revtree.specs.Revision.{Revision}
-use Rattle.mg_revtree.specs.History.{Path, History, all_links, is_known, leaf_at, newest_of, winner_of}
+use Rattle.mg_revtree.specs.History.{Path, History, Link, all_links, is_known, leaf_at, newest_of, winner_of}
 use Rattle.mg_revtree.specs.declared.error.Merged.{Merged}
 use Rattle.mg_revtree.specs.declared.error.Merged.TheVariants.{New, Known as Known_already}
+use Rattle.mg_revtree.specs.declared.error.Refusal.{Refusal}
+use Rattle.mg_revtree.specs.declared.error.Refusal.TheVariants.{NotLeaf, Full, Known}
 use Rattle.mg_revtree.specs.declared.error.TreeError.{TreeError}
-use Rattle.mg_revtree.specs.declared.error.TreeError.TheVariants.{NotLeaf, Full, Known, NoMemory}
+use Rattle.mg_revtree.specs.declared.error.TreeError.TheVariants.{NotLeaf as not_leaf, Full as full, Known as known, NoMemory as no_memory}
 
 -- a path with its mark and body
 abbrev pub path_of : List Revision → Bool → Value → Path
@@ -52,16 +54,28 @@ run_over r (Some q) = r ∷ q ∷ []
 abbrev pub extension : Option Revision → List ℕ → Bool → Value → Path
 extension base id d b = path_of (run_over (next_revision base id) base) d b
 
--- why a new revision is not made, in the order in which that is asked
-abbrev pub refusal_of : History → Option Revision → List ℕ → Option TreeError
-refusal_of h base id =
-    if not (may_extend h base) then Some NotLeaf
-    else (if position_below base == 4294967295 then Some Full
-    else (if is_known (next_revision base id) (all_links h) then Some Known else None))
+-- the position of a new revision, if it may be made there
+abbrev pub next_position : History → Option Revision → Result ℕ Refusal
+next_position h base =
+    if not (may_extend h base) then Err NotLeaf
+    else (if position_below base == 4294967295 then Err Full else Ok (position_below base + 1))
 
--- the refusal that an error names: want of memory is none
-abbrev pub named : TreeError → Option TreeError
-named NotLeaf = Some NotLeaf
-named Full = Some Full
-named Known = Some Known
-named NoMemory = None
+-- why a revision is not made at its position, if it has one
+abbrev pub refusal_at : Result ℕ Refusal → List ℕ → List Link → Option Refusal
+refusal_at (Err refusal) id ls = Some refusal
+refusal_at (Ok n) id ls = if is_known (n, id) ls then Some Known else None
+
+-- why a new revision is not made, in the order in which that is asked
+abbrev pub refusal_of : History → Option Revision → List ℕ → Option Refusal
+refusal_of h base id = refusal_at (next_position h base) id (all_links h)
+
+-- the error that tells a refusal
+abbrev pub error_of : Refusal → TreeError
+error_of NotLeaf = not_leaf
+error_of Full = full
+error_of Known = known
+
+-- a refusal is told, and where there is none, nothing is refused but memory
+abbrev pub Decides : Option Refusal → Result (Unit {0}) TreeError → Type 0
+Decides None result = IsOkUnless result no_memory
+Decides (Some refusal) result = result ≡ Err (error_of refusal)

@@ -126,9 +126,9 @@ agrees (Some p) (Some q) = same_revision p q
 abbrev pub fit : List Link → List Link → Bool
 fit known ls = list_all (λ l. agrees (parent_of l.rev known) l.parent) ls
 
--- whether a path contradicts no parent that is known already
-abbrev pub fits : History → Path → Bool
-fits h p = fit (all_links h) (links p.revs)
+-- whether a path of these revisions contradicts no parent that is known already
+abbrev pub fits : History → List Revision → Bool
+fits h rs = fit (all_links h) (links rs)
 
 -- ---- when a path brings nothing
 
@@ -142,6 +142,6 @@ gives (Some p) (Some q) = same_revision p q
 abbrev pub are_held : List Link → List Link → Bool
 are_held known ls = list_all (λ l. is_known l.rev known && gives (parent_of l.rev known) l.parent) ls
 
--- whether a path is known whole
-abbrev pub is_whole : History → Path → Bool
-is_whole h p = are_held (all_links h) (links p.revs)
+-- whether a path of these revisions is known whole
+abbrev pub is_whole : History → List Revision → Bool
+is_whole h rs = are_held (all_links h) (links rs)

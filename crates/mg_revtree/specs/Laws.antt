@@ -2,7 +2,7 @@
 use Rattle.std.specs.Prelude.{◌≡◌, ℕ, ◌+◌, Bool, Option, None, List, [], ◌∷◌, ◌++◌, ◌⊎◌, true, false, Some}
 use Rattle.mg_value.specs.Value.{Value}
 use Rattle.mg_revtree.specs.Revision.{Revision, run_of}
-use Rattle.mg_revtree.specs.History.{Path, History, Link, Leaf, newest_of, is_at, links, all_links, is_known, parent_of, leaf_at, leaf_order, winner_of, fits, IsLeaf}
+use Rattle.mg_revtree.specs.History.{Path, History, Link, Leaf, newest_of, is_at, all_links, is_known, parent_of, leaf_at, leaf_order, winner_of, fits, is_whole, IsLeaf}
 use Rattle.mg_revtree.specs.Changes.{with_path, extension}
 use Rattle.std.specs.declared.cmp.Ordering.TheVariants.{Less}
 
@@ -47,7 +47,7 @@ ReplicasAgree = (h g : History) → SamePaths h g → SameMarks g → OneParent 
 -- each path fits those before it
 abbrev pub AllFit : History → List Path → Type 0
 AllFit h [] = Unit {0}
-AllFit h (p ∷ ps) = (fits h p ≡ true) × AllFit (with_path h p) ps
+AllFit h (p ∷ ps) = (fits h p.revs ≡ true) × AllFit (with_path h p) ps
 
 -- where no revision is given two parents, paths are accepted in every order
 abbrev pub AcceptedInEveryOrder : Type 0
@@ -55,13 +55,9 @@ AcceptedInEveryOrder = (h ps : List Path) → OneParent (all_links (h ++ ps)) �
 
 -- ---- what a path changes
 
--- each revision of a path is known, with the parent that the path gives it
-abbrev pub IsKnownWhole : History → Path → Type 0
-IsKnownWhole h p = (l : Link) → AmongLinks l (links p.revs) → (is_known l.rev (all_links h) ≡ true) × ((q : Revision) → l.parent ≡ Some q → parent_of l.rev (all_links h) ≡ Some q)
-
 -- a path that is known whole changes nothing
 abbrev pub KnownChangesNothing : Type 0
-KnownChangesNothing = (h : History) (p : Path) → IsKnownWhole h p → Agree (with_path h p) h
+KnownChangesNothing = (h : History) (p : Path) → is_whole h p.revs ≡ true → Agree (with_path h p) h
 
 -- no revision is ever lost, nor its parent
 pub record Keeps (h g : History) : Type 0 where

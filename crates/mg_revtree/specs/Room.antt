@@ -1,5 +1,5 @@
 -- How nodes are kept while a run is joined to them: those before a room of unused places, and those after it.
-use Rattle.std.specs.Prelude.{◌≡◌, ℕ, ◌+◌, ◌≤◌, List, [], ◌∷◌, ◌++◌, take, drop}
+use Rattle.std.specs.Prelude.{◌≡◌, ℕ, ◌≤◌, List, [], ◌∷◌, ◌++◌, take, drop}
 use Rattle.mg_revtree.specs.Revision.{Revision}
 use Rattle.mg_revtree.specs.History.{Link}
 use Rattle.mg_revtree.specs.Tree.{AreSorted, find}

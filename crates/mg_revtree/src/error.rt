@@ -55,6 +55,17 @@ impl From<NoMemory> for MergeError {
     }
 }
 
+/// Why a new revision is not made.
+#[derive(Clone, Copy, PartialEq, Eq, Debug, Drop)]
+pub enum Refusal {
+    /// The revision that is extended is no leaf; or none is named, and the tree has leaves.
+    NotLeaf,
+    /// That revision has the last position, 4,294,967,295.
+    Full,
+    /// The new revision is known.
+    Known,
+}
+
 /// Why a revision was not extended.
 #[derive(Clone, Copy, PartialEq, Eq, Debug, Drop, Error)]
 pub enum TreeError {
@@ -80,5 +91,20 @@ impl From<NoMemory> for TreeError {
 
     fn from(_refused: NoMemory) -> TreeError {
         TreeError::NoMemory
+    }
+}
+
+impl From<Refusal> for TreeError {
+    ghost use Rattle.std.specs.Prelude.{◌≡◌};
+    ghost use Rattle.mg_revtree.specs.Changes.{error_of};
+
+    ghost from_gives = { λ refusal e. e ≡ error_of refusal };
+
+    fn from(refusal: Refusal) -> TreeError {
+        match refusal {
+            Refusal::NotLeaf => TreeError::NotLeaf,
+            Refusal::Full => TreeError::Full,
+            Refusal::Known => TreeError::Known,
+        }
     }
 }

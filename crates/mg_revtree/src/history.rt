@@ -48,6 +48,17 @@ impl History {
         })
     }
 
+    /// The newest revision, and nothing else of the path. Takes no memory.
+    pub fn into_newest(self) -> Rev
+        ensures { newest_of self ≡ Some result }
+    {
+        let History { start, mut ids } = self;
+        Rev {
+            pos: start,
+            id: ids.swap_remove(0),
+        }
+    }
+
     /// The start, and the ids, newest first.
     pub(crate) fn run(&self) -> (u32, &[String])
         ensures run { self.now ≡ run_from result.0 (map string_bytes result.1.now) }

@@ -5,6 +5,7 @@ pub mod error;
 pub mod history;
 pub mod laws;
 pub mod leaf;
+mod leaf_list;
 mod links;
 mod lookup;
 mod node;
@@ -13,7 +14,7 @@ pub mod revision;
 mod room;
 pub mod tree;
 
-pub use error::{MergeError, Merged, NoMemory, RevError, TreeError};
+pub use error::{MergeError, Merged, NoMemory, Refusal, RevError, TreeError};
 pub use history::History;
 pub use leaf::Leaf;
 pub use revision::{Rev, is_id};

@@ -1,77 +1,20 @@
-ghost use Rattle.std.specs.Prelude.{◌≡◌, ◌+◌, ◌<◌, ◌≤◌, ◌++◌, List, [], Err, IfErr, IfOk, MatchOption, None, OnErr, OnOk, Some, false, filter, is_some, length, map, not, option_copied, string_bytes, true, vec_capacity, vec_len};
-ghost use Rattle.std.specs.List.{insert};
+ghost use Rattle.std.specs.Prelude.{◌≡◌, ◌+◌, ◌<◌, ◌≤◌, [], Err, IfOk, IsOkUnless, MatchOption, Ok, OnErr, OnOk, false, length, map, option_copied, string_bytes, true};
 ghost use Rattle.mg_value.specs.View.{view};
 ghost use Rattle.mg_revtree.specs.Revision.{run_from};
-ghost use Rattle.mg_revtree.specs.History.{History as Paths, fits, has_child, links, winner_of};
-ghost use Rattle.mg_revtree.specs.Tree.{AreLeaves, AreLosers, StandsFor, leaf_in};
-ghost use Rattle.mg_revtree.specs.Changes.{extension, found_of, named, path_of, position_below, refusal_of, with_path};
-ghost use Rattle.mg_revtree.specs.Steps.{base_in, ids_over, ranked};
+ghost use Rattle.mg_revtree.specs.History.{History as Paths, fits, is_whole, winner_of};
+ghost use Rattle.mg_revtree.specs.Tree.{AreLeaves, AreLosers, StandsFor};
+ghost use Rattle.mg_revtree.specs.Changes.{Decides, extension, found_of, next_position, path_of, position_below, refusal_of, with_path};
+ghost use Rattle.mg_revtree.specs.Steps.{base_in, ids_over};
 
-use crate::error::{MergeError, Merged, NoMemory, TreeError};
+use crate::error::{MergeError, Merged, NoMemory, Refusal, TreeError};
 use crate::history::History;
 use crate::leaf::{Leaf, Shared};
+use crate::leaf_list::{add_leaf, copy_leaves, is_leaf, kept_among, unleaf};
 use crate::links::Links;
 use crate::revision::Rev;
 use mg_value::Json;
 use std::alloc::Global;
 use std::marker::Model;
-
-// Whether a revision is a parent in a run, given by its start and its ids, newest first. One comparison tells, with the
-// id at the revision's position.
-fn is_parent(rev: &Rev, start: u32, ids: &[String]) -> bool
-    ensures { length ids.now ≤ start + 1 → result ≡ has_child rev.now (links (run_from start (map string_bytes ids.now))) }
-{
-    if rev.pos >= start {
-        return false;
-    }
-    match ids.get((start - rev.pos) as usize) {
-        Some(id) => rev.id.as_str().cmp(id.as_str()).is_eq(),
-        None => false,
-    }
-}
-
-// Takes away the leaves that are parents in a run.
-fn unleaf(leaves: &mut Vec<Shared>, start: u32, ids: &[String])
-    ensures kept { length ids.now ≤ start + 1 → leaves.new.items ≡ filter (λ l. not (has_child l.rev (links (run_from start (map string_bytes ids.now))))) leaves.old.items }
-    ensures capacity { vec_capacity leaves.new ≡ vec_capacity leaves.old }
-    ensures len { vec_len leaves.new ≤ vec_len leaves.old }
-{
-    leaves.retain(|leaf| !is_parent(&leaf.leaf().rev, start, ids));
-}
-
-// Before which leaf a leaf goes.
-fn rank(leaves: &[Shared], leaf: &Leaf) -> usize
-    ensures within { result ≤ length leaves.now }
-    ensures ranked { insert leaves.now result leaf.now ≡ ranked leaf.now leaves.now }
-{
-    for (i, other) in leaves.iter().enumerate() {
-        if other.leaf().order(leaf).is_lt() {
-            return i;
-        }
-    }
-    leaves.len()
-}
-
-// Adds a leaf, for which there is room.
-fn add_leaf(leaves: &mut Vec<Shared>, leaf: Shared)
-    requires { vec_len leaves.old < vec_capacity leaves.old }
-    ensures { leaves.new.items ≡ ranked leaf leaves.old.items }
-{
-    let at = rank(leaves, leaf.leaf());
-    drop(leaves.insert(at, leaf));
-}
-
-// Whether a revision is a leaf.
-fn is_leaf(leaves: &[Shared], rev: &Rev) -> bool
-    ensures { result ≡ is_some (leaf_in rev.now leaves.now) }
-{
-    for leaf in leaves {
-        if rev.is(&leaf.leaf().rev) {
-            return true;
-        }
-    }
-    false
-}
 
 // The position below a new revision, if that may be made.
 fn position_under(leaves: &[Shared], parent: Option<&Rev>) -> Option<u32>
@@ -97,31 +40,6 @@ fn ids_over(alloc: Global, id: String, parent: Option<&Rev>) -> Result<Vec<Strin
         ids.push(parent.id.clone()?)?;
     }
     Ok(ids)
-}
-
-// Those leaves that are not deleted.
-fn kept_among(alloc: Global, leaves: &[Shared]) -> Result<Vec<&Leaf>, NoMemory>
-    ensures { IfOk result (λ found. map (λ l. l.now) found.items ≡ filter (λ l. not l.deleted) leaves.now) }
-{
-    let mut found = Vec::with_capacity(alloc, leaves.len())?;
-    for shared in leaves {
-        let leaf = shared.leaf();
-        if !leaf.deleted {
-            found.push(leaf)?;
-        }
-    }
-    Ok(found)
-}
-
-// The same leaves, shared.
-fn copy_leaves(alloc: Global, leaves: &[Shared]) -> Result<Vec<Shared>, NoMemory>
-    ensures { IfOk result (λ made. made.items ≡ leaves.now) }
-{
-    let mut made = Vec::with_capacity(alloc, leaves.len())?;
-    for leaf in leaves {
-        made.push(leaf.share()?)?;
-    }
-    Ok(made)
 }
 
 /// The revision tree of a document: its known revisions with their parents, and its leaves with their marks
@@ -199,22 +117,77 @@ impl RevTree {
         })
     }
 
+    /// Whether a path contradicts no parent that is known already. Takes no memory. Cost: the length of the path times
+    /// the logarithm of the known revisions.
+    pub fn fits(&self, path: &History) -> bool
+        ensures { (h : Paths) → StandsFor self.now h → result ≡ fits h path.now }
+    {
+        let (start, ids) = path.run();
+        self.links.fits(start, ids)
+    }
+
+    /// Whether a path is known whole: each of its revisions, with the parent that the path gives it. Such a path brings
+    /// nothing. Takes no memory. Cost: as that of `fits`, up to the first revision that is not known so.
+    pub fn holds(&self, path: &History) -> bool
+        ensures { (h : Paths) → StandsFor self.now h → result ≡ is_whole h path.now }
+    {
+        let (start, ids) = path.run();
+        self.links.holds(start, ids)
+    }
+
+    /// The position of a new revision over a leaf, or, with no parent, that of the first in a tree without leaves.
+    /// Takes no memory.
+    ///
+    /// Errors, in this order: `NotLeaf` where the parent is no leaf, or where there is none and the tree has leaves;
+    /// `Full` where the parent's position is 4,294,967,295. Cost: a look at the leaves.
+    pub fn next_position(&self, parent: Option<&Rev>) -> Result<u32, Refusal>
+        ensures position { (h : Paths) → StandsFor self.now h → result ≡ next_position h (option_copied parent.entry) }
+        ensures above { IfOk result (λ n. n ≡ position_below (option_copied parent.entry) + 1) }
+    {
+        match position_under(&self.leaves, parent) {
+            Some(below) => below.checked_add(1).ok_or(Refusal::Full),
+            None => Err(Refusal::NotLeaf),
+        }
+    }
+
+    /// Why a new revision over a leaf, or the first of a tree without leaves, is not made, if it is not: as
+    /// `next_position`, and then `Known` where the revision is known. Takes no memory. Cost: a look at the leaves, and
+    /// the logarithm of the known revisions.
+    pub fn refusal(&self, parent: Option<&Rev>, id: &String) -> Option<Refusal>
+        ensures { (h : Paths) → StandsFor self.now h → result ≡ refusal_of h (option_copied parent.entry) (string_bytes id.now) }
+    {
+        match self.next_position(parent) {
+            Err(refusal) => Some(refusal),
+            Ok(pos) => if self.links.knows(pos, id) {
+                Some(Refusal::Known)
+            } else {
+                None
+            },
+        }
+    }
+
     /// Accepts a path as a replica gives it, with the mark and the body of its newest revision. Unknown revisions
     /// become known, and known ones without a parent are joined to the parent that the path gives them. A newest
-    /// revision that is known already keeps the mark and the body that it has.
+    /// revision that is known already keeps the mark and the body that it has. A path that is known whole changes
+    /// nothing.
     ///
-    /// Errors: `BadHistory` where the path contradicts a parent that is known already. A refusal leaves
-    /// the tree as it was. Cost: the length of the path times the logarithm of the known revisions, a comparison or two
-    /// for each leaf, and for each unknown revision a move of the nodes of the revisions that come after it in the
-    /// order: none where the path goes on the line with the highest positions. Source: the replication model of CouchDB.
+    /// Errors: `BadHistory` where the path contradicts a parent that is known already, and else `NoMemory` where a
+    /// growth is refused; neither a bad path nor one that is known whole needs memory. A refusal leaves the tree as it
+    /// was. Cost: the length of the path times the logarithm of the known revisions, a look at the leaves, and one pass
+    /// over the known revisions that are above the lowest unknown one of the path: none where the path goes on the line
+    /// with the highest positions. Source: the replication model of CouchDB.
     pub fn merge(&mut self, path: &History, deleted: bool, body: Json) -> Result<Merged, MergeError>
         ensures accepted { OnOk result ((h : Paths) → StandsFor self.old h → StandsFor self.new (with_path h (path_of path.now deleted (view body)))) }
         ensures found { IfOk result (λ m. (h : Paths) → StandsFor self.old h → m ≡ found_of h path.now) }
-        ensures fitting { OnOk result ((h : Paths) → StandsFor self.old h → fits h (path_of path.now deleted (view body)) ≡ true) }
-        ensures refused { result ≡ Err MergeError.BadHistory → (h : Paths) → StandsFor self.old h → fits h (path_of path.now deleted (view body)) ≡ false }
+        ensures fitting { (h : Paths) → StandsFor self.old h → fits h path.now ≡ true → IsOkUnless result MergeError.NoMemory }
+        ensures refused { (h : Paths) → StandsFor self.old h → fits h path.now ≡ false → result ≡ Err MergeError.BadHistory }
+        ensures whole { (h : Paths) → StandsFor self.old h → is_whole h path.now ≡ true → (result ≡ Ok Merged.Known) × (self.new ≡ self.old) }
         ensures err { OnErr result (self.new ≡ self.old) }
     {
         let (start, ids) = path.run();
+        if self.links.holds(start, ids) {
+            return Ok(Merged::Known);
+        }
         if !self.links.fits(start, ids) {
             return Err(MergeError::BadHistory);
         }
@@ -255,10 +228,8 @@ impl RevTree {
     /// Makes a new revision over a leaf, or, with no parent, at position 1 in a tree without leaves. The id is one
     /// that `is_id` allows.
     ///
-    /// Errors, in this order: `NotLeaf` where the parent is no leaf, or where there is none and the tree has leaves;
-    /// `Full` where the parent's position is 4,294,967,295; `Known` where the new revision is known; `NoMemory`.
-    /// A refusal leaves the tree as it was. Cost: the logarithm of the known revisions, a few comparisons for each leaf,
-    /// and a move of the nodes of the revisions that come after the new one in the order.
+    /// Errors: what `refusal` says, which needs no memory, and else `NoMemory` where a growth is refused. A refusal
+    /// leaves the tree as it was. Cost: as that of `merge`, with a path of the new revision and its parent.
     pub fn extend(
         &mut self,
         parent: Option<&Rev>,
@@ -267,16 +238,10 @@ impl RevTree {
         body: Json,
     ) -> Result<(), TreeError>
         ensures accepted { OnOk result ((h : Paths) → StandsFor self.old h → StandsFor self.new (with_path h (extension (option_copied parent.entry) (string_bytes id) deleted (view body)))) }
-        ensures allowed { OnOk result ((h : Paths) → StandsFor self.old h → refusal_of h (option_copied parent.entry) (string_bytes id) ≡ None) }
-        ensures refused { IfErr result (λ e. (h : Paths) → StandsFor self.old h → refusal_of h (option_copied parent.entry) (string_bytes id) ≡ named e) }
+        ensures decided { (h : Paths) → StandsFor self.old h → Decides (refusal_of h (option_copied parent.entry) (string_bytes id)) result }
         ensures err { OnErr result (self.new ≡ self.old) }
     {
-        let Some(below) = position_under(&self.leaves, parent) else {
-            return Err(TreeError::NotLeaf);
-        };
-        let Some(pos) = below.checked_add(1) else {
-            return Err(TreeError::Full);
-        };
+        let pos = self.next_position(parent)?;
         if self.links.knows(pos, &id) {
             return Err(TreeError::Known);
         }

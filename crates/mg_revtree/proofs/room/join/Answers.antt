@@ -1,6 +1,6 @@
-use Rattle.std.proofs.Common.{◌≡◌, ◌<◌, ◌≤◌, ℕ, List, length, map, refl, subst, take, arith, None}
+use Rattle.std.proofs.Common.{ℕ, List, map, refl, subst, take, arith, None}
 use Rattle.mg_revtree.specs.Tree.{AreSorted}
-use Rattle.mg_revtree.specs.Nodes.{AreWithin, link_in, part_of}
+use Rattle.mg_revtree.specs.Nodes.{link_in}
 use Rattle.mg_revtree.specs.Room.{used}
 use Rattle.mg_revtree.specs.Steps.{IsPlace, IsGap}
 use Rattle.mg_revtree.specs.declared.node.Node.{Node}

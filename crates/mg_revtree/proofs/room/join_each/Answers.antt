@@ -1,6 +1,6 @@
-use Rattle.std.proofs.Common.{◌≡◌, ◌+◌, ◌-◌, ◌<◌, ◌≤◌, ◌∙◌, ℕ, length, refl, sym, ap, subst, arith, append-nil, take, drop, get_or, option_map, option_copied}
+use Rattle.std.proofs.Common.{◌+◌, ◌-◌, ◌<◌, ◌∙◌, ℕ, length, refl, sym, ap, subst, arith, append-nil, take, drop, get_or, option_map}
 use Rattle.std.proofs.lemmas.List.{drop_all, get_or_default}
-use Rattle.mg_revtree.specs.Nodes.{AreWithin, ParentWithin, links_in, part_of}
+use Rattle.mg_revtree.specs.Nodes.{ParentWithin, part_of}
 use Rattle.mg_revtree.specs.Revision.{Revision}
 use Rattle.mg_revtree.specs.Room.{used}
 use Rattle.mg_revtree.specs.declared.node.Node.{Node}

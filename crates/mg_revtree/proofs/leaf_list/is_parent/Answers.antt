@@ -2,7 +2,7 @@ use Rattle.std.proofs.Common.{◌∙◌, ◌≤◌, ◌-◌, length, is_eq, nat_
 use Rattle.std.specs.Cmp.Lexicographic.{slice_cmp}
 use Rattle.mg_revtree.specs.Revision.{Revision}
 use Rattle.mg_revtree.proofs.Runs.{parent_found, no_parent_above, no_parent_below}
-use Rattle.mg_revtree.proofs.tree.is_parent.Goals as goal
+use Rattle.mg_revtree.proofs.leaf_list.is_parent.Goals as goal
 
 pub returns-then-rev-start : goal.returns-then-rev-start
 returns-then-rev-start c = λ fits.
