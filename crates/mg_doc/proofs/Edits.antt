@@ -1,51 +1,95 @@
 -- What an edit brings to a history, by the change that its tree takes.
-use Rattle.std.proofs.Common.{◌≡◌, ℕ, ◌+◌, List, [], ◌∷◌, Bool, true, false, ◌==◌, inl, inr, Option, Some, None, Result, Ok, Err, refl, sym, ap, ◌∙◌, subst}
+use Rattle.std.proofs.Common.{◌≡◌, ℕ, ◌+◌, List, [], ◌∷◌, Bool, true, false, not, ◌==◌, inl, inr, Option, Some, None, Result, Ok, Err, IsOkUnless, refl, sym, ap, ◌∙◌, subst}
+use Rattle.std.specs.Result.{IsErrAnd}
 use Rattle.mg_value.specs.Value.{Value}
 use Rattle.mg_revtree.specs.Revision.{Revision}
-use Rattle.mg_revtree.specs.History.{History, newest_of, fits, all_links, is_known}
-use Rattle.mg_revtree.specs.Changes.{extension, may_extend, next_revision, path_of, position_below, refusal_of, run_over, with_path}
+use Rattle.mg_revtree.specs.History.{History, newest_of, fits, all_links, is_known, is_whole}
+use Rattle.mg_revtree.specs.Changes.{Decides, extension, may_extend, next_position, next_revision, path_of, position_below, refusal_at, refusal_of, run_over, with_path}
 use Rattle.mg_revtree.specs.Tree.{Tree, StandsFor}
 use Rattle.mg_revtree.specs.declared.error.MergeError.{MergeError}
 use Rattle.mg_revtree.specs.declared.error.MergeError.TheVariants.{BadHistory as misfit, NoMemory as merge_refused}
-use Rattle.mg_doc.specs.Applied.{Applied, BaseIs, Brings, merge_refusal}
+use Rattle.mg_revtree.specs.declared.error.Refusal.{Refusal}
+use Rattle.mg_revtree.specs.declared.error.Refusal.TheVariants.{NotLeaf, Full, Known}
+use Rattle.mg_revtree.specs.declared.error.TreeError.{TreeError}
+use Rattle.mg_revtree.specs.declared.error.TreeError.TheVariants.{NotLeaf as not_leaf, Full as full, Known as known, NoMemory as tree_refused}
+use Rattle.mg_revtree.proofs.Replicas.{whole_fits, whole_stands}
+use Rattle.mg_doc.specs.Applied.{Applied, Brings, Foreseen, Missing, Refuses, error_of, told}
+use Rattle.mg_doc.specs.Base.{LooksFor, Misfits}
 use Rattle.mg_doc.specs.Digest.{digest_of}
 use Rattle.mg_doc.specs.Document.{Edit}
-use Rattle.mg_doc.specs.Edit.{accepted_by, extended, made, made_over, newest_accepted, history_after, older_of, over_base, replicated}
+use Rattle.mg_doc.specs.Edit.{Accepted, accepted_by, base_of, extended, first_refusal, made, made_over, newest_accepted, history_after, older_of, over_base, refused_by, replicated, unbased, unless, unplaced}
+use Rattle.mg_doc.specs.Conversions.{error_of_merge, error_of_tree}
+use Rattle.mg_doc.specs.declared.change.Change.{Change}
+use Rattle.mg_doc.specs.declared.change.Change.TheVariants.{New, Replica}
 use Rattle.mg_doc.specs.declared.error.EditError.{EditError}
-use Rattle.mg_doc.specs.declared.error.EditError.TheVariants.{Conflict, BadHistory, NoMemory}
+use Rattle.mg_doc.specs.declared.error.EditError.TheVariants.{Conflict as conflict, BadHistory as bad_history, NoMemory as no_memory}
+use Rattle.mg_doc.specs.declared.error.Refused.{Refused}
+use Rattle.mg_doc.specs.declared.error.Refused.TheVariants.{Conflict, BadHistory}
 use Rattle.mg_doc.proofs.Entries.{two}
+
+-- ---- errors
+
+pub told_error : (refused : Refused) → told (error_of refused) ≡ Some refused
+told_error Conflict = refl
+told_error BadHistory = refl
 
 -- ---- a path of a replica
 
-pub merged : (h : History) (d : Bool) (b : Value) (run : List Revision) (r : Revision) (t : Tree) → newest_of run ≡ Some r → fits h (path_of run d b) ≡ true → StandsFor t (with_path h (path_of run d b))
-    → Brings h d b (replicated h d b run) (Ok r) t
-merged h d b [] r t n f s = absurd cc
-merged h d b (q ∷ qs) r t n f s =
+replicated_ok : (h : History) (run : List Revision) (r : Revision) → newest_of run ≡ Some r → fits h run ≡ true → (rs : List Revision) × (replicated h run ≡ Ok (r, rs)) × (run ≡ r ∷ rs)
+replicated_ok h [] r n f = absurd cc
+replicated_ok h (q ∷ qs) r n f =
     let e : q ≡ r = cc in
-    let P : Revision → Type 0 = λ x. StandsFor t (with_path h (path_of (x ∷ qs) d b)) in
-    (qs, rw f (ap (λ x. Ok (x, qs)) e), subst P e s)
+    (qs, rw f (ap (λ x. Ok (x, qs)) e), ap (λ x. x ∷ qs) e)
 
-misfits : (h : History) (d : Bool) (b : Value) (run : List Revision) → fits h (path_of run d b) ≡ false → replicated h d b run ≡ Err BadHistory
-misfits h d b [] f = refl
-misfits h d b (q ∷ qs) f = rw f refl
+pub merged : (h : History) (d : Bool) (b : Value) (run : List Revision) (r : Revision) (t : Tree) → newest_of run ≡ Some r → fits h run ≡ true → StandsFor t (with_path h (path_of run d b))
+    → Brings h d b (replicated h run) (Ok r) t
+merged h d b run r t n f s =
+    let k = replicated_ok h run r n f in
+    let P : List Revision → Type 0 = λ x. StandsFor t (with_path h (path_of x d b)) in
+    (k.0, k.1, subst P k.2 s)
 
-pub not_merged : (h : History) (d : Bool) (b : Value) (run : List Revision) (t : Tree) (x : MergeError) → (x ≡ misfit → fits h (path_of run d b) ≡ false) → Brings h d b (replicated h d b run) (Err (merge_refusal x)) t
-not_merged h d b run t misfit f = misfits h d b run (f refl)
-not_merged h d b run t merge_refused f = tt
+misfits : (h : History) (run : List Revision) → fits h run ≡ false → replicated h run ≡ Err BadHistory
+misfits h [] f = refl
+misfits h (q ∷ qs) f = rw f refl
+
+pub not_merged : (h : History) (run : List Revision) (x : MergeError) → (fits h run ≡ true → x ≡ merge_refused) → Missing (replicated h run) (told (error_of_merge x))
+not_merged h run misfit f = elim (two (fits h run)) [
+  | inl t ↦ absurd (let e : misfit ≡ merge_refused = f t in cc)
+  | inr n ↦ misfits h run n
+]
+not_merged h run merge_refused f = tt
 
 -- ---- a new edit
 
--- what is known of a revision that may be made
-allowed : (h : History) (base : Option Revision) (id : List ℕ) → refusal_of h base id ≡ None
-    → (may_extend h base ≡ true) × ((position_below base == 4294967295) ≡ false) × (is_known (next_revision base id) (all_links h) ≡ false)
-allowed h base id e = elim (two (may_extend h base)) [
-  | inr f ↦ absurd (let n = rw f at e in cc)
+pub not_made : (o : Option Refusal) (x : TreeError) (a : Accepted) → Decides o (Err x) → Missing (unless o a) (told (error_of_tree x))
+not_made None not_leaf a d = absurd (let e : not_leaf ≡ tree_refused = d in cc)
+not_made None full a d = absurd (let e : full ≡ tree_refused = d in cc)
+not_made None known a d = absurd (let e : known ≡ tree_refused = d in cc)
+not_made None tree_refused a d = tt
+not_made (Some NotLeaf) not_leaf a d = refl
+not_made (Some NotLeaf) full a d = absurd cc
+not_made (Some NotLeaf) known a d = absurd cc
+not_made (Some NotLeaf) tree_refused a d = tt
+not_made (Some Full) not_leaf a d = absurd cc
+not_made (Some Full) full a d = refl
+not_made (Some Full) known a d = absurd cc
+not_made (Some Full) tree_refused a d = tt
+not_made (Some Known) not_leaf a d = absurd cc
+not_made (Some Known) full a d = absurd cc
+not_made (Some Known) known a d = refl
+not_made (Some Known) tree_refused a d = tt
+
+pub no_refusal : (o : Option Refusal) (u : Unit {0}) → Decides o (Ok u) → o ≡ None
+no_refusal None u d = refl
+no_refusal (Some refusal) u d = absurd cc
+
+-- a revision that may be made has a position
+has_position : (h : History) (base : Option Revision) (id : List ℕ) → refusal_of h base id ≡ None → (position_below base == 4294967295) ≡ false
+has_position h base id e = elim (two (may_extend h base)) [
+  | inr f ↦ absurd (let n : Some NotLeaf ≡ None = rw f at e in cc)
   | inl m ↦ elim (two (position_below base == 4294967295)) [
-    | inl p ↦ absurd (let n = rw (m, p) at e in cc)
-    | inr p ↦ elim (two (is_known (next_revision base id) (all_links h))) [
-      | inl k ↦ absurd (let n = rw (m, p, k) at e in cc)
-      | inr k ↦ (m, p, k)
-    ]
+    | inl p ↦ absurd (let n : Some Full ≡ None = rw (m, p) at e in cc)
+    | inr p ↦ p
   ]
 ]
 
@@ -57,11 +101,10 @@ made_now : (h : History) (d : Bool) (b : Value) (base : Option Revision) (n : �
     → ((position_below base == 4294967295) ≡ false → n ≡ position_below base + 1) → StandsFor t (with_path h (extension base (digest_of d base b) d b))
     → Brings h d b (made_over h d b base) (Ok (n, digest_of d base b)) t
 made_now h d b base n t r p s =
-    let a = allowed h base (digest_of d base b) r in
-    let at : n ≡ position_below base + 1 = p a.1 in
+    let at : n ≡ position_below base + 1 = p (has_position h base (digest_of d base b) r) in
     let P : List Revision → Type 0 = λ run. StandsFor t (with_path h (path_of run d b)) in
     let Q : ℕ → Type 0 = λ m. Brings h d b (made_over h d b base) (Ok (m, digest_of d base b)) t in
-    subst Q (sym at) (older_of base, rw (a.0, a.1, a.2) refl, subst P (run_over-older (made d b base) base) s)
+    subst Q (sym at) (older_of base, ap (λ o. unless o (made d b base, older_of base)) r, subst P (run_over-older (made d b base) base) s)
 
 pub made_over_base : (h : History) (d : Bool) (b : Value) (base : Option Revision) (id copy : List ℕ) (n : ℕ) (t : Tree) → id ≡ digest_of d base b → copy ≡ id → refusal_of h base id ≡ None
     → ((position_below base == 4294967295) ≡ false → n ≡ position_below base + 1) → StandsFor t (with_path h (extension base id d b))
@@ -72,18 +115,60 @@ made_over_base h d b base id copy n t e f r p s =
     let Q : List ℕ → Type 0 = λ i. Brings h d b (made_over h d b base) (Ok (n, i)) t in
     subst Q (sym (f ∙ e)) (made_now h d b base n t (subst R e r) p (subst S e s))
 
--- where none is named, and nothing may be extended
-pub base_refused : (h : History) (d : Bool) (b : Value) (e : EditError) (t : Tree) → BaseIs h (Err e) → Brings h d b (extended h d b None) (Err e) t
-base_refused h d b Conflict t k = ap (over_base h d b) k
-base_refused h d b BadHistory t k = ap (over_base h d b) k
-base_refused h d b NoMemory t k = tt
+-- where there is nothing to extend
+pub no_base : (h : History) (d : Bool) (b : Value) (named : Option Revision) (o : Option Refused) → Missing (base_of h named) o → Missing (extended h d b named) o
+no_base h d b named None k = tt
+no_base h d b named (Some refused) k = ap (over_base h d b) k
+
+-- what is refused before a revision is made is refused
+unplaced_made : (h : History) (d : Bool) (b : Value) (base : Option Revision) (o : Result ℕ Refusal) (refused : Refused) → next_position h base ≡ o → unplaced o ≡ Some refused → made_over h d b base ≡ Err refused
+unplaced_made h d b base (Ok n) refused e k = absurd cc
+unplaced_made h d b base (Err refusal) refused e k =
+    let same : refused_by refusal ≡ refused = cc in
+    ap (λ o. unless (refusal_at o (digest_of d base b) (all_links h)) (made d b base, older_of base)) e ∙ ap Err same
+
+unbased_over : (h : History) (d : Bool) (b : Value) (base : Result (Option Revision) Refused) (refused : Refused) → unbased h base ≡ Some refused → over_base h d b base ≡ Err refused
+unbased_over h d b (Err x) refused k = let e : x ≡ refused = cc in ap Err e
+unbased_over h d b (Ok base) refused k = unplaced_made h d b base (next_position h base) refused refl k
+
+pub refuses_new : (h : History) (e : Edit) (named : Option Revision) (x : EditError) (refused : Refused) → e.change ≡ New named → unbased h (base_of h named) ≡ Some refused → x ≡ error_of refused → Refuses h e (told x)
+refuses_new h e named x refused is k to =
+    let P : Option Refused → Type 0 = Refuses h e in
+    let said : accepted_by h e ≡ Err refused = rw is (unbased_over h e.deleted e.body (base_of h named) refused k) in
+    subst P (sym (ap told to ∙ told_error refused)) (ap newest_accepted said)
+
+-- ---- what is seen of a replica's path
+
+module _ (h : History) (e : Edit) (run : List Revision) (is : e.change ≡ Replica run) (t : Tree) where
+  accepted_run : accepted_by h e ≡ replicated h run
+  accepted_run = rw is refl
+
+  refuses_run : (o : Option Refused) → Misfits h run o → Refuses h e o
+  refuses_run None k = rw is (rw k refl)
+  refuses_run (Some refused) k = ap newest_accepted (accepted_run ∙ misfits h run k.1) ∙ ap Err (sym k.0)
+
+  pub looks_for : (r : Result (Option Revision) EditError) → StandsFor t h → LooksFor h run r → Foreseen h e r t
+  looks_for (Ok None) s k = rw is (rw k refl)
+  looks_for (Err x) s k = refuses_run (told x) k
+  looks_for (Ok (Some r)) s k =
+      let f : fits h run ≡ true = whole_fits (all_links h) _ k.1 in
+      let d = replicated_ok h run r k.0 f in
+      let said : accepted_by h e ≡ Ok (r, d.0) = accepted_run ∙ d.1 in
+      let P : History → Type 0 = StandsFor t in
+      let Q : List Revision → Type 0 = λ x. StandsFor t (with_path h (path_of x e.deleted e.body)) in
+      (ap newest_accepted said, subst P (sym (ap (history_after h e) said)) (subst Q d.2 (whole_stands t h run e.deleted e.body k.1 s)))
+
+-- want of memory for a path that fits
+pub looks_want : (h : History) (run : List Revision) (r : Result (Option Revision) EditError) → fits h run ≡ true → IsErrAnd r (λ x. x ≡ no_memory) → LooksFor h run r
+looks_want h run (Ok o) f k = absurd k
+looks_want h run (Err x) f k = let P : EditError → Type 0 = λ y. Misfits h run (told y) in subst P (sym k) f
 
 -- ---- either
 
-pub applied : (h : History) (e : Edit) (r : Result Revision EditError) (t : Tree) → Brings h e.deleted e.body (accepted_by h e) r t → Applied h e r t
-applied h e (Ok r) t k =
+pub applied : (h : History) (e : Edit) (r : Result Revision EditError) (t : Tree) → first_refusal h e.change ≡ None → Brings h e.deleted e.body (accepted_by h e) r t → Applied h e r t
+applied h e (Ok r) t first k =
     let P : History → Type 0 = StandsFor t in
     (ap newest_accepted k.1, subst P (sym (ap (history_after h e) k.1)) k.2)
-applied h e (Err Conflict) t k = ap newest_accepted k
-applied h e (Err BadHistory) t k = ap newest_accepted k
-applied h e (Err NoMemory) t k = tt
+applied h e (Err conflict) t first k = ap newest_accepted k
+applied h e (Err bad_history) t first k = ap newest_accepted k
+applied h e (Err no_memory) t first k = first

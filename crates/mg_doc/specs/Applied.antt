@@ -1,48 +1,51 @@
 -- What applying an edit to a tree gives, for each history that the tree stands for.
-use Rattle.std.specs.Prelude.{◌≡◌, List, ◌∷◌, Bool, Option, Result, Ok, Err}
+use Rattle.std.specs.Prelude.{◌≡◌, List, ◌∷◌, Bool, Option, Some, None, Result, Ok, Err}
 use Rattle.mg_value.specs.Value.{Value}
 use Rattle.mg_revtree.specs.Revision.{Revision}
-use Rattle.mg_revtree.specs.History.{History, winner_of}
+use Rattle.mg_revtree.specs.History.{History}
 use Rattle.mg_revtree.specs.Changes.{path_of, with_path}
 use Rattle.mg_revtree.specs.Tree.{Tree, StandsFor}
-use Rattle.mg_revtree.specs.declared.error.MergeError.{MergeError}
-use Rattle.mg_revtree.specs.declared.error.MergeError.TheVariants.{BadHistory as misfit, NoMemory as merge_refused}
-use Rattle.mg_revtree.specs.declared.error.TreeError.{TreeError}
-use Rattle.mg_revtree.specs.declared.error.TreeError.TheVariants.{NotLeaf, Full, Known, NoMemory as tree_refused}
 use Rattle.mg_doc.specs.Document.{Edit}
-use Rattle.mg_doc.specs.Edit.{Accepted, base_unnamed, edited, outcome_of}
+use Rattle.mg_doc.specs.Edit.{Accepted, edited, first_refusal, outcome_of}
 use Rattle.mg_doc.specs.declared.error.EditError.{EditError}
-use Rattle.mg_doc.specs.declared.error.EditError.TheVariants.{Conflict, BadHistory, NoMemory}
+use Rattle.mg_doc.specs.declared.error.EditError.TheVariants.{Conflict as conflict, BadHistory as bad_history, NoMemory as no_memory}
+use Rattle.mg_doc.specs.declared.error.Refused.{Refused}
+use Rattle.mg_doc.specs.declared.error.Refused.TheVariants.{Conflict, BadHistory}
 
--- the outcome of the edit, after which the tree stands for the edited history, unless a growth was refused
+-- the refusal that an error tells. Want of memory is none
+abbrev pub told : EditError → Option Refused
+told conflict = Some Conflict
+told bad_history = Some BadHistory
+told no_memory = None
+
+-- the error that tells a refusal
+abbrev pub error_of : Refused → EditError
+error_of Conflict = conflict
+error_of BadHistory = bad_history
+
+-- an error of an edit: its refusal; or a growth was refused, and the edit was not refused before
+abbrev pub Refuses : History → Edit → Option Refused → Type 0
+Refuses h e (Some refused) = outcome_of h e ≡ Err refused
+Refuses h e None = first_refusal h e.change ≡ None
+
+-- the outcome of the edit, after which the tree stands for the edited history, or its error
 abbrev pub Applied : History → Edit → Result Revision EditError → Tree → Type 0
 Applied h e (Ok r) t = (outcome_of h e ≡ Ok r) × StandsFor t (edited h e)
-Applied h e (Err NoMemory) t = Unit {0}
-Applied h e (Err Conflict) t = outcome_of h e ≡ Err Conflict
-Applied h e (Err BadHistory) t = outcome_of h e ≡ Err BadHistory
+Applied h e (Err x) t = Refuses h e (told x)
 
--- the same for a path that is accepted, or why none is
-abbrev pub Brings : History → Bool → Value → Result Accepted EditError → Result Revision EditError → Tree → Type 0
+-- what is seen of an edit before it is applied: a path that is known whole, after which the tree stands for the edited
+-- history as it is; or that the edit is not refused so far; or its error
+abbrev pub Foreseen : History → Edit → Result (Option Revision) EditError → Tree → Type 0
+Foreseen h e (Ok (Some r)) t = (outcome_of h e ≡ Ok r) × StandsFor t (edited h e)
+Foreseen h e (Ok None) t = first_refusal h e.change ≡ None
+Foreseen h e (Err x) t = Refuses h e (told x)
+
+-- what is said where an error tells a refusal
+abbrev pub Missing : {A : Type 0} → Result A Refused → Option Refused → Type 0
+Missing said (Some refused) = said ≡ Err refused
+Missing said None = Unit {0}
+
+-- a path that is accepted, after which the tree stands for the history with it, or why none is
+abbrev pub Brings : History → Bool → Value → Result Accepted Refused → Result Revision EditError → Tree → Type 0
 Brings h deleted body said (Ok r) t = (rs : List Revision) × (said ≡ Ok (r, rs)) × StandsFor t (with_path h (path_of (r ∷ rs) deleted body))
-Brings h deleted body said (Err NoMemory) t = Unit {0}
-Brings h deleted body said (Err Conflict) t = said ≡ Err Conflict
-Brings h deleted body said (Err BadHistory) t = said ≡ Err BadHistory
-
--- what is extended where no revision is named, unless a growth was refused
-abbrev pub BaseIs : History → Result (Option Revision) EditError → Type 0
-BaseIs h (Ok base) = base_unnamed (winner_of h) ≡ Ok base
-BaseIs h (Err NoMemory) = Unit {0}
-BaseIs h (Err Conflict) = base_unnamed (winner_of h) ≡ Err Conflict
-BaseIs h (Err BadHistory) = base_unnamed (winner_of h) ≡ Err BadHistory
-
--- the refusal of an edit whose path was not merged
-abbrev pub merge_refusal : MergeError → EditError
-merge_refusal misfit = BadHistory
-merge_refusal merge_refused = NoMemory
-
--- the refusal of an edit whose revision was not made
-abbrev pub tree_refusal : TreeError → EditError
-tree_refusal NotLeaf = Conflict
-tree_refusal Full = BadHistory
-tree_refusal Known = Conflict
-tree_refusal tree_refused = NoMemory
+Brings h deleted body said (Err x) t = Missing said (told x)

@@ -1,5 +1,5 @@
 -- How a document of a bulk is read, after CouchDB's `_bulk_docs`: its own members, its id, its mark and its path.
-use Rattle.std.specs.Prelude.{◌≡◌, ℕ, pos, List, [], ◌∷◌, Bool, true, false, not, ◌||◌, ◌==◌, nat_le, codes, Option, Some, None, option_map, option_and_then, IsSome, Result, Ok, Err, if◌then◌else◌}
+use Rattle.std.specs.Prelude.{◌≡◌, ℕ, pos, List, [], ◌∷◌, Bool, true, false, not, ◌||◌, ◌==◌, nat_le, codes, Option, Some, None, option_map, option_and_then, Result, Ok, Err, if◌then◌else◌}
 use Rattle.std.specs.List.{list_all, list_any}
 use Rattle.std.specs.Str.{bytes_eq}
 use Rattle.mg_value.specs.Value.{Value, flag, whole, text, list, object, Items, no_items, item, Members, no_members, member, get_member, member_list}
@@ -7,17 +7,18 @@ use Rattle.mg_revtree.specs.Revision.{Revision, revision_of, run_of}
 use Rattle.mg_revtree.specs.History.{newest_of}
 use Rattle.mg_revtree.specs.declared.error.RevError.{RevError}
 use Rattle.mg_revtree.specs.declared.error.RevError.TheVariants.{Bad, NoMemory as rev_refused}
+use Rattle.mg_doc.specs.declared.change.Change.{Change}
+use Rattle.mg_doc.specs.declared.change.Change.TheVariants.{New, Replica}
 use Rattle.mg_doc.specs.declared.error.DocError.{DocError}
 use Rattle.mg_doc.specs.declared.error.DocError.TheVariants.{BadMember, BadId, BadRev, NoMemory}
 
--- what a document of a bulk asks for: its id, if it has one; the path that it gives, newest first, or none;
--- whether it is a deletion; its body; and whether it is a new edit or one that a replica made
+-- what a document of a bulk asks for: its id, if it has one; its change, a new revision (over the one that is named,
+-- if one is) or the path of a replica, newest first; whether it is a deletion; and its body
 pub record Edit : Type 0 where
   pub id : Option (List ℕ)
-  pub run : List Revision
+  pub change : Change
   pub deleted : Bool
   pub body : Value
-  pub new_edit : Bool
 
 -- ---- members
 
@@ -61,10 +62,14 @@ id_of (Some (text s)) = if is_document_id s then Some (Some s) else None
 id_of (Some v) = None
 
 -- `_rev`: the text of a revision, if it is there
-abbrev pub rev_of : Option Value → Option (List Revision)
-rev_of None = Some []
-rev_of (Some (text s)) = option_map (λ r. r ∷ []) (revision_of s)
+abbrev pub rev_of : Option Value → Option (Option Revision)
+rev_of None = Some None
+rev_of (Some (text s)) = option_map Some (revision_of s)
 rev_of (Some v) = None
+
+-- a revision that is a path by itself
+abbrev pub IsRevision : Revision → Type 0
+IsRevision r = run_of r.0 (r.1 ∷ []) ≡ Some (r ∷ [])
 
 -- the ids of a path, each a text
 abbrev pub path_ids : Items → Option (List (List ℕ))
@@ -78,38 +83,29 @@ run_at (Some (whole (pos start))) (Some (list ids)) = if nat_le start 4294967295
 run_at start ids = None
 
 -- `_revisions`: `{"start":N,"ids":[..]}`, if it is there
-abbrev pub revisions_of : Option Value → Option (List Revision)
-revisions_of None = Some []
-revisions_of (Some (object ms)) = run_at (get_member (codes "start") ms) (get_member (codes "ids") ms)
+abbrev pub revisions_of : Option Value → Option (Option (List Revision))
+revisions_of None = Some None
+revisions_of (Some (object ms)) = option_map Some (run_at (get_member (codes "start") ms) (get_member (codes "ids") ms))
 revisions_of (Some v) = None
 
--- the path that is given: a document that has both `_revisions` and `_rev` goes by the first
-abbrev pub given_run : List Revision → List Revision → List Revision
-given_run rev [] = rev
-given_run rev (r ∷ rs) = r ∷ rs
+-- the revision that a new edit names: `_revisions` goes before `_rev`
+abbrev pub named_by : Option Revision → Option (List Revision) → Option Revision
+named_by rev None = rev
+named_by rev (Some run) = newest_of run
 
--- the revisions of a path, if there is one
-abbrev pub run_in : Option (List Revision) → List Revision
-run_in None = []
-run_in (Some run) = run
+-- the path that a replica gives, in the same way. It has to give one
+abbrev pub path_by : Option Revision → Option (List Revision) → Option (List Revision)
+path_by rev (Some run) = Some run
+path_by rev None = option_map (λ r. r ∷ []) rev
 
--- a path has a newest revision
-abbrev pub IsPath : List Revision → Type 0
-IsPath run = IsSome (newest_of run)
+-- the change that a document asks for
+abbrev pub change_by : Bool → Option Revision → Option (List Revision) → Option Change
+change_by new_edit rev run = if new_edit then Some (New (named_by rev run)) else option_map Replica (path_by rev run)
 
--- a replica gives a path
-abbrev pub is_enough : Bool → List Revision → Bool
-is_enough new_edit [] = new_edit
-is_enough new_edit (r ∷ rs) = true
-
--- the path, if there is enough of one
-abbrev pub checked_run : Bool → List Revision → Option (List Revision)
-checked_run new_edit run = if is_enough new_edit run then Some run else None
-
--- the path that `_rev` and `_revisions` give: both have to be well formed where they are there
-abbrev pub run_given : Bool → Members → Option (List Revision)
-run_given new_edit ms =
-    option_and_then (λ rev. option_and_then (λ revisions. checked_run new_edit (given_run rev revisions)) (revisions_of (get_member (codes "_revisions") ms)))
+-- the same from `_rev` and `_revisions`: both have to be well formed where they are there
+abbrev pub change_given : Bool → Members → Option Change
+change_given new_edit ms =
+    option_and_then (λ rev. option_and_then (change_by new_edit rev) (revisions_of (get_member (codes "_revisions") ms)))
     (rev_of (get_member (codes "_rev") ms))
 
 -- ---- a document, or its first fault: a bad member, a bad id, a bad revision, in this order
@@ -133,8 +129,8 @@ abbrev pub members_read : Bool → Members → Result Edit DocError
 members_read new_edit ms =
     then_read (mark_read ms) (λ deleted.
     then_read (or_fault BadId (id_of (get_member (codes "_id") ms))) (λ id.
-    then_read (or_fault BadRev (run_given new_edit ms)) (λ run.
-    Ok (record { id = id; run = run; deleted = deleted; body = object (own_members ms); new_edit = new_edit }))))
+    then_read (or_fault BadRev (change_given new_edit ms)) (λ change.
+    Ok (record { id = id; change = change; deleted = deleted; body = object (own_members ms) }))))
 
 -- a document that is an object; nothing else is one
 abbrev pub edit_of : Bool → Value → Result Edit DocError

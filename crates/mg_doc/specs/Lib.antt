@@ -4,3 +4,5 @@ pub mod Edit
 pub mod Applied
 pub mod Served
 pub mod Code
+pub mod Conversions
+pub mod Base

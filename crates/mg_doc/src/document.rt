@@ -1,4 +1,4 @@
-ghost use Rattle.std.specs.Prelude.{◌≡◌, IfOk, option_map};
+ghost use Rattle.std.specs.Prelude.{◌≡◌, IfOk, IsOk, None, option_map};
 ghost use Rattle.mg_value.specs.View.{view};
 ghost use Rattle.mg_revtree.specs.History.{History as Paths};
 ghost use Rattle.mg_revtree.specs.Tree.{StandsFor};
@@ -11,10 +11,11 @@ use std::alloc::Global;
 /// The document that is served for an id: what the winning revision holds, and `_id` and `_rev` beside it. None where
 /// that revision deletes the document, or where the tree is empty.
 ///
-/// Cost: a copy of the body. Source: `GET` of a document in CouchDB's API reference.
+/// Where there is none, no memory is needed. Cost: a copy of the body. Source: `GET` of a document in CouchDB's API reference.
 pub fn served(alloc: Global, id: &str, tree: &RevTree) -> Result<Option<Json>, NoMemory>
-    ensures { IfOk result
+    ensures served { IfOk result
         (λ o. (h : Paths) → StandsFor tree.now h → option_map view o ≡ served_of id.now h) }
+    ensures none { (h : Paths) → StandsFor tree.now h → served_of id.now h ≡ None → IsOk result }
 {
     match tree.winner() {
         None => Ok(None),

@@ -2,14 +2,15 @@ ghost use Rattle.std.specs.Prelude.{◌≡◌, None, OnErr, Some, option_map, st
 ghost use Rattle.mg_value.specs.View.{view, members_view};
 ghost use Rattle.mg_revtree.specs.History.{History as Paths};
 ghost use Rattle.mg_revtree.specs.Tree.{StandsFor};
-ghost use Rattle.mg_doc.specs.Applied.{Applied};
+ghost use Rattle.mg_doc.specs.Applied.{Applied, Foreseen};
 ghost use Rattle.mg_doc.specs.Document.{Gives, edit_of, is_object, members_read};
 
-use crate::change::{extend, merge};
+use crate::apply::{check_base, extend, look_for, merge};
+use crate::change::Change;
 use crate::error::{DocError, EditError};
 use crate::members::{checked_mark, keep_own, take_id};
-use crate::path::take_path;
-use mg_revtree::{History, Rev, RevTree};
+use crate::path::take_change;
+use mg_revtree::{Rev, RevTree};
 use mg_value::Json;
 use std::alloc::Global;
 use std::collections::BTreeMap;
@@ -19,17 +20,16 @@ use std::marker::Model;
 #[derive(Debug, Drop)]
 pub struct Edit {
     id: Option<String>,
-    path: Option<History>,
+    change: Change,
     deleted: bool,
     body: Json,
-    new_edit: bool,
 }
 
 impl Model for Edit {
     ghost use Rattle.std.specs.Prelude.{option_map, string_bytes};
     ghost use Rattle.mg_value.specs.View.{view as json_view};
     ghost use Rattle.mg_doc.specs.Code.{edit_code};
-    ghost use Rattle.mg_doc.specs.Document.{Edit as EditValue, run_in};
+    ghost use Rattle.mg_doc.specs.Document.{Edit as EditValue};
 
     ghost Value = { EditValue };
 
@@ -37,10 +37,9 @@ impl Model for Edit {
 
     ghost view = { λ e. record {
       id = option_map string_bytes e.id;
-      run = run_in e.path;
+      change = e.change;
       deleted = e.deleted;
       body = json_view e.body;
-      new_edit = e.new_edit;
     } };
 }
 
@@ -86,25 +85,45 @@ impl Edit {
         }
     }
 
+    /// Looks what the edit would do to the tree of its document, before the tree is copied or changed: the revision of a
+    /// path that is known whole, which would change nothing; none where the edit is to be applied; or why it is refused,
+    /// but for a new revision that would be known already, which `apply` finds.
+    ///
+    /// Errors: those of `apply`; no refusal needs memory. Cost: a path's look-ups, or a look at the leaves.
+    pub fn look(&self, tree: &RevTree) -> Result<Option<Rev>, EditError>
+        ensures { (h : Paths) → StandsFor tree.now h → Foreseen h self.now result tree.now }
+    {
+        match &self.change {
+            Change::New(named) => {
+                check_base(tree, named.as_ref())?;
+                Ok(None)
+            }
+            Change::Replica(path) => look_for(tree, path),
+        }
+    }
+
     /// Applies the edit to the tree of its document, and gives the revision that it brings.
     ///
     /// A new edit makes a revision over the one that it names, which has to be a leaf; with none
     /// named, over a deleted winner, or at position 1 where the document is not there. The path of
-    /// a replica is merged.
+    /// a replica is merged; one that is known whole changes nothing.
     ///
     /// Errors: `Conflict` where the named revision is no leaf, where none is named and the document
     /// is there, or where the made revision is known; `BadHistory` where the extended leaf has the
-    /// last position, 4,294,967,295, or where a replica's path does not fit; `NoMemory`. A refusal
-    /// leaves the tree as it was. Cost: a copy of the body, and a step of the tree.
+    /// last position, 4,294,967,295, or where a replica's path does not fit; and else `NoMemory` where a growth is
+    /// refused: but for a made revision that is known, no refusal needs memory. A refusal leaves the tree as it was.
+    /// Cost: a copy of the body, but for a path that is known whole, and a step of the tree.
     /// Source: CouchDB's `_bulk_docs` with `new_edits` true and false.
     pub fn apply(&self, alloc: Global, tree: &mut RevTree) -> Result<Rev, EditError>
         ensures applied { (h : Paths) → StandsFor tree.old h → Applied h self.now result tree.new }
         ensures unchanged { OnErr result (tree.new ≡ tree.old) }
     {
-        if self.new_edit {
-            extend(alloc, tree, self.path.as_ref(), self.deleted, &self.body)
-        } else {
-            merge(alloc, tree, self.path.as_ref(), self.deleted, &self.body)
+        if let Some(rev) = self.look(tree)? {
+            return Ok(rev);
+        }
+        match &self.change {
+            Change::New(named) => { extend(alloc, tree, named.as_ref(), self.deleted, &self.body) }
+            Change::Replica(path) => merge(alloc, tree, path, self.deleted, &self.body),
         }
     }
 }
@@ -121,13 +140,12 @@ fn edit_in(
     let Some(id) = take_id(&mut members) else {
         return Err(DocError::BadId);
     };
-    let path = take_path(alloc, &mut members, new_edit)?;
+    let change = take_change(alloc, &mut members, new_edit)?;
     keep_own(&mut members);
     Ok(Edit {
         id,
-        path,
+        change,
         deleted,
         body: Json::Object(members),
-        new_edit,
     })
 }

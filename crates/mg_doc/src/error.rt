@@ -1,4 +1,4 @@
-use mg_revtree::{MergeError, NoMemory, RevError, TreeError};
+use mg_revtree::{MergeError, NoMemory, Refusal, RevError, TreeError};
 use std::alloc::{AllocError, AllocFailed};
 use thiserror::Error;
 
@@ -19,7 +19,19 @@ pub enum DocError {
     NoMemory,
 }
 
-/// Why an edit was refused.
+/// Why an edit is refused.
+#[derive(Clone, Copy, PartialEq, Eq, Debug, Drop, Error)]
+pub enum Refused {
+    /// The revision that is edited is no leaf, or the document is there and none was named; or the revision that the
+    /// edit makes is known already.
+    #[error("Document update conflict.")]
+    Conflict,
+    /// The path gives a known revision another parent, or no position is left.
+    #[error("Revision history does not fit the document.")]
+    BadHistory,
+}
+
+/// Why an edit was not applied.
 #[derive(Clone, Copy, PartialEq, Eq, Debug, Drop, Error)]
 pub enum EditError {
     /// The revision that is edited is no leaf, or the document is there and none was named; or the revision that the
@@ -92,11 +104,39 @@ impl From<AllocError> for EditError {
     }
 }
 
+impl From<Refusal> for Refused {
+    ghost use Rattle.std.specs.Prelude.{◌≡◌};
+    ghost use Rattle.mg_doc.specs.Edit.{refused_by};
+
+    ghost from_gives = { λ refusal refused. refused ≡ refused_by refusal };
+
+    fn from(refusal: Refusal) -> Refused {
+        match refusal {
+            Refusal::NotLeaf | Refusal::Known => Refused::Conflict,
+            Refusal::Full => Refused::BadHistory,
+        }
+    }
+}
+
+impl From<Refused> for EditError {
+    ghost use Rattle.std.specs.Prelude.{◌≡◌};
+    ghost use Rattle.mg_doc.specs.Applied.{error_of};
+
+    ghost from_gives = { λ refused error. error ≡ error_of refused };
+
+    fn from(refused: Refused) -> EditError {
+        match refused {
+            Refused::Conflict => EditError::Conflict,
+            Refused::BadHistory => EditError::BadHistory,
+        }
+    }
+}
+
 impl From<MergeError> for EditError {
     ghost use Rattle.std.specs.Prelude.{◌≡◌};
-    ghost use Rattle.mg_doc.specs.Applied.{merge_refusal};
+    ghost use Rattle.mg_doc.specs.Conversions.{error_of_merge};
 
-    ghost from_gives = { λ error refusal. refusal ≡ merge_refusal error };
+    ghost from_gives = { λ error refused. refused ≡ error_of_merge error };
 
     fn from(error: MergeError) -> EditError {
         match error {
@@ -108,9 +148,9 @@ impl From<MergeError> for EditError {
 
 impl From<TreeError> for EditError {
     ghost use Rattle.std.specs.Prelude.{◌≡◌};
-    ghost use Rattle.mg_doc.specs.Applied.{tree_refusal};
+    ghost use Rattle.mg_doc.specs.Conversions.{error_of_tree};
 
-    ghost from_gives = { λ error refusal. refusal ≡ tree_refusal error };
+    ghost from_gives = { λ error refused. refused ≡ error_of_tree error };
 
     fn from(error: TreeError) -> EditError {
         match error {

@@ -1,6 +1,7 @@
 //! Documents of a bulk, their edits, and the form in which they are served.
 #![tactic(auto)]
 
+mod apply;
 mod change;
 mod digest;
 mod document;
@@ -9,7 +10,8 @@ pub mod error;
 mod members;
 mod path;
 
+pub use change::Change;
 pub use digest::rev_id;
 pub use document::served;
 pub use edit::Edit;
-pub use error::{DocError, EditError};
+pub use error::{DocError, EditError, Refused};

@@ -2,72 +2,87 @@ ghost use Rattle.std.specs.Prelude.{◌≡◌, [], ◌∷◌, codes, map, option
 ghost use Rattle.std.specs.Result.{result_map_both};
 ghost use Rattle.mg_value.specs.Value.{Value, get_member, whole};
 ghost use Rattle.mg_value.specs.View.{view, items_view, members_view};
-ghost use Rattle.mg_revtree.specs.Revision.{run_of};
-ghost use Rattle.mg_doc.specs.Document.{Gives, IsPath, checked_run, or_fault, own_members as own, path_ids as ids_of_path, rev_of, revisions_of, run_at, run_given, run_in};
+ghost use Rattle.mg_doc.specs.Document.{Gives, IsRevision, change_by, change_given, or_fault, own_members as own, path_ids as ids_of_path, rev_of, revisions_of, run_at};
 
+use crate::change::Change;
 use crate::error::DocError;
 use mg_revtree::{History, Rev};
 use mg_value::Json;
 use std::alloc::Global;
 use std::collections::BTreeMap;
 
-// The path that a document gives, if it gives one; of `_revisions` and `_rev` the first decides.
-// A replica has to give one. `_revisions` is taken out of the members.
-pub(crate) fn take_path(
+// The change that a document asks for; of `_revisions` and `_rev` the first decides. A replica has to give a path.
+// `_revisions` is taken out of the members.
+pub(crate) fn take_change(
     alloc: Global,
     members: &mut BTreeMap<String, Json>,
     new_edit: bool,
-) -> Result<Option<History>, DocError>
-    ensures path { Gives
-        (or_fault DocError.BadRev (run_given new_edit (members_view members.old.entries)))
-        (result_map_both run_in (λ e. e) result) }
+) -> Result<Change, DocError>
+    ensures change { Gives (or_fault DocError.BadRev (change_given new_edit (members_view members.old.entries))) result }
     ensures own { own (members_view members.new.entries) ≡ own (members_view members.old.entries) }
 {
-    let rev = rev_path(alloc, members.get("_rev"))?;
-    let revisions = revisions_path(alloc, members.remove("_revisions"))?;
-    checked(revisions.or(rev), new_edit)
+    let rev = rev_in(alloc, members.get("_rev"))?;
+    let revisions = run_in(alloc, members.remove("_revisions"))?;
+    change_in(alloc, rev, revisions, new_edit)
 }
 
-// A path, where a replica gives one.
-fn checked(path: Option<History>, new_edit: bool) -> Result<Option<History>, DocError>
-    requires { IfSome path IsPath }
-    ensures { Gives (or_fault DocError.BadRev (checked_run new_edit (run_in path)))
-        (result_map_both run_in (λ e. e) result) }
+// The change that a revision and a run ask for. The run goes first.
+fn change_in(
+    alloc: Global,
+    rev: Option<Rev>,
+    run: Option<History>,
+    new_edit: bool,
+) -> Result<Change, DocError>
+    requires { IfSome rev IsRevision }
+    ensures { Gives (or_fault DocError.BadRev (change_by new_edit rev run)) result }
 {
-    if path.is_none() && !new_edit {
-        return Err(DocError::BadRev);
-    }
-    Ok(path)
+    let Some(run) = run else {
+        return change_of(alloc, rev, new_edit);
+    };
+    Ok(if new_edit {
+        Change::New(Some(run.into_newest()))
+    } else {
+        Change::Replica(run)
+    })
 }
 
-// The path that `_rev` gives, one revision, if it is there.
-fn rev_path(alloc: Global, member: Option<&Json>) -> Result<Option<History>, DocError>
-    ensures path { Gives
-        (or_fault DocError.BadRev (rev_of (option_map (λ v. view v.now) member.entry)))
-        (result_map_both run_in (λ e. e) result) }
-    ensures some { IfOk result (λ path. IfSome path IsPath) }
+// The change that a revision alone asks for.
+fn change_of(alloc: Global, rev: Option<Rev>, new_edit: bool) -> Result<Change, DocError>
+    requires { IfSome rev IsRevision }
+    ensures { Gives (or_fault DocError.BadRev (change_by new_edit rev None)) result }
+{
+    if new_edit {
+        return Ok(Change::New(rev));
+    }
+    match rev {
+        None => Err(DocError::BadRev),
+        Some(rev) => Ok(Change::Replica(path_of(alloc, rev)?)),
+    }
+}
+
+// The revision that `_rev` gives, if it is there.
+fn rev_in(alloc: Global, member: Option<&Json>) -> Result<Option<Rev>, DocError>
+    ensures rev { Gives (or_fault DocError.BadRev (rev_of (option_map (λ v. view v.now) member.entry))) result }
+    ensures revision { IfOk result (λ o. IfSome o IsRevision) }
 {
     match member {
         None => Ok(None),
-        Some(Json::Text(text)) => Ok(Some(path_of(alloc, Rev::parse(alloc, text)?)?)),
+        Some(Json::Text(text)) => Ok(Some(Rev::parse(alloc, text)?)),
         Some(_) => Err(DocError::BadRev),
     }
 }
 
 // The path of one revision that was read.
 fn path_of(alloc: Global, rev: Rev) -> Result<History, DocError>
-    requires { run_of rev.0 (rev.1 ∷ []) ≡ Some (rev ∷ []) }
-    ensures path { Gives (Ok (rev ∷ [])) result }
-    ensures some { IfOk result IsPath }
+    requires { IsRevision rev }
+    ensures { Gives (Ok (rev ∷ [])) result }
 {
     History::new(rev.pos, vec![in alloc; rev.id]?).ok_or(DocError::BadRev)
 }
 
 // The path that `_revisions` gives, `{"start":N,"ids":[..]}`, if it is there.
-fn revisions_path(alloc: Global, member: Option<Json>) -> Result<Option<History>, DocError>
-    ensures path { Gives (or_fault DocError.BadRev (revisions_of (option_map view member)))
-        (result_map_both run_in (λ e. e) result) }
-    ensures some { IfOk result (λ path. IfSome path IsPath) }
+fn run_in(alloc: Global, member: Option<Json>) -> Result<Option<History>, DocError>
+    ensures { Gives (or_fault DocError.BadRev (revisions_of (option_map view member))) result }
 {
     let Some(member) = member else {
         return Ok(None);
@@ -80,10 +95,9 @@ fn revisions_path(alloc: Global, member: Option<Json>) -> Result<Option<History>
 
 // The path of the members `start` and `ids`.
 fn path_in(alloc: Global, mut members: BTreeMap<String, Json>) -> Result<History, DocError>
-    ensures path { Gives (or_fault DocError.BadRev (run_at
+    ensures { Gives (or_fault DocError.BadRev (run_at
         (get_member (codes "start") (members_view members.entries))
         (get_member (codes "ids") (members_view members.entries)))) result }
-    ensures some { IfOk result IsPath }
 {
     let Some(start) = position(members.get("start")) else {
         return Err(DocError::BadRev);
@@ -105,10 +119,9 @@ fn position(member: Option<&Json>) -> Option<u32>
 
 // The path from a position down.
 fn path_at(alloc: Global, start: u32, member: Option<Json>) -> Result<History, DocError>
-    ensures path { Gives
+    ensures { Gives
         (or_fault DocError.BadRev (run_at (Some (whole (pos start))) (option_map view member)))
         result }
-    ensures some { IfOk result IsPath }
 {
     match member {
         Some(Json::List(ids)) => {

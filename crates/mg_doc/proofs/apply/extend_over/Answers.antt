@@ -3,8 +3,8 @@ use Rattle.mg_value.specs.Value.{Value}
 use Rattle.mg_value.specs.View.{view}
 use Rattle.mg_revtree.specs.Changes.{extension, with_path}
 use Rattle.mg_revtree.specs.Tree.{StandsFor}
-use Rattle.mg_doc.proofs.Edits.{made_over_base}
-use Rattle.mg_doc.proofs.change.extend_over.Goals as goal
+use Rattle.mg_doc.proofs.Edits.{made_over_base, no_refusal}
+use Rattle.mg_doc.proofs.apply.extend_over.Goals as goal
 
 pub returns-clause-brings : goal.returns-clause-brings
 returns-clause-brings c = λ h stands.
@@ -12,5 +12,5 @@ returns-clause-brings c = λ h stands.
     let id = string_bytes c.in_ok-id.id in
     let t = c.extend.new.self in
     let P : Value → Type 0 = λ b. StandsFor t (with_path h (extension base id c.args.deleted b)) in
-    made_over_base h c.args.deleted (view c.args.body.now) base id (string_bytes c.in_ok-clone.field-0) c.position_over.result t c.in_ok-id.ensures c.in_ok-clone.ensures.cases (c.in_ok-extend.ensures.allowed h stands) c.position_over.ensures
+    made_over_base h c.args.deleted (view c.args.body.now) base id (string_bytes c.in_ok-clone.field-0) c.position_over.result t c.in_ok-id.ensures c.in_ok-clone.ensures.cases (no_refusal _ _ (c.in_ok-extend.ensures.decided h stands)) c.position_over.ensures
     (subst P c.in_ok-body.ensures (c.in_ok-extend.ensures.accepted h stands))

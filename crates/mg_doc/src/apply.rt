@@ -1,0 +1,143 @@
+ghost use Rattle.std.specs.Prelude.{◌≡◌, ◌+◌, ◌==◌, IfErr, OnErr, OnOk, None, Some, false, option_copied};
+ghost use Rattle.std.specs.Result.{result_map_both};
+ghost use Rattle.mg_revtree.specs.Changes.{position_below};
+ghost use Rattle.mg_value.specs.View.{view};
+ghost use Rattle.mg_revtree.specs.History.{History as Paths};
+ghost use Rattle.mg_revtree.specs.Tree.{StandsFor};
+ghost use Rattle.mg_doc.specs.Applied.{Brings};
+ghost use Rattle.mg_doc.specs.Base.{CopyIs, LooksFor};
+ghost use Rattle.mg_doc.specs.Edit.{base_of, extended, made_over, replicated, unbased};
+
+use crate::digest::rev_id;
+use crate::error::{EditError, Refused};
+use mg_revtree::{History, Rev, RevTree};
+use mg_value::Json;
+use std::alloc::Global;
+
+// Looks for a replica's path: its newest revision where it is known whole, and none where it fits and is not.
+pub(crate) fn look_for(tree: &RevTree, path: &History) -> Result<Option<Rev>, EditError>
+    ensures { (h : Paths) → StandsFor tree.now h → LooksFor h path.now result }
+{
+    if tree.holds(path) {
+        return Ok(Some(path.newest()?));
+    }
+    if !tree.fits(path) {
+        return Err(EditError::BadHistory);
+    }
+    Ok(None)
+}
+
+// Merges the path of a replica.
+pub(crate) fn merge(
+    alloc: Global,
+    tree: &mut RevTree,
+    path: &History,
+    deleted: bool,
+    body: &Json,
+) -> Result<Rev, EditError>
+    ensures brings { (h : Paths) → StandsFor tree.old h → Brings h deleted (view body.now) (replicated h path.now) result tree.new }
+    ensures unchanged { OnErr result (tree.new ≡ tree.old) }
+{
+    let rev = path.newest()?;
+    let body = body.copy(alloc)?;
+    tree.merge(path, deleted, body)?;
+    Ok(rev)
+}
+
+// Whether a revision may be made over a named one, or where none is named.
+pub(crate) fn check_base(tree: &RevTree, named: Option<&Rev>) -> Result<(), Refused>
+    ensures ok { OnOk result ((h : Paths) → StandsFor tree.now h → unbased h (base_of h (option_copied named.entry)) ≡ None) }
+    ensures err { IfErr result (λ e. (h : Paths) → StandsFor tree.now h → unbased h (base_of h (option_copied named.entry)) ≡ Some e) }
+{
+    let base = base_over(tree, named)?;
+    tree.next_position(base)?;
+    Ok(())
+}
+
+// What is extended: the named revision, or where none is named a deleted winner, or nothing.
+fn base_over<'a>(tree: &'a RevTree, named: Option<&'a Rev>) -> Result<Option<&'a Rev>, Refused>
+    ensures { (h : Paths) → StandsFor tree.now h → base_of h (option_copied named.entry) ≡ result_map_both option_copied (λ e. e) result }
+{
+    match named {
+        Some(rev) => Ok(Some(rev)),
+        None => base_unnamed(tree),
+    }
+}
+
+// What is extended where no revision is named.
+fn base_unnamed(tree: &RevTree) -> Result<Option<&Rev>, Refused>
+    ensures { (h : Paths) → StandsFor tree.now h → base_of h None ≡ result_map_both option_copied (λ e. e) result }
+{
+    match tree.winner() {
+        None => Ok(None),
+        Some(leaf) => if leaf.deleted {
+            Ok(Some(&leaf.rev))
+        } else {
+            Err(Refused::Conflict)
+        },
+    }
+}
+
+// The same, copied.
+fn copied_base(tree: &RevTree) -> Result<Option<Rev>, EditError>
+    ensures { (h : Paths) → StandsFor tree.now h → CopyIs (base_of h None) result }
+{
+    match base_unnamed(tree)? {
+        None => Ok(None),
+        Some(rev) => Ok(Some(rev.copy()?)),
+    }
+}
+
+// Makes a revision over the named one, or where none is named.
+pub(crate) fn extend(
+    alloc: Global,
+    tree: &mut RevTree,
+    named: Option<&Rev>,
+    deleted: bool,
+    body: &Json,
+) -> Result<Rev, EditError>
+    ensures brings { (h : Paths) → StandsFor tree.old h → Brings h deleted (view body.now)
+        (extended h deleted (view body.now) (option_copied named.entry)) result tree.new }
+    ensures unchanged { OnErr result (tree.new ≡ tree.old) }
+{
+    match named {
+        Some(rev) => extend_over(alloc, tree, Some(rev), deleted, body),
+        None => {
+            let base = copied_base(tree)?;
+            extend_over(alloc, tree, base.as_ref(), deleted, body)
+        }
+    }
+}
+
+// Makes a revision over a base, or the first of a document.
+fn extend_over(
+    alloc: Global,
+    tree: &mut RevTree,
+    base: Option<&Rev>,
+    deleted: bool,
+    body: &Json,
+) -> Result<Rev, EditError>
+    ensures brings { (h : Paths) → StandsFor tree.old h → Brings h deleted (view body.now)
+        (made_over h deleted (view body.now) (option_copied base.entry)) result tree.new }
+    ensures unchanged { OnErr result (tree.new ≡ tree.old) }
+{
+    let id = rev_id(alloc, deleted, base, body)?;
+    let rev = Rev {
+        pos: position_over(base),
+        id: id.clone()?,
+    };
+    let body = body.copy(alloc)?;
+    tree.extend(base, id, deleted, body)?;
+    Ok(rev)
+}
+
+// The position over a base that has not the last one.
+fn position_over(base: Option<&Rev>) -> u32
+    ensures { (position_below (option_copied base.entry) == 4294967295) ≡ false
+        → result ≡ position_below (option_copied base.entry) + 1 }
+{
+    match base {
+        None => 1,
+        Some(rev) => rev.pos.saturating_add(1),
+    }
+}
