@@ -1,5 +1,5 @@
--- Bookmarks of a page, as in CouchDB's `_find`: the base64url (RFC 4648, without padding) of the compact text of
--- `[ddoc, name, direction, key, id]`.
+-- Bookmarks of a page, as in CouchDB's `_find`: a JSON array of what a page ended with, spelled in the URL-safe base64 of
+-- RFC 4648, which is not padded here. Which array that is, is this project's own choice.
 use Rattle.std.specs.Prelude.{ℕ, List, codes, Option, Some, None}
 use Rattle.base64.specs.GeneralPurpose.{encode_of}
 use Rattle.base64.specs.Engines.{url_safe_no_pad}

@@ -26,8 +26,11 @@ impl Bookmark {
     ghost use Rattle.mg_bookmark.specs.Bookmark.{spelled};
     ghost use Rattle.mg_bookmark.specs.Seen.{place_of};
 
-    /// The bookmark's one spelling: base64url without padding of the compact text of
-    /// `[ddoc, name, direction, key, id]`. Cost: the size of the key.
+    /// The text that a client gets: the five parts as a JSON array, written compactly, in the
+    /// alphabet of base64 that URLs allow (RFC 4648), not padded. The design document of `_all_docs`
+    /// is null, and the direction a word, `asc` or `desc`.
+    ///
+    /// Errors: `NoMemory` where a growth was refused. Cost: the size of the key.
     pub fn encode(self, alloc: Global) -> Result<String, NoMemory>
         ensures { IfOk result (λ t. string_bytes t ≡ spelled (place_of self)) }
     {

@@ -1,6 +1,6 @@
 //! Bookmarks of a page.
 #![tactic(auto)]
 
-pub mod bookmark;
+mod bookmark;
 
 pub use bookmark::Bookmark;

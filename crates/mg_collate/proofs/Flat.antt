@@ -6,7 +6,8 @@ use Rattle.std.specs.Cmp.{int_cmp_is, nat_cmp_is}
 use Rattle.std.proofs.lemmas.Cmp.{int_ranked}
 use Rattle.std.proofs.lemmas.Int.{ints}
 use Rattle.mg_value.specs.Value.{Value, null, flag, whole, text, list, object, Items, no_items, item, Members, no_members, member}
-use Rattle.mg_collate.specs.Order.{flat, flat_text, flat_items, flat_members, value_order, items_order, members_order}
+use Rattle.mg_collate.specs.Order.{flat, flat_text, flat_items, flat_members, value_order, items_order}
+use Rattle.mg_collate.specs.Compared.{members_order}
 
 abbrev cmp : List ℤ → List ℤ → Ordering
 cmp = slice_cmp int_cmp

@@ -171,10 +171,6 @@ sorted_of_same order o ties xs ys same =
     same_list order o ties (sorted order xs) (sorted order ys) (rises_sorted order o xs) (rises_sorted order o ys)
     (λ z. times_permutation order z xs (sorted order xs) (permutation_sorted order xs) ∙ same z ∙ sym (times_permutation order z ys (sorted order ys) (permutation_sorted order ys)))
 
-pub sorted_of_permutation : {X : Type 0} (order : X → X → Ordering) → IsTotalOrder order → ((x y : X) → order x y ≡ Equal → x ≡ y) → (xs ys : List X)
-    → IsPermutation xs ys → sorted order xs ≡ sorted order ys
-sorted_of_permutation order o ties xs ys h = sorted_of_same order o ties xs ys (λ z. sym (times_permutation order z xs ys h))
-
 -- a list in order is what sorting gives of each list with its elements
 pub one_in_order : {X : Type 0} (order : X → X → Ordering) → IsTotalOrder order → ((x y : X) → order x y ≡ Equal → x ≡ y) → (xs ys : List X)
     → IsPermutation xs ys → IsSorted order ys → ys ≡ sorted order xs

@@ -6,7 +6,8 @@ use Rattle.std.proofs.lemmas.Cmp.{int_ranked, ranked, lists_total, on_total, int
 use Rattle.std.specs.Ordering.{int_cmp, ordering_then, MatchOrdering}
 use Rattle.mg_value.specs.Value.{Value, null, flag, whole, text, list, object, Items, no_items, item, Members, no_members, member}
 use Rattle.mg_value.specs.View.{items_of}
-use Rattle.mg_collate.specs.Order.{flat, value_order, items_order, members_order, joined_members}
+use Rattle.mg_collate.specs.Order.{flat, value_order, items_order, joined_members}
+use Rattle.mg_collate.specs.Compared.{members_order}
 use Rattle.mg_collate.specs.Row.{RowValue, row_value_order, row_value_order_total}
 use Rattle.mg_collate.proofs.Flat.{then_equal, text_order, items_order-item, items_order-below, items_order-above, members_order-member}
 

@@ -6,7 +6,8 @@ use Rattle.std.specs.Ordering.{ordering_then}
 use Rattle.mg_value.specs.View.{view, items_view, members_view}
 use Rattle.mg_value.specs.declared.value.Json.{Json}
 use Rattle.mg_value.proofs.Views.{Entry}
-use Rattle.mg_collate.specs.Order.{value_order, items_order, members_order}
+use Rattle.mg_collate.specs.Order.{value_order, items_order}
+use Rattle.mg_collate.specs.Compared.{members_order}
 use Rattle.mg_collate.proofs.Flat.{then_assoc, items_order-below, items_order-above, members_order-member}
 
 pub decided : (o p : Ordering) → o ≢ Equal → o ≡ ordering_then o p

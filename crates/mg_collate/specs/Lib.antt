@@ -1,4 +1,5 @@
 pub mod Order
+pub mod Compared
 pub mod Direction
 pub mod Row
 pub mod Sorted

@@ -41,20 +41,6 @@ value_order a b = slice_cmp int_cmp (flat a) (flat b)
 abbrev pub items_order : Items → Items → Ordering
 items_order a b = value_order (list a) (list b)
 
--- the order of the members of two objects
-abbrev pub members_order : Members → Members → Ordering
-members_order a b = value_order (object a) (object b)
-
--- the place of a value's type in the order of types
-abbrev pub rank : Value → ℕ
-rank null = 1
-rank (flag false) = 2
-rank (flag true) = 3
-rank (whole z) = 4
-rank (text s) = 5
-rank (list vs) = 6
-rank (object ms) = 7
-
 -- the members of the first object, and then those of the second
 abbrev pub joined_members : Members → Members → Members
 joined_members no_members ns = ns

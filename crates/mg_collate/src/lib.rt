@@ -1,10 +1,10 @@
 //! The order of values, keys and index rows, after CouchDB's view collation.
 #![tactic(auto)]
 
-pub mod direction;
+mod direction;
 pub mod laws;
-pub mod order;
-pub mod row;
+mod order;
+mod row;
 
 pub use direction::Direction;
 pub use order::{compare, compare_keys};

@@ -2,7 +2,8 @@ ghost use Rattle.std.specs.Prelude.{◌≡◌};
 ghost use Rattle.std.specs.Cmp.Lexicographic.{slice_cmp};
 ghost use Rattle.std.specs.Ordering.{nat_cmp, ordering_then};
 ghost use Rattle.mg_value.specs.View.{view, items_view, members_view};
-ghost use Rattle.mg_collate.specs.Order.{value_order, items_order, members_order, rank};
+ghost use Rattle.mg_collate.specs.Order.{value_order, items_order};
+ghost use Rattle.mg_collate.specs.Compared.{members_order, rank};
 
 use mg_value::Json;
 use std::cmp::Ordering;

@@ -1,5 +1,5 @@
 use crate::order::compare_keys;
-use mg_value::{Json, NoMemory};
+use mg_value::{Json, NoMemory, copy_items};
 use std::alloc::Global;
 use std::cmp::Ordering;
 
@@ -24,23 +24,10 @@ impl Row {
         ensures { IfOk result (λ row. row_view row ≡ row_view self.now) }
     {
         Ok(Row {
-            key: copy_key(alloc, &self.key)?,
+            key: copy_items(alloc, &self.key)?,
             id: self.id.clone()?,
         })
     }
-}
-
-ghost use Rattle.std.specs.Prelude.{◌≡◌, IfOk};
-ghost use Rattle.mg_value.specs.View.{items_view};
-
-fn copy_key(alloc: Global, key: &[Json]) -> Result<Vec<Json>, NoMemory>
-    ensures { IfOk result (λ copy. items_view copy.items ≡ items_view key.now) }
-{
-    let mut copy = Vec::with_capacity(alloc, key.len())?;
-    for value in key {
-        copy.push(value.copy(alloc)?)?;
-    }
-    Ok(copy)
 }
 
 impl PartialEq for Row {

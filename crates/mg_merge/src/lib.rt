@@ -2,8 +2,8 @@
 #![tactic(auto)]
 
 pub mod laws;
-pub mod merging;
-pub mod order;
+mod merging;
+mod order;
 mod rests;
 
 pub use merging::merge;

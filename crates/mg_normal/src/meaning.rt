@@ -25,13 +25,7 @@ fn holds(form: &Form, part: Option<&Json>) -> bool
     match form {
         Form::All(forms) => every_form(forms, part),
         Form::Any(forms) => some_form(forms, part),
-        Form::At(path, inner) => {
-            let part = match part {
-                Some(value) => path.get(value),
-                None => None,
-            };
-            holds(inner, part)
-        }
+        Form::At(path, inner) => holds(inner, path.get_in(part)),
         Form::Ask(op, sense) => op.holds_in(*sense, part),
     }
 }

@@ -1,4 +1,4 @@
-ghost use Rattle.std.specs.Prelude.{◌≡◌, ◌↔◌, ℕ, List, map, string_bytes, Some, None, Err, IfOk, option_map};
+ghost use Rattle.std.specs.Prelude.{◌≡◌, ◌↔◌, ℕ, List, map, string_bytes, Some, None, Err, IfOk, option_map, option_and_then};
 ghost use Rattle.std.specs.Coded.{coded_ℕ, coded_list};
 ghost use Rattle.mg_value.specs.View.{view as json_view};
 ghost use Rattle.mg_path.specs.Part.{steps_of, part_of};
@@ -79,7 +79,15 @@ impl Path {
         part_of(&self.steps, value)
     }
 
-    /// An equal path.
+    /// The part at this path of a part that may be missing itself, as `get` finds it.
+    pub fn get_in<'a>(&self, part: Option<&'a Json>) -> Option<&'a Json>
+        ensures { option_map (λ part. json_view part.now) result
+            ≡ option_and_then (part_of self.now) (option_map (λ part. json_view part.now) part.entry) }
+    {
+        self.get(part?)
+    }
+
+    /// An equal path. Errors: `NoMemory` where a growth is refused. Cost: its size.
     pub fn copy(&self, alloc: Global) -> Result<Path, NoMemory>
         ensures { IfOk result (λ path. path ≡ self.now) }
     {

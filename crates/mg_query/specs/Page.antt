@@ -27,13 +27,9 @@ is_asked q r = holds_in q.selector Plain (Some r.1)
 abbrev pub page_rows : Query → List Row → List Row
 page_rows q rows = take page_limit (filter (is_asked q) rows)
 
--- the bookmark of a document in `_all_docs`, where its key is its id
-abbrev pub bookmark_at : List ℕ → List ℕ
-bookmark_at id = spelled (record { ddoc = None; name = codes "_all_docs"; direction = Asc; key = item (text id) no_items; id = id })
-
--- the bookmark of a row
+-- the bookmark of a row of `_all_docs`, where a document's key is its id
 abbrev pub bookmark_of : Row → List ℕ
-bookmark_of r = bookmark_at r.0
+bookmark_of r = spelled (record { ddoc = None; name = codes "_all_docs"; direction = Asc; key = item (text r.0) no_items; id = r.0 })
 
 -- the bookmark of the last row, and `nil` where there is none
 abbrev pub bookmark_after : List Row → List ℕ

@@ -1,8 +1,8 @@
 //! Queries: how the body of a `_find` is read, and which page answers it.
 #![tactic(auto)]
 
-pub mod error;
-pub mod query;
+mod error;
+mod query;
 
 pub use error::QueryError;
 pub use query::Query;

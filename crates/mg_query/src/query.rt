@@ -1,6 +1,5 @@
-ghost use Rattle.std.specs.Prelude.{◌≡◌, codes, IfOk, is_some, option_map};
+ghost use Rattle.std.specs.Prelude.{◌≡◌, true, Err, IfOk, option_map};
 ghost use Rattle.mg_value.specs.View.{view, items_view};
-ghost use Rattle.mg_value.specs.Value.{member_of};
 ghost use Rattle.mg_query.specs.Query.{query_of, fields_of, has_later_member, path_of, paths_of, selector_read};
 ghost use Rattle.mg_query.specs.Page.{shown_of};
 ghost use Rattle.mg_query.specs.Seen.{Gives, GivesShape};
@@ -25,10 +24,12 @@ impl Query {
     /// an array of path texts. Members that are not known are ignored.
     ///
     /// Errors, in this order: `Shape`, also where a path has an empty step, and where a member is there that no query
-    /// takes yet (`use_index`, `limit`, `skip`, `sort`, `bookmark`, `conflicts`); then the selector's first fault.
+    /// takes yet (`use_index`, `limit`, `skip`, `sort`, `bookmark`, `conflicts`), which is found before memory is taken;
+    /// then the selector's first fault; `NoMemory` where a growth was refused.
     /// Cost: the size of the selector and of the fields. Source: CouchDB's API reference, `_find`.
     pub fn read(alloc: Global, body: &Json) -> Result<Query, QueryError>
-        ensures { Gives result (query_of (view body.now)) }
+        ensures query { Gives result (query_of (view body.now)) }
+        ensures later { has_later_member (view body.now) ≡ true → result ≡ Err QueryError.Shape }
     {
         if has_later_member(body) {
             return Err(QueryError::Shape);
@@ -54,18 +55,12 @@ impl Query {
 fn has_later_member(body: &Json) -> bool
     ensures { result ≡ has_later_member (view body.now) }
 {
-    has(body, "use_index")
-        || has(body, "limit")
-        || has(body, "skip")
-        || has(body, "sort")
-        || has(body, "bookmark")
-        || has(body, "conflicts")
-}
-
-fn has(body: &Json, name: &str) -> bool
-    ensures { result ≡ is_some (member_of name.now (view body.now)) }
-{
-    body.member(name).is_some()
+    body.member("use_index").is_some()
+        || body.member("limit").is_some()
+        || body.member("skip").is_some()
+        || body.member("sort").is_some()
+        || body.member("bookmark").is_some()
+        || body.member("conflicts").is_some()
 }
 
 // The fields that a page shows.

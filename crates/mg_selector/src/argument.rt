@@ -6,12 +6,11 @@ ghost use Rattle.mg_selector.specs.Reading.{Gives};
 ghost use Rattle.mg_selector.specs.View.{operator_of};
 ghost use Rattle.mg_selector.specs.Word.{operator_with};
 
-use crate::copy;
 use crate::error::SelError;
 use crate::json_type::JsonType;
 use crate::operator::Op;
 use crate::word::Test;
-use mg_value::Json;
+use mg_value::{Json, copy_items};
 use std::alloc::Global;
 use std::num::NonZeroI64;
 
@@ -100,7 +99,7 @@ fn read_array(alloc: Global, value: &Json) -> Result<Vec<Json>, SelError>
     ensures { Gives (λ v. items_view v.items) result (array_of (view value.now)) }
 {
     match value {
-        Json::List(items) => Ok(copy::copied_values(alloc, items)?),
+        Json::List(items) => Ok(copy_items(alloc, items)?),
         _ => Err(SelError::BadArg),
     }
 }

@@ -1,10 +1,9 @@
 ghost use Rattle.std.specs.Prelude.{◌≡◌, IfOk};
-ghost use Rattle.mg_value.specs.View.{items_view};
 ghost use Rattle.mg_selector.specs.View.{selector_of, operator_of, arms_view};
 
 use crate::operator::Op;
 use crate::selector::Sel;
-use mg_value::{Json, NoMemory};
+use mg_value::{NoMemory, copy_items};
 use std::alloc::Global;
 
 #[cycle(copied)]
@@ -49,22 +48,12 @@ pub(crate) fn copied_operator(alloc: Global, op: &Op) -> Result<Op, NoMemory>
         Op::Gt(bound) => Ok(Op::Gt(bound.copy(alloc)?)),
         Op::Exists(there) => Ok(Op::Exists(*there)),
         Op::Type(json_type) => Ok(Op::Type(*json_type)),
-        Op::In(arguments) => Ok(Op::In(copied_values(alloc, arguments)?)),
-        Op::Nin(arguments) => Ok(Op::Nin(copied_values(alloc, arguments)?)),
+        Op::In(arguments) => Ok(Op::In(copy_items(alloc, arguments)?)),
+        Op::Nin(arguments) => Ok(Op::Nin(copy_items(alloc, arguments)?)),
         Op::Size(size) => Ok(Op::Size(*size)),
         Op::Mod(divisor, remainder) => Ok(Op::Mod(*divisor, *remainder)),
-        Op::All(arguments) => Ok(Op::All(copied_values(alloc, arguments)?)),
+        Op::All(arguments) => Ok(Op::All(copy_items(alloc, arguments)?)),
         Op::ElemMatch(inner) => Ok(Op::ElemMatch(Box::new(alloc, copied(alloc, inner)?)?)),
         Op::AllMatch(inner) => Ok(Op::AllMatch(Box::new(alloc, copied(alloc, inner)?)?)),
     }
-}
-
-pub(crate) fn copied_values(alloc: Global, values: &[Json]) -> Result<Vec<Json>, NoMemory>
-    ensures { IfOk result (λ copies. items_view copies.items ≡ items_view values.now) }
-{
-    let mut copies = Vec::with_capacity(alloc, values.len())?;
-    for value in values {
-        copies.push(value.copy(alloc)?)?;
-    }
-    Ok(copies)
 }

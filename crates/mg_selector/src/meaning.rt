@@ -30,13 +30,7 @@ pub(crate) fn holds_in(sel: &Sel, sense: Sense, part: Option<&Json>) -> bool
             Sense::Negated => some_arm(arms, Sense::Plain, part),
         },
         Sel::Not(inner) => holds_in(inner, sense.flipped(), part),
-        Sel::At(path, inner) => {
-            let part = match part {
-                Some(value) => path.get(value),
-                None => None,
-            };
-            holds_in(inner, sense, part)
-        }
+        Sel::At(path, inner) => holds_in(inner, sense, path.get_in(part)),
         Sel::Ask(op) => operator_holds(op, sense, part),
     }
 }

@@ -1,6 +1,6 @@
 //! Shards: where documents are kept.
 #![tactic(auto)]
 
-pub mod placement;
+mod placement;
 
 pub use placement::{Md5Placement, Placement};

@@ -55,7 +55,7 @@ abbrev mutual
   data_members no_members = parsed.no_members
   data_members (member k v ms) = parsed.member k (data_of v) (data_members ms)
 
--- the text with no space: strings with the shortest escapes, in lower hex, and numbers in decimal
+-- the text without white space; a string's escapes are the shortest that there are, with lower hex digits
 abbrev mutual
   pub compact : Value → List ℕ
   compact null = token_text Token.null

@@ -16,13 +16,16 @@ pub(crate) fn copied(alloc: Global, value: &Json) -> Result<Json, NoMemory>
         Json::Flag(flag) => Ok(Json::Flag(*flag)),
         Json::Whole(number) => Ok(Json::Whole(*number)),
         Json::Text(text) => Ok(Json::Text(text.clone()?)),
-        Json::List(items) => Ok(Json::List(copied_items(alloc, items)?)),
+        Json::List(items) => Ok(Json::List(copy_items(alloc, items)?)),
         Json::Object(members) => Ok(Json::Object(copied_members(alloc, members)?)),
     }
 }
 
+/// Equal values, in a list of their own.
+///
+/// Errors: `NoMemory` where a growth was refused. Cost: the size of the values.
 #[cycle(copied)]
-fn copied_items(alloc: Global, items: &[Json]) -> Result<Vec<Json>, NoMemory>
+pub fn copy_items(alloc: Global, items: &[Json]) -> Result<Vec<Json>, NoMemory>
     ensures { IfOk result (λ v. items_view v.items ≡ items_view items.now) }
 {
     let mut copies = Vec::with_capacity(alloc, items.len())?;

@@ -3,11 +3,12 @@
 
 mod borrowed;
 mod copy;
-pub mod error;
+mod error;
 mod reader;
-pub mod value;
+mod value;
 mod writer;
 
+pub use copy::copy_items;
 pub use error::{NoMemory, ReadError};
 pub use reader::read;
 pub use value::Json;

@@ -16,9 +16,9 @@ const FIRST_ROOM: usize = 256;
 /// The compact text of the value, which RFC 8259 allows and which `read` reads as the value again
 /// where it nests at most 127 deep.
 ///
-/// No spaces; members in the order of the code points of their names; numbers in decimal. In a
-/// string stand `\"`, `\\`, `\b`, `\f`, `\n`, `\r`, `\t`, other bytes below 0x20 as `\u00` and two
-/// lower hex digits, and everything else as it is.
+/// There is no white space, members come by the code points of their names, and numbers are decimal.
+/// Only what RFC 8259 asks to be escaped is: the quote and the backslash by a backslash, and control
+/// characters by their letter (`\n` and the like) or, where they have none, as `\u001f` is written.
 ///
 /// Errors: `NoMemory` where a growth was refused. Cost: the length of the text, in one buffer that grows.
 pub fn write(alloc: Global, value: &Json) -> Result<Vec<u8>, NoMemory>

@@ -7,7 +7,8 @@ use Rattle.mg_value.specs.View.{view, items_view, members_view}
 use Rattle.mg_value.specs.Value.{text}
 use Rattle.mg_value.specs.declared.value.Json.{the_lemmas}
 use Rattle.mg_value.proofs.Views.{Entry}
-use Rattle.mg_collate.specs.Order.{value_order, items_order, members_order}
+use Rattle.mg_collate.specs.Order.{value_order, items_order}
+use Rattle.mg_collate.specs.Compared.{members_order}
 use Rattle.mg_collate.proofs.Flat.{text_order, items_order-item}
 use Rattle.mg_collate.proofs.Turns.{decided, items_end, members_turn, members_end}
 use Rattle.mg_collate.proofs.order.+compare.Goals as goal

@@ -2,7 +2,8 @@ use Rattle.std.proofs.Common.{◌≡◌, ℕ, ◌+◌, length}
 use Rattle.std.specs.Iterator.Adapters.{zip_first, zip_second}
 use Rattle.std.specs.Slice.Iter.{iter_rest}
 use Rattle.mg_value.specs.View.{items_view, members_view}
-use Rattle.mg_collate.specs.Order.{items_order, members_order}
+use Rattle.mg_collate.specs.Order.{items_order}
+use Rattle.mg_collate.specs.Compared.{members_order}
 use Rattle.mg_collate.proofs.order.+compare.Given as goal
 
 -- what is left decides, and both have lost as many

@@ -3,8 +3,8 @@ use Rattle.mg_value.specs.View.{view, members_view}
 use Rattle.mg_value.proofs.Views.{Entry}
 use Rattle.mg_value.proofs.copy.+copied.Given as goal
 
-abbrev pub invariant-copied_items-loop-item : goal.invariant-copied_items-loop-item
-invariant-copied_items-loop-item l = map view l.copies.items ≡ map view (take l.item-index l.items)
+abbrev pub invariant-copy_items-loop-item : goal.invariant-copy_items-loop-item
+invariant-copy_items-loop-item l = map view l.copies.items ≡ map view (take l.item-index l.items)
 
 abbrev pub invariant-copied_members-loop-name : goal.invariant-copied_members-loop-name
 invariant-copied_members-loop-name l =
