@@ -1,10 +1,10 @@
 -- Bookmarks of a page, as in CouchDB's `_find`: a JSON array of what a page ended with, spelled in the URL-safe base64 of
 -- RFC 4648, which is not padded here. Which array that is, is this project's own choice.
-use Rattle.std.specs.Prelude.{ℕ, List, codes, Option, Some, None}
+use Rattle.std.specs.Prelude.{◌≡◌, ℕ, List, codes, Option, Some, None}
 use Rattle.base64.specs.GeneralPurpose.{encode_of}
 use Rattle.base64.specs.Engines.{url_safe_no_pad}
 use Rattle.mg_value.specs.Value.{Value, null, text, list, Items, item, no_items}
-use Rattle.mg_value.specs.Text.{compact}
+use Rattle.mg_value.specs.Text.{Reads, compact}
 use Rattle.mg_collate.specs.declared.direction.Direction.{Direction}
 use Rattle.mg_collate.specs.declared.direction.Direction.TheVariants.{Asc, Desc}
 
@@ -33,3 +33,8 @@ place_value p = list (item (ddoc_value p.ddoc) (item (text p.name) (item (text (
 -- the spelling of a bookmark
 abbrev pub spelled : Place → List ℕ
 spelled p = encode_of url_safe_no_pad (compact (place_value p))
+
+-- the text is the spelling of the place, whose array can be read back: its texts are UTF-8, its numbers held as i64, and
+-- it nests at most 127 deep
+abbrev pub Spells : List ℕ → Place → Type 0
+Spells t p = (t ≡ spelled p) × Reads (compact (place_value p)) (place_value p)

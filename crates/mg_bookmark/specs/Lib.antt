@@ -1,2 +1,3 @@
 pub mod Bookmark
 pub mod Seen
+pub mod Decoding

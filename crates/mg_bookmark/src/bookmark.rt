@@ -1,7 +1,9 @@
-ghost use Rattle.std.specs.Prelude.{◌≡◌, IfOk, string_bytes};
+ghost use Rattle.std.specs.Prelude.{◌≡◌, ◌↔◌, codes, None, Ok, Err, IfOk, IfSome, string_bytes};
 ghost use Rattle.mg_value.specs.View.{view};
 ghost use Rattle.mg_bookmark.specs.Bookmark.{ddoc_value, direction_text};
 
+use crate::error::BookmarkError;
+use crate::spelling::spelled_by;
 use base64::engine::general_purpose::URL_SAFE_NO_PAD;
 use mg_collate::Direction;
 use mg_value::{Json, NoMemory, write};
@@ -23,7 +25,7 @@ pub struct Bookmark {
 }
 
 impl Bookmark {
-    ghost use Rattle.mg_bookmark.specs.Bookmark.{spelled};
+    ghost use Rattle.mg_bookmark.specs.Bookmark.{Place, Spells, spelled};
     ghost use Rattle.mg_bookmark.specs.Seen.{place_of};
 
     /// The text that a client gets: the five parts as a JSON array, written compactly, in the
@@ -55,6 +57,24 @@ impl Bookmark {
         ]?;
         let text = write(alloc, &Json::List(place))?;
         Ok(URL_SAFE_NO_PAD.encode(alloc, &text)?)
+    }
+
+    /// Reads the text that a client gives back, as `encode` wrote it: none for `nil`, which stands
+    /// for the beginning.
+    ///
+    /// Errors: `Invalid` for any other text, such as another spelling of the same array, or one of a
+    /// key that nests too deep for JSON to be read (127); `NoMemory` where a growth was refused.
+    /// Cost: the length of the text.
+    pub fn decode(alloc: Global, text: &str) -> Result<Option<Bookmark>, BookmarkError>
+        ensures none { (result ≡ Ok None) ↔ (text.now ≡ codes "nil") }
+        ensures some { IfOk result (λ found. IfSome found (λ b. Spells text.now (place_of b))) }
+        ensures invalid { result ≡ Err BookmarkError.Invalid
+            → (¬ (text.now ≡ codes "nil")) × ((p : Place) → ¬ Spells text.now p) }
+    {
+        match text {
+            "nil" => Ok(None),
+            _ => Ok(Some(spelled_by(alloc, text)?)),
+        }
     }
 }
 

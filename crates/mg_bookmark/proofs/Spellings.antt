@@ -1,0 +1,117 @@
+-- What the steps of reading a spelling say together.
+use Rattle.std.proofs.Common.{◌≡◌, ◌⊎◌, inl, inr, ℕ, zero, suc, ◌+◌, ◌/◌, ◌%◌, ◌<◌, List, [], ◌∷◌, ◌++◌, Bool, true, false, cond, ltb, leb, Option, Some, refl, sym, ap, ◌∙◌, ◌≢◌, length, subst, slice_index, arith}
+use Rattle.std.proofs.Math.Utf8.{encode, scalar, scalars}
+use Rattle.std.specs.List.{AllByRecursion}
+use Rattle.std.specs.Str.{IsUtf8, encode_utf8_all}
+use Rattle.std.proofs.lemmas.Bool.{and_parts, ltb-true}
+use Rattle.base64.specs.GeneralPurpose.{IsBytes, encode_of}
+use Rattle.base64.specs.Engines.{url_safe_no_pad}
+use Rattle.mg_value.specs.Text.{Reads, compact, whole_of}
+use Rattle.mg_value.specs.Value.{Value, list}
+use Rattle.mg_value.specs.View.{items_view}
+use Rattle.mg_value.specs.declared.value.Json.{Json}
+use Rattle.mg_bookmark.specs.Bookmark.{Place, Spells, place_value}
+use Rattle.mg_bookmark.specs.Decoding.{IsDecoded}
+
+-- each is a byte
+abbrev Low : List ℕ → Type 0
+Low xs = AllByRecursion (λ x. x < 256) xs
+
+test_go : (b t : Bool) → b ≡ t → (b ≡ true) ⊎ (b ≡ false)
+test_go b true e = inl e
+test_go b false e = inr e
+
+test : (c n : ℕ) → (ltb c n ≡ true) ⊎ (ltb c n ≡ false)
+test c n = test_go (ltb c n) (ltb c n) refl
+
+-- a character's number
+character-low : (c : ℕ) → scalar c ≡ true → c < 1114112
+character-low c h = elim (test c 55296) as (λ _. c < 1114112) [
+  | inl low ↦ let below = ltb-true c 55296 low in omega arith
+  | inr high ↦ ltb-true c 1114112 (and_parts (leb 57344 c) (ltb c 1114112) (rw high at h)).1
+]
+
+low_two : (c : ℕ) → c < 2048 → Low ((192 + c / 64) ∷ (128 + c % 64) ∷ [])
+low_two c h = (omega arith, (omega arith, tt))
+
+low_three : (c : ℕ) → c < 65536 → Low ((224 + c / 4096) ∷ (128 + (c / 64) % 64) ∷ (128 + c % 64) ∷ [])
+low_three c h = (omega arith, (omega arith, (omega arith, tt)))
+
+low_four : (c : ℕ) → c < 1114112 → Low ((240 + c / 262144) ∷ (128 + (c / 4096) % 64) ∷ (128 + (c / 64) % 64) ∷ (128 + c % 64) ∷ [])
+low_four c h = (omega arith, (omega arith, (omega arith, (omega arith, tt))))
+
+cond_low : (b : Bool) (xs ys : List ℕ) → (b ≡ true → Low xs) → (b ≡ false → Low ys) → Low (cond b xs ys)
+cond_low true xs ys x y = x refl
+cond_low false xs ys x y = y refl
+
+-- the bytes of a character
+encode-low : (c : ℕ) → scalar c ≡ true → Low (encode c)
+unfolding encode
+encode-low c h =
+    cond_low (ltb c 128) _ _ (λ e. let below = ltb-true c 128 e in (omega arith, tt))
+    (λ _. cond_low (ltb c 2048) _ _ (λ e. low_two c (ltb-true c 2048 e))
+    (λ _. cond_low (ltb c 65536) _ _ (λ e. low_three c (ltb-true c 65536 e)) (λ _. low_four c (character-low c h))))
+
+append-low : (xs ys : List ℕ) → Low xs → Low ys → Low (xs ++ ys)
+append-low [] ys a b = b
+append-low (x ∷ xs) ys a b = (a.0, append-low xs ys a.1 b)
+
+encodes-low : (cs : List ℕ) → scalars cs ≡ true → Low (encode_utf8_all cs)
+encodes-low [] h = tt
+encodes-low (c ∷ cs) h =
+    let both = and_parts (scalar c) (scalars cs) h in
+    append-low (encode c) (encode_utf8_all cs) (encode-low c both.0) (encodes-low cs both.1)
+
+read-low : (xs : List ℕ) → Low xs → (i : ℕ) → slice_index xs i < 256
+read-low [] h i = omega arith
+read-low (x ∷ xs) h zero = h.0
+read-low (x ∷ xs) h (suc i) = read-low xs h.1 i
+
+-- UTF-8 is bytes
+utf8-bytes : (bs : List ℕ) → IsUtf8 bs → IsBytes bs
+utf8-bytes bs u = subst IsBytes u.1.1 (read-low (encode_utf8_all u.0) (encodes-low u.0 u.1.0))
+
+-- a text has one value
+one_data : {D V : Type 0} (f : D → Option V) (r : Option D) (d e : D) (v w : V) → r ≡ Some d → r ≡ Some e → f d ≡ Some v → f e ≡ Some w → v ≡ w
+one_data f r d e v w a b x y =
+    let same : d ≡ e = cc in
+    let values : Some v ≡ Some w = sym x ∙ ap f same ∙ y in
+    cc
+
+one_value : (bs : List ℕ) (v w : Value) → Reads bs v → Reads bs w → v ≡ w
+one_value bs v w a b = one_data whole_of _ a.0 b.0 v w a.1.1 b.1.1 a.2 b.2
+
+-- no bookmark is spelled so: it is no base64
+pub not_decoded : (t : List ℕ) → ((b : List ℕ) → IsBytes b → t ≡ encode_of url_safe_no_pad b → ⊥) → (p : Place) → Spells t p → ⊥
+not_decoded t none p s = none (compact (place_value p)) (utf8-bytes (compact (place_value p)) s.1.1.0) s.0
+
+-- of a spelling the bytes are the compact text
+pub decoded_compact : (t bytes : List ℕ) (p : Place) → IsDecoded t bytes → Spells t p → compact (place_value p) ≡ bytes
+decoded_compact t bytes p d s = d.1 (compact (place_value p)) (utf8-bytes (compact (place_value p)) s.1.1.0) s.0
+
+-- it is no compact text
+pub not_compact : (t bytes : List ℕ) → IsDecoded t bytes → ((v : Value) → Reads bytes v → bytes ≡ compact v → ⊥) → (p : Place) → Spells t p → ⊥
+not_compact t bytes d none p s =
+    let same = decoded_compact t bytes p d s in
+    none (place_value p) (subst (λ bs. Reads bs (place_value p)) same s.1) (sym same)
+
+-- it is no bookmark's array
+pub not_a_place : (t bytes : List ℕ) (v : Value) → IsDecoded t bytes → Reads bytes v → ((p : Place) → v ≡ place_value p → ⊥) → (p : Place) → Spells t p → ⊥
+not_a_place t bytes v d r none p s =
+    none p (one_value bytes v (place_value p) r (subst (λ bs. Reads bs (place_value p)) (decoded_compact t bytes p d s) s.1))
+
+-- it is
+pub spells : (t bytes : List ℕ) (v : Value) (p : Place) → IsDecoded t bytes → Reads bytes v → bytes ≡ compact v → v ≡ place_value p → Spells t p
+spells t bytes v p d r c e =
+    let same : bytes ≡ compact (place_value p) = c ∙ ap compact e in
+    (d.0 ∙ ap (encode_of url_safe_no_pad) same, subst (λ w. Reads (compact w) w) e (subst (λ bs. Reads bs v) c r))
+
+-- an array of another length is no bookmark's
+pub not_five : (js : List Json) → length js ≢ 5 → (p : Place) → list (items_view js) ≡ place_value p → ⊥
+not_five [] other p e = cc
+not_five (a ∷ []) other p e = cc
+not_five (a ∷ b ∷ []) other p e = cc
+not_five (a ∷ b ∷ c ∷ []) other p e = cc
+not_five (a ∷ b ∷ c ∷ d ∷ []) other p e = cc
+not_five (a ∷ b ∷ c ∷ d ∷ f ∷ []) other p e = other refl
+not_five (a ∷ b ∷ c ∷ d ∷ f ∷ g ∷ js) other p e = cc
