@@ -8,7 +8,7 @@ use Rattle.std.specs.Ordering.{eq_by_cmp}
 use Rattle.std.specs.FinMap.{FinMap, empty, insert, get, retain_keys, same_map, get-from_entries, get-insert, get-retain_keys}
 use Rattle.mg_doc.specs.Document.{Edit}
 use Rattle.mg_doc.specs.Edit.{edited, outcome_of}
-use Rattle.mg_doc.specs.declared.error.EditError.{EditError}
+use Rattle.mg_doc.specs.declared.error.Refused.{Refused}
 use Rattle.mg_revtree.specs.Revision.{Revision}
 use Rattle.mg_revtree.specs.History.{History}
 use Rattle.mg_engine.specs.Bulk.{id_in, outcome_in, after_edit}
@@ -95,7 +95,7 @@ answer_at place shards hs id found st is = ap kept_answer is ∙ same_at id (kep
 
 -- ---- an edit
 
-put_here : (place : Placing) (n i : ℕ) (hs : Histories) (e : Edit) (r : Result Revision EditError) → place (id_in e) n ≡ i → outcome_in hs e ≡ r
+put_here : (place : Placing) (n i : ℕ) (hs : Histories) (e : Edit) (r : Result Revision Refused) → place (id_in e) n ≡ i → outcome_in hs e ≡ r
     → histories_on place n i (after_edit hs e) ≡ after_edit (histories_on place n i hs) e
 put_here place n i hs e (Ok r) at is =
     let id = id_in e in
@@ -116,7 +116,7 @@ not_there a b h = decided (eqb a b) (λ e. h (eqb-true a b e))
     decided true h = absurd (h refl)
     decided false h = refl
 
-put_elsewhere : (place : Placing) (n i : ℕ) (hs : Histories) (e : Edit) (r : Result Revision EditError) → (place (id_in e) n ≡ i → ⊥) → outcome_in hs e ≡ r
+put_elsewhere : (place : Placing) (n i : ℕ) (hs : Histories) (e : Edit) (r : Result Revision Refused) → (place (id_in e) n ≡ i → ⊥) → outcome_in hs e ≡ r
     → histories_on place n i (after_edit hs e) ≡ histories_on place n i hs
 put_elsewhere place n i hs e (Ok r) away is =
     let id = id_in e in
@@ -126,7 +126,7 @@ put_elsewhere place n i hs e (Ok r) away is =
     ∙ ap (λ b. cond b (insert (histories_on place n i hs) id h) (histories_on place n i hs)) (not_there (place id n) i away)
 put_elsewhere place n i hs e (Err x) away is = ap (λ m. histories_on place n i m) (after_refused hs e x is)
 
-still_placed : (place : Placing) (n : ℕ) (hs : Histories) (e : Edit) (r : Result Revision EditError) (q : List ℕ) (h : History) → outcome_in hs e ≡ r → place (id_in e) n < n
+still_placed : (place : Placing) (n : ℕ) (hs : Histories) (e : Edit) (r : Result Revision Refused) (q : List ℕ) (h : History) → outcome_in hs e ≡ r → place (id_in e) n < n
     → ((id : List ℕ) (h : History) → get hs id ≡ Some h → place id n < n) → get (after_edit hs e) q ≡ Some h → place q n < n
 still_placed place n hs e (Ok r) q h is below before s =
     let id = id_in e in
@@ -188,7 +188,7 @@ no_documents place shards none = record {
 }
 
 -- an edit that was applied to the documents of its shard was applied to the histories
-pub applied_there : (place : Placing) (shards : List KeptDocuments) (hs : Histories) (e : Edit) (i : ℕ) (before after : KeptDocuments) (o : Result Revision EditError)
+pub applied_there : (place : Placing) (shards : List KeptDocuments) (hs : Histories) (e : Edit) (i : ℕ) (before after : KeptDocuments) (o : Result Revision Refused)
     → place (id_in e) (length shards) ≡ i → i < length shards → before ≡ shard_at shards i
     → ((gs : Histories) → StandFor before gs → StandFor after (after_edit gs e) × (o ≡ outcome_in gs e))
     → ShardsStandFor place shards hs → ShardsStandFor place (set shards i after) (after_edit hs e) × (o ≡ outcome_in hs e)

@@ -7,3 +7,4 @@ mod Pages
 mod Dealt
 mod Answering
 mod Reading
+mod Changes

@@ -11,7 +11,7 @@ use Rattle.mg_value.specs.View.{view, items_view}
 use Rattle.mg_value.specs.declared.value.Json.{Json}
 use Rattle.mg_doc.specs.Document.{Edit}
 use Rattle.mg_doc.specs.Edit.{edited}
-use Rattle.mg_doc.specs.declared.error.EditError.{EditError}
+use Rattle.mg_doc.specs.declared.error.Refused.{Refused}
 use Rattle.mg_revtree.specs.Revision.{Revision}
 use Rattle.mg_engine.specs.Before.{items_before}
 use Rattle.mg_engine.specs.Commands.{Answer, got, refused, shown_or_deleted}
@@ -150,7 +150,7 @@ pub after_done : (hs : Histories) (e : Edit) (r : Revision) → outcome_in hs e 
 after_done hs e r is = ap (history_put hs e) is
 
 -- an edit that is refused
-pub after_refused : (hs : Histories) (e : Edit) (x : EditError) → outcome_in hs e ≡ Err x → after_edit hs e ≡ hs
+pub after_refused : (hs : Histories) (e : Edit) (x : Refused) → outcome_in hs e ≡ Err x → after_edit hs e ≡ hs
 after_refused hs e x is = ap (history_put hs e) is
 
 pub items_before-push : (xs : List Json) (x : Json) (vs : Items) → items_before (xs ++ x ∷ []) vs ≡ items_before xs (item (view x) vs)

@@ -9,8 +9,8 @@ use Rattle.mg_doc.specs.Document.{Edit, edit_of, is_object, then_read}
 use Rattle.mg_doc.specs.Edit.{edited, outcome_of}
 use Rattle.mg_doc.specs.declared.error.DocError.{DocError}
 use Rattle.mg_doc.specs.declared.error.DocError.TheVariants as document_fault
-use Rattle.mg_doc.specs.declared.error.EditError.{EditError}
-use Rattle.mg_doc.specs.declared.error.EditError.TheVariants.{Conflict, BadHistory, NoMemory}
+use Rattle.mg_doc.specs.declared.error.Refused.{Refused}
+use Rattle.mg_doc.specs.declared.error.Refused.TheVariants.{Conflict, BadHistory}
 use Rattle.mg_engine.specs.declared.refusal.Refusal.{Refusal}
 use Rattle.mg_engine.specs.declared.refusal.Refusal.TheVariants.{WrongShape, BadMember, BadId, BadRev, OutOfMemory}
 use Rattle.mg_engine.specs.World.{Histories, history_at}
@@ -98,12 +98,12 @@ abbrev pub id_in : Edit → List ℕ
 id_in e = unwrap_or e.id []
 
 -- the histories with the one that an edit leaves
-abbrev pub history_put : Histories → Edit → Result Revision EditError → Histories
+abbrev pub history_put : Histories → Edit → Result Revision Refused → Histories
 history_put m e (Ok r) = insert m (id_in e) (edited (history_at m (id_in e)) e)
 history_put m e (Err refused) = m
 
 -- what becomes of an edit
-abbrev pub outcome_in : Histories → Edit → Result Revision EditError
+abbrev pub outcome_in : Histories → Edit → Result Revision Refused
 outcome_in m e = outcome_of (history_at m (id_in e)) e
 
 -- the histories after an edit: a refused one changes none
@@ -117,7 +117,7 @@ after_edits m (e ∷ es) = after_edits (after_edit m e) es
 
 -- an edit's id, and what became of the edit
 abbrev pub Outcome : Type 0
-Outcome = List ℕ × Result Revision EditError
+Outcome = List ℕ × Result Revision Refused
 
 -- what becomes of each edit, in order
 abbrev pub outcomes : Histories → List Edit → List Outcome
@@ -134,13 +134,12 @@ done_entry id r = object (member (codes "id") (text id) (member (codes "ok") (fl
 abbrev pub refused_entry : List ℕ → List ℕ → List ℕ → Value
 refused_entry error id reason = object (member (codes "error") (text error) (member (codes "id") (text id) (member (codes "reason") (text reason) no_members)))
 
--- an edit that is done is told of where edits are new; one that is refused always. (No outcome is a want of memory.)
-abbrev pub entry_of : Bool → List ℕ → Result Revision EditError → Option Value
+-- an edit that is done is told of where edits are new; one that is refused always
+abbrev pub entry_of : Bool → List ℕ → Result Revision Refused → Option Value
 entry_of true id (Ok r) = Some (done_entry id r)
 entry_of false id (Ok r) = None
 entry_of new_edits id (Err Conflict) = Some (refused_entry (codes "conflict") id (codes "Document update conflict."))
 entry_of new_edits id (Err BadHistory) = Some (refused_entry (codes "bad_history") id (codes "Revision history does not fit the document."))
-entry_of new_edits id (Err NoMemory) = None
 
 -- an entry, if there is one, before others
 abbrev pub entry_before : Option Value → Items → Items

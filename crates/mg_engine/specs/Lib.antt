@@ -7,6 +7,7 @@ pub mod Before
 pub mod View
 pub mod BulkView
 pub mod Documents
+pub mod Apart
 pub mod Shards
 pub mod Found
 pub mod Stands

@@ -1,17 +1,21 @@
 //! The documents of a shard by their ids, and edits of them.
-ghost use Rattle.std.specs.Prelude.{◌≡◌, List, ℕ, IfOk, OnOk, option_map};
+ghost use Rattle.std.specs.Prelude.{◌≡◌, List, ℕ, IfOk, IfSome, None, OnOk, Some, option_map, string_bytes};
+ghost use Rattle.std.specs.Arc.{arc_value};
 ghost use Rattle.std.specs.FinMap.{get, insert};
 ghost use Rattle.mg_value.specs.Value.{Items};
 ghost use Rattle.mg_value.specs.View.{view};
 ghost use Rattle.mg_engine.specs.Before.{items_before};
 ghost use Rattle.mg_revtree.specs.History.{History};
 ghost use Rattle.mg_revtree.specs.Tree.{StandsFor};
-ghost use Rattle.mg_engine.specs.World.{Histories, history_at};
+ghost use Rattle.mg_doc.specs.Applied.{told};
+ghost use Rattle.mg_doc.specs.Edit.{edited, outcome_of};
+ghost use Rattle.mg_engine.specs.World.{Histories};
 ghost use Rattle.mg_engine.specs.Bulk.{after_edit, id_in, outcome_in, entry_before};
 ghost use Rattle.mg_engine.specs.Documents.{kept_of, documents_seen, StandFor};
+ghost use Rattle.mg_engine.specs.Apart.{StandApart};
 
 use crate::document::Document;
-use mg_doc::{Edit, EditError, served};
+use mg_doc::{Edit, EditError, Refused, served};
 use mg_revtree::{Rev, RevTree};
 use mg_value::{Json, NoMemory};
 use std::alloc::Global;
@@ -49,25 +53,14 @@ fn form_of(document: &Document) -> Option<&Json>
     }
 }
 
-// A copy of the tree of an id, which is empty where there is none.
-fn tree_at(alloc: Global, docs: &Documents, id: &str) -> Result<RevTree, NoMemory>
-    ensures { IfOk result (λ t. (hs : Histories) → StandFor (documents_seen docs.now.entries) hs → StandsFor t (history_at hs id.now)) }
+// Keeps a tree under an id that has no document, with the form in which it is served.
+fn keep(alloc: Global, docs: &mut Documents, id: String, tree: RevTree) -> Result<(), NoMemory>
+    ensures { OnOk result ((hs : Histories) (h : History) → StandApart (documents_seen docs.old.entries) hs (string_bytes id) → StandsFor tree h
+        → StandFor (documents_seen docs.new.entries) (insert hs (string_bytes id) h)) }
 {
-    match docs.get(id) {
-        Some(document) => Ok(document.tree.copy()?),
-        None => Ok(RevTree::new(alloc)),
-    }
-}
-
-// Keeps a tree under an id, with the form in which it is served.
-fn keep(alloc: Global, docs: &mut Documents, id: &str, tree: RevTree) -> Result<(), NoMemory>
-    ensures { OnOk result ((hs : Histories) (h : History) → StandFor (documents_seen docs.old.entries) hs → StandsFor tree h
-        → StandFor (documents_seen docs.new.entries) (insert hs id.now h)) }
-{
-    let served = served(alloc, id, &tree)?;
+    let served = served(alloc, id.as_str(), &tree)?;
     let document = Arc::new(alloc, Document { tree, served })?;
-    let key = String::from_str(alloc, id)?;
-    drop(docs.insert(key, document)?);
+    drop(docs.insert(id, document)?);
     Ok(())
 }
 
@@ -81,25 +74,122 @@ pub(crate) fn id_in(edit: &Edit) -> &str
     }
 }
 
-/// Applies one edit that has an id: the revision that it brings, or why it is refused.
+// The refusal that an error tells, unless a growth was refused.
+fn refusal_in(error: EditError) -> Result<Refused, NoMemory>
+    ensures { IfOk result (λ refused. told error ≡ Some refused) }
+{
+    match error {
+        EditError::Conflict => Ok(Refused::Conflict),
+        EditError::BadHistory => Ok(Refused::BadHistory),
+        EditError::NoMemory => Err(NoMemory),
+    }
+}
+
+// What becomes of an edit that changes nothing, as a look at the tree tells: of one that is refused, or whose path is
+// known whole. None where the tree has to be tried.
+fn foreseen(
+    docs: &Documents,
+    id: &str,
+    edit: &Edit,
+) -> Result<Option<Result<Rev, Refused>>, NoMemory>
+    requires { id.now ≡ id_in edit.now }
+    ensures { IfOk result (λ o. IfSome o (λ outcome. (hs : Histories) → StandFor (documents_seen docs.now.entries) hs
+        → StandFor (documents_seen docs.now.entries) (after_edit hs edit.now) × (outcome ≡ outcome_in hs edit.now))) }
+{
+    let Some(document) = docs.get(id) else {
+        return Ok(None);
+    };
+    match edit.look(&document.tree) {
+        Ok(Some(rev)) => Ok(Some(Ok(rev))),
+        Ok(None) => Ok(None),
+        Err(error) => Ok(Some(Err(refusal_in(error)?))),
+    }
+}
+
+// Applies an edit to a tree: the revision that it brings, or why it is refused, after which the tree is as it was.
+fn try_on(
+    alloc: Global,
+    tree: &mut RevTree,
+    edit: &Edit,
+) -> Result<Result<Rev, Refused>, NoMemory>
+    ensures { IfOk result (λ o. (h : History) → StandsFor tree.old h → (o ≡ outcome_of h edit.now) × StandsFor tree.new (edited h edit.now)) }
+{
+    match edit.apply(alloc, tree) {
+        Ok(rev) => Ok(Ok(rev)),
+        Err(error) => Ok(Err(refusal_in(error)?)),
+    }
+}
+
+// Applies an edit to a document that is not there yet.
+fn begin(
+    alloc: Global,
+    docs: &mut Documents,
+    id: &str,
+    edit: &Edit,
+) -> Result<Result<Rev, Refused>, NoMemory>
+    requires { id.now ≡ id_in edit.now }
+    ensures { IfOk result (λ o. (hs : Histories) → get (documents_seen docs.old.entries) (id_in edit.now) ≡ None → StandFor (documents_seen docs.old.entries) hs
+        → StandFor (documents_seen docs.new.entries) (after_edit hs edit.now) × (o ≡ outcome_in hs edit.now)) }
+{
+    let mut tree = RevTree::new(alloc);
+    match try_on(alloc, &mut tree, edit)? {
+        Ok(rev) => {
+            keep(alloc, docs, String::from_str(alloc, id)?, tree)?;
+            Ok(Ok(rev))
+        }
+        Err(refused) => Ok(Err(refused)),
+    }
+}
+
+// Applies an edit to the tree of a document that was taken out, and puts the document back under its id.
+fn change(
+    alloc: Global,
+    docs: &mut Documents,
+    id: String,
+    tree: RevTree,
+    edit: &Edit,
+) -> Result<Result<Rev, Refused>, NoMemory>
+    requires { string_bytes id ≡ id_in edit.now }
+    ensures { IfOk result (λ o. (hs : Histories) (h : History) → StandApart (documents_seen docs.old.entries) hs (id_in edit.now)
+        → get hs (id_in edit.now) ≡ Some h → StandsFor tree h
+        → StandFor (documents_seen docs.new.entries) (after_edit hs edit.now) × (o ≡ outcome_in hs edit.now)) }
+{
+    let mut tree = tree;
+    let outcome = try_on(alloc, &mut tree, edit)?;
+    keep(alloc, docs, id, tree)?;
+    Ok(outcome)
+}
+
+// The tree of a document, to be changed: itself where nobody else has the document, and else a copy.
+fn tree_of(document: Arc<Document>) -> Result<RevTree, NoMemory>
+    ensures { IfOk result (λ t. t ≡ (arc_value document).tree) }
+{
+    match Arc::try_unwrap(document) {
+        Ok(Document { tree, served: _ }) => Ok(tree),
+        Err(shared) => shared.tree.copy(),
+    }
+}
+
+/// Applies one edit that has an id: the revision that it brings, or why it is refused. Where a growth is refused, the
+/// documents are of no more use.
+///
+/// Cost: look-ups for an edit that changes nothing; else a step of the tree and the served form, and a copy of the tree
+/// the first time that a bulk comes to the document.
 pub(crate) fn apply(
     alloc: Global,
     docs: &mut Documents,
     edit: &Edit,
-) -> Result<Result<Rev, EditError>, NoMemory>
+) -> Result<Result<Rev, Refused>, NoMemory>
     ensures { IfOk result (λ o. (hs : Histories) → StandFor (documents_seen docs.old.entries) hs
         → StandFor (documents_seen docs.new.entries) (after_edit hs edit.now) × (o ≡ outcome_in hs edit.now)) }
 {
     let id = id_in(edit);
-    let mut tree = tree_at(alloc, docs, id)?;
-    match edit.apply(alloc, &mut tree) {
-        Ok(rev) => {
-            keep(alloc, docs, id, tree)?;
-            Ok(Ok(rev))
-        }
-        Err(EditError::NoMemory) => Err(NoMemory),
-        Err(EditError::Conflict) => Ok(Err(EditError::Conflict)),
-        Err(EditError::BadHistory) => Ok(Err(EditError::BadHistory)),
+    if let Some(outcome) = foreseen(docs, id, edit)? {
+        return Ok(outcome);
+    }
+    match docs.remove_entry(id) {
+        Some((id, document)) => Ok(change(alloc, docs, id, tree_of(document)?, edit)?),
+        None => Ok(begin(alloc, docs, id, edit)?),
     }
 }
 

@@ -4,7 +4,7 @@ ghost use Rattle.mg_value.specs.View.{view};
 ghost use Rattle.mg_engine.specs.Bulk.{entry_of, done_entry, refused_entry};
 
 use crate::refusal::{BAD_HISTORY_ERROR, BAD_HISTORY_REASON, CONFLICT_ERROR, CONFLICT_REASON};
-use mg_doc::EditError;
+use mg_doc::Refused;
 use mg_revtree::Rev;
 use mg_value::{Json, NoMemory};
 use std::alloc::Global;
@@ -14,7 +14,7 @@ pub(crate) fn entry(
     alloc: Global,
     new_edits: bool,
     id: &str,
-    outcome: &Result<Rev, EditError>,
+    outcome: &Result<Rev, Refused>,
 ) -> Result<Option<Json>, NoMemory>
     ensures { IfOk result (λ o. option_map view o ≡ entry_of new_edits id.now outcome.now) }
 {
@@ -24,13 +24,12 @@ pub(crate) fn entry(
         } else {
             Ok(None)
         },
-        Err(EditError::Conflict) => {
+        Err(Refused::Conflict) => {
             Ok(Some(refused_entry(alloc, CONFLICT_ERROR, id, CONFLICT_REASON)?))
         }
-        Err(EditError::BadHistory) => {
+        Err(Refused::BadHistory) => {
             Ok(Some(refused_entry(alloc, BAD_HISTORY_ERROR, id, BAD_HISTORY_REASON)?))
         }
-        Err(EditError::NoMemory) => Ok(None),
     }
 }
 

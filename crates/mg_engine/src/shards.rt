@@ -9,7 +9,7 @@ ghost use Rattle.mg_engine.specs.World.{Histories};
 use crate::documents::{Documents, apply, id_in, push_entry, served_at};
 use crate::draft::{Draft, drafts_of, shards_of};
 use crate::entry::entry;
-use mg_doc::{Edit, EditError};
+use mg_doc::{Edit, Refused};
 use mg_revtree::Rev;
 use mg_shard::Placement;
 use mg_value::{Json, NoMemory};
@@ -39,7 +39,7 @@ fn apply_on<P: Placement>(
     placement: &P,
     drafts: &mut [Draft],
     edit: &Edit,
-) -> Result<Result<Rev, EditError>, NoMemory>
+) -> Result<Result<Rev, Refused>, NoMemory>
     requires { 0 < length drafts.old }
     ensures outcome { IfOk result (λ o. (hs : Histories) → ShardsStandFor (P.place placement.now) (drafts_seen drafts.old) hs
         → o ≡ outcome_in hs edit.now) }
