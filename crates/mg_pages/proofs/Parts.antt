@@ -1,0 +1,283 @@
+-- Parts one after another.
+use Rattle.std.proofs.Common.{◌≡◌, ℕ, ◌+◌, ◌-◌, ◌<◌, ◌≤◌, suc, List, [], ◌∷◌, ◌++◌, length, take, drop, get_or, set, false, Ordering, Greater, is_gt, refl, sym, ap, ap₂, ◌∙◌, subst, arith, Result, Ok, Err, OnErr, append_assoc, append-nil}
+use Rattle.std.proofs.lemmas.List.{drop_more, take_more, take-append-drop, get_or-map, length-map, length-take, length-drop, length-set, drop-set-lt, get_or-set_same, drop_all, append_cancel_left, map-append, take-map, drop-map, map-set, take-set}
+use Rattle.std.proofs.lemmas.Grind.{common_steps}
+use Rattle.std.proofs.lemmas.List.Concat.{flat_map-append}
+use Rattle.std.specs.Arc.{arc_value}
+use Rattle.std.specs.Cmp.{IsTotalOrder}
+use Rattle.std.specs.List.{flat_map}
+use Rattle.std.specs.declared.alloc.Global.{Global}
+use Rattle.std.specs.declared.sync.Arc.{Arc}
+use Rattle.mg_pages.specs.Order.{IsProbe, Ascends, above, below, inserted, removed, found}
+use Rattle.mg_pages.specs.Search.{AllBelow, AllAbove, IsTie}
+use Rattle.mg_pages.specs.Runs.{continued, ended}
+use Rattle.mg_pages.specs.Runs.{IsRun, IsEndRun}
+use Rattle.mg_pages.specs.Parts.{values, IsLast, AreWhole}
+use Rattle.mg_pages.proofs.Sorted.{all_left, all_right, all_append, inserted_cut, found_cut, above_cut, above_suffix, continued_is, below_cut, below_prefix, ended_is, removed_cut, split_at, take_one_more, set_is, ascends_left, ascends_right, below_last, above_first}
+
+-- the value of an `Arc` that stands in a list
+pub value_at : {X : Type 0} (xs : List (Arc X Global)) (i : ℕ) (a : Arc X Global) (p : X) → i < length xs → a ≡ get_or xs i a → p ≡ arc_value a → p ≡ get_or (values xs) i p
+value_at xs i a p l e v = v ∙ ap arc_value e ∙ sym (get_or-map arc_value xs i a p l)
+
+pub values_length : {X : Type 0} (xs : List (Arc X Global)) → length (values xs) ≡ length xs
+values_length xs = length-map xs arc_value
+
+module _ {P T : Type 0} (seen : P → List T) where
+  pub seen_split : (ps : List P) (i : ℕ) (p : P) → i < length ps → p ≡ get_or ps i p → flat_map seen ps ≡ flat_map seen (take i ps) ++ (seen p ++ flat_map seen (drop (i + 1) ps))
+  seen_split ps i p l e = ap (flat_map seen) (split_at ps i p l e) ∙ flat_map-append seen (take i ps) (p ∷ drop (i + 1) ps)
+
+  pub seen_take_more : (ps : List P) (i : ℕ) (p : P) → i < length ps → p ≡ get_or ps i p → flat_map seen (take (i + 1) ps) ≡ flat_map seen (take i ps) ++ seen p
+  seen_take_more ps i p l e = ap (flat_map seen) (take_one_more ps i p l e) ∙ flat_map-append seen (take i ps) (p ∷ []) ∙ ap (λ xs. flat_map seen (take i ps) ++ xs) (append-nil (seen p))
+
+  -- the last element of the last part
+  pub last_seen : (ps : List P) (p : P) (x : T) → 0 < length ps → p ≡ get_or ps (length ps - 1) p → IsLast x (seen p) → IsLast x (flat_map seen ps)
+  last_seen ps p x some e it =
+      let i = length ps - 1 in
+      let rest : drop (i + 1) ps ≡ [] = drop_all (i + 1) ps (omega arith) in
+      record {
+        front = flat_map seen (take i ps) ++ it.front;
+        is = seen_split ps i p (omega arith) e ∙ ap (λ qs. flat_map seen (take i ps) ++ (seen p ++ flat_map seen qs)) rest
+            ∙ ap (λ xs. flat_map seen (take i ps) ++ xs) (append-nil (seen p) ∙ it.is) ∙ sym (append_assoc (flat_map seen (take i ps)) it.front (x ∷ []));
+      }
+
+  module _ (order : T → T → Ordering) (against : T → Ordering) (probe : IsProbe order against) where
+    -- a key that is above the last element of a part is above all as far as that part
+    pub below_part : (ps : List P) (i : ℕ) (p : P) (x : T) → i < length ps → p ≡ get_or ps i p → Ascends order (flat_map seen ps) → IsLast x (seen p) → against x ≡ Greater → AllBelow against (flat_map seen (take (i + 1) ps))
+    below_part ps i p x l e s it g =
+        let front = flat_map seen (take i ps) in
+        let upto : flat_map seen (take (i + 1) ps) ≡ (front ++ it.front) ++ x ∷ [] = seen_take_more ps i p l e ∙ ap (λ xs. front ++ xs) it.is ∙ sym (append_assoc front it.front (x ∷ [])) in
+        let whole : flat_map seen ps ≡ ((front ++ it.front) ++ x ∷ []) ++ flat_map seen (drop (i + 1) ps) =
+        seen_split ps i p l e ∙ sym (append_assoc front (seen p) (flat_map seen (drop (i + 1) ps))) ∙ ap (λ xs. xs ++ flat_map seen (drop (i + 1) ps)) (sym (seen_take_more ps i p l e) ∙ upto) in
+        let rises = ascends_left order ((front ++ it.front) ++ x ∷ []) (flat_map seen (drop (i + 1) ps)) (subst (Ascends order) whole s) in
+        subst (AllBelow against) (sym upto) (below_last order against probe (front ++ it.front) x rises g)
+
+    -- a key that is not above the last element of a part is below all that comes after that part
+    pub above_part : (ps : List P) (i : ℕ) (p : P) (x : T) → i < length ps → p ≡ get_or ps i p → Ascends order (flat_map seen ps) → IsLast x (seen p) → is_gt (against x) ≡ false → AllAbove against (flat_map seen (drop (i + 1) ps))
+    above_part ps i p x l e s it n =
+        let front = flat_map seen (take i ps) in
+        let rest = flat_map seen (drop (i + 1) ps) in
+        let whole : flat_map seen ps ≡ (front ++ it.front) ++ x ∷ rest =
+        seen_split ps i p l e ∙ ap (λ xs. front ++ (xs ++ rest)) it.is ∙ ap (λ xs. front ++ xs) (append_assoc it.front (x ∷ []) rest) ∙ sym (append_assoc front it.front (x ∷ rest)) in
+        above_first order against probe (front ++ it.front) x rest (subst (Ascends order) whole s) n
+
+pub whole_at : {P : Type 0} (W : P → Type 0) (ps : List P) (i : ℕ) (p : P) → i < length ps → p ≡ get_or ps i p → AreWhole W ps → W p
+whole_at W ps i p l e h = (all_right W (take i ps) (p ∷ drop (i + 1) ps) (subst (AreWhole W) (split_at ps i p l e) h)).0
+
+pub replaced : {X : Type 0} (xs : List X) (i : ℕ) (f b : X) → i < length xs → set (take (i + 1) xs ++ b ∷ drop (i + 1) xs) i f ≡ take i xs ++ f ∷ b ∷ drop (i + 1) xs
+replaced xs i f b l = grind (arith, common_steps, set_is, take_more)
+
+-- halves in the place of a part
+pub values_replaced : {X : Type 0} (xs : List (Arc X Global)) (i : ℕ) (f b : Arc X Global) → i < length xs → values (set (take (i + 1) xs ++ b ∷ drop (i + 1) xs) i f) ≡ take i (values xs) ++ arc_value f ∷ arc_value b ∷ drop (i + 1) (values xs)
+values_replaced xs i f b l =
+    ap values (replaced xs i f b l) ∙ map-append arc_value (take i xs) (f ∷ b ∷ drop (i + 1) xs)
+    ∙ ap₂ (λ us vs. us ++ arc_value f ∷ arc_value b ∷ vs) (sym (take-map arc_value i xs)) (sym (drop-map arc_value (i + 1) xs))
+
+module _ {P T : Type 0} (seen : P → List T) where
+  pub seen_halves : (ps : List P) (i : ℕ) (p f b : P) → i < length ps → p ≡ get_or ps i p → seen f ++ seen b ≡ seen p → flat_map seen (take i ps ++ f ∷ b ∷ drop (i + 1) ps) ≡ flat_map seen ps
+  seen_halves ps i p f b l e h =
+      let front = flat_map seen (take i ps) in
+      let rest = flat_map seen (drop (i + 1) ps) in
+      flat_map-append seen (take i ps) (f ∷ b ∷ drop (i + 1) ps) ∙ ap (λ xs. front ++ xs) (sym (append_assoc (seen f) (seen b) rest) ∙ ap (λ xs. xs ++ rest) h) ∙ sym (seen_split seen ps i p l e)
+
+  -- one part changed
+  pub seen_set : (ps : List P) (i : ℕ) (q : P) → i < length ps → flat_map seen (set ps i q) ≡ flat_map seen (take i ps) ++ (seen q ++ flat_map seen (drop (i + 1) ps))
+  seen_set ps i q l = ap (flat_map seen) (set_is ps i q l) ∙ flat_map-append seen (take i ps) (q ∷ drop (i + 1) ps)
+
+  -- the elements of one part ascend
+  pub ascends_at : (order : T → T → Ordering) (ps : List P) (i : ℕ) (p : P) → i < length ps → p ≡ get_or ps i p → Ascends order (flat_map seen ps) → Ascends order (seen p)
+  ascends_at order ps i p l e s = ascends_left order (seen p) (flat_map seen (drop (i + 1) ps)) (ascends_right order (flat_map seen (take i ps)) _ (subst (Ascends order) (seen_split seen ps i p l e) s))
+
+  pub seen_inserted : (order : T → T → Ordering) (x : T) (ps : List P) (i : ℕ) (p q : P) → i < length ps → p ≡ get_or ps i p → AllBelow (order x) (flat_map seen (take i ps)) → AllAbove (order x) (flat_map seen (drop (i + 1) ps))
+      → seen q ≡ inserted order x (seen p) → flat_map seen (set ps i q) ≡ inserted order x (flat_map seen ps)
+  seen_inserted order x ps i p q l e low high h =
+      let front = flat_map seen (take i ps) in
+      let rest = flat_map seen (drop (i + 1) ps) in
+      seen_set ps i q l ∙ ap (λ xs. front ++ (xs ++ rest)) h ∙ sym (ap (inserted order x) (seen_split seen ps i p l e) ∙ inserted_cut order x front (seen p) rest low high)
+
+  pub seen_kept : (ps : List P) (i : ℕ) (p q : P) → i < length ps → p ≡ get_or ps i p → seen q ≡ seen p → flat_map seen (set ps i q) ≡ flat_map seen ps
+  seen_kept ps i p q l e h = seen_set ps i q l ∙ ap (λ xs. flat_map seen (take i ps) ++ (xs ++ flat_map seen (drop (i + 1) ps))) h ∙ sym (seen_split seen ps i p l e)
+
+  pub seen_found : (against : T → Ordering) (ps : List P) (i : ℕ) (p : P) → i < length ps → p ≡ get_or ps i p → AllBelow against (flat_map seen (take i ps)) → AllAbove against (flat_map seen (drop (i + 1) ps)) → found against (seen p) ≡ found against (flat_map seen ps)
+  seen_found against ps i p l e low high = sym (ap (found against) (seen_split seen ps i p l e) ∙ found_cut against (flat_map seen (take i ps)) (seen p) (flat_map seen (drop (i + 1) ps)) low high)
+
+pub whole_set : {P : Type 0} (W : P → Type 0) (ps : List P) (i : ℕ) (q : P) → i < length ps → AreWhole W ps → W q → AreWhole W (set ps i q)
+whole_set W ps i q l h w =
+    subst (AreWhole W) (sym (set_is ps i q l))
+    (all_append W (take i ps) (q ∷ drop (i + 1) ps) (all_left W (take i ps) (drop i ps) (subst (AreWhole W) (sym (take-append-drop i ps)) h))
+    (w, all_right W (take (i + 1) ps) (drop (i + 1) ps) (subst (AreWhole W) (sym (take-append-drop (i + 1) ps)) h)))
+
+pub values_set : {X : Type 0} (xs : List (Arc X Global)) (i : ℕ) (a : Arc X Global) → values (set xs i a) ≡ set (values xs) i (arc_value a)
+values_set xs i a = map-set arc_value xs i a
+
+pub values_insert : {X : Type 0} (xs : List (Arc X Global)) (i : ℕ) (a : Arc X Global) → values (take i xs ++ a ∷ drop i xs) ≡ take i (values xs) ++ arc_value a ∷ drop i (values xs)
+values_insert xs i a = map-append arc_value (take i xs) (a ∷ drop i xs) ∙ ap₂ (λ us vs. us ++ arc_value a ∷ vs) (sym (take-map arc_value i xs)) (sym (drop-map arc_value i xs))
+
+pub values_push : {X : Type 0} (xs : List (Arc X Global)) (a : Arc X Global) → values (xs ++ a ∷ []) ≡ values xs ++ arc_value a ∷ []
+values_push xs a = map-append arc_value xs (a ∷ [])
+
+tie_head : {T : Type 0} (us vs : List T) (x y : T) → x ∷ us ≡ y ∷ vs → x ≡ y
+tie_head us vs x y e = cc
+
+pub tie_at : {T : Type 0} (against : T → Ordering) (xs : List T) (i : ℕ) (x : T) (tie : IsTie against xs i) → x ≡ get_or xs i x → x ≡ tie.element
+tie_at against xs i x tie e = tie_head (drop (i + 1) xs) (drop (i + 1) xs) x tie.element (append_cancel_left (take i xs) (x ∷ drop (i + 1) xs) (tie.element ∷ drop (i + 1) xs) (sym (split_at xs i x tie.within e) ∙ tie.is))
+
+pub whole_halves : {P : Type 0} (W : P → Type 0) (ps : List P) (i : ℕ) (f b : P) → AreWhole W ps → W f → W b → AreWhole W (take i ps ++ f ∷ b ∷ drop (i + 1) ps)
+whole_halves W ps i f b h u v =
+    all_append W (take i ps) (f ∷ b ∷ drop (i + 1) ps) (all_left W (take i ps) (drop i ps) (subst (AreWhole W) (sym (take-append-drop i ps)) h))
+    (u, (v, all_right W (take (i + 1) ps) (drop (i + 1) ps) (subst (AreWhole W) (sym (take-append-drop (i + 1) ps)) h)))
+
+pub values_take : {X : Type 0} (n : ℕ) (xs : List (Arc X Global)) → values (take n xs) ≡ take n (values xs)
+values_take n xs = sym (take-map arc_value n xs)
+
+pub values_drop : {X : Type 0} (n : ℕ) (xs : List (Arc X Global)) → values (drop n xs) ≡ drop n (values xs)
+values_drop n xs = sym (drop-map arc_value n xs)
+
+pub front_some : {X : Type 0} (xs ys : List (Arc X Global)) (k : ℕ) → values ys ≡ take k (values xs) → 0 < k → k ≤ length xs → 0 < length ys
+front_some xs ys k e some l = let n : length (values ys) ≡ length (take k (values xs)) = ap length e in omega (arith, n, values_length xs, values_length ys, length-take k (values xs))
+
+pub back_some : {X : Type 0} (xs ys : List (Arc X Global)) (k : ℕ) → values ys ≡ drop k (values xs) → k < length xs → 0 < length ys
+back_some xs ys k e l = let n : length (values ys) ≡ length (drop k (values xs)) = ap length e in omega (arith, n, values_length xs, values_length ys, length-drop k (values xs))
+
+pub front_whole : {P : Type 0} (W : P → Type 0) (ps us : List P) (k : ℕ) → us ≡ take k ps → AreWhole W ps → AreWhole W us
+front_whole W ps us k e h = subst (AreWhole W) (sym e) (all_left W (take k ps) (drop k ps) (subst (AreWhole W) (sym (take-append-drop k ps)) h))
+
+pub back_whole : {P : Type 0} (W : P → Type 0) (ps us : List P) (k : ℕ) → us ≡ drop k ps → AreWhole W ps → AreWhole W us
+back_whole W ps us k e h = subst (AreWhole W) (sym e) (all_right W (take k ps) (drop k ps) (subst (AreWhole W) (sym (take-append-drop k ps)) h))
+
+pub seen_cut : {P T : Type 0} (seen : P → List T) (ps us vs : List P) (k : ℕ) → us ≡ take k ps → vs ≡ drop k ps → flat_map seen us ++ flat_map seen vs ≡ flat_map seen ps
+seen_cut seen ps us vs k d e = ap₂ (λ xs ys. flat_map seen xs ++ flat_map seen ys) d e ∙ sym (flat_map-append seen (take k ps) (drop k ps)) ∙ ap (flat_map seen) (take-append-drop k ps)
+
+-- ---- one part of shared parts changed
+
+pub put_whole : {P : Type 0} (W : P → Type 0) (xs : List (Arc P Global)) (i : ℕ) (b : Arc P Global) → i < length xs → AreWhole W (values xs) → W (arc_value b) → 0 < length (set xs i b) × AreWhole W (values (set xs i b))
+put_whole W xs i b l h w =
+    let n = values_length xs in
+    (omega (arith, length-set xs i b), subst (AreWhole W) (sym (values_set xs i b)) (whole_set W (values xs) i (arc_value b) (omega arith) h w))
+
+module _ {P T : Type 0} (seen : P → List T) where
+  pub put_seen : (order : T → T → Ordering) (x : T) (xs : List (Arc P Global)) (i : ℕ) (a b : Arc P Global) → i < length xs → a ≡ get_or xs i a
+      → AllBelow (order x) (flat_map seen (take i (values xs))) → AllAbove (order x) (flat_map seen (drop (i + 1) (values xs)))
+      → seen (arc_value b) ≡ inserted order x (seen (arc_value a)) → flat_map seen (values (set xs i b)) ≡ inserted order x (flat_map seen (values xs))
+  put_seen order x xs i a b l e low high h =
+      let n = values_length xs in
+      ap (flat_map seen) (values_set xs i b) ∙ seen_inserted seen order x (values xs) i (arc_value a) (arc_value b) (omega arith) (value_at xs i a (arc_value a) l e refl) low high h
+
+  pub put_kept : (xs : List (Arc P Global)) (i : ℕ) (a b : Arc P Global) → i < length xs → a ≡ get_or xs i a → seen (arc_value b) ≡ seen (arc_value a) → flat_map seen (values (set xs i b)) ≡ flat_map seen (values xs)
+  put_kept xs i a b l e h =
+      let n = values_length xs in
+      ap (flat_map seen) (values_set xs i b) ∙ seen_kept seen (values xs) i (arc_value a) (arc_value b) (omega arith) (value_at xs i a (arc_value a) l e refl) h
+
+pub on_err_when : {T E P : Type 0} (r : Result T E) → P → OnErr r P
+on_err_when (Ok x) p = tt
+on_err_when (Err e) p = p
+
+-- ---- runs
+
+pub nothing : {X : Type 0} (xs : List X) → length xs ≡ 0 → xs ≡ []
+nothing [] e = refl
+nothing (x ∷ xs) e = absurd (omega (arith, e))
+
+pub run_whole : {X : Type 0} (run xs : List X) → run ≡ xs → IsRun run xs
+run_whole run xs e = record { rest = []; is = sym e ∙ sym (append-nil run); some = λ n. sym e ∙ nothing run n }
+
+pub run_more : {X : Type 0} (run xs ys zs : List X) → IsRun run xs → 0 < length run → zs ≡ xs ++ ys → IsRun run zs
+run_more run xs ys zs r n e = record {
+  rest = r.rest ++ ys;
+  is = e ∙ ap (λ us. us ++ ys) r.is ∙ append_assoc run r.rest ys;
+  some = λ m. absurd (omega (arith, n, m));
+}
+
+pub run_next : {X : Type 0} (before run xs ys zs : List X) → IsRun before xs → length before ≡ 0 → IsRun run ys → zs ≡ xs ++ ys → IsRun run zs
+run_next before run xs ys zs b n r e = subst (IsRun run) (sym (e ∙ ap (λ us. us ++ ys) (b.some n))) r
+
+-- what is left of the parts from one on
+pub seen_from : {P T : Type 0} (seen : P → List T) (ps : List P) (i : ℕ) (p : P) → i < length ps → p ≡ get_or ps i p → flat_map seen (drop i ps) ≡ seen p ++ flat_map seen (drop (i + 1) ps)
+seen_from seen ps i p l e = ap (flat_map seen) (drop_more ps i p l ∙ ap (λ q. q ∷ drop (i + 1) ps) (sym e))
+
+pub seen_above : {P T : Type 0} (seen : P → List T) (against : T → Ordering) (ps : List P) (i : ℕ) (p : P) → i < length ps → p ≡ get_or ps i p → AllBelow against (flat_map seen (take i ps)) → AllAbove against (flat_map seen (drop (i + 1) ps))
+    → above against (flat_map seen ps) ≡ above against (seen p) ++ flat_map seen (drop (i + 1) ps)
+seen_above seen against ps i p l e low high = ap (above against) (seen_split seen ps i p l e) ∙ above_cut against (flat_map seen (take i ps)) (seen p) (flat_map seen (drop (i + 1) ps)) low high
+
+pub continued_whole : {T : Type 0} (order : T → T → Ordering) → IsTotalOrder order → (run xs : List T) → IsRun run xs → Ascends order xs → continued order xs run ≡ xs
+continued_whole order o run xs r s = continued_is order o xs [] run r.rest r.is s (λ n. sym r.is ∙ r.some n) ∙ sym r.is
+
+pub continued_above : {T : Type 0} (order : T → T → Ordering) → IsTotalOrder order → (against : T → Ordering) → IsProbe order against → (run xs : List T) → IsRun run (above against xs) → Ascends order xs → continued order xs run ≡ above against xs
+continued_above order o against p run xs r s =
+    let cut = above_suffix order against p xs s in
+    continued_is order o xs cut.0 run r.rest (cut.1 ∙ ap (λ us. cut.0 ++ us) r.is) s (λ n. sym r.is ∙ r.some n) ∙ sym r.is
+
+-- the only element of a list
+pub only_one : {T : Type 0} (order : T → T → Ordering) (ys : List T) (x a : T) (xs : List T) → ys ≡ x ∷ xs → length ys ≤ 1 → a ≡ get_or ys 0 a → (xs ≡ []) × (a ≡ x)
+only_one order ys x a xs e l h = let n : length ys ≡ length (x ∷ xs) = ap length e in (nothing xs (omega (arith, n)), h ∙ ap (λ us. get_or us 0 a) e)
+
+-- ---- a removal
+
+pub values_remove : {X : Type 0} (xs : List (Arc X Global)) (i : ℕ) → values (take i xs ++ drop (suc i) xs) ≡ take i (values xs) ++ drop (i + 1) (values xs)
+values_remove xs i =
+    let e : suc i ≡ i + 1 = omega arith in
+    map-append arc_value (take i xs) (drop (suc i) xs) ∙ ap₂ (λ us vs. us ++ vs) (sym (take-map arc_value i xs)) (sym (drop-map arc_value (suc i) xs) ∙ ap (λ k. drop k (values xs)) e)
+
+module _ {P T : Type 0} (seen : P → List T) where
+  -- a removal in one part
+  pub seen_removed : (against : T → Ordering) (xs : List (Arc P Global)) (i : ℕ) (a b : Arc P Global) → i < length xs → a ≡ get_or xs i a
+      → AllBelow against (flat_map seen (take i (values xs))) → AllAbove against (flat_map seen (drop (i + 1) (values xs)))
+      → seen (arc_value b) ≡ removed against (seen (arc_value a)) → flat_map seen (values (set xs i b)) ≡ removed against (flat_map seen (values xs))
+  seen_removed against xs i a b l e low high h =
+      let n = values_length xs in
+      let k : i < length (values xs) = omega arith in
+      let front = flat_map seen (take i (values xs)) in
+      let rest = flat_map seen (drop (i + 1) (values xs)) in
+      ap (flat_map seen) (values_set xs i b) ∙ seen_set seen (values xs) i (arc_value b) k ∙ ap (λ us. front ++ (us ++ rest)) h
+      ∙ sym (ap (removed against) (seen_split seen (values xs) i (arc_value a) k (value_at xs i a (arc_value a) l e refl)) ∙ removed_cut against front (seen (arc_value a)) rest low high)
+
+  -- a part of which nothing is left, taken out
+  pub seen_without : (xs : List (Arc P Global)) (i : ℕ) (b : Arc P Global) → i < length xs → seen (arc_value b) ≡ [] → flat_map seen (values (take i (set xs i b) ++ drop (suc i) (set xs i b))) ≡ flat_map seen (values (set xs i b))
+  seen_without xs i b l h =
+      let ys = set xs i b in
+      let n = values_length ys in
+      let k : i < length ys = omega (arith, length-set xs i b) in
+      let at : arc_value b ≡ get_or (values ys) i (arc_value b) = value_at ys i b (arc_value b) k (sym (get_or-set_same xs i b b l)) refl in
+      let front = flat_map seen (take i (values ys)) in
+      let rest = flat_map seen (drop (i + 1) (values ys)) in
+      ap (flat_map seen) (values_remove ys i) ∙ flat_map-append seen (take i (values ys)) (drop (i + 1) (values ys))
+      ∙ sym (seen_split seen (values ys) i (arc_value b) (omega arith) at ∙ ap (λ us. front ++ (us ++ rest)) h)
+
+pub whole_without : {P : Type 0} (W : P → Type 0) (xs : List (Arc P Global)) (i : ℕ) (b : Arc P Global) → i < length xs → AreWhole W (values xs) → AreWhole W (values (take i (set xs i b) ++ drop (suc i) (set xs i b)))
+whole_without W xs i b l h =
+    let ps = values xs in
+    let e : values (take i (set xs i b) ++ drop (suc i) (set xs i b)) ≡ take i ps ++ drop (i + 1) ps =
+    ap (λ us. values (us ++ drop (suc i) (set xs i b))) (take-set xs i b) ∙ ap (λ vs. values (take i xs ++ vs)) (drop-set-lt (suc i) xs i b (omega arith)) ∙ values_remove xs i in
+    subst (AreWhole W) (sym e)
+    (all_append W (take i ps) (drop (i + 1) ps) (all_left W (take i ps) (drop i ps) (subst (AreWhole W) (sym (take-append-drop i ps)) h))
+    (all_right W (take (i + 1) ps) (drop (i + 1) ps) (subst (AreWhole W) (sym (take-append-drop (i + 1) ps)) h)))
+
+-- ---- runs from the end
+
+pub end_whole : {X : Type 0} (run xs : List X) → run ≡ xs → IsEndRun run xs
+end_whole run xs e = record { rest = []; is = sym e; some = λ n. sym e ∙ nothing run n }
+
+pub end_more : {X : Type 0} (run xs ys zs : List X) → IsEndRun run xs → 0 < length run → zs ≡ ys ++ xs → IsEndRun run zs
+end_more run xs ys zs r n e = record {
+  rest = ys ++ r.rest;
+  is = e ∙ ap (λ us. ys ++ us) r.is ∙ sym (append_assoc ys r.rest run);
+  some = λ m. absurd (omega (arith, n, m));
+}
+
+pub end_next : {X : Type 0} (before run xs ys zs : List X) → IsEndRun before xs → length before ≡ 0 → IsEndRun run ys → zs ≡ ys ++ xs → IsEndRun run zs
+end_next before run xs ys zs b n r e = subst (IsEndRun run) (sym (e ∙ ap (λ us. ys ++ us) (b.some n) ∙ append-nil ys)) r
+
+pub seen_below : {P T : Type 0} (seen : P → List T) (against : T → Ordering) (ps : List P) (i : ℕ) (p : P) → i < length ps → p ≡ get_or ps i p → AllBelow against (flat_map seen (take i ps)) → AllAbove against (flat_map seen (drop (i + 1) ps))
+    → below against (flat_map seen ps) ≡ flat_map seen (take i ps) ++ below against (seen p)
+seen_below seen against ps i p l e low high = ap (below against) (seen_split seen ps i p l e) ∙ below_cut against (flat_map seen (take i ps)) (seen p) (flat_map seen (drop (i + 1) ps)) low high
+
+pub ended_whole : {T : Type 0} (order : T → T → Ordering) → IsTotalOrder order → (run xs : List T) → IsEndRun run xs → Ascends order xs → ended order xs run ≡ xs
+ended_whole order o run xs r s = ended_is order o xs r.rest run [] (r.is ∙ sym (append-nil (r.rest ++ run))) s (λ n. sym r.is ∙ r.some n) ∙ sym r.is
+
+pub ended_below : {T : Type 0} (order : T → T → Ordering) → IsTotalOrder order → (against : T → Ordering) → IsProbe order against → (run xs : List T) → IsEndRun run (below against xs) → Ascends order xs → ended order xs run ≡ below against xs
+ended_below order o against p run xs r s =
+    let cut = below_prefix order against p xs s in
+    ended_is order o xs r.rest run cut.0 (cut.1 ∙ ap (λ us. us ++ cut.0) r.is) s (λ n. sym r.is ∙ r.some n) ∙ sym r.is
+
+-- a run without its last element
+pub ended_front : {T : Type 0} (order : T → T → Ordering) (xs front : List T) (x y : T) → ended order xs ((x ∷ front) ++ y ∷ []) ≡ ended order xs (x ∷ front) ++ y ∷ []
+ended_front order xs front x y = sym (append_assoc (below (order x) xs) (x ∷ front) (y ∷ []))

@@ -1,0 +1,6 @@
+pub mod Identified
+pub mod Order
+pub mod Parts
+pub mod Rows
+pub mod Runs
+pub mod Search

@@ -1,0 +1,31 @@
+-- Words of the iterators: what is left where they hold a run, a piece of a sorted list.
+use Rattle.mg_pages.specs.Order.{above, below}
+use Rattle.std.specs.Prelude.{◌≡◌, length, List, [], ◌∷◌, ◌++◌}
+use Rattle.std.specs.declared.cmp.Ordering.{Ordering}
+
+-- a run begins a list, and is empty only where the list is
+pub record IsRun {X : Type 0} (run xs : List X) : Type 0 where
+  pub rest : List X
+  pub is : xs ≡ run ++ rest
+  pub some : length run ≡ 0 → xs ≡ []
+
+-- a run ends a list, and is empty only where the list is
+pub record IsEndRun {X : Type 0} (run xs : List X) : Type 0 where
+  pub rest : List X
+  pub is : xs ≡ rest ++ run
+  pub some : length run ≡ 0 → xs ≡ []
+
+-- what is left of a run whose last was x, and then what is above the last of the run
+abbrev pub continued_after : {T : Type 0} → (T → T → Ordering) → List T → T → List T → List T
+continued_after order xs x [] = above (order x) xs
+continued_after order xs x (y ∷ run) = y ∷ continued_after order xs y run
+
+-- a run of a list, and then what is above the last of the run
+abbrev pub continued : {T : Type 0} → (T → T → Ordering) → List T → List T → List T
+continued order xs [] = []
+continued order xs (x ∷ run) = x ∷ continued_after order xs x run
+
+-- what is below the first of a run of a list, and then the run
+abbrev pub ended : {T : Type 0} → (T → T → Ordering) → List T → List T → List T
+ended order xs [] = []
+ended order xs (x ∷ run) = below (order x) xs ++ x ∷ run

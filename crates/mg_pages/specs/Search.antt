@@ -1,0 +1,28 @@
+-- Words of the search by halves: where a key stands in a list.
+use Rattle.std.specs.Prelude.{◌≡◌, ℕ, ◌+◌, ◌<◌, ◌≤◌, length, take, drop, List, ◌∷◌, ◌++◌}
+use Rattle.std.specs.List.{AllByRecursion}
+use Rattle.std.specs.declared.cmp.Ordering.{Ordering}
+use Rattle.std.specs.declared.cmp.Ordering.TheVariants.{Less, Equal, Greater}
+
+-- a key is above all the elements
+abbrev pub AllBelow : {T : Type 0} → (T → Ordering) → List T → Type 0
+AllBelow against xs = AllByRecursion (λ x. against x ≡ Greater) xs
+
+-- a key is below all the elements
+abbrev pub AllAbove : {T : Type 0} → (T → Ordering) → List T → Type 0
+AllAbove against xs = AllByRecursion (λ x. against x ≡ Less) xs
+
+-- the key ties with the element at i
+pub record IsTie {T : Type 0} (against : T → Ordering) (xs : List T) (i : ℕ) : Type 0 where
+  pub within : i < length xs
+  pub element : T
+  pub is : xs ≡ take i xs ++ element ∷ drop (i + 1) xs
+  pub ties : against element ≡ Equal
+  pub before : AllBelow against (take i xs)
+  pub after : AllAbove against (drop (i + 1) xs)
+
+-- the key ties with no element, and has its place before the one at i
+pub record IsGap {T : Type 0} (against : T → Ordering) (xs : List T) (i : ℕ) : Type 0 where
+  pub within : i ≤ length xs
+  pub before : AllBelow against (take i xs)
+  pub after : AllAbove against (drop i xs)

@@ -1,0 +1,67 @@
+//! The elements of a collection from the last to the first.
+ghost use Rattle.std.specs.Prelude.{◌≡◌, ◌<◌, ◌∷◌, ◌++◌, [], length, reverse};
+ghost use Rattle.std.specs.Arc.{arc_value};
+ghost use Rattle.std.specs.Iterator.{at_most};
+ghost use Rattle.std.specs.Map.Iter.{TakesFirst, deref};
+ghost use Rattle.mg_pages.specs.Runs.{ended};
+ghost use Rattle.mg_pages.specs.Parts.{values};
+
+use crate::keyed::Keyed;
+use crate::pages::Pages;
+use std::marker::Model;
+use std::sync::Arc;
+
+/// The elements of a collection that are left, from the last to the first.
+#[derive(Drop)]
+pub struct Back<'a, T: Keyed> {
+    pages: &'a Pages<T>,
+    run: &'a [Arc<T>],
+}
+
+impl<'a, T: Keyed> Model for Back<'a, T> {
+    ghost use Rattle.std.specs.Prelude.{List, reverse};
+
+    ghost Value = { List T };
+
+    ghost use Rattle.mg_pages.specs.Runs.{ended};
+    ghost use Rattle.mg_pages.specs.Parts.{values};
+
+    ghost view = { λ it. reverse (ended T.order it.pages.now (values it.run.now)) };
+}
+
+// What is left of a run before its last element, or the run that comes before.
+fn run_to<'a, T: Keyed>(pages: &'a Pages<T>, run: &'a [Arc<T>], last: &'a Arc<T>) -> &'a [Arc<T>]
+    ensures { ended T.order pages.now (values run.now ++ arc_value last.now ∷ [])
+        ≡ ended T.order pages.now (values result.now) ++ arc_value last.now ∷ [] }
+{
+    if run.len() > 0 {
+        return run;
+    }
+    pages.run_before(last)
+}
+
+impl<'a, T: Keyed> Back<'a, T> {
+    pub(crate) fn at(pages: &'a Pages<T>, run: &'a [Arc<T>]) -> Back<'a, T>
+        ensures { result ≡ reverse (ended T.order pages.now (values run.now)) }
+    {
+        Back { pages, run }
+    }
+}
+
+impl<'a, T: Keyed> Iterator for Back<'a, T> {
+    type Item = &'a T;
+
+    ghost next_gives = { TakesFirst deref };
+
+    ghost remaining = { λ s. at_most (length s) };
+
+    fn next(&mut self) -> Option<&'a T> {
+        let run = self.run;
+        if run.len() > 0 {
+            let (rest, last) = run.split_at(run.len() - 1);
+            self.run = run_to(self.pages, rest, &last[0]);
+            return Some(&last[0]);
+        }
+        None
+    }
+}

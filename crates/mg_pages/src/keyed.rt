@@ -1,0 +1,46 @@
+//! The order of elements, and the keys by which they are found.
+ghost use Rattle.std.specs.Prelude.{◌≡◌};
+ghost use Rattle.std.specs.Cmp.{IsTotalOrder};
+ghost use Rattle.std.specs.declared.cmp.Ordering.{Ordering};
+ghost use Rattle.mg_pages.specs.Order.{IsProbe};
+
+use std::cmp::Ordering;
+use std::sync::Arc;
+
+/// Elements with a total order. Elements that tie take each other's place.
+pub trait Keyed: Drop {
+    // the order
+    ghost order: { Self → Self → Ordering };
+
+    /// The order of two elements. Takes no memory.
+    fn order(&self, other: &Self) -> Ordering
+        ensures { result ≡ order self.now other.now };
+
+    ghost total: { IsTotalOrder order };
+}
+
+/// A key by which elements are looked up: it has one place in their order, where it may tie with an element.
+///
+/// It need not be an element, nor hold one: an id that is lent is a key, and so is the begin of a range.
+pub trait Probe<T: Keyed> {
+    // the order of the key against an element
+    ghost against: { Self → T → Ordering };
+
+    /// The order of the key against an element: `Less` where the key is below it. Takes no memory.
+    fn against(&self, element: &T) -> Ordering
+        ensures { result ≡ against self.now element.now };
+
+    ghost probes: { (key : Self) → IsProbe T.order (against key) };
+}
+
+impl<T: Keyed> Probe<T> for Arc<T> {
+    ghost use Rattle.mg_pages.specs.Order.{probe_from_total};
+
+    ghost against = { λ a t. T.order a.value t };
+
+    ghost probes = { λ a. probe_from_total T.total a.value };
+
+    fn against(&self, element: &T) -> Ordering {
+        (**self).order(element)
+    }
+}

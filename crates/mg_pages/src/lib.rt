@@ -1,0 +1,20 @@
+//! Ordered collections in shared pages: a share of one costs its top alone, and a change copies a page and the way to it.
+#![tactic(auto)]
+
+mod back;
+mod identified;
+mod iter;
+pub mod keyed;
+mod level;
+mod page;
+pub mod pages;
+mod part;
+mod row;
+mod sides;
+
+pub use back::Back;
+pub use identified::Identified;
+pub use iter::Iter;
+pub use keyed::{Keyed, Probe};
+pub use pages::Pages;
+pub use row::RowPlace;

@@ -1,0 +1,137 @@
+//! Pages of elements.
+ghost use Rattle.std.specs.Prelude.{is_some, ◌≡◌, ◌<◌, [], true, false, length, IfOk, MatchResult, OnOk, OnErr};
+ghost use Rattle.std.specs.Arc.{arc_value};
+ghost use Rattle.mg_pages.specs.Order.{Ascends, found, inserted, removed};
+ghost use Rattle.mg_pages.specs.Search.{IsTie, IsGap};
+ghost use Rattle.mg_pages.specs.Parts.{values};
+
+use crate::keyed::{Keyed, Probe};
+use crate::part::{LIMIT, Part, copied};
+use std::alloc::{AllocError, Global};
+use std::cmp::Ordering;
+use std::sync::Arc;
+
+/// Some elements, each of them shared.
+#[derive(Drop)]
+pub struct Page<T> {
+    pub(crate) elements: Vec<Arc<T>>,
+}
+
+// Where the element is that ties with a key, or else where one would have its place.
+// Cost: a comparison each time the number of elements is halved.
+pub fn find<T: Keyed, Q: Probe<T>>(elements: &[Arc<T>], key: &Q) -> Result<usize, usize>
+    requires { Ascends T.order (values elements.now) }
+    ensures { MatchResult result (IsTie (Q.against key.now) (values elements.now)) (IsGap (Q.against key.now) (values elements.now)) }
+{
+    let mut low = 0;
+    let mut high = elements.len();
+    while low < high {
+        let middle = low + (high - low) / 2;
+        let element: &T = &elements[middle];
+        match key.against(element) {
+            Ordering::Greater => low = middle + 1,
+            Ordering::Less => high = middle,
+            Ordering::Equal => return Ok(middle),
+        }
+    }
+    Err(low)
+}
+
+impl<T: Keyed> Part<T> for Page<T> {
+    ghost use Rattle.std.specs.Prelude.{is_some, ◌<◌, length};
+    ghost use Rattle.mg_pages.specs.Parts.{values};
+
+    ghost seen = { λ p. values p.elements.items };
+
+    ghost is_whole = { λ p. 0 < length p.elements.items };
+
+    fn last(&self) -> &T {
+        &self.elements[self.elements.len() - 1]
+    }
+
+    fn get<Q: Probe<T>>(&self, key: &Q) -> Option<&T> {
+        match find::<T, Q>(&self.elements, key) {
+            Ok(i) => Some(&self.elements[i]),
+            Err(_) => None,
+        }
+    }
+
+    fn first_run(&self) -> &[Arc<T>] {
+        &self.elements
+    }
+
+    fn run_after<Q: Probe<T>>(&self, key: &Q) -> &[Arc<T>] {
+        match find::<T, Q>(&self.elements, key) {
+            Ok(i) => &self.elements[i + 1..],
+            Err(i) => &self.elements[i..],
+        }
+    }
+
+    fn last_run(&self) -> &[Arc<T>] {
+        &self.elements
+    }
+
+    fn run_before<Q: Probe<T>>(&self, key: &Q) -> &[Arc<T>] {
+        match find::<T, Q>(&self.elements, key) {
+            Ok(i) => &self.elements[..i],
+            Err(i) => &self.elements[..i],
+        }
+    }
+
+    fn copy(&self, alloc: Global) -> Result<Page<T>, AllocError> {
+        let elements = copied(alloc, &self.elements)?;
+        Ok(Page { elements })
+    }
+
+    fn halves(
+        &self,
+        alloc: Global,
+        element: &Arc<T>,
+    ) -> Result<Option<(Page<T>, Page<T>)>, AllocError> {
+        if self.elements.len() < LIMIT || find::<T, Arc<T>>(&self.elements, element).is_ok() {
+            return Ok(None);
+        }
+        let (front, back) = self.elements.split_at(self.elements.len() / 2);
+        let front = copied(alloc, front)?;
+        let back = copied(alloc, back)?;
+        Ok(Some((Page { elements: front }, Page { elements: back })))
+    }
+
+    fn put(&mut self, _alloc: Global, element: Arc<T>) -> Result<bool, AllocError>
+        requires whole { 0 < length self.old.elements.items }
+        requires sorted { Ascends T.order (values self.old.elements.items) }
+        ensures whole { 0 < length self.new.elements.items }
+        ensures had { IfOk result (λ had. had ≡ is_some (found (T.order (arc_value element)) (values self.old.elements.items))) }
+        ensures ok { OnOk result (values self.new.elements.items ≡ inserted T.order (arc_value element) (values self.old.elements.items)) }
+        ensures err { OnErr result (values self.new.elements.items ≡ values self.old.elements.items) }
+    {
+        match find::<T, Arc<T>>(&self.elements, &element) {
+            Ok(i) => {
+                self.elements[i] = element;
+                Ok(true)
+            }
+            Err(i) => {
+                self.elements.insert(i, element)?;
+                Ok(false)
+            }
+        }
+    }
+
+    fn take_out<Q: Probe<T>>(&mut self, _alloc: Global, key: &Q) -> Result<bool, AllocError>
+        requires whole { 0 < length self.old.elements.items }
+        requires sorted { Ascends T.order (values self.old.elements.items) }
+        ensures whole { IfOk result (λ emptied. emptied ≡ false → 0 < length self.new.elements.items) }
+        ensures emptied { IfOk result (λ emptied. emptied ≡ true → values self.new.elements.items ≡ []) }
+        ensures ok { OnOk result (values self.new.elements.items ≡ removed (Q.against key.now) (values self.old.elements.items)) }
+        ensures err { OnErr result (values self.new.elements.items ≡ values self.old.elements.items) }
+        ensures err_whole { OnErr result (0 < length self.new.elements.items) }
+    {
+        match find::<T, Q>(&self.elements, key) {
+            Ok(i) => {
+                drop(self.elements.remove(i));
+                Ok(self.elements.is_empty())
+            }
+            Err(_) => Ok(false),
+        }
+    }
+}

@@ -1,0 +1,99 @@
+//! What a collection is made of: pages of elements, and levels of parts above them.
+ghost use Rattle.std.specs.Prelude.{is_some, ◌≡◌, ◌<◌, [], true, false, length, List, IfOk, OnOk, OnErr, IfSome, option_map};
+ghost use Rattle.std.specs.Arc.{arc_value};
+ghost use Rattle.mg_pages.specs.Order.{inserted, removed, found, above, below, Ascends};
+ghost use Rattle.mg_pages.specs.Runs.{IsRun, IsEndRun};
+ghost use Rattle.mg_pages.specs.Parts.{values, IsLast, IsCopy, AreHalves};
+
+use crate::keyed::{Keyed, Probe};
+use std::alloc::{AllocError, Global};
+use std::sync::Arc;
+
+/// How many elements a page has at most, and how many parts a level has below another.
+pub const LIMIT: usize = 64;
+
+/// A part of a collection: elements in order.
+pub trait Part<T: Keyed>: Drop + Sized {
+    // the elements
+    ghost seen: { Self → List T };
+
+    // nothing in it is empty
+    ghost is_whole: { Self → Type 0 };
+
+    /// The last element.
+    fn last(&self) -> &T
+        requires { is_whole self.now }
+        ensures { IsLast result.now (seen self.now) };
+
+    /// The element that ties with a key.
+    fn get<Q: Probe<T>>(&self, key: &Q) -> Option<&T>
+        requires whole { is_whole self.now }
+        requires sorted { Ascends T.order (seen self.now) }
+        ensures { option_map (λ t. t.now) result ≡ found (Q.against key.now) (seen self.now) };
+
+    /// The first elements, as many as one page has.
+    fn first_run(&self) -> &[Arc<T>]
+        requires { is_whole self.now }
+        ensures run { IsRun (values result.now) (seen self.now) }
+        ensures some { 0 < length result.now };
+
+    /// The first elements above a key, as many as one page has.
+    fn run_after<Q: Probe<T>>(&self, key: &Q) -> &[Arc<T>]
+        requires whole { is_whole self.now }
+        requires sorted { Ascends T.order (seen self.now) }
+        ensures { IsRun (values result.now) (above (Q.against key.now) (seen self.now)) };
+
+    /// The last elements, as many as one page has.
+    fn last_run(&self) -> &[Arc<T>]
+        requires { is_whole self.now }
+        ensures run { IsEndRun (values result.now) (seen self.now) }
+        ensures some { 0 < length result.now };
+
+    /// The last elements below a key, as many as one page has.
+    fn run_before<Q: Probe<T>>(&self, key: &Q) -> &[Arc<T>]
+        requires whole { is_whole self.now }
+        requires sorted { Ascends T.order (seen self.now) }
+        ensures { IsEndRun (values result.now) (below (Q.against key.now) (seen self.now)) };
+
+    /// A part of its own that shares what is below.
+    fn copy(&self, alloc: Global) -> Result<Self, AllocError>
+        requires { is_whole self.now }
+        ensures { IfOk result (IsCopy is_whole seen self.now) };
+
+    /// Two halves, where the part has no room for the element.
+    fn halves(&self, alloc: Global, element: &Arc<T>) -> Result<Option<(Self, Self)>, AllocError>
+        requires whole { is_whole self.now }
+        requires sorted { Ascends T.order (seen self.now) }
+        ensures { IfOk result (λ o. IfSome o (AreHalves is_whole seen self.now)) };
+
+    /// Puts an element in its place, and says whether one that ties gave way.
+    fn put(&mut self, alloc: Global, element: Arc<T>) -> Result<bool, AllocError>
+        requires whole { is_whole self.old }
+        requires sorted { Ascends T.order (seen self.old) }
+        ensures whole { is_whole self.new }
+        ensures had { IfOk result (λ had. had ≡ is_some (found (T.order (arc_value element)) (seen self.old))) }
+        ensures ok { OnOk result (seen self.new ≡ inserted T.order (arc_value element) (seen self.old)) }
+        ensures err { OnErr result (seen self.new ≡ seen self.old) };
+
+    /// Takes out the element that ties with a key, and says whether nothing is left.
+    fn take_out<Q: Probe<T>>(&mut self, alloc: Global, key: &Q) -> Result<bool, AllocError>
+        requires whole { is_whole self.old }
+        requires sorted { Ascends T.order (seen self.old) }
+        ensures whole { IfOk result (λ emptied. emptied ≡ false → is_whole self.new) }
+        ensures emptied { IfOk result (λ emptied. emptied ≡ true → seen self.new ≡ []) }
+        ensures ok { OnOk result (seen self.new ≡ removed (Q.against key.now) (seen self.old)) }
+        ensures err { OnErr result (seen self.new ≡ seen self.old) }
+        ensures err_whole { OnErr result (is_whole self.new) };
+}
+
+/// The same things, each of them shared, with room for one more.
+pub fn copied<X: Drop>(alloc: Global, things: &[Arc<X>]) -> Result<Vec<Arc<X>>, AllocError>
+    ensures { IfOk result (λ v. values v.items ≡ values things.now) }
+{
+    let mut copies = Vec::with_capacity(alloc, things.len())?;
+    for thing in things {
+        let copy = thing.clone()?;
+        copies.push(copy)?;
+    }
+    Ok(copies)
+}
