@@ -1,26 +1,22 @@
 -- Parts one after another.
-use Rattle.std.proofs.Common.{◌≡◌, ℕ, ◌+◌, ◌-◌, ◌<◌, ◌≤◌, suc, List, [], ◌∷◌, ◌++◌, length, take, drop, get_or, set, false, Ordering, Greater, is_gt, refl, sym, ap, ap₂, ◌∙◌, subst, arith, Result, Ok, Err, OnErr, append_assoc, append-nil}
+use Rattle.std.proofs.Common.{◌≡◌, ℕ, ◌+◌, ◌-◌, ◌<◌, ◌≤◌, suc, List, [], ◌∷◌, ◌++◌, length, map, take, drop, get_or, set, false, Ordering, Greater, is_gt, refl, sym, ap, ap₂, ◌∙◌, subst, arith, Result, Ok, Err, OnErr, append_assoc, append-nil}
 use Rattle.std.proofs.lemmas.List.{drop_more, take_more, take-append-drop, get_or-map, length-map, length-take, length-drop, length-set, drop-set-lt, get_or-set_same, drop_all, append_cancel_left, map-append, take-map, drop-map, map-set, take-set}
 use Rattle.std.proofs.lemmas.Grind.{common_steps}
 use Rattle.std.proofs.lemmas.List.Concat.{flat_map-append}
-use Rattle.std.specs.Arc.{arc_value}
 use Rattle.std.specs.Cmp.{IsTotalOrder}
 use Rattle.std.specs.List.{flat_map}
-use Rattle.std.specs.declared.alloc.Global.{Global}
-use Rattle.std.specs.declared.sync.Arc.{Arc}
 use Rattle.mg_pages.specs.Order.{IsProbe, Ascends, above, below, inserted, removed, found}
 use Rattle.mg_pages.specs.Search.{AllBelow, AllAbove, IsTie}
-use Rattle.mg_pages.specs.Runs.{continued, ended}
-use Rattle.mg_pages.specs.Runs.{IsRun, IsEndRun}
-use Rattle.mg_pages.specs.Parts.{values, IsLast, AreWhole}
+use Rattle.mg_pages.specs.Runs.{continued, ended, IsRun, IsEndRun}
+use Rattle.mg_pages.specs.Parts.{IsLast, AreWhole}
 use Rattle.mg_pages.proofs.Sorted.{all_left, all_right, all_append, inserted_cut, found_cut, above_cut, above_suffix, continued_is, below_cut, below_prefix, ended_is, removed_cut, split_at, take_one_more, set_is, ascends_left, ascends_right, below_last, above_first}
 
--- the value of an `Arc` that stands in a list
-pub value_at : {X : Type 0} (xs : List (Arc X Global)) (i : ℕ) (a : Arc X Global) (p : X) → i < length xs → a ≡ get_or xs i a → p ≡ arc_value a → p ≡ get_or (values xs) i p
-value_at xs i a p l e v = v ∙ ap arc_value e ∙ sym (get_or-map arc_value xs i a p l)
+-- the value of what stands in a list
+pub mapped_at : {A X : Type 0} (f : A → X) (xs : List A) (i : ℕ) (a : A) (p : X) → i < length xs → a ≡ get_or xs i a → p ≡ f a → p ≡ get_or (map f xs) i p
+mapped_at f xs i a p l e v = v ∙ ap f e ∙ sym (get_or-map f xs i a p l)
 
-pub values_length : {X : Type 0} (xs : List (Arc X Global)) → length (values xs) ≡ length xs
-values_length xs = length-map xs arc_value
+pub mapped_length : {A X : Type 0} (f : A → X) (xs : List A) → length (map f xs) ≡ length xs
+mapped_length f xs = length-map xs f
 
 module _ {P T : Type 0} (seen : P → List T) where
   pub seen_split : (ps : List P) (i : ℕ) (p : P) → i < length ps → p ≡ get_or ps i p → flat_map seen ps ≡ flat_map seen (take i ps) ++ (seen p ++ flat_map seen (drop (i + 1) ps))
@@ -67,10 +63,10 @@ pub replaced : {X : Type 0} (xs : List X) (i : ℕ) (f b : X) → i < length xs 
 replaced xs i f b l = grind (arith, common_steps, set_is, take_more)
 
 -- halves in the place of a part
-pub values_replaced : {X : Type 0} (xs : List (Arc X Global)) (i : ℕ) (f b : Arc X Global) → i < length xs → values (set (take (i + 1) xs ++ b ∷ drop (i + 1) xs) i f) ≡ take i (values xs) ++ arc_value f ∷ arc_value b ∷ drop (i + 1) (values xs)
-values_replaced xs i f b l =
-    ap values (replaced xs i f b l) ∙ map-append arc_value (take i xs) (f ∷ b ∷ drop (i + 1) xs)
-    ∙ ap₂ (λ us vs. us ++ arc_value f ∷ arc_value b ∷ vs) (sym (take-map arc_value i xs)) (sym (drop-map arc_value (i + 1) xs))
+pub mapped_replaced : {A X : Type 0} (v : A → X) (xs : List A) (i : ℕ) (f b : A) → i < length xs → map v (set (take (i + 1) xs ++ b ∷ drop (i + 1) xs) i f) ≡ take i (map v xs) ++ v f ∷ v b ∷ drop (i + 1) (map v xs)
+mapped_replaced v xs i f b l =
+    ap (map v) (replaced xs i f b l) ∙ map-append v (take i xs) (f ∷ b ∷ drop (i + 1) xs)
+    ∙ ap₂ (λ us vs. us ++ v f ∷ v b ∷ vs) (sym (take-map v i xs)) (sym (drop-map v (i + 1) xs))
 
 module _ {P T : Type 0} (seen : P → List T) where
   pub seen_halves : (ps : List P) (i : ℕ) (p f b : P) → i < length ps → p ≡ get_or ps i p → seen f ++ seen b ≡ seen p → flat_map seen (take i ps ++ f ∷ b ∷ drop (i + 1) ps) ≡ flat_map seen ps
@@ -106,14 +102,14 @@ whole_set W ps i q l h w =
     (all_append W (take i ps) (q ∷ drop (i + 1) ps) (all_left W (take i ps) (drop i ps) (subst (AreWhole W) (sym (take-append-drop i ps)) h))
     (w, all_right W (take (i + 1) ps) (drop (i + 1) ps) (subst (AreWhole W) (sym (take-append-drop (i + 1) ps)) h)))
 
-pub values_set : {X : Type 0} (xs : List (Arc X Global)) (i : ℕ) (a : Arc X Global) → values (set xs i a) ≡ set (values xs) i (arc_value a)
-values_set xs i a = map-set arc_value xs i a
+pub mapped_set : {A X : Type 0} (f : A → X) (xs : List A) (i : ℕ) (a : A) → map f (set xs i a) ≡ set (map f xs) i (f a)
+mapped_set f xs i a = map-set f xs i a
 
-pub values_insert : {X : Type 0} (xs : List (Arc X Global)) (i : ℕ) (a : Arc X Global) → values (take i xs ++ a ∷ drop i xs) ≡ take i (values xs) ++ arc_value a ∷ drop i (values xs)
-values_insert xs i a = map-append arc_value (take i xs) (a ∷ drop i xs) ∙ ap₂ (λ us vs. us ++ arc_value a ∷ vs) (sym (take-map arc_value i xs)) (sym (drop-map arc_value i xs))
+pub mapped_insert : {A X : Type 0} (f : A → X) (xs : List A) (i : ℕ) (a : A) → map f (take i xs ++ a ∷ drop i xs) ≡ take i (map f xs) ++ f a ∷ drop i (map f xs)
+mapped_insert f xs i a = map-append f (take i xs) (a ∷ drop i xs) ∙ ap₂ (λ us vs. us ++ f a ∷ vs) (sym (take-map f i xs)) (sym (drop-map f i xs))
 
-pub values_push : {X : Type 0} (xs : List (Arc X Global)) (a : Arc X Global) → values (xs ++ a ∷ []) ≡ values xs ++ arc_value a ∷ []
-values_push xs a = map-append arc_value xs (a ∷ [])
+pub mapped_push : {A X : Type 0} (f : A → X) (xs : List A) (a : A) → map f (xs ++ a ∷ []) ≡ map f xs ++ f a ∷ []
+mapped_push f xs a = map-append f xs (a ∷ [])
 
 tie_head : {T : Type 0} (us vs : List T) (x y : T) → x ∷ us ≡ y ∷ vs → x ≡ y
 tie_head us vs x y e = cc
@@ -126,17 +122,17 @@ whole_halves W ps i f b h u v =
     all_append W (take i ps) (f ∷ b ∷ drop (i + 1) ps) (all_left W (take i ps) (drop i ps) (subst (AreWhole W) (sym (take-append-drop i ps)) h))
     (u, (v, all_right W (take (i + 1) ps) (drop (i + 1) ps) (subst (AreWhole W) (sym (take-append-drop (i + 1) ps)) h)))
 
-pub values_take : {X : Type 0} (n : ℕ) (xs : List (Arc X Global)) → values (take n xs) ≡ take n (values xs)
-values_take n xs = sym (take-map arc_value n xs)
+pub mapped_take : {A X : Type 0} (f : A → X) (n : ℕ) (xs : List A) → map f (take n xs) ≡ take n (map f xs)
+mapped_take f n xs = sym (take-map f n xs)
 
-pub values_drop : {X : Type 0} (n : ℕ) (xs : List (Arc X Global)) → values (drop n xs) ≡ drop n (values xs)
-values_drop n xs = sym (drop-map arc_value n xs)
+pub mapped_drop : {A X : Type 0} (f : A → X) (n : ℕ) (xs : List A) → map f (drop n xs) ≡ drop n (map f xs)
+mapped_drop f n xs = sym (drop-map f n xs)
 
-pub front_some : {X : Type 0} (xs ys : List (Arc X Global)) (k : ℕ) → values ys ≡ take k (values xs) → 0 < k → k ≤ length xs → 0 < length ys
-front_some xs ys k e some l = let n : length (values ys) ≡ length (take k (values xs)) = ap length e in omega (arith, n, values_length xs, values_length ys, length-take k (values xs))
+pub front_some : {A X : Type 0} (f : A → X) (xs ys : List A) (k : ℕ) → map f ys ≡ take k (map f xs) → 0 < k → k ≤ length xs → 0 < length ys
+front_some f xs ys k e some l = let n : length (map f ys) ≡ length (take k (map f xs)) = ap length e in omega (arith, n, mapped_length f xs, mapped_length f ys, length-take k (map f xs))
 
-pub back_some : {X : Type 0} (xs ys : List (Arc X Global)) (k : ℕ) → values ys ≡ drop k (values xs) → k < length xs → 0 < length ys
-back_some xs ys k e l = let n : length (values ys) ≡ length (drop k (values xs)) = ap length e in omega (arith, n, values_length xs, values_length ys, length-drop k (values xs))
+pub back_some : {A X : Type 0} (f : A → X) (xs ys : List A) (k : ℕ) → map f ys ≡ drop k (map f xs) → k < length xs → 0 < length ys
+back_some f xs ys k e l = let n : length (map f ys) ≡ length (drop k (map f xs)) = ap length e in omega (arith, n, mapped_length f xs, mapped_length f ys, length-drop k (map f xs))
 
 pub front_whole : {P : Type 0} (W : P → Type 0) (ps us : List P) (k : ℕ) → us ≡ take k ps → AreWhole W ps → AreWhole W us
 front_whole W ps us k e h = subst (AreWhole W) (sym e) (all_left W (take k ps) (drop k ps) (subst (AreWhole W) (sym (take-append-drop k ps)) h))
@@ -149,23 +145,23 @@ seen_cut seen ps us vs k d e = ap₂ (λ xs ys. flat_map seen xs ++ flat_map see
 
 -- ---- one part of shared parts changed
 
-pub put_whole : {P : Type 0} (W : P → Type 0) (xs : List (Arc P Global)) (i : ℕ) (b : Arc P Global) → i < length xs → AreWhole W (values xs) → W (arc_value b) → 0 < length (set xs i b) × AreWhole W (values (set xs i b))
-put_whole W xs i b l h w =
-    let n = values_length xs in
-    (omega (arith, length-set xs i b), subst (AreWhole W) (sym (values_set xs i b)) (whole_set W (values xs) i (arc_value b) (omega arith) h w))
+pub put_whole : {A P : Type 0} (f : A → P) (W : P → Type 0) (xs : List A) (i : ℕ) (b : A) → i < length xs → AreWhole W (map f xs) → W (f b) → 0 < length (set xs i b) × AreWhole W (map f (set xs i b))
+put_whole f W xs i b l h w =
+    let n = mapped_length f xs in
+    (omega (arith, length-set xs i b), subst (AreWhole W) (sym (mapped_set f xs i b)) (whole_set W (map f xs) i (f b) (omega arith) h w))
 
-module _ {P T : Type 0} (seen : P → List T) where
-  pub put_seen : (order : T → T → Ordering) (x : T) (xs : List (Arc P Global)) (i : ℕ) (a b : Arc P Global) → i < length xs → a ≡ get_or xs i a
-      → AllBelow (order x) (flat_map seen (take i (values xs))) → AllAbove (order x) (flat_map seen (drop (i + 1) (values xs)))
-      → seen (arc_value b) ≡ inserted order x (seen (arc_value a)) → flat_map seen (values (set xs i b)) ≡ inserted order x (flat_map seen (values xs))
+module _ {A P T : Type 0} (f : A → P) (seen : P → List T) where
+  pub put_seen : (order : T → T → Ordering) (x : T) (xs : List A) (i : ℕ) (a b : A) → i < length xs → a ≡ get_or xs i a
+      → AllBelow (order x) (flat_map seen (take i (map f xs))) → AllAbove (order x) (flat_map seen (drop (i + 1) (map f xs)))
+      → seen (f b) ≡ inserted order x (seen (f a)) → flat_map seen (map f (set xs i b)) ≡ inserted order x (flat_map seen (map f xs))
   put_seen order x xs i a b l e low high h =
-      let n = values_length xs in
-      ap (flat_map seen) (values_set xs i b) ∙ seen_inserted seen order x (values xs) i (arc_value a) (arc_value b) (omega arith) (value_at xs i a (arc_value a) l e refl) low high h
+      let n = mapped_length f xs in
+      ap (flat_map seen) (mapped_set f xs i b) ∙ seen_inserted seen order x (map f xs) i (f a) (f b) (omega arith) (mapped_at f xs i a (f a) l e refl) low high h
 
-  pub put_kept : (xs : List (Arc P Global)) (i : ℕ) (a b : Arc P Global) → i < length xs → a ≡ get_or xs i a → seen (arc_value b) ≡ seen (arc_value a) → flat_map seen (values (set xs i b)) ≡ flat_map seen (values xs)
+  pub put_kept : (xs : List A) (i : ℕ) (a b : A) → i < length xs → a ≡ get_or xs i a → seen (f b) ≡ seen (f a) → flat_map seen (map f (set xs i b)) ≡ flat_map seen (map f xs)
   put_kept xs i a b l e h =
-      let n = values_length xs in
-      ap (flat_map seen) (values_set xs i b) ∙ seen_kept seen (values xs) i (arc_value a) (arc_value b) (omega arith) (value_at xs i a (arc_value a) l e refl) h
+      let n = mapped_length f xs in
+      ap (flat_map seen) (mapped_set f xs i b) ∙ seen_kept seen (map f xs) i (f a) (f b) (omega arith) (mapped_at f xs i a (f a) l e refl) h
 
 pub on_err_when : {T E P : Type 0} (r : Result T E) → P → OnErr r P
 on_err_when (Ok x) p = tt
@@ -212,41 +208,41 @@ only_one order ys x a xs e l h = let n : length ys ≡ length (x ∷ xs) = ap le
 
 -- ---- a removal
 
-pub values_remove : {X : Type 0} (xs : List (Arc X Global)) (i : ℕ) → values (take i xs ++ drop (suc i) xs) ≡ take i (values xs) ++ drop (i + 1) (values xs)
-values_remove xs i =
+pub mapped_remove : {A X : Type 0} (f : A → X) (xs : List A) (i : ℕ) → map f (take i xs ++ drop (suc i) xs) ≡ take i (map f xs) ++ drop (i + 1) (map f xs)
+mapped_remove f xs i =
     let e : suc i ≡ i + 1 = omega arith in
-    map-append arc_value (take i xs) (drop (suc i) xs) ∙ ap₂ (λ us vs. us ++ vs) (sym (take-map arc_value i xs)) (sym (drop-map arc_value (suc i) xs) ∙ ap (λ k. drop k (values xs)) e)
+    map-append f (take i xs) (drop (suc i) xs) ∙ ap₂ (λ us vs. us ++ vs) (sym (take-map f i xs)) (sym (drop-map f (suc i) xs) ∙ ap (λ k. drop k (map f xs)) e)
 
-module _ {P T : Type 0} (seen : P → List T) where
+module _ {A P T : Type 0} (f : A → P) (seen : P → List T) where
   -- a removal in one part
-  pub seen_removed : (against : T → Ordering) (xs : List (Arc P Global)) (i : ℕ) (a b : Arc P Global) → i < length xs → a ≡ get_or xs i a
-      → AllBelow against (flat_map seen (take i (values xs))) → AllAbove against (flat_map seen (drop (i + 1) (values xs)))
-      → seen (arc_value b) ≡ removed against (seen (arc_value a)) → flat_map seen (values (set xs i b)) ≡ removed against (flat_map seen (values xs))
+  pub seen_removed : (against : T → Ordering) (xs : List A) (i : ℕ) (a b : A) → i < length xs → a ≡ get_or xs i a
+      → AllBelow against (flat_map seen (take i (map f xs))) → AllAbove against (flat_map seen (drop (i + 1) (map f xs)))
+      → seen (f b) ≡ removed against (seen (f a)) → flat_map seen (map f (set xs i b)) ≡ removed against (flat_map seen (map f xs))
   seen_removed against xs i a b l e low high h =
-      let n = values_length xs in
-      let k : i < length (values xs) = omega arith in
-      let front = flat_map seen (take i (values xs)) in
-      let rest = flat_map seen (drop (i + 1) (values xs)) in
-      ap (flat_map seen) (values_set xs i b) ∙ seen_set seen (values xs) i (arc_value b) k ∙ ap (λ us. front ++ (us ++ rest)) h
-      ∙ sym (ap (removed against) (seen_split seen (values xs) i (arc_value a) k (value_at xs i a (arc_value a) l e refl)) ∙ removed_cut against front (seen (arc_value a)) rest low high)
+      let n = mapped_length f xs in
+      let k : i < length (map f xs) = omega arith in
+      let front = flat_map seen (take i (map f xs)) in
+      let rest = flat_map seen (drop (i + 1) (map f xs)) in
+      ap (flat_map seen) (mapped_set f xs i b) ∙ seen_set seen (map f xs) i (f b) k ∙ ap (λ us. front ++ (us ++ rest)) h
+      ∙ sym (ap (removed against) (seen_split seen (map f xs) i (f a) k (mapped_at f xs i a (f a) l e refl)) ∙ removed_cut against front (seen (f a)) rest low high)
 
   -- a part of which nothing is left, taken out
-  pub seen_without : (xs : List (Arc P Global)) (i : ℕ) (b : Arc P Global) → i < length xs → seen (arc_value b) ≡ [] → flat_map seen (values (take i (set xs i b) ++ drop (suc i) (set xs i b))) ≡ flat_map seen (values (set xs i b))
+  pub seen_without : (xs : List A) (i : ℕ) (b : A) → i < length xs → seen (f b) ≡ [] → flat_map seen (map f (take i (set xs i b) ++ drop (suc i) (set xs i b))) ≡ flat_map seen (map f (set xs i b))
   seen_without xs i b l h =
       let ys = set xs i b in
-      let n = values_length ys in
+      let n = mapped_length f ys in
       let k : i < length ys = omega (arith, length-set xs i b) in
-      let at : arc_value b ≡ get_or (values ys) i (arc_value b) = value_at ys i b (arc_value b) k (sym (get_or-set_same xs i b b l)) refl in
-      let front = flat_map seen (take i (values ys)) in
-      let rest = flat_map seen (drop (i + 1) (values ys)) in
-      ap (flat_map seen) (values_remove ys i) ∙ flat_map-append seen (take i (values ys)) (drop (i + 1) (values ys))
-      ∙ sym (seen_split seen (values ys) i (arc_value b) (omega arith) at ∙ ap (λ us. front ++ (us ++ rest)) h)
+      let at : f b ≡ get_or (map f ys) i (f b) = mapped_at f ys i b (f b) k (sym (get_or-set_same xs i b b l)) refl in
+      let front = flat_map seen (take i (map f ys)) in
+      let rest = flat_map seen (drop (i + 1) (map f ys)) in
+      ap (flat_map seen) (mapped_remove f ys i) ∙ flat_map-append seen (take i (map f ys)) (drop (i + 1) (map f ys))
+      ∙ sym (seen_split seen (map f ys) i (f b) (omega arith) at ∙ ap (λ us. front ++ (us ++ rest)) h)
 
-pub whole_without : {P : Type 0} (W : P → Type 0) (xs : List (Arc P Global)) (i : ℕ) (b : Arc P Global) → i < length xs → AreWhole W (values xs) → AreWhole W (values (take i (set xs i b) ++ drop (suc i) (set xs i b)))
-whole_without W xs i b l h =
-    let ps = values xs in
-    let e : values (take i (set xs i b) ++ drop (suc i) (set xs i b)) ≡ take i ps ++ drop (i + 1) ps =
-    ap (λ us. values (us ++ drop (suc i) (set xs i b))) (take-set xs i b) ∙ ap (λ vs. values (take i xs ++ vs)) (drop-set-lt (suc i) xs i b (omega arith)) ∙ values_remove xs i in
+pub whole_without : {A P : Type 0} (f : A → P) (W : P → Type 0) (xs : List A) (i : ℕ) (b : A) → i < length xs → AreWhole W (map f xs) → AreWhole W (map f (take i (set xs i b) ++ drop (suc i) (set xs i b)))
+whole_without f W xs i b l h =
+    let ps = map f xs in
+    let e : map f (take i (set xs i b) ++ drop (suc i) (set xs i b)) ≡ take i ps ++ drop (i + 1) ps =
+    ap (λ us. map f (us ++ drop (suc i) (set xs i b))) (take-set xs i b) ∙ ap (λ vs. map f (take i xs ++ vs)) (drop-set-lt (suc i) xs i b (omega arith)) ∙ mapped_remove f xs i in
     subst (AreWhole W) (sym e)
     (all_append W (take i ps) (drop (i + 1) ps) (all_left W (take i ps) (drop i ps) (subst (AreWhole W) (sym (take-append-drop i ps)) h))
     (all_right W (take (i + 1) ps) (drop (i + 1) ps) (subst (AreWhole W) (sym (take-append-drop (i + 1) ps)) h)))

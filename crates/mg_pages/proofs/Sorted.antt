@@ -1,6 +1,6 @@
 -- Ascending lists, and keys in them.
-use Rattle.std.proofs.Common.{◌≡◌, ℕ, ◌+◌, ◌<◌, length, take, drop, Some, None, is_some, cond, append_assoc, append-nil, set, get_or, List, [], ◌∷◌, ◌++◌, Bool, true, false, Ordering, Less, Equal, Greater, is_eq, is_lt, is_gt, refl, sym, ap, ap₂, ◌∙◌, subst}
-use Rattle.std.proofs.lemmas.List.{drop_more, take_more, take-append-drop, take-set, drop-set}
+use Rattle.std.proofs.Common.{◌≡◌, ℕ, ◌+◌, ◌<◌, length, take, drop, Some, None, is_some, cond, append_assoc, append-nil, set, get_or, List, [], ◌∷◌, ◌++◌, Bool, true, false, Ordering, Less, Equal, Greater, is_eq, is_lt, is_gt, refl, sym, ap, ap₂, ◌∙◌, subst, arith}
+use Rattle.std.proofs.lemmas.List.{drop_more, length-append, take_more, take-append-drop, take-set, drop-set}
 use Rattle.std.proofs.lemmas.List.Elements.{filter-append}
 use Rattle.std.proofs.lemmas.Cmp.{tied_itself}
 use Rattle.std.specs.Cmp.{IsTotalOrder}
@@ -145,7 +145,7 @@ module _ {T : Type 0} (order : T → T → Ordering) (against : T → Ordering) 
   not_below_one x y Less e l n = absurd (let m : is_gt (against x) ≡ false = ap is_gt e in let k : is_lt (against y) ≡ true = ap is_lt (probe x y l m) in cc)
   not_below_one x y Equal e l n = absurd (let m : is_gt (against x) ≡ false = ap is_gt e in let k : is_lt (against y) ≡ true = ap is_lt (probe x y l m) in cc)
 
-  before_one : (xs : List T) (y : T) (zs : List T) → Ascends order (xs ++ y ∷ zs) → is_lt (against y) ≡ false → AllBelow against xs
+  pub before_one : (xs : List T) (y : T) (zs : List T) → Ascends order (xs ++ y ∷ zs) → is_lt (against y) ≡ false → AllBelow against xs
   before_one [] y zs s n = tt
   before_one (x ∷ xs) y zs s n = (not_below_one x y (against x) refl (all_right (λ z. order x z ≡ Less) xs (y ∷ zs) s.0).0 n, before_one xs y zs s.1 n)
 
@@ -192,7 +192,7 @@ all_pass : {T : Type 0} (test : T → Bool) (xs : List T) → AllByRecursion (λ
 all_pass test [] = tt
 all_pass test (x ∷ xs) = pass_one test x (filter test xs) (test x) refl (all_pass test xs)
 
-less_from_test : (r : Ordering) → is_lt r ≡ true → r ≡ Less
+pub less_from_test : (r : Ordering) → is_lt r ≡ true → r ≡ Less
 less_from_test Less h = refl
 less_from_test Equal h = absurd cc
 less_from_test Greater h = absurd cc
@@ -218,10 +218,10 @@ inserted_ascends order o x xs s =
 
 -- ---- runs
 
-above_one_less : {T : Type 0} (against : T → Ordering) (x : T) (xs ys : List T) → against x ≡ Less → above against xs ≡ ys → above against (x ∷ xs) ≡ x ∷ ys
+pub above_one_less : {T : Type 0} (against : T → Ordering) (x : T) (xs ys : List T) → against x ≡ Less → above against xs ≡ ys → above against (x ∷ xs) ≡ x ∷ ys
 above_one_less against x xs ys e h = ap (λ b. cond b (x ∷ above against xs) (above against xs)) (ap is_lt e) ∙ ap (λ us. x ∷ us) h
 
-above_one_not : {T : Type 0} (against : T → Ordering) (x : T) (xs : List T) → is_lt (against x) ≡ false → above against (x ∷ xs) ≡ above against xs
+pub above_one_not : {T : Type 0} (against : T → Ordering) (x : T) (xs : List T) → is_lt (against x) ≡ false → above against (x ∷ xs) ≡ above against xs
 above_one_not against x xs e = ap (λ b. cond b (x ∷ above against xs) (above against xs)) e
 
 module _ {T : Type 0} (order : T → T → Ordering) (against : T → Ordering) (probe : IsProbe order against) where
@@ -354,3 +354,42 @@ module _ {T : Type 0} (order : T → T → Ordering) (against : T → Ordering) 
   pub removed_absent : (xs : List T) → Ascends order xs → is_some (found against xs) ≡ false → removed against xs ≡ xs
   removed_absent [] s a = refl
   removed_absent (x ∷ xs) s a = absent_step x xs (against x) refl s a (removed_absent xs s.1)
+
+-- ---- lengths
+
+module _ {T : Type 0} (order : T → T → Ordering) (against : T → Ordering) (probe : IsProbe order against) where
+  present_step : (x : T) (xs : List T) (r : Ordering) → against x ≡ r → Ascends order (x ∷ xs) → is_some (found against (x ∷ xs)) ≡ true
+      → (is_some (found against xs) ≡ true → length xs ≡ length (removed against xs) + 1) → length (x ∷ xs) ≡ length (removed against (x ∷ xs)) + 1
+  present_step x xs Less e s a h =
+      let ties = filter (λ z. is_eq (against z)) xs in
+      let all = all_weaker (λ z. order x z ≡ Less) (λ z. against z ≡ Less) (λ z l. probe x z l (ap is_gt e)) xs s.0 in
+      let none : is_some (found against (x ∷ xs)) ≡ false = ap (λ b. is_some (first_of_list (cond b (x ∷ ties) ties))) (ap is_eq e) ∙ ap (λ us. is_some (first_of_list us)) (tied_of_above against xs all) in
+      absurd cc
+  present_step x xs Equal e s a h =
+      let all = all_weaker (λ z. order x z ≡ Less) (λ z. against z ≡ Less) (λ z l. probe x z l (ap is_gt e)) xs s.0 in
+      let rest : removed against (x ∷ xs) ≡ xs = ap₂ (λ us vs. us ++ vs) (below_none order against probe x xs s (ap is_gt e)) (above_one_not against x xs (ap is_lt e) ∙ above_of_above against xs all) in
+      let n = ap length rest in
+      omega arith
+  present_step x xs Greater e s a h =
+      let ties = filter (λ z. is_eq (against z)) xs in
+      let same : is_some (found against (x ∷ xs)) ≡ is_some (found against xs) = ap (λ b. is_some (first_of_list (cond b (x ∷ ties) ties))) (ap is_eq e) in
+      let rest : removed against (x ∷ xs) ≡ x ∷ removed against xs =
+      ap₂ (λ us vs. us ++ vs) (ap (λ b. cond b (x ∷ below against xs) (below against xs)) (ap is_gt e)) (above_one_not against x xs (ap is_lt e)) in
+      let n = ap length rest in
+      let m = h (sym same ∙ a) in
+      omega arith
+
+  -- a removal takes one element away
+  pub removed_present : (xs : List T) → Ascends order xs → is_some (found against xs) ≡ true → length xs ≡ length (removed against xs) + 1
+  removed_present [] s a = absurd cc
+  removed_present (x ∷ xs) s a = present_step x xs (against x) refl s a (removed_present xs s.1)
+
+-- an insertion adds one element, and one that ties gives way
+pub inserted_length : {T : Type 0} (order : T → T → Ordering) (x : T) (xs : List T) → length (inserted order x xs) ≡ length (removed (order x) xs) + 1
+inserted_length order x xs = omega (arith, length-append (below (order x) xs) (x ∷ above (order x) xs), length-append (below (order x) xs) (above (order x) xs))
+
+pub inserted_new : {T : Type 0} (order : T → T → Ordering) → IsTotalOrder order → (x : T) (xs : List T) → Ascends order xs → is_some (found (order x) xs) ≡ false → length (inserted order x xs) ≡ length xs + 1
+inserted_new order o x xs s a = let n = ap length (removed_absent order (order x) (probe_from_total o x) xs s a) in omega (arith, inserted_length order x xs)
+
+pub inserted_over : {T : Type 0} (order : T → T → Ordering) → IsTotalOrder order → (x : T) (xs : List T) → Ascends order xs → is_some (found (order x) xs) ≡ true → length (inserted order x xs) ≡ length xs
+inserted_over order o x xs s a = omega (arith, inserted_length order x xs, removed_present order (order x) (probe_from_total o x) xs s a)

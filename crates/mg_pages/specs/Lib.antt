@@ -1,3 +1,4 @@
+pub mod Finite
 pub mod Identified
 pub mod Order
 pub mod Parts

@@ -1,5 +1,6 @@
--- What parts stand for.
+-- What pages and levels stand for.
 use Rattle.mg_pages.specs.Order.{Ascends}
+use Rattle.mg_pages.specs.declared.child.Child.{Child}
 use Rattle.mg_pages.specs.declared.level.Level.{Level}
 use Rattle.mg_pages.specs.declared.page.Page.{Page}
 use Rattle.std.specs.declared.cmp.Ordering.{Ordering}
@@ -22,6 +23,22 @@ pub record IsLast {X : Type 0} (x : X) (xs : List X) : Type 0 where
 abbrev pub AreWhole : {P : Type 0} → (P → Type 0) → List P → Type 0
 AreWhole is_whole ps = AllByRecursion is_whole ps
 
+-- a child: the element that is said to be its last, and the part
+abbrev pub child_value : {T P : Type 0} → Child T P → T × P
+child_value c = (arc_value c.last, arc_value c.part)
+
+-- children one after another
+abbrev pub children : {T P : Type 0} → List (Child T P) → List (T × P)
+children cs = map child_value cs
+
+-- the elements of a child
+abbrev pub child_seen : {T P : Type 0} → (P → List T) → T × P → List T
+child_seen seen c = seen c.1
+
+-- the part is whole, and ends with the element beside it
+abbrev pub child_whole : {T P : Type 0} → (P → Type 0) → (P → List T) → T × P → Type 0
+child_whole is_whole seen c = is_whole c.1 × IsLast c.0 (seen c.1)
+
 module _ {P T : Type 0} (is_whole : P → Type 0) (seen : P → List T) where
   -- q has the elements of p
   pub record IsCopy (p q : P) : Type 0 where
@@ -35,11 +52,11 @@ module _ {P T : Type 0} (is_whole : P → Type 0) (seen : P → List T) where
     pub same : seen halves.0 ++ seen halves.1 ≡ seen p
 
 -- the elements of a level and of a page, and that none of their parts is empty
-abbrev pub level_seen : {P T : Type 0} → (P → List T) → Level P → List T
-level_seen seen l = flat_map seen (values l.parts.items)
+abbrev pub level_seen : {P T : Type 0} → (P → List T) → Level T P → List T
+level_seen seen l = flat_map (child_seen seen) (children l.parts.items)
 
-abbrev pub level_whole : {P : Type 0} → (P → Type 0) → Level P → Type 0
-level_whole is_whole l = (0 < length l.parts.items) × AreWhole is_whole (values l.parts.items)
+abbrev pub level_whole : {P T : Type 0} → (P → Type 0) → (P → List T) → Level T P → Type 0
+level_whole is_whole seen l = (0 < length l.parts.items) × AreWhole (child_whole is_whole seen) (children l.parts.items)
 
 abbrev pub page_seen : {T : Type 0} → Page T → List T
 page_seen p = values p.elements.items
@@ -47,11 +64,25 @@ page_seen p = values p.elements.items
 abbrev pub page_whole : {T : Type 0} → Page T → Type 0
 page_whole p = 0 < length p.elements.items
 
+-- a part of the root, and the root
+abbrev pub High : Type 0 → Type 0
+High T = Level T (Level T (Page T))
+
+abbrev pub Root : Type 0 → Type 0
+Root T = Level T (High T)
+
+-- the elements of a part of the root, and that none of its parts is empty
+abbrev pub high_seen : {T : Type 0} → High T → List T
+high_seen = level_seen (level_seen page_seen)
+
+abbrev pub high_whole : {T : Type 0} → High T → Type 0
+high_whole = level_whole (level_whole page_whole page_seen) (level_seen page_seen)
+
 -- the elements of a collection
-abbrev pub root_seen : {T : Type 0} → Level (Level (Level (Page T))) → List T
-root_seen r = level_seen (level_seen (level_seen page_seen)) r
+abbrev pub root_seen : {T : Type 0} → Root T → List T
+root_seen r = level_seen high_seen r
 
 -- nothing but the root itself may be empty, and the elements ascend
-pub record IsSound {T : Type 0} (order : T → T → Ordering) (r : Level (Level (Level (Page T)))) : Type 0 where
-  pub whole : AreWhole (level_whole (level_whole page_whole)) (values r.parts.items)
+pub record IsSound {T : Type 0} (order : T → T → Ordering) (r : Root T) : Type 0 where
+  pub whole : AreWhole (child_whole high_whole high_seen) (children r.parts.items)
   pub sorted : Ascends order (root_seen r)

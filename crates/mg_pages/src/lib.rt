@@ -2,9 +2,12 @@
 #![tactic(auto)]
 
 mod back;
+mod build;
+mod child;
 mod identified;
 mod iter;
 pub mod keyed;
+pub mod laws;
 mod level;
 mod page;
 pub mod pages;

@@ -45,7 +45,7 @@ impl<T: Keyed> Part<T> for Page<T> {
 
     ghost is_whole = { λ p. 0 < length p.elements.items };
 
-    fn last(&self) -> &T {
+    fn last(&self) -> &Arc<T> {
         &self.elements[self.elements.len() - 1]
     }
 
@@ -121,6 +121,7 @@ impl<T: Keyed> Part<T> for Page<T> {
         requires whole { 0 < length self.old.elements.items }
         requires sorted { Ascends T.order (values self.old.elements.items) }
         ensures whole { IfOk result (λ emptied. emptied ≡ false → 0 < length self.new.elements.items) }
+        ensures some { IfOk result (λ emptied. emptied ≡ false → 0 < length (values self.new.elements.items)) }
         ensures emptied { IfOk result (λ emptied. emptied ≡ true → values self.new.elements.items ≡ []) }
         ensures ok { OnOk result (values self.new.elements.items ≡ removed (Q.against key.now) (values self.old.elements.items)) }
         ensures err { OnErr result (values self.new.elements.items ≡ values self.old.elements.items) }

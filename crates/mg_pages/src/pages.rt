@@ -1,26 +1,54 @@
 //! Ordered collections in shared pages.
-ghost use Rattle.std.specs.Prelude.{◌≡◌, [], ◌∷◌, IfOk, OnOk, OnErr, is_some, option_map, reverse};
+ghost use Rattle.std.specs.Prelude.{◌≡◌, ◌↔◌, [], ◌∷◌, length, IfOk, IsTrue, OnOk, OnErr, is_some, option_map, reverse};
 ghost use Rattle.std.specs.Arc.{arc_value};
 ghost use Rattle.mg_pages.specs.Order.{Ascends, above, below, found, from, inserted, removed, upto};
 ghost use Rattle.mg_pages.specs.Runs.{IsRun, IsEndRun};
-ghost use Rattle.mg_pages.specs.Parts.{values, root_seen, IsSound};
+ghost use Rattle.mg_pages.specs.Parts.{values, level_seen, level_whole, high_seen, high_whole, root_seen, IsSound};
 
 use crate::back::Back;
+use crate::build::{grouped, paged};
+use crate::child::{child_of, copied_children};
 use crate::iter::Iter;
 use crate::keyed::{Keyed, Probe};
 use crate::level::{Level, take_out_of_parts};
 use crate::page::Page;
-use crate::part::{Part, copied};
+use crate::part::Part;
 use crate::sides::{Over, Under};
 use mg_value::NoMemory;
 use std::alloc::{AllocError, Global};
 use std::marker::Model;
 use std::sync::Arc;
 
+// The top: levels of levels of pages.
+type Root<T> = Level<T, Level<T, Level<T, Page<T>>>>;
+
+// A level of one part.
+fn level_of<T: Keyed, P: Part<T>>(alloc: Global, part: P) -> Result<Level<T, P>, AllocError>
+    requires { P.is_whole part }
+    ensures whole { IfOk result (λ l. level_whole P.is_whole P.seen l) }
+    ensures seen { IfOk result (λ l. level_seen P.seen l ≡ P.seen part) }
+{
+    let child = child_of::<T, P>(alloc, part)?;
+    let parts = vec_of(alloc, child)?;
+    Ok(Level { parts })
+}
+
+// A root with one element.
+fn root_of<T: Keyed>(alloc: Global, element: Arc<T>) -> Result<Root<T>, AllocError>
+    ensures whole { IfOk result (λ r. level_whole high_whole high_seen r) }
+    ensures seen { IfOk result (λ r. root_seen r ≡ arc_value element ∷ []) }
+{
+    let elements = vec_of(alloc, element)?;
+    let low = level_of::<T, Page<T>>(alloc, Page { elements })?;
+    let high = level_of::<T, Level<T, Page<T>>>(alloc, low)?;
+    let root = level_of::<T, Level<T, Level<T, Page<T>>>>(alloc, high)?;
+    Ok(root)
+}
+
 // Puts an element under a root that may be empty, and says whether one that ties gave way.
 fn put<T: Keyed>(
     alloc: Global,
-    root: &mut Level<Level<Level<Page<T>>>>,
+    root: &mut Root<T>,
     element: Arc<T>,
 ) -> Result<bool, AllocError>
     requires { IsSound T.order root.old }
@@ -30,16 +58,7 @@ fn put<T: Keyed>(
     ensures err { OnErr result (root_seen root.new ≡ root_seen root.old) }
 {
     if root.parts.is_empty() {
-        let page = Page {
-            elements: vec_of(alloc, element)?,
-        };
-        let low = Level {
-            parts: vec_of(alloc, Arc::new(alloc, page)?)?,
-        };
-        let high = Level {
-            parts: vec_of(alloc, Arc::new(alloc, low)?)?,
-        };
-        root.parts.push(Arc::new(alloc, high)?)?;
+        *root = root_of(alloc, element)?;
         return Ok(false);
     }
     let had = root.put(alloc, element)?;
@@ -49,7 +68,7 @@ fn put<T: Keyed>(
 // Takes an element out under a root that may be empty.
 fn take_out<T: Keyed, Q: Probe<T>>(
     alloc: Global,
-    root: &mut Level<Level<Level<Page<T>>>>,
+    root: &mut Root<T>,
     key: &Q,
 ) -> Result<(), AllocError>
     requires { IsSound T.order root.old }
@@ -60,7 +79,7 @@ fn take_out<T: Keyed, Q: Probe<T>>(
     if root.parts.is_empty() {
         return Ok(());
     }
-    take_out_of_parts::<T, Level<Level<Page<T>>>, Q>(alloc, &mut root.parts, key)?;
+    take_out_of_parts::<T, Level<T, Level<T, Page<T>>>, Q>(alloc, &mut root.parts, key)?;
     Ok(())
 }
 
@@ -79,11 +98,12 @@ fn vec_of<X: Drop>(alloc: Global, thing: X) -> Result<Vec<X>, AllocError>
 /// common they share, and what nobody else shares is changed in place.
 #[derive(Drop)]
 pub struct Pages<T: Keyed> {
-    root: Level<Level<Level<Page<T>>>>,
+    root: Root<T>,
+    len: usize,
 }
 
 impl<T: Keyed> Model for Pages<T> {
-    ghost use Rattle.std.specs.Prelude.{List};
+    ghost use Rattle.std.specs.Prelude.{◌≡◌, List, length};
 
     ghost Value = { List T };
 
@@ -91,7 +111,7 @@ impl<T: Keyed> Model for Pages<T> {
 
     ghost view = { λ a. root_seen a.root };
 
-    ghost invariant = { λ a. IsSound T.order a.root };
+    ghost invariant = { λ a. IsSound T.order a.root × (a.len ≡ length (root_seen a.root)) };
 }
 
 impl<T: Keyed> Pages<T> {
@@ -103,7 +123,38 @@ impl<T: Keyed> Pages<T> {
             root: Level {
                 parts: Vec::new(alloc),
             },
+            len: 0,
         }
+    }
+
+    /// The elements of a list that ascends, each of them shared, with no search for any.
+    ///
+    /// Errors: `NoMemory` where a growth was refused. Cost: a step an element. The pages are full, but for the last.
+    pub fn from_sorted(alloc: Global, elements: &[Arc<T>]) -> Result<Pages<T>, NoMemory>
+        requires { Ascends T.order (values elements.now) }
+        ensures { IfOk result (λ p. p ≡ values elements.now) }
+    {
+        let pages = paged(alloc, elements)?;
+        let lows = grouped::<T, Page<T>>(alloc, &pages)?;
+        let parts = grouped::<T, Level<T, Page<T>>>(alloc, &lows)?;
+        Ok(Pages {
+            root: Level { parts },
+            len: elements.len(),
+        })
+    }
+
+    /// How many elements there are. Cost: none.
+    pub fn len(&self) -> usize
+        ensures { result ≡ length self.now }
+    {
+        self.len
+    }
+
+    /// Whether there is no element. Cost: none.
+    pub fn is_empty(&self) -> bool
+        ensures { IsTrue result ↔ (self.now ≡ []) }
+    {
+        self.len == 0
     }
 
     /// The elements ascend: for proofs of callers. Does nothing.
@@ -219,22 +270,30 @@ impl<T: Keyed> Pages<T> {
     pub fn share(&self, alloc: Global) -> Result<Pages<T>, NoMemory>
         ensures { IfOk result (λ p. p ≡ self.now) }
     {
-        let parts = copied(alloc, &self.root.parts)?;
+        let parts = copied_children(alloc, &self.root.parts)?;
+        let root = Level { parts };
         Ok(Pages {
-            root: Level { parts },
+            root,
+            len: self.len,
         })
     }
 
     /// Puts an element in its place, and says whether one that ties gave way.
     ///
-    /// Errors: `NoMemory` where a growth was refused; then nothing has changed. Cost: the logarithm of the number of
-    /// elements, and a copy of each part on the way that others share.
+    /// Errors: `NoMemory` where a growth was refused, or where there are 2^64 - 1 elements; then nothing has changed.
+    /// Cost: the logarithm of the number of elements, and a copy of each part on the way that others share.
     pub fn insert(&mut self, alloc: Global, element: Arc<T>) -> Result<bool, NoMemory>
         ensures had { IfOk result (λ had. had ≡ is_some (found (T.order (arc_value element)) self.old)) }
         ensures ok { OnOk result (self.new ≡ inserted T.order (arc_value element) self.old) }
         ensures err { OnErr result (self.new ≡ self.old) }
     {
+        let Some(more) = self.len.checked_add(1) else {
+            return Err(NoMemory);
+        };
         let had = put(alloc, &mut self.root, element)?;
+        if !had {
+            self.len = more;
+        }
         Ok(had)
     }
 
@@ -251,6 +310,7 @@ impl<T: Keyed> Pages<T> {
             return Ok(false);
         }
         take_out::<T, Q>(alloc, &mut self.root, key)?;
+        self.len -= 1;
         Ok(true)
     }
 }

@@ -1,5 +1,5 @@
 //! What a collection is made of: pages of elements, and levels of parts above them.
-ghost use Rattle.std.specs.Prelude.{is_some, ◌≡◌, ◌<◌, [], true, false, length, List, IfOk, OnOk, OnErr, IfSome, option_map};
+ghost use Rattle.std.specs.Prelude.{◌≡◌, ◌<◌, [], true, false, is_some, length, List, IfOk, OnOk, OnErr, IfSome, option_map};
 ghost use Rattle.std.specs.Arc.{arc_value};
 ghost use Rattle.mg_pages.specs.Order.{inserted, removed, found, above, below, Ascends};
 ghost use Rattle.mg_pages.specs.Runs.{IsRun, IsEndRun};
@@ -21,9 +21,9 @@ pub trait Part<T: Keyed>: Drop + Sized {
     ghost is_whole: { Self → Type 0 };
 
     /// The last element.
-    fn last(&self) -> &T
+    fn last(&self) -> &Arc<T>
         requires { is_whole self.now }
-        ensures { IsLast result.now (seen self.now) };
+        ensures { IsLast (arc_value result.now) (seen self.now) };
 
     /// The element that ties with a key.
     fn get<Q: Probe<T>>(&self, key: &Q) -> Option<&T>
@@ -80,17 +80,18 @@ pub trait Part<T: Keyed>: Drop + Sized {
         requires whole { is_whole self.old }
         requires sorted { Ascends T.order (seen self.old) }
         ensures whole { IfOk result (λ emptied. emptied ≡ false → is_whole self.new) }
+        ensures some { IfOk result (λ emptied. emptied ≡ false → 0 < length (seen self.new)) }
         ensures emptied { IfOk result (λ emptied. emptied ≡ true → seen self.new ≡ []) }
         ensures ok { OnOk result (seen self.new ≡ removed (Q.against key.now) (seen self.old)) }
         ensures err { OnErr result (seen self.new ≡ seen self.old) }
         ensures err_whole { OnErr result (is_whole self.new) };
 }
 
-/// The same things, each of them shared, with room for one more.
+/// The same elements, each of them shared, with room for one more.
 pub fn copied<X: Drop>(alloc: Global, things: &[Arc<X>]) -> Result<Vec<Arc<X>>, AllocError>
     ensures { IfOk result (λ v. values v.items ≡ values things.now) }
 {
-    let mut copies = Vec::with_capacity(alloc, things.len())?;
+    let mut copies = Vec::with_capacity(alloc, things.len().saturating_add(1))?;
     for thing in things {
         let copy = thing.clone()?;
         copies.push(copy)?;

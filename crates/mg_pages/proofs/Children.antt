@@ -1,0 +1,92 @@
+-- Children of a level: the last element that stands beside a part.
+use Rattle.std.proofs.Common.{◌≡◌, ℕ, ◌+◌, ◌-◌, ◌<◌, List, [], ◌∷◌, ◌++◌, length, take, drop, get_or, false, Ordering, Less, is_lt, refl, sym, ap, ap₂, ◌∙◌, subst, arith, append_assoc, append-nil}
+use Rattle.std.proofs.lemmas.List.{drop_all, length-append}
+use Rattle.std.proofs.lemmas.List.Elements.{filter-append}
+use Rattle.std.specs.Arc.{arc_value}
+use Rattle.std.specs.Cmp.{IsTotalOrder}
+use Rattle.std.specs.List.{flat_map}
+use Rattle.mg_pages.specs.Order.{IsProbe, Ascends, above, below, inserted, removed, probe_from_total}
+use Rattle.mg_pages.specs.Runs.{IsEndRun}
+use Rattle.mg_pages.specs.Parts.{IsLast, AreWhole, child_seen, child_value, child_whole, children}
+use Rattle.mg_pages.specs.declared.child.Child.{Child}
+use Rattle.mg_pages.proofs.Sorted.{split_at, above_of_below, above_one_less, above_one_not, before_one}
+use Rattle.mg_pages.proofs.Parts.{mapped_at, mapped_length, whole_at, ascends_at}
+
+-- a child that stands in a level, by its last element and its part
+pub part_at : {T P : Type 0} (xs : List (Child T P)) (i : ℕ) (c : Child T P) (p : P) → i < length xs → c ≡ get_or xs i c → p ≡ arc_value c.part → (arc_value c.last, p) ≡ get_or (children xs) i (arc_value c.last, p)
+part_at xs i c p l e v = mapped_at child_value xs i c (arc_value c.last, p) l e (ap (λ q. (arc_value c.last, q)) v)
+
+pub within_children : {T P : Type 0} (xs : List (Child T P)) (i : ℕ) → i < length xs → i < length (children xs)
+within_children xs i l = omega (arith, mapped_length child_value xs)
+
+-- its part is whole, and ends with its last element
+pub child_at : {T P : Type 0} (W : P → Type 0) (seen : P → List T) (xs : List (Child T P)) (i : ℕ) (c : Child T P) (p : P) → i < length xs → c ≡ get_or xs i c → p ≡ arc_value c.part
+    → AreWhole (child_whole W seen) (children xs) → child_whole W seen (arc_value c.last, p)
+child_at W seen xs i c p l e v h = whole_at (child_whole W seen) (children xs) i (arc_value c.last, p) (within_children xs i l) (part_at xs i c p l e v) h
+
+-- its elements ascend
+pub child_ascends : {T P : Type 0} (seen : P → List T) (order : T → T → Ordering) (xs : List (Child T P)) (i : ℕ) (c : Child T P) (p : P) → i < length xs → c ≡ get_or xs i c → p ≡ arc_value c.part
+    → Ascends order (flat_map (child_seen seen) (children xs)) → Ascends order (seen p)
+child_ascends seen order xs i c p l e v s = ascends_at (child_seen seen) order (children xs) i (arc_value c.last, p) (within_children xs i l) (part_at xs i c p l e v) s
+
+-- parts that are whole are not empty
+pub seen_some : {P T : Type 0} (W : P → Type 0) (seen : P → List T) (ps : List (T × P)) → 0 < length ps → AreWhole (child_whole W seen) ps → 0 < length (flat_map (child_seen seen) ps)
+seen_some W seen [] n h = absurd (omega arith)
+seen_some W seen (p ∷ ps) n h =
+    let e = ap length h.0.1.is in
+    omega (arith, length-append (seen p.1) (flat_map (child_seen seen) ps), length-append h.0.1.front (p.0 ∷ []), e)
+
+-- the last of a list, at its last place
+pub last_at : {T : Type 0} (xs : List T) (x : T) → 0 < length xs → x ≡ get_or xs (length xs - 1) x → IsLast x xs
+last_at xs x n e =
+    let i = length xs - 1 in
+    let rest : drop (i + 1) xs ≡ [] = drop_all (i + 1) xs (omega arith) in
+    record { front = take i xs; is = split_at xs i x (omega arith) e ∙ ap (λ us. take i xs ++ x ∷ us) rest }
+
+-- the last of a list whose end is known
+pub last_of_end : {T : Type 0} (xs front ys : List T) (x : T) → xs ≡ front ++ ys → IsLast x ys → IsLast x xs
+last_of_end xs front ys x e it = record { front = front ++ it.front; is = e ∙ ap (λ us. front ++ us) it.is ∙ sym (append_assoc front it.front (x ∷ [])) }
+
+module _ {T : Type 0} (against : T → Ordering) (l : T) (xs : List T) (it : IsLast l xs) where
+  -- what is above a key that is below the last
+  above_last : against l ≡ Less → IsLast l (above against xs)
+  above_last e = record {
+    front = above against it.front;
+    is = ap (above against) it.is ∙ filter-append (λ y. is_lt (against y)) it.front (l ∷ []) ∙ ap (λ us. above against it.front ++ us) (above_one_less against l [] [] e refl);
+  }
+
+  -- nothing is above a key that is not below the last
+  above_none : (order : T → T → Ordering) → IsProbe order against → Ascends order xs → is_lt (against l) ≡ false → above against xs ≡ []
+  above_none order p s n =
+      let low = before_one order against p it.front l [] (subst (Ascends order) it.is s) n in
+      ap (above against) it.is ∙ filter-append (λ y. is_lt (against y)) it.front (l ∷ []) ∙ ap₂ (λ us vs. us ++ vs) (above_of_below against it.front low) (above_one_not against l [] n)
+
+  -- the last stays where the key is below it
+  pub removed_below_last : against l ≡ Less → IsLast l (removed against xs)
+  removed_below_last e = last_of_end (removed against xs) (below against xs) (above against xs) l refl (above_last e)
+
+  -- else the last of those below the key is the last
+  pub removed_at_last : (order : T → T → Ordering) → IsProbe order against → Ascends order xs → is_lt (against l) ≡ false → removed against xs ≡ below against xs
+  removed_at_last order p s n = ap (λ us. below against xs ++ us) (above_none order p s n) ∙ append-nil (below against xs)
+
+module _ {T : Type 0} (order : T → T → Ordering) (x l : T) (xs : List T) (it : IsLast l xs) where
+  -- the last stays where the new one is below it
+  pub inserted_below_last : order x l ≡ Less → IsLast l (inserted order x xs)
+  inserted_below_last e =
+      let a = above_last (order x) l xs it e in
+      last_of_end (inserted order x xs) (below (order x) xs ++ x ∷ []) (above (order x) xs) l (sym (append_assoc (below (order x) xs) (x ∷ []) (above (order x) xs))) a
+
+  -- else the new one is the last
+  pub inserted_at_last : IsTotalOrder order → Ascends order xs → is_lt (order x l) ≡ false → IsLast x (inserted order x xs)
+  inserted_at_last o s n = record {
+    front = below (order x) xs;
+    is = ap (λ us. below (order x) xs ++ x ∷ us) (above_none (order x) l xs it order (probe_from_total o x) s n);
+  }
+
+-- a run that ends what is below the key ends what is left, where nothing is above the key
+pub removed_run_last : {T : Type 0} (xs low run : List T) (x : T) → xs ≡ low → IsEndRun run low → 0 < length run → x ≡ get_or run (length run - 1) x → IsLast x xs
+removed_run_last xs low run x e r n at = last_of_end xs r.rest run x (e ∙ r.is) (last_at run x n at)
+
+-- where that run is empty, nothing is left
+pub removed_run_none : {T : Type 0} (xs low run : List T) → xs ≡ low → IsEndRun run low → length run ≡ 0 → xs ≡ []
+removed_run_none xs low run e r n = e ∙ r.some n

@@ -1,0 +1,53 @@
+//! Collections made of elements that are in order already.
+ghost use Rattle.std.specs.Prelude.{◌≡◌, IfOk};
+ghost use Rattle.std.specs.List.{flat_map};
+ghost use Rattle.mg_pages.specs.Parts.{values, children, child_seen, child_whole, page_seen, page_whole, level_seen, level_whole, AreWhole};
+
+use crate::child::{Child, child_of, copied_children};
+use crate::keyed::Keyed;
+use crate::level::Level;
+use crate::page::Page;
+use crate::part::{LIMIT, Part, copied};
+use std::alloc::{AllocError, Global};
+use std::sync::Arc;
+
+/// Full pages of the elements, but for the last.
+pub fn paged<T: Keyed>(
+    alloc: Global,
+    elements: &[Arc<T>],
+) -> Result<Vec<Child<T, Page<T>>>, AllocError>
+    ensures whole { IfOk result (λ v. AreWhole (child_whole page_whole page_seen) (children v.items)) }
+    ensures seen { IfOk result (λ v. flat_map (child_seen page_seen) (children v.items) ≡ values elements.now) }
+{
+    let mut pages = Vec::new(alloc);
+    let mut rest = elements;
+    while rest.len() > 0 {
+        let (chunk, others) = rest.split_at(rest.len().min(LIMIT));
+        let elements = copied(alloc, chunk)?;
+        let page = child_of::<T, Page<T>>(alloc, Page { elements })?;
+        pages.push(page)?;
+        rest = others;
+    }
+    Ok(pages)
+}
+
+/// Full levels of the parts, but for the last.
+pub fn grouped<T: Keyed, P: Part<T>>(
+    alloc: Global,
+    parts: &[Child<T, P>],
+) -> Result<Vec<Child<T, Level<T, P>>>, AllocError>
+    requires { AreWhole (child_whole P.is_whole P.seen) (children parts.now) }
+    ensures whole { IfOk result (λ v. AreWhole (child_whole (level_whole P.is_whole P.seen) (level_seen P.seen)) (children v.items)) }
+    ensures seen { IfOk result (λ v. flat_map (child_seen (level_seen P.seen)) (children v.items) ≡ flat_map (child_seen P.seen) (children parts.now)) }
+{
+    let mut levels = Vec::new(alloc);
+    let mut rest = parts;
+    while rest.len() > 0 {
+        let (chunk, others) = rest.split_at(rest.len().min(LIMIT));
+        let parts = copied_children(alloc, chunk)?;
+        let level = child_of::<T, Level<T, P>>(alloc, Level { parts })?;
+        levels.push(level)?;
+        rest = others;
+    }
+    Ok(levels)
+}
