@@ -1,0 +1,4 @@
+pub mod Catalogs
+pub mod Fields
+pub mod Paths
+pub mod Best

@@ -1,16 +1,65 @@
--- Index definitions, after CouchDB's `_index`.
-use Rattle.std.specs.Prelude.{ℕ, List, Bool, refl}
-use Rattle.std.specs.Coded.{Coded, code_by, coded×, coded_ℕ, coded_bool, coded_list}
+-- Index definitions, after `_index` of the CouchDB 3.x API reference: JSON indexes, all of whose columns have one direction.
+-- A missing name is an MD5 digest (RFC 1321) in lower hexadecimal.
+use Rattle.std.specs.Prelude.{ℕ, List, ◌++◌, codes, map, nat_eq, refl, if◌then◌else◌}
+use Rattle.std.specs.Coded.{Coded, code_by, coded×, coded_ℕ, coded_list}
+use Rattle.std.specs.List.{starts_with}
+use Rattle.md5.specs.Md5.{md5}
+use Rattle.hex.specs.Hex.{encode_lower}
+use Rattle.mg_value.specs.Value.{Value, text, list, object, Items, Members, no_members, member}
+use Rattle.mg_value.specs.View.{items_of}
+use Rattle.mg_value.specs.Text.{compact}
+use Rattle.mg_collate.specs.contracts.direction.Direction as direction
+use Rattle.mg_collate.specs.declared.direction.Direction.{Direction}
+use Rattle.mg_collate.specs.declared.direction.Direction.TheVariants.{Asc, Desc}
 
--- an index: its design document, its name, the texts of its columns' paths, and whether it was defined descending
+-- the steps of a path
+abbrev pub Steps : Type 0
+Steps = List (List ℕ)
+
+-- an index: its design document, its name, the texts of its columns' paths as they were given, the columns as steps, and the
+-- direction that was given for them
 pub record IndexDefinition : Type 0 where
   pub ddoc : List ℕ
   pub name : List ℕ
-  pub columns : List (List ℕ)
-  pub descending : Bool
+  pub texts : List (List ℕ)
+  pub columns : List Steps
+  pub direction : Direction
 
 -- how the logic stores a definition
 abbrev pub definition_code : Coded IndexDefinition
 definition_code =
-    code_by (List ℕ × (List ℕ × (List (List ℕ) × Bool))) (coded× (coded_list coded_ℕ) (coded× (coded_list coded_ℕ) (coded× (coded_list (coded_list coded_ℕ)) coded_bool)))
-    (λ d. (d.ddoc, (d.name, (d.columns, d.descending)))) (λ p. record { ddoc = p.0; name = p.1.0; columns = p.1.1.0; descending = p.1.1.1 }) (λ _. refl)
+    code_by (List ℕ × (List ℕ × (List (List ℕ) × (List Steps × Direction))))
+    (coded× (coded_list coded_ℕ) (coded× (coded_list coded_ℕ) (coded× (coded_list (coded_list coded_ℕ)) (coded× (coded_list (coded_list (coded_list coded_ℕ))) direction.the_row.coded))))
+    (λ d. (d.ddoc, (d.name, (d.texts, (d.columns, d.direction)))))
+    (λ p. record { ddoc = p.0; name = p.1.0; texts = p.1.1.0; columns = p.1.1.1.0; direction = p.1.1.1.1 }) (λ _. refl)
+
+-- the word for a direction
+abbrev pub direction_word : Direction → List ℕ
+direction_word Asc = codes "asc"
+direction_word Desc = codes "desc"
+
+-- a column as it is listed: `{path: direction}`
+abbrev pub field_value : Direction → List ℕ → Value
+field_value direction path = object (member path (text (direction_word direction)) no_members)
+
+-- `{"fields":[{path: direction},..]}`
+abbrev pub fields_value : Direction → List (List ℕ) → Value
+fields_value direction paths = object (member (codes "fields") (list (items_of (map (field_value direction) paths))) no_members)
+
+-- the digest of the fields' compact text
+abbrev pub fields_digest : Direction → List (List ℕ) → List ℕ
+fields_digest direction paths = encode_lower (md5 (compact (fields_value direction paths)))
+
+-- what the names of design documents begin with
+abbrev pub design_front : List ℕ
+design_front = codes "_design/"
+
+-- the name of a design document: a text without that front gets it
+abbrev pub design_document : List ℕ → List ℕ
+design_document t = if starts_with nat_eq t design_front then t else design_front ++ t
+
+-- an index as it is listed: `{"ddoc":..,"def":{"fields":[..]},"name":..,"type":"json"}`
+abbrev pub listed_of : IndexDefinition → Value
+listed_of d =
+    object (member (codes "ddoc") (text d.ddoc) (member (codes "def") (fields_value d.direction d.texts)
+    (member (codes "name") (text d.name) (member (codes "type") (text (codes "json")) no_members))))

@@ -1,1 +1,9 @@
 pub mod Definition
+pub mod Reading
+pub mod Catalog
+pub mod Bound
+pub mod Choice
+pub mod View
+pub mod Places
+pub mod Candidates
+pub mod Same

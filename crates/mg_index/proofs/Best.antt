@@ -1,0 +1,87 @@
+-- The least of a list, found from the front on.
+use Rattle.std.proofs.Common.{◌≡◌, ℕ, zero, suc, ◌+◌, ◌<◌, ◌≤◌, Bool, true, false, cond, List, [], ◌∷◌, length, get_or, drop, Option, Some, None, slice_get, refl, sym, ap, ◌∙◌, arith}
+use Rattle.std.proofs.lemmas.Bool.{false≢true}
+use Rattle.std.proofs.lemmas.Cmp.{upto, then_total, on_total, back_total, nat_cmp_total, nat_list_cmp_total}
+use Rattle.std.specs.Cmp.{IsTotalOrder, bool_cmp_total}
+use Rattle.std.specs.Ordering.{is_gt, ordering_reverse}
+use Rattle.std.specs.declared.cmp.Ordering.{Ordering}
+use Rattle.std.specs.declared.cmp.Ordering.TheVariants.{Less, Equal, Greater}
+use Rattle.mg_normal.specs.Atoms.{Atom}
+use Rattle.mg_index.specs.Bound.{bounded_count}
+use Rattle.mg_index.specs.Choice.{Hint, is_hinted, is_usable, lesser, least, preference, usable_of}
+use Rattle.mg_index.specs.Definition.{Steps, IndexDefinition}
+use Rattle.mg_index.specs.Candidates.{Describes, least_with, Names}
+use Rattle.mg_index.specs.declared.choice.Candidate.{Candidate}
+use Rattle.std.proofs.lemmas.List.{at_drop_more, at_drop_all}
+
+not_both_ways : (o : Ordering) → is_gt o ≡ true → is_gt (ordering_reverse o) ≡ false
+not_both_ways Less h = absurd (false≢true h)
+not_both_ways Equal h = refl
+not_both_ways Greater h = refl
+
+-- the lesser of the first and the lesser of the others is that of the lesser of the first two and the last
+pub lesser_first : {X : Type 0} {R : X → X → Ordering} (o : IsTotalOrder R) (x y : X) (z : Option X) → lesser R x (Some (lesser R y z)) ≡ lesser R (lesser R x (Some y)) z
+lesser_first o x y None = refl
+lesser_first {X} {R} o x y (Some z) = by_tests (is_gt (R x y)) (is_gt (R y z)) (is_gt (R x z)) refl refl refl
+  where
+    by_tests : (a b c : Bool) → is_gt (R x y) ≡ a → is_gt (R y z) ≡ b → is_gt (R x z) ≡ c → lesser R x (Some (lesser R y (Some z))) ≡ lesser R (lesser R x (Some y)) (Some z)
+    by_tests true true true p q r = simp (p, q, r)
+    by_tests true true false p q r = absurd (false≢true (sym (upto o x z y r (ap is_gt (o.antisymm z y) ∙ not_both_ways (R y z) q)) ∙ p))
+    by_tests true false c p q r = simp (p, q)
+    by_tests false true c p q r = simp (p, q)
+    by_tests false false true p q r = absurd (false≢true (sym (upto o x y z p q) ∙ r))
+    by_tests false false false p q r = simp (p, q, r)
+
+-- the order of preference is one
+pub preference_total : (atoms : List Atom) (hint : Hint) → IsTotalOrder (preference atoms hint)
+preference_total atoms hint =
+    then_total (back_total (on_total (is_hinted hint) bool_cmp_total))
+    (then_total (back_total (on_total (λ (d : IndexDefinition). bounded_count atoms d.columns) nat_cmp_total))
+    (then_total (on_total (λ (d : IndexDefinition). length d.columns) nat_cmp_total)
+    (then_total (on_total (λ (d : IndexDefinition). d.name) nat_list_cmp_total) (on_total (λ (d : IndexDefinition). d.ddoc) nat_list_cmp_total))))
+
+-- the least of the usable ones from a place on, where the one there is usable
+from_place : (atoms : List Atom) (hint : Hint) (sort : List Steps) (ds : List IndexDefinition) (i : ℕ) (d : IndexDefinition) → i < length ds → d ≡ get_or ds i d → is_usable atoms sort d.columns ≡ true
+    → least (preference atoms hint) (usable_of atoms sort (drop i ds)) ≡ Some (lesser (preference atoms hint) d (least (preference atoms hint) (usable_of atoms sort (drop (i + 1) ds))))
+from_place atoms hint sort ds i d lt is h =
+    at_drop_more (λ xs. least (preference atoms hint) (usable_of atoms sort xs)) ds i d lt
+    ∙ ap (λ x. least (preference atoms hint) (usable_of atoms sort (x ∷ drop (i + 1) ds))) (sym is)
+    ∙ ap (λ b. least (preference atoms hint) (cond b (d ∷ usable_of atoms sort (drop (i + 1) ds)) (usable_of atoms sort (drop (i + 1) ds)))) h
+
+-- one more usable index
+pub goes_on : (atoms : List Atom) (hint : Hint) (sort : List Steps) (ds : List IndexDefinition) (i : ℕ) (d : IndexDefinition) (best : Option Candidate) (r : Candidate) (all : Option IndexDefinition)
+    → i < length ds → d ≡ get_or ds i d → is_usable atoms sort d.columns ≡ true
+    → Some r.definition.now ≡ least_with atoms hint best (Some d)
+    → all ≡ least_with atoms hint best (least (preference atoms hint) (usable_of atoms sort (drop i ds)))
+    → all ≡ least_with atoms hint (Some r) (least (preference atoms hint) (usable_of atoms sort (drop (i + 1) ds)))
+goes_on atoms hint sort ds i d None r all lt is h e so_far =
+    let equal : d ≡ r.definition.now = cc e in
+    so_far ∙ from_place atoms hint sort ds i d lt is h ∙ ap (λ x. Some (lesser (preference atoms hint) x (least (preference atoms hint) (usable_of atoms sort (drop (i + 1) ds))))) equal
+goes_on atoms hint sort ds i d (Some b) r all lt is h e so_far =
+    let rest = least (preference atoms hint) (usable_of atoms sort (drop (i + 1) ds)) in
+    let equal : lesser (preference atoms hint) b.definition.now (Some d) ≡ r.definition.now = cc e in
+    so_far ∙ ap (λ o. Some (lesser (preference atoms hint) b.definition.now o)) (from_place atoms hint sort ds i d lt is h)
+    ∙ ap (λ x. Some x) (lesser_first (preference_total atoms hint) b.definition.now d rest) ∙ ap (λ x. Some (lesser (preference atoms hint) x rest)) equal
+
+-- one that is not usable
+pub goes_past : (atoms : List Atom) (hint : Hint) (sort : List Steps) (ds : List IndexDefinition) (i : ℕ) (d : IndexDefinition) (best : Option Candidate) (all : Option IndexDefinition)
+    → i < length ds → d ≡ get_or ds i d → is_usable atoms sort d.columns ≡ false
+    → all ≡ least_with atoms hint best (least (preference atoms hint) (usable_of atoms sort (drop i ds)))
+    → all ≡ least_with atoms hint best (least (preference atoms hint) (usable_of atoms sort (drop (i + 1) ds)))
+goes_past atoms hint sort ds i d best all lt is h so_far =
+    so_far
+    ∙ ap (λ xs. least_with atoms hint best (least (preference atoms hint) xs))
+    (at_drop_more (usable_of atoms sort) ds i d lt ∙ ap (λ x. usable_of atoms sort (x ∷ drop (i + 1) ds)) (sym is) ∙ ap (λ b. cond b (d ∷ usable_of atoms sort (drop (i + 1) ds)) (usable_of atoms sort (drop (i + 1) ds))) h)
+
+-- after all, the best is the least
+pub ends : (atoms : List Atom) (hint : Hint) (sort : List Steps) (ds : List IndexDefinition) (i : ℕ) (best : Option Candidate) (all : Option IndexDefinition)
+    → length ds ≤ i
+    → all ≡ least_with atoms hint best (least (preference atoms hint) (usable_of atoms sort (drop i ds)))
+    → all ≡ least_with atoms hint best None
+ends atoms hint sort ds i best all le so_far = so_far ∙ at_drop_all (λ xs. least_with atoms hint best (least (preference atoms hint) (usable_of atoms sort xs))) ds i le
+
+-- what stands at a place
+pub read_at : {X : Type 0} (xs : List X) (i : ℕ) (x : X) → i < length xs → x ≡ get_or xs i x → slice_get xs i ≡ Some x
+read_at [] i x lt is = absurd (omega arith)
+read_at (y ∷ ys) zero x lt is = ap (λ z. Some z) (sym is)
+read_at (y ∷ ys) (suc i) x lt is = read_at ys i x (omega arith) is

@@ -1,0 +1,9 @@
+use Rattle.std.proofs.Common.{◌≡◌, ◌++◌, drop, map, option_map, string_bytes}
+use Rattle.mg_value.specs.View.{view}
+use Rattle.mg_index.specs.Reading.{field_path}
+use Rattle.mg_index.specs.Reading.{each_of}
+use Rattle.mg_index.proofs.column.read_texts.Given as goal
+
+-- what is left decides
+abbrev pub invariant-loop-field : goal.invariant-loop-field
+invariant-loop-field l = each_of field_path (map view l.fields) ≡ option_map (λ more. map string_bytes l.texts.items ++ more) (each_of field_path (map view (drop l.field-index l.fields)))

@@ -1,0 +1,17 @@
+-- For private clauses: where a definition goes in a catalog.
+use Rattle.std.specs.Prelude.{◌≡◌, ◌<◌, ◌≤◌, ℕ, List, length, Option, Some, None, is_some, true, false, slice_index_or, slice_set}
+use Rattle.std.specs.List.{insert, remove}
+use Rattle.mg_index.specs.Catalog.{with_definition, without_definition, definition_at}
+use Rattle.mg_index.specs.Definition.{IndexDefinition}
+use Rattle.mg_index.specs.declared.catalog.Place.{Place}
+use Rattle.mg_index.specs.declared.catalog.Place.TheVariants.{At, Before}
+
+-- the place is that of the definition of the same design document and name, or the one before which there is room for it
+abbrev pub IsPlaceOf : IndexDefinition → List IndexDefinition → Place → Type 0
+IsPlaceOf d ds (At n) = (n < length ds) × (with_definition d ds ≡ slice_set ds n d) × ((x : IndexDefinition) → definition_at d.ddoc d.name ds ≡ Some (slice_index_or ds n x))
+IsPlaceOf d ds (Before n) = (n ≤ length ds) × (with_definition d ds ≡ insert ds n d) × (definition_at d.ddoc d.name ds ≡ None)
+
+-- the place, if there is one, is that of the definition of this design document and name
+abbrev pub IsPlaceAt : List ℕ → List ℕ → List IndexDefinition → Option ℕ → Type 0
+IsPlaceAt ddoc name ds None = (is_some (definition_at ddoc name ds) ≡ false) × (without_definition ddoc name ds ≡ ds)
+IsPlaceAt ddoc name ds (Some n) = (n < length ds) × (is_some (definition_at ddoc name ds) ≡ true) × (without_definition ddoc name ds ≡ remove ds n)

@@ -1,0 +1,159 @@
+-- Which index a body of CouchDB's `_index` defines, or its fault: a wrong shape anywhere comes before columns in two directions.
+use Rattle.std.specs.Prelude.{◌≡◌, ℕ, List, [], ◌∷◌, ◌++◌, codes, Bool, true, false, not, ◌&&◌, Option, Some, None, option_map, option_and_then, unwrap_or, Result, Ok, Err, if◌then◌else◌}
+use Rattle.std.specs.List.{list_all}
+use Rattle.std.specs.Option.{option_map_or}
+use Rattle.std.specs.Str.{bytes_eq}
+use Rattle.mg_value.specs.Value.{Value, flag, text, list, object, Items, no_items, item, Members, no_members, member, member_of, item_list}
+use Rattle.mg_path.specs.Part.{steps_of}
+use Rattle.mg_path.specs.declared.error.PathError.{PathError}
+use Rattle.mg_path.specs.declared.error.PathError.TheVariants as path_fault
+use Rattle.mg_collate.specs.declared.direction.Direction.{Direction}
+use Rattle.mg_collate.specs.declared.direction.Direction.TheVariants.{Asc, Desc}
+use Rattle.mg_index.specs.Definition.{Steps, IndexDefinition, fields_digest, design_front, design_document}
+use Rattle.mg_index.specs.declared.error.IndexError.{IndexError}
+use Rattle.mg_index.specs.declared.error.IndexError.TheVariants.{Shape, Mixed, NoMemory}
+
+-- ---- faults
+
+-- the fault, or what f gives of the value
+infixl 10 ◌>>=◌
+abbrev pub ◌>>=◌ : {A B : Type 0} → Result A IndexError → (A → Result B IndexError) → Result B IndexError
+(Ok x) >>= f = f x
+(Err e) >>= f = Err e
+
+-- what was found, or this fault
+abbrev pub or_fault : {A : Type 0} → IndexError → Option A → Result A IndexError
+or_fault e None = Err e
+or_fault e (Some x) = Ok x
+
+-- what f gives of each, where it gives something of all
+abbrev pub each_of : {A B : Type 0} → (A → Option B) → List A → Option (List B)
+each_of f [] = Some []
+each_of f (x ∷ xs) = option_and_then (λ y. option_map (λ ys. y ∷ ys) (each_of f xs)) (f x)
+
+-- ---- a column: a path's text, which is ascending, or `{path: "asc"}` or `{path: "desc"}`
+
+-- the one member of an object
+abbrev pub only_member : Members → Option (List ℕ × Value)
+only_member no_members = None
+only_member (member name v no_members) = Some (name, v)
+only_member (member name v (member k w ms)) = None
+
+-- the text of the path
+abbrev pub field_path : Value → Option (List ℕ)
+field_path (text path) = Some path
+field_path (object ms) = option_map (λ m. m.0) (only_member ms)
+field_path v = None
+
+-- the direction that a word names
+abbrev pub direction_named : List ℕ → Option Direction
+direction_named word = if bytes_eq word (codes "asc") then Some Asc else if bytes_eq word (codes "desc") then Some Desc else None
+
+-- the direction that a value names
+abbrev pub word_direction : Value → Option Direction
+word_direction (text word) = direction_named word
+word_direction v = None
+
+-- the direction
+abbrev pub field_direction : Value → Option Direction
+field_direction (text path) = Some Asc
+field_direction (object ms) = option_and_then (λ m. word_direction m.1) (only_member ms)
+field_direction v = None
+
+-- ---- the columns
+
+-- what the columns are: the texts of their paths, their steps, and their direction
+pub record Columns : Type 0 where
+  pub texts : List (List ℕ)
+  pub steps : List Steps
+  pub direction : Direction
+
+abbrev pub is_same : Direction → Direction → Bool
+is_same Asc Asc = true
+is_same Desc Desc = true
+is_same a b = false
+
+-- the direction that all have, of one or more
+abbrev pub one_direction : List Direction → Result Direction IndexError
+one_direction [] = Err Shape
+one_direction (d ∷ ds) = if list_all (is_same d) ds then Ok d else Err Mixed
+
+-- the columns of these fields
+abbrev pub columns_of : List Value → Result Columns IndexError
+columns_of vs =
+    or_fault Shape (each_of field_path vs) >>= (λ texts.
+    or_fault Shape (each_of steps_of texts) >>= (λ steps.
+    or_fault Shape (each_of field_direction vs) >>= (λ directions.
+    one_direction directions >>= (λ direction.
+    Ok (record { texts = texts; steps = steps; direction = direction })))))
+
+-- `fields`, an array that is not empty
+abbrev pub columns_read : Option Value → Result Columns IndexError
+columns_read (Some (list vs)) = columns_of (item_list vs)
+columns_read v = Err Shape
+
+-- ---- the other members
+
+-- `ddoc` and `name`: a text that is not empty, if it is there
+abbrev pub text_given : Option Value → Option (Option (List ℕ))
+text_given None = Some None
+text_given (Some (text (c ∷ t))) = Some (Some (c ∷ t))
+text_given (Some v) = None
+
+-- `type`: `json`, if it is there
+abbrev pub is_json_type : Option Value → Bool
+is_json_type None = true
+is_json_type (Some (text t)) = bytes_eq t (codes "json")
+is_json_type (Some v) = false
+
+-- `partial_filter_selector`: the empty selector, if it is there
+abbrev pub is_no_filter : Option Value → Bool
+is_no_filter None = true
+is_no_filter (Some (object no_members)) = true
+is_no_filter (Some v) = false
+
+-- `partitioned`: false, if it is there
+abbrev pub is_not_partitioned : Option Value → Bool
+is_not_partitioned None = true
+is_not_partitioned (Some (flag b)) = not b
+is_not_partitioned (Some v) = false
+
+-- a member of `index`
+abbrev pub member_of_index : List ℕ → Value → Option Value
+member_of_index name v = option_and_then (member_of name) (member_of (codes "index") v)
+
+-- the body asks for a JSON index of all documents
+abbrev pub is_plain : Value → Bool
+is_plain v =
+    is_json_type (member_of (codes "type") v) && (is_not_partitioned (member_of (codes "partitioned") v)
+    && (is_no_filter (member_of (codes "partial_filter_selector") v) && is_no_filter (member_of_index (codes "partial_filter_selector") v)))
+
+-- ---- the definition
+
+-- what is given, or the digest of the fields; a design document that is not given is named by that digest too
+abbrev pub named : Option (List ℕ) → Option (List ℕ) → Columns → IndexDefinition
+named ddoc name c =
+    let digest = fields_digest c.direction c.texts in
+    record { ddoc = option_map_or design_document ddoc (design_front ++ digest); name = unwrap_or name digest; texts = c.texts; columns = c.steps; direction = c.direction }
+
+-- the definition that a body is, or its fault
+abbrev pub definition_of : Value → Result IndexDefinition IndexError
+definition_of v =
+    if is_plain v then
+    or_fault Shape (text_given (member_of (codes "ddoc") v)) >>= (λ ddoc.
+    or_fault Shape (text_given (member_of (codes "name") v)) >>= (λ name.
+    columns_read (member_of_index (codes "fields") v) >>= (λ columns.
+    Ok (named ddoc name columns))))
+    else Err Shape
+
+-- a path's fault as the body's
+abbrev pub fault_of_path : PathError → IndexError
+fault_of_path path_fault.Empty = Shape
+fault_of_path path_fault.NoMemory = NoMemory
+
+-- what a call returned is what is read, unless a growth was refused
+abbrev pub Gives : {X Y : Type 0} → (X → Y) → Result X IndexError → Result Y IndexError → Type 0
+Gives seen (Ok x) r = r ≡ Ok (seen x)
+Gives seen (Err NoMemory) r = Unit {0}
+Gives seen (Err Shape) r = r ≡ Err Shape
+Gives seen (Err Mixed) r = r ≡ Err Mixed

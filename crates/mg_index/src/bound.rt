@@ -1,0 +1,126 @@
+ghost use Rattle.std.specs.Prelude.{◌≡◌, map, option_map, string_bytes};
+ghost use Rattle.mg_value.specs.View.{view};
+ghost use Rattle.mg_path.specs.Equal.{path_eq};
+ghost use Rattle.mg_selector.specs.View.{operator_of};
+ghost use Rattle.mg_normal.specs.View.{atom_view, atoms_view, sense_of};
+ghost use Rattle.mg_index.specs.Bound.{allows, bound_by, bound_in, bound_on, is_fixed as has_one_value, is_bounded as has_bound, bounded_count};
+
+use mg_collate::compare;
+use mg_normal::Atom;
+use mg_path::Path;
+use mg_selector::Op;
+use mg_value::Json;
+use std::cmp::Ordering;
+
+/// How the values that meet a bound compare with its value, in the collation order.
+#[derive(Clone, Copy, PartialEq, Eq, Debug, Drop)]
+pub enum Comparison {
+    Below,
+    AtMost,
+    Exactly,
+    AtLeast,
+    Above,
+}
+
+impl Comparison {
+    /// Whether an order of two values is such a comparison. Takes no memory.
+    pub fn allows(self, order: Ordering) -> bool
+        ensures { result ≡ allows self order }
+    {
+        match self {
+            Comparison::Below => order.is_lt(),
+            Comparison::AtMost => order.is_le(),
+            Comparison::Exactly => order.is_eq(),
+            Comparison::AtLeast => order.is_ge(),
+            Comparison::Above => order.is_gt(),
+        }
+    }
+}
+
+/// A bound on the values of a column: what an atom of a selector asks of them by the collation order.
+#[derive(Clone, Copy, Debug, Drop)]
+pub struct Bound<'a> {
+    /// How they compare with the value.
+    pub comparison: Comparison,
+    /// The value, lent by the atom.
+    pub value: &'a Json,
+}
+
+impl<'a> Bound<'a> {
+    /// The bound that the atom gives on the column, if it is asked of the part at that path and bounds.
+    /// `$lt`, `$lte`, `$eq`, `$gte` and `$gt` bound, in the negated sense as their opposites, where `$ne`
+    /// counts as `$eq`; no other operator does. Takes no memory.
+    pub fn on(column: &Path, atom: &'a Atom) -> Option<Bound<'a>>
+        ensures { option_map (λ b. bound_by b.comparison (view b.value.now)) result
+            ≡ bound_on column.now (atom_view atom.now) }
+    {
+        if is_asked_of(atom, column) {
+            bound_of(&atom.op, atom.negated)
+        } else {
+            None
+        }
+    }
+}
+
+// Whether the atom is asked of the part at the path.
+pub(crate) fn is_asked_of(atom: &Atom, column: &Path) -> bool
+    ensures { result ≡ path_eq (map string_bytes atom.now.steps.items) column.now }
+{
+    atom.steps.as_slice() == column.steps()
+}
+
+// The bound that the operator gives in the sense.
+fn bound_of(op: &Op, negated: bool) -> Option<Bound<'_>>
+    ensures { option_map (λ b. bound_by b.comparison (view b.value.now)) result
+        ≡ bound_in (sense_of negated) (operator_of op.now) }
+{
+    let (value, plain, opposite) = match op {
+        Op::Lt(value) => (value, Some(Comparison::Below), Some(Comparison::AtLeast)),
+        Op::Lte(value) => (value, Some(Comparison::AtMost), Some(Comparison::Above)),
+        Op::Eq(value) => (value, Some(Comparison::Exactly), None),
+        Op::Ne(value) => (value, None, Some(Comparison::Exactly)),
+        Op::Gte(value) => (value, Some(Comparison::AtLeast), Some(Comparison::Below)),
+        Op::Gt(value) => (value, Some(Comparison::Above), Some(Comparison::AtMost)),
+        Op::Exists(_) | Op::Type(_) | Op::In(_) | Op::Nin(_) | Op::Size(_) => return None,
+        Op::Mod(_, _) | Op::All(_) | Op::ElemMatch(_) | Op::AllMatch(_) => return None,
+    };
+    let comparison = if negated { opposite? } else { plain? };
+    Some(Bound { comparison, value })
+}
+
+// How many columns are bounded: the leading ones whose value the atoms fix, and the next one where they
+// give any bound on it.
+pub(crate) fn bounded_count(columns: &[Path], atoms: &[Atom]) -> usize
+    ensures { result ≡ bounded_count (atoms_view atoms.now) columns.now }
+{
+    for (place, column) in columns.iter().enumerate() {
+        if !is_fixed(atoms, column) {
+            return place + usize::from(is_bounded(atoms, column));
+        }
+    }
+    columns.len()
+}
+
+fn is_fixed(atoms: &[Atom], column: &Path) -> bool
+    ensures { result ≡ has_one_value (atoms_view atoms.now) column.now }
+{
+    for atom in atoms {
+        if let Some(bound) = Bound::on(column, atom) {
+            if bound.comparison == Comparison::Exactly {
+                return true;
+            }
+        }
+    }
+    false
+}
+
+fn is_bounded(atoms: &[Atom], column: &Path) -> bool
+    ensures { result ≡ has_bound (atoms_view atoms.now) column.now }
+{
+    for atom in atoms {
+        if Bound::on(column, atom).is_some() {
+            return true;
+        }
+    }
+    false
+}

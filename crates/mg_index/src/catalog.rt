@@ -1,0 +1,167 @@
+ghost use Rattle.std.specs.Prelude.{◌≡◌, ◌≢◌, List, [], ◌∷◌, IfOk, OnOk, OnErr, Ok, Some, option_map, is_some};
+ghost use Rattle.mg_index.specs.Catalog.{IsCatalog, definition_at, with_definition, without_definition};
+ghost use Rattle.mg_index.specs.Places.{IsPlaceAt, IsPlaceOf};
+
+use crate::definition::IndexDef;
+use mg_value::NoMemory;
+use std::alloc::Global;
+use std::cmp::Ordering;
+use std::marker::Model;
+
+/// The indexes of a database: at most one for each design document and name, in the order of these.
+#[derive(Debug, Drop)]
+pub struct Catalog {
+    definitions: Vec<IndexDef>,
+}
+
+/// What adding a definition did.
+#[derive(Clone, Copy, PartialEq, Eq, Debug, Drop)]
+pub enum Added {
+    /// The definition is new, or stands in the place of another of its design document and name.
+    Created,
+    /// The same definition was there.
+    Exists,
+}
+
+// Where a definition goes.
+#[derive(Clone, Copy, Debug)]
+enum Place {
+    At(usize),
+    Before(usize),
+}
+
+impl Model for Catalog {
+    ghost use Rattle.std.specs.Prelude.{List};
+    ghost use Rattle.std.specs.Coded.{coded_list};
+    ghost use Rattle.mg_index.specs.Definition.{IndexDefinition, definition_code};
+    ghost use Rattle.mg_index.specs.Catalog.{IsCatalog};
+
+    ghost Value = { List IndexDefinition };
+
+    ghost coded = { coded_list definition_code };
+
+    ghost view = { λ c. c.definitions.items };
+
+    ghost invariant = { λ c. IsCatalog c.definitions.items };
+}
+
+impl Catalog {
+    /// The catalog with no index. Takes no memory.
+    pub fn new(alloc: Global) -> Catalog
+        ensures { result ≡ [] }
+    {
+        Catalog {
+            definitions: Vec::new(alloc),
+        }
+    }
+
+    /// The definition of this design document and name, if there is one. Takes no memory.
+    ///
+    /// Cost: each definition once. The design document is looked for as it is given.
+    pub fn find(&self, ddoc: &str, name: &str) -> Option<&IndexDef>
+        ensures { option_map (λ d. d.now) result ≡ definition_at ddoc.now name.now self.now }
+    {
+        self.definitions.iter().find(|d| d.is_at(ddoc, name))
+    }
+
+    /// The definitions by design document, then name. Takes no memory.
+    pub fn list(&self) -> &[IndexDef]
+        ensures all { result.now ≡ self.now }
+        ensures in_order { IsCatalog self.now }
+    {
+        &self.definitions
+    }
+
+    /// Adds the definition. Another one of its design document and name is replaced.
+    ///
+    /// `Exists` is answered exactly where the same definition is there, with the same columns, path texts
+    /// and direction; then nothing has changed.
+    /// Errors: `NoMemory` where a growth is refused; then nothing has changed. Cost: each definition once.
+    pub fn add(&mut self, definition: IndexDef) -> Result<Added, NoMemory>
+        ensures ok { OnOk result (self.new ≡ with_definition definition self.old) }
+        ensures exists { result ≡ Ok Added.Exists
+            → definition_at definition.ddoc definition.name self.old ≡ Some definition }
+        ensures created { result ≡ Ok Added.Created
+            → definition_at definition.ddoc definition.name self.old ≢ Some definition }
+        ensures err { OnErr result (self.new ≡ self.old) }
+    {
+        match place_of(&self.definitions, &definition) {
+            Place::At(place) => {
+                let added = if definition.is_same(&self.definitions[place]) {
+                    Added::Exists
+                } else {
+                    Added::Created
+                };
+                self.definitions[place] = definition;
+                Ok(added)
+            }
+            Place::Before(place) => {
+                self.definitions.insert(place, definition)?;
+                Ok(Added::Created)
+            }
+        }
+    }
+
+    /// Removes the definition of this design document and name, and says whether there was one. Takes no
+    /// memory.
+    ///
+    /// Cost: each definition once. The design document is looked for as it is given.
+    pub fn remove(&mut self, ddoc: &str, name: &str) -> bool
+        ensures removed { result ≡ is_some (definition_at ddoc.now name.now self.old) }
+        ensures rest { self.new ≡ without_definition ddoc.now name.now self.old }
+    {
+        match place_at(&self.definitions, ddoc, name) {
+            Some(place) => {
+                drop(self.definitions.remove(place));
+                true
+            }
+            None => false,
+        }
+    }
+
+    /// An equal catalog. Errors: `NoMemory` where a growth is refused. Cost: its size.
+    pub fn copy(&self, alloc: Global) -> Result<Catalog, NoMemory>
+        ensures { IfOk result (λ c. c ≡ self.now) }
+    {
+        Ok(Catalog {
+            definitions: copied(alloc, &self.definitions)?,
+        })
+    }
+}
+
+// The place of the definition of this design document and name.
+fn place_at(definitions: &[IndexDef], ddoc: &str, name: &str) -> Option<usize>
+    ensures { IsPlaceAt ddoc.now name.now definitions.now result }
+{
+    for (place, definition) in definitions.iter().enumerate() {
+        if definition.is_at(ddoc, name) {
+            return Some(place);
+        }
+    }
+    None
+}
+
+// The place of a definition among those of a catalog.
+fn place_of(definitions: &[IndexDef], definition: &IndexDef) -> Place
+    requires { IsCatalog definitions.now }
+    ensures { IsPlaceOf definition.now definitions.now result }
+{
+    for (place, other) in definitions.iter().enumerate() {
+        match definition.order(other) {
+            Ordering::Less => return Place::Before(place),
+            Ordering::Equal => return Place::At(place),
+            Ordering::Greater => {}
+        }
+    }
+    Place::Before(definitions.len())
+}
+
+fn copied(alloc: Global, definitions: &[IndexDef]) -> Result<Vec<IndexDef>, NoMemory>
+    ensures { IfOk result (λ copy. copy.items ≡ definitions.now) }
+{
+    let mut copy = Vec::with_capacity(alloc, definitions.len())?;
+    for definition in definitions {
+        copy.push(definition.copy(alloc)?)?;
+    }
+    Ok(copy)
+}

@@ -1,0 +1,175 @@
+ghost use Rattle.std.specs.Prelude.{◌≡◌, IfOk, map, string_bytes};
+ghost use Rattle.mg_value.specs.View.{view as json_view};
+ghost use Rattle.mg_path.specs.Equal.{path_eq};
+ghost use Rattle.mg_index.specs.Catalog.{is_at as is_the_one, definition_order};
+ghost use Rattle.mg_index.specs.Definition.{listed_of};
+ghost use Rattle.mg_index.specs.Same.{is_same_definition};
+ghost use Rattle.mg_index.specs.Reading.{Gives, definition_of};
+
+use crate::column::is_same;
+use crate::error::IndexError;
+use crate::listing::fields_json;
+use crate::reader;
+use mg_collate::Direction;
+use mg_path::Path;
+use mg_value::{Json, NoMemory};
+use std::alloc::Global;
+use std::cmp::Ordering;
+use std::marker::Model;
+
+/// An index: the design document and the name that it is found by, its columns, one or more, and the
+/// direction that was given for them. An index is read in both directions.
+#[derive(Debug, Drop)]
+pub struct IndexDef {
+    pub(crate) ddoc: String,
+    pub(crate) name: String,
+    pub(crate) texts: Vec<String>,
+    pub(crate) columns: Vec<Path>,
+    pub(crate) direction: Direction,
+}
+
+impl Model for IndexDef {
+    ghost use Rattle.std.specs.Prelude.{map, string_bytes};
+    ghost use Rattle.mg_index.specs.Definition.{IndexDefinition, definition_code};
+
+    ghost Value = { IndexDefinition };
+
+    ghost coded = { definition_code };
+
+    ghost view = { λ d. record {
+      ddoc = string_bytes d.ddoc;
+      name = string_bytes d.name;
+      texts = map string_bytes d.texts.items;
+      columns = d.columns.items;
+      direction = d.direction;
+    } };
+}
+
+impl IndexDef {
+    /// Reads the body of an `_index`, an object:
+    ///
+    /// - `index`, an object whose `fields` is an array of one or more columns, each the text of a path,
+    ///   which is ascending, or `{path: "asc"}` or `{path: "desc"}`.
+    /// - `ddoc` and `name`, texts that are not empty. A `ddoc` without `_design/` in front gets it. An
+    ///   absent name is the MD5, in lower hexadecimal, of the compact text of
+    ///   `{"fields":[{path: direction},..]}`, and an absent ddoc is `_design/` and that digest.
+    /// - `type`, `json` if it is there; `partial_filter_selector`, here or in `index`, `{}` if it is
+    ///   there; `partitioned`, false if it is there. Other members are ignored.
+    ///
+    /// Errors: `Shape` for any other body, or a path with an empty step; then `Mixed` for columns in both
+    /// directions; `NoMemory` where a growth is refused. Cost: the size of the body.
+    /// Source: `_index` of CouchDB's API reference.
+    pub fn read(alloc: Global, body: &Json) -> Result<IndexDef, IndexError>
+        ensures { Gives (λ d. d) result (definition_of (json_view body.now)) }
+    {
+        reader::read_definition(alloc, body)
+    }
+
+    /// The name of the design document, which begins with `_design/`. Takes no memory.
+    pub fn ddoc(&self) -> &str
+        ensures { result.now ≡ self.now.ddoc }
+    {
+        &self.ddoc
+    }
+
+    /// The name. Takes no memory.
+    pub fn name(&self) -> &str
+        ensures { result.now ≡ self.now.name }
+    {
+        &self.name
+    }
+
+    /// The columns, in order. Takes no memory.
+    pub fn columns(&self) -> &[Path]
+        ensures { result.now ≡ self.now.columns }
+    {
+        &self.columns
+    }
+
+    /// The direction that was given for the columns. Takes no memory.
+    pub fn direction(&self) -> Direction
+        ensures { result ≡ self.now.direction }
+    {
+        self.direction
+    }
+
+    /// The index as it is listed, with the texts of its paths as they were given:
+    /// `{"ddoc":..,"def":{"fields":[{path: direction},..]},"name":..,"type":"json"}`.
+    ///
+    /// Errors: `NoMemory` where a growth is refused. Cost: the size of the definition.
+    pub fn listed(&self, alloc: Global) -> Result<Json, NoMemory>
+        ensures { IfOk result (λ v. json_view v ≡ listed_of self.now) }
+    {
+        let fields = fields_json(alloc, self.direction, &self.texts)?;
+        let mut listed = Json::empty_object(alloc);
+        listed.insert(alloc, "type", Json::Text(String::from_str(alloc, "json")?))?;
+        listed.insert(alloc, "name", Json::Text(self.name.clone()?))?;
+        listed.insert(alloc, "def", fields)?;
+        listed.insert(alloc, "ddoc", Json::Text(self.ddoc.clone()?))?;
+        Ok(listed)
+    }
+
+    /// An equal definition. Errors: `NoMemory` where a growth is refused. Cost: its size.
+    pub fn copy(&self, alloc: Global) -> Result<IndexDef, NoMemory>
+        ensures { IfOk result (λ d. d ≡ self.now) }
+    {
+        Ok(IndexDef {
+            ddoc: self.ddoc.clone()?,
+            name: self.name.clone()?,
+            texts: copied_texts(alloc, &self.texts)?,
+            columns: copied_paths(alloc, &self.columns)?,
+            direction: self.direction,
+        })
+    }
+
+    // Whether the definition has this design document and name.
+    pub(crate) fn is_at(&self, ddoc: &str, name: &str) -> bool
+        ensures { result ≡ is_the_one ddoc.now name.now self.now }
+    {
+        ddoc == self.ddoc.as_str() && name == self.name.as_str()
+    }
+
+    // The order of definitions in a catalog.
+    pub(crate) fn order(&self, other: &IndexDef) -> Ordering
+        ensures { result ≡ definition_order self.now other.now }
+    {
+        let by_ddoc = self.ddoc.as_str().cmp(other.ddoc.as_str());
+        by_ddoc.then(self.name.as_str().cmp(other.name.as_str()))
+    }
+
+    // Whether the definitions are the same.
+    pub(crate) fn is_same(&self, other: &IndexDef) -> bool
+        ensures { result ≡ is_same_definition self.now other.now }
+    {
+        self.is_at(other.ddoc.as_str(), other.name.as_str())
+            && is_same(self.direction, other.direction)
+            && are_same_texts(&self.texts, &other.texts)
+            && self.columns == other.columns
+    }
+}
+
+fn are_same_texts(texts: &[String], others: &[String]) -> bool
+    ensures { result ≡ path_eq (map string_bytes texts.now) (map string_bytes others.now) }
+{
+    texts == others
+}
+
+fn copied_texts(alloc: Global, texts: &[String]) -> Result<Vec<String>, NoMemory>
+    ensures { IfOk result (λ copy. map string_bytes copy.items ≡ map string_bytes texts.now) }
+{
+    let mut copy = Vec::with_capacity(alloc, texts.len())?;
+    for text in texts {
+        copy.push(text.clone()?)?;
+    }
+    Ok(copy)
+}
+
+fn copied_paths(alloc: Global, paths: &[Path]) -> Result<Vec<Path>, NoMemory>
+    ensures { IfOk result (λ copy. copy.items ≡ paths.now) }
+{
+    let mut copy = Vec::with_capacity(alloc, paths.len())?;
+    for path in paths {
+        copy.push(path.copy(alloc)?)?;
+    }
+    Ok(copy)
+}

@@ -1,0 +1,76 @@
+// How an index is listed and named.
+ghost use Rattle.std.specs.Prelude.{◌≡◌, IfOk, map, string_bytes};
+ghost use Rattle.mg_value.specs.View.{view};
+ghost use Rattle.mg_index.specs.Definition.{fields_value, fields_digest as digest_of, field_value, direction_word as word_for, design_document as design_of, design_front};
+
+use md5::{Digest, Md5};
+use mg_collate::Direction;
+use mg_value::{Json, NoMemory, write};
+use std::alloc::Global;
+
+const DESIGN_FRONT: &str = "_design/";
+
+/// The name of a design document: the text, with `_design/` in front where it does not begin so.
+///
+/// Errors: `NoMemory` where a growth is refused. Cost: the length of the text.
+pub fn design_document(alloc: Global, text: &str) -> Result<String, NoMemory>
+    ensures { IfOk result (λ t. string_bytes t ≡ design_of text.now) }
+{
+    if text.starts_with(DESIGN_FRONT) {
+        Ok(String::from_str(alloc, text)?)
+    } else {
+        Ok(format!(in alloc; "_design/{text}")?)
+    }
+}
+
+// The fields of an index: `{"fields":[{path: direction},..]}`.
+pub(crate) fn fields_json(
+    alloc: Global,
+    direction: Direction,
+    texts: &[String],
+) -> Result<Json, NoMemory>
+    ensures { IfOk result (λ v. view v ≡ fields_value direction (map string_bytes texts.now)) }
+{
+    let mut fields = Vec::with_capacity(alloc, texts.len())?;
+    for text in texts {
+        let field = field_json(alloc, direction, text.as_str())?;
+        fields.push(field)?;
+    }
+    let mut object = Json::empty_object(alloc);
+    object.insert(alloc, "fields", Json::List(fields))?;
+    Ok(object)
+}
+
+fn field_json(alloc: Global, direction: Direction, text: &str) -> Result<Json, NoMemory>
+    ensures { IfOk result (λ v. view v ≡ field_value direction text.now) }
+{
+    let word = String::from_str(alloc, direction_word(direction))?;
+    let mut field = Json::empty_object(alloc);
+    field.insert(alloc, text, Json::Text(word))?;
+    Ok(field)
+}
+
+fn direction_word(direction: Direction) -> &'static str
+    ensures { result.now ≡ word_for direction }
+{
+    match direction {
+        Direction::Asc => "asc",
+        Direction::Desc => "desc",
+    }
+}
+
+// The digest of the fields' compact text, in lower hexadecimal.
+pub(crate) fn fields_digest(
+    alloc: Global,
+    direction: Direction,
+    texts: &[String],
+) -> Result<String, NoMemory>
+    ensures { IfOk result
+        (λ t. string_bytes t ≡ digest_of direction (map string_bytes texts.now)) }
+{
+    let fields = fields_json(alloc, direction, texts)?;
+    let text = write(alloc, &fields)?;
+    let mut hasher = Md5::new();
+    hasher.update(&text);
+    Ok(hex::encode(alloc, hasher.finalize())?)
+}

@@ -1,0 +1,37 @@
+// What a query says of the indexes: its sort and its hint.
+ghost use Rattle.std.specs.Prelude.{◌≡◌};
+ghost use Rattle.mg_index.specs.Choice.{is_hinted};
+ghost use Rattle.mg_index.specs.View.{hint_of};
+
+use crate::definition::IndexDef;
+use mg_collate::Direction;
+use mg_path::Path;
+
+/// The sort of a query: its paths, none where it asks for no order, and their direction.
+#[derive(Debug, Drop)]
+pub struct Sort {
+    pub paths: Vec<Path>,
+    pub direction: Direction,
+}
+
+/// Which indexes a query prefers: none, those of a design document, or the one of a design document and
+/// name. Design documents begin with `_design/`.
+#[derive(Debug, Drop)]
+pub enum Hint {
+    None,
+    Ddoc(String),
+    Both(String, String),
+}
+
+impl Hint {
+    /// Whether the hint names the index. Takes no memory.
+    pub fn names(&self, definition: &IndexDef) -> bool
+        ensures { result ≡ is_hinted (hint_of self.now) definition.now }
+    {
+        match self {
+            Hint::None => false,
+            Hint::Ddoc(ddoc) => ddoc.as_str() == definition.ddoc(),
+            Hint::Both(ddoc, name) => definition.is_at(ddoc.as_str(), name.as_str()),
+        }
+    }
+}

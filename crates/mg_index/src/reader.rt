@@ -1,0 +1,130 @@
+// How the body of an `_index` is read.
+ghost use Rattle.std.specs.Prelude.{◌≡◌, IfOk, Some, option_map};
+ghost use Rattle.mg_value.specs.Value.{object};
+ghost use Rattle.mg_value.specs.View.{view, members_view};
+ghost use Rattle.mg_index.specs.Reading.{Gives, or_fault, definition_of, columns_read, is_plain as asks_plainly, is_json_type as names_json, is_no_filter as keeps_all, is_not_partitioned as has_one_part, member_of_index as member_in_index, named as named_by, text_given as given_text};
+ghost use Rattle.mg_index.specs.View.{columns_seen};
+
+use crate::column::{Columns, read_columns};
+use crate::definition::IndexDef;
+use crate::error::IndexError;
+use crate::listing::{design_document, fields_digest};
+use mg_value::{Json, NoMemory};
+use std::alloc::Global;
+use std::collections::BTreeMap;
+
+// The definition that a body is.
+pub(crate) fn read_definition(alloc: Global, body: &Json) -> Result<IndexDef, IndexError>
+    ensures { Gives (λ d. d) result (definition_of (view body.now)) }
+{
+    if !is_plain(body) {
+        return Err(IndexError::Shape);
+    }
+    let ddoc = text_given(body.member("ddoc"))?;
+    let name = text_given(body.member("name"))?;
+    let columns = read_fields(alloc, member_of_index(body, "fields"))?;
+    Ok(named(alloc, ddoc, name, columns)?)
+}
+
+// The columns of `fields`.
+fn read_fields(alloc: Global, fields: Option<&Json>) -> Result<Columns, IndexError>
+    ensures { Gives columns_seen result (columns_read (option_map (λ j. view j.now) fields.entry)) }
+{
+    match fields {
+        Some(Json::List(fields)) => read_columns(alloc, fields),
+        _ => Err(IndexError::Shape),
+    }
+}
+
+// A text that is not empty, if it is there.
+fn text_given(value: Option<&Json>) -> Result<Option<&str>, IndexError>
+    ensures { Gives (option_map (λ t. t.now)) result
+        (or_fault IndexError.Shape (given_text (option_map (λ j. view j.now) value.entry))) }
+{
+    match value {
+        None => Ok(None),
+        Some(Json::Text(text)) if !text.is_empty() => Ok(Some(text.as_str())),
+        Some(_) => Err(IndexError::Shape),
+    }
+}
+
+// The definition of these columns. What is not given is named by the digest of the fields.
+fn named(
+    alloc: Global,
+    ddoc: Option<&str>,
+    name: Option<&str>,
+    columns: Columns,
+) -> Result<IndexDef, NoMemory>
+    ensures { IfOk result (λ d. d ≡ named_by (option_map (λ t. t.now) ddoc.entry)
+        (option_map (λ t. t.now) name.entry) (columns_seen columns)) }
+{
+    let digest = fields_digest(alloc, columns.direction, &columns.texts)?;
+    let ddoc = match ddoc {
+        Some(ddoc) => design_document(alloc, ddoc)?,
+        None => format!(in alloc; "_design/{digest}")?,
+    };
+    let name = match name {
+        Some(name) => String::from_str(alloc, name)?,
+        None => digest,
+    };
+    Ok(IndexDef {
+        ddoc,
+        name,
+        texts: columns.texts,
+        columns: columns.paths,
+        direction: columns.direction,
+    })
+}
+
+// Whether the body asks for a JSON index of all documents.
+fn is_plain(body: &Json) -> bool
+    ensures { result ≡ asks_plainly (view body.now) }
+{
+    is_json_type(body.member("type"))
+        && is_not_partitioned(body.member("partitioned"))
+        && is_no_filter(body.member("partial_filter_selector"))
+        && is_no_filter(member_of_index(body, "partial_filter_selector"))
+}
+
+fn is_json_type(value: Option<&Json>) -> bool
+    ensures { result ≡ names_json (option_map (λ j. view j.now) value.entry) }
+{
+    match value {
+        None => true,
+        Some(Json::Text(name)) => name.as_str() == "json",
+        Some(_) => false,
+    }
+}
+
+fn is_no_filter(value: Option<&Json>) -> bool
+    ensures { result ≡ keeps_all (option_map (λ j. view j.now) value.entry) }
+{
+    match value {
+        None => true,
+        Some(Json::Object(members)) => has_none(members),
+        Some(_) => false,
+    }
+}
+
+fn has_none(members: &BTreeMap<String, Json>) -> bool
+    ensures { result ≡ keeps_all (Some (object (members_view members.now.entries))) }
+{
+    members.iter().next().is_none()
+}
+
+fn is_not_partitioned(value: Option<&Json>) -> bool
+    ensures { result ≡ has_one_part (option_map (λ j. view j.now) value.entry) }
+{
+    match value {
+        None => true,
+        Some(Json::Flag(partitioned)) => !partitioned,
+        Some(_) => false,
+    }
+}
+
+// The member of `index` that has this name.
+fn member_of_index<'a>(body: &'a Json, name: &str) -> Option<&'a Json>
+    ensures { option_map (λ v. view v.now) result ≡ member_in_index name.now (view body.now) }
+{
+    body.member("index")?.member(name)
+}
