@@ -1,0 +1,4 @@
+pub mod Limits
+pub mod Contained
+pub mod Together
+pub mod Complete

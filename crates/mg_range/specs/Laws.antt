@@ -1,0 +1,38 @@
+-- What key ranges are for: a search of a usable index within the range loses no document that the query finds.
+use Rattle.std.specs.Prelude.{◌≡◌, ◌≤◌, ℕ, List, true, Some, IsSome}
+use Rattle.std.specs.List.{All}
+use Rattle.std.specs.Ordering.{is_le}
+use Rattle.mg_value.specs.Value.{Value}
+use Rattle.mg_value.specs.View.{items_of}
+use Rattle.mg_collate.specs.Order.{items_order}
+use Rattle.mg_path.specs.Part.{part_of}
+use Rattle.mg_selector.specs.Meaning.{holds_in}
+use Rattle.mg_selector.specs.Selector.{Selector}
+use Rattle.mg_selector.specs.declared.sense.Sense.TheVariants.{Plain}
+use Rattle.mg_normal.specs.Atoms.{atoms_of}
+use Rattle.mg_index.specs.Choice.{is_usable, id_path, rev_path}
+use Rattle.mg_index.specs.Definition.{Steps}
+use Rattle.mg_index.specs.Reading.{each_of}
+use Rattle.mg_range.specs.Place.{place_of, place_rank}
+use Rattle.mg_range.specs.Range.{Range, in_range}
+
+-- the document has the part at the path
+abbrev pub Has : Value → Steps → Type 0
+Has v path = IsSome (part_of path v)
+
+-- the document's key: the values of its columns, in a document that has them all
+abbrev pub HasKey : List Steps → Value → List Value → Type 0
+HasKey columns v key = each_of (λ c. part_of c v) columns ≡ Some key
+
+-- where an index is usable for a selector and a sort, and a document has `_id`, `_rev` and every path of the sort, and the selector
+-- holds of it, then the document has every column, and its key is in the range
+abbrev pub RangesAreComplete : Type 0
+RangesAreComplete =
+    (s : Selector) (sort columns : List Steps) (v : Value) → is_usable (atoms_of s) sort columns ≡ true
+    → Has v id_path → Has v rev_path → All (Has v) sort → holds_in s Plain (Some v) ≡ true
+    → (key : List Value) × HasKey columns v key × (in_range (atoms_of s) columns key ≡ true)
+
+-- a key that does not come after another in the order of keys has no later place to a range
+abbrev pub RangesStandTogether : Type 0
+RangesStandTogether =
+    (range : Range) (a b : List Value) → is_le (items_order (items_of a) (items_of b)) ≡ true → place_rank (place_of range a) ≤ place_rank (place_of range b)

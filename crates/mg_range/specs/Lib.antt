@@ -1,0 +1,6 @@
+pub mod Range
+pub mod Place
+pub mod Listed
+pub mod Laws
+pub mod View
+pub mod Edge

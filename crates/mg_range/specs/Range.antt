@@ -1,0 +1,128 @@
+-- Key ranges: which keys of an index a query has to look at, from the bounds that its atoms give, as `range` of CouchDB's
+-- `_explain` tells them. The rule is this project's own.
+use Rattle.std.specs.Prelude.{◌≡◌, ℕ, List, [], ◌∷◌, ◌++◌, Bool, true, false, not, ◌&&◌, Option, Some, None, option_map, refl, if◌then◌else◌}
+use Rattle.std.specs.Coded.{Coded, code_by, coded×, coded_bool, coded_list, coded_option}
+use Rattle.std.specs.List.{filter_map, find, fold}
+use Rattle.std.specs.Ordering.{is_ge, is_gt, match_ordering}
+use Rattle.std.specs.declared.cmp.Ordering.{Ordering}
+use Rattle.mg_value.specs.Value.{Value}
+use Rattle.mg_value.specs.Code.{value_code}
+use Rattle.mg_collate.specs.Direction.{directed}
+use Rattle.mg_collate.specs.Order.{value_order}
+use Rattle.mg_collate.specs.declared.direction.Direction.{Direction}
+use Rattle.mg_collate.specs.declared.direction.Direction.TheVariants.{Asc, Desc}
+use Rattle.mg_normal.specs.Atoms.{Atom}
+use Rattle.mg_index.specs.Bound.{Bound, bounds_on, is_exact, is_fixed, meets_all}
+use Rattle.mg_index.specs.Definition.{Steps}
+use Rattle.mg_index.specs.declared.bound.Comparison.{Comparison}
+use Rattle.mg_index.specs.declared.bound.Comparison.TheVariants.{Below, AtMost, Exactly, AtLeast, Above}
+
+-- ---- the range as a set of keys
+
+-- the key, one value a column, is in the range: its values meet every bound on the bounded columns, which are the leading ones
+-- whose value is fixed and the next one
+abbrev pub in_range : List Atom → List Steps → List Value → Bool
+in_range atoms (c ∷ cs) (v ∷ vs) = meets_all v (bounds_on atoms c) && (if is_fixed atoms c then in_range atoms cs vs else true)
+in_range atoms columns key = true
+
+-- ---- the range by its tightest bounds
+
+-- a limit on the values of a column: the value, and whether it is within the limit itself
+pub record Limit : Type 0 where
+  pub value : Value
+  pub inclusive : Bool
+
+abbrev pub limit_at : Value → Bool → Limit
+limit_at value inclusive = record { value = value; inclusive = inclusive }
+
+-- values of the columns before one, and limits on that
+pub record Span : Type 0 where
+  pub equal : List Value
+  pub lower : Option Limit
+  pub upper : Option Limit
+
+abbrev pub span_of : List Value → Option Limit → Option Limit → Span
+span_of equal lower upper = record { equal = equal; lower = lower; upper = upper }
+
+-- a range, which may be empty
+abbrev pub Range : Type 0
+Range = Option Span
+
+-- the order of values from below, and from above
+abbrev pub order_from : Direction → Value → Value → Ordering
+order_from direction a b = directed direction (value_order a b)
+
+-- whether a comparison limits from below, or from above, and then whether it allows the value itself
+abbrev pub inclusive_from : Direction → Comparison → Option Bool
+inclusive_from Asc Below = None
+inclusive_from Asc AtMost = None
+inclusive_from Asc Exactly = Some true
+inclusive_from Asc AtLeast = Some true
+inclusive_from Asc Above = Some false
+inclusive_from Desc Below = Some false
+inclusive_from Desc AtMost = Some true
+inclusive_from Desc Exactly = Some true
+inclusive_from Desc AtLeast = None
+inclusive_from Desc Above = None
+
+-- the limit that a comparison with a value gives from below, or from above
+abbrev pub limit_by : Direction → Comparison → Value → Option Limit
+limit_by direction comparison v = option_map (limit_at v) (inclusive_from direction comparison)
+
+-- the limit that a bound gives
+abbrev pub limit_of : Direction → Bound → Option Limit
+limit_of direction b = limit_by direction b.comparison b.value
+
+-- the tighter of two limits: the one that the other admits, and of equal values the exclusive one
+abbrev pub tighter : Direction → Limit → Limit → Limit
+tighter direction a b = match_ordering (order_from direction a.value b.value) b (if a.inclusive then b else a) a
+
+-- the tighter of a limit, if there is one yet, and another
+abbrev pub tightened : Direction → Option Limit → Limit → Option Limit
+tightened direction None b = Some b
+tightened direction (Some a) b = Some (tighter direction a b)
+
+-- the tightest limit that bounds give, if they give any
+abbrev pub tightest : Direction → List Bound → Option Limit
+tightest direction bounds = fold (tightened direction) None (filter_map (limit_of direction) bounds)
+
+-- the lower limit is above the upper one, or at it where one of them is exclusive
+abbrev pub are_crossed : Limit → Limit → Bool
+are_crossed lower upper = match_ordering (value_order lower.value upper.value) false (not (lower.inclusive && upper.inclusive)) true
+
+-- whether both are there and crossed
+abbrev pub is_crossed : Option Limit → Option Limit → Bool
+is_crossed (Some lower) (Some upper) = are_crossed lower upper
+is_crossed lower upper = false
+
+-- the range between two limits
+abbrev pub between : Option Limit → Option Limit → Range
+between lower upper = if is_crossed lower upper then None else Some (span_of [] lower upper)
+
+-- the range with one more value in front
+abbrev pub with_equal : Value → Range → Range
+with_equal v rest = option_map (λ s. span_of (v ∷ s.equal) s.lower s.upper) rest
+
+-- the range of columns whose first one has these bounds: where they fix its value, which has to meet them all, that value and the
+-- range of the others, and else what is between the tightest limits
+abbrev pub range_from : List Bound → Option Bound → Range → Range
+range_from bounds (Some fixed) rest = if meets_all fixed.value bounds then with_equal fixed.value rest else None
+range_from bounds None rest = between (tightest Asc bounds) (tightest Desc bounds)
+
+-- the range of columns
+abbrev pub range_of : List Atom → List Steps → Range
+range_of atoms [] = Some (span_of [] None None)
+range_of atoms (c ∷ cs) = range_from (bounds_on atoms c) (find is_exact (bounds_on atoms c)) (range_of atoms cs)
+
+-- ---- how the logic stores a range
+
+abbrev pub limit_code : Coded Limit
+limit_code = code_by (Value × Bool) (coded× value_code coded_bool) (λ l. (l.value, l.inclusive)) (λ p. limit_at p.0 p.1) (λ _. refl)
+
+abbrev pub span_code : Coded Span
+span_code =
+    code_by (List Value × (Option Limit × Option Limit)) (coded× (coded_list value_code) (coded× (coded_option limit_code) (coded_option limit_code)))
+    (λ s. (s.equal, (s.lower, s.upper))) (λ p. span_of p.0 p.1.0 p.1.1) (λ _. refl)
+
+abbrev pub range_code : Coded Range
+range_code = coded_option span_code

@@ -1,0 +1,17 @@
+-- The limits and the span that the code's stand for.
+use Rattle.std.specs.Prelude.{List, ◌++◌, Option, map, option_map}
+use Rattle.mg_value.specs.Value.{Value}
+use Rattle.mg_value.specs.View.{view}
+use Rattle.mg_range.specs.Range.{Limit, Span, Range, limit_at, span_of}
+use Rattle.mg_range.specs.declared.span.Limit as limit
+use Rattle.mg_range.specs.declared.span.Span as span
+
+abbrev pub limit_seen : limit.Limit → Limit
+limit_seen l = limit_at (view l.value) l.inclusive
+
+abbrev pub span_seen : span.Span → Span
+span_seen s = span_of (map view s.equal.items) (option_map limit_seen s.lower) (option_map limit_seen s.upper)
+
+-- for private clauses: the range with more values in front
+abbrev pub with_equals : List Value → Range → Range
+with_equals vs range = option_map (λ s. span_of (vs ++ s.equal) s.lower s.upper) range

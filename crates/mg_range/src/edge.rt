@@ -1,0 +1,136 @@
+// What the atoms of a selector ask of one column: limits, and values that are fixed. All is lent by the atoms.
+ghost use Rattle.std.specs.Prelude.{◌≡◌, List, option_map};
+ghost use Rattle.std.specs.List.{cons_option, filter_map, find, fold};
+ghost use Rattle.mg_value.specs.View.{view};
+ghost use Rattle.mg_normal.specs.View.{atom_view, atoms_view};
+ghost use Rattle.mg_index.specs.Bound.{Bound as BoundValue, bound_by, bound_on, bounds_on, is_exact, meets_all as meets_each};
+ghost use Rattle.mg_range.specs.Range.{inclusive_from as inclusive_given, limit_by, limit_of, tighter as tighter_of, tightened, tightest as tightest_of};
+ghost use Rattle.mg_range.specs.Edge.{edge_seen};
+
+use mg_collate::{Direction, compare};
+use mg_index::{Bound, Comparison};
+use mg_normal::Atom;
+use mg_path::Path;
+use mg_value::Json;
+use std::cmp::Ordering;
+
+// A limit on the values of a column.
+#[derive(Clone, Copy, Debug)]
+pub(crate) struct Edge<'a> {
+    pub(crate) value: &'a Json,
+    pub(crate) inclusive: bool,
+}
+
+// The limit that the bound gives from below, or from above.
+fn edge_of(direction: Direction, bound: Bound<'_>) -> Option<Edge<'_>>
+    ensures { option_map edge_seen result
+        ≡ limit_by direction bound.entry.comparison (view bound.entry.value.now) }
+{
+    let inclusive = inclusive_from(direction, bound.comparison)?;
+    Some(Edge {
+        value: bound.value,
+        inclusive,
+    })
+}
+
+// Whether the comparison limits from there, and then whether it allows the value itself.
+fn inclusive_from(direction: Direction, comparison: Comparison) -> Option<bool>
+    ensures { result ≡ inclusive_given direction comparison }
+{
+    match direction {
+        Direction::Asc => match comparison {
+            Comparison::Below => None,
+            Comparison::AtMost => None,
+            Comparison::Exactly => Some(true),
+            Comparison::AtLeast => Some(true),
+            Comparison::Above => Some(false),
+        },
+        Direction::Desc => match comparison {
+            Comparison::Below => Some(false),
+            Comparison::AtMost => Some(true),
+            Comparison::Exactly => Some(true),
+            Comparison::AtLeast => None,
+            Comparison::Above => None,
+        },
+    }
+}
+
+// The tighter of the two.
+fn tighter<'a>(direction: Direction, a: Edge<'a>, b: Edge<'a>) -> Edge<'a>
+    ensures { edge_seen result ≡ tighter_of direction (edge_seen a.entry) (edge_seen b.entry) }
+{
+    match direction.apply(compare(a.value, b.value)) {
+        Ordering::Less => b,
+        Ordering::Equal => if a.inclusive { b } else { a },
+        Ordering::Greater => a,
+    }
+}
+
+// The tightest so far, with the limit that one more atom gives, if it gives one.
+fn tightened_by<'a>(
+    direction: Direction,
+    best: Option<Edge<'a>>,
+    column: &Path,
+    atom: &'a Atom,
+) -> Option<Edge<'a>>
+    ensures { (rest : List BoundValue)
+        → fold (tightened direction) (option_map edge_seen result) (filter_map (limit_of direction) rest)
+        ≡ fold (tightened direction) (option_map edge_seen best.entry)
+        (filter_map (limit_of direction) (cons_option (bound_on column.now (atom_view atom.now)) rest)) }
+{
+    let Some(bound) = Bound::on(column, atom) else {
+        return best;
+    };
+    let Some(edge) = edge_of(direction, bound) else {
+        return best;
+    };
+    match best {
+        None => Some(edge),
+        Some(best) => Some(tighter(direction, best, edge)),
+    }
+}
+
+// The tightest limit that the atoms give on the column, if they give any.
+pub(crate) fn tightest<'a>(
+    direction: Direction,
+    column: &Path,
+    atoms: &'a [Atom],
+) -> Option<Edge<'a>>
+    ensures { option_map edge_seen result
+        ≡ tightest_of direction (bounds_on (atoms_view atoms.now) column.now) }
+{
+    let mut best = None;
+    for atom in atoms {
+        best = tightened_by(direction, best, column, atom);
+    }
+    best
+}
+
+// The first value that the atoms ask the column to equal.
+pub(crate) fn fixed_value<'a>(column: &Path, atoms: &'a [Atom]) -> Option<&'a Json>
+    ensures { option_map (λ v. bound_by Comparison.Exactly (view v.now)) result
+        ≡ find is_exact (bounds_on (atoms_view atoms.now) column.now) }
+{
+    for atom in atoms {
+        if let Some(bound) = Bound::on(column, atom) {
+            if bound.comparison == Comparison::Exactly {
+                return Some(bound.value);
+            }
+        }
+    }
+    None
+}
+
+// Whether the value meets every bound that the atoms give on the column.
+pub(crate) fn meets_all(column: &Path, atoms: &[Atom], value: &Json) -> bool
+    ensures { result ≡ meets_each (view value.now) (bounds_on (atoms_view atoms.now) column.now) }
+{
+    for atom in atoms {
+        if let Some(bound) = Bound::on(column, atom) {
+            if !bound.comparison.allows(compare(value, bound.value)) {
+                return false;
+            }
+        }
+    }
+    true
+}

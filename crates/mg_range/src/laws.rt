@@ -1,0 +1,19 @@
+//! What key ranges are for, each law the contract of a function that does nothing.
+ghost use Rattle.mg_range.specs.Laws.{RangesAreComplete, RangesStandTogether};
+
+use mg_normal::laws::atoms_are_necessary;
+
+/// Where an index is usable for a selector and a sort, and a document has `_id`, `_rev` and every path of
+/// the sort, and the selector holds of it, then the document has every column of the index, and its key is
+/// in the range. So a search of the index within the range finds each document that the query asks for.
+pub fn ranges_are_complete()
+    ensures { RangesAreComplete }
+{
+    atoms_are_necessary();
+}
+
+/// A key that does not come after another has no later place to a range: in rows that are in order those
+/// before the range come first, then those in it, then those past it.
+pub fn ranges_stand_together()
+    ensures { RangesStandTogether }
+{}

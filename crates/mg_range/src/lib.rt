@@ -1,0 +1,12 @@
+//! Key ranges: which keys of an index a query looks at, and where a key stands to a range.
+#![tactic(auto)]
+
+mod edge;
+pub mod laws;
+mod listed;
+pub mod place;
+pub mod range;
+mod span;
+
+pub use place::Place;
+pub use range::KeyRange;

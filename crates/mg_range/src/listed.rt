@@ -1,0 +1,57 @@
+// The range as it is told.
+ghost use Rattle.std.specs.Prelude.{◌≡◌, IfOk, None, Some, map, option_map};
+ghost use Rattle.mg_value.specs.Value.{list};
+ghost use Rattle.mg_value.specs.View.{view, items_view, items_of};
+ghost use Rattle.mg_range.specs.Listed.{limit_value, range_value};
+ghost use Rattle.mg_range.specs.View.{limit_seen, span_seen};
+
+use crate::span::{Limit, Span};
+use mg_value::{Json, NoMemory};
+use std::alloc::Global;
+
+// `{"empty":true}`
+pub(crate) fn empty_json(alloc: Global) -> Result<Json, NoMemory>
+    ensures { IfOk result (λ v. view v ≡ range_value None) }
+{
+    let mut told = Json::empty_object(alloc);
+    told.insert(alloc, "empty", Json::Flag(true))?;
+    Ok(told)
+}
+
+// `{"equal":[..],"lower":..,"upper":..}`
+pub(crate) fn span_json(alloc: Global, span: &Span) -> Result<Json, NoMemory>
+    ensures { IfOk result (λ v. view v ≡ range_value (Some (span_seen span.now))) }
+{
+    let equal = values_json(alloc, &span.equal)?;
+    let lower = limit_json(alloc, span.lower.as_ref())?;
+    let upper = limit_json(alloc, span.upper.as_ref())?;
+    let mut told = Json::empty_object(alloc);
+    told.insert(alloc, "upper", upper)?;
+    told.insert(alloc, "lower", lower)?;
+    told.insert(alloc, "equal", equal)?;
+    Ok(told)
+}
+
+fn values_json(alloc: Global, values: &[Json]) -> Result<Json, NoMemory>
+    ensures { IfOk result (λ v. view v ≡ list (items_view values.now)) }
+{
+    let mut copy = Vec::with_capacity(alloc, values.len())?;
+    for value in values {
+        copy.push(value.copy(alloc)?)?;
+    }
+    Ok(Json::List(copy))
+}
+
+fn limit_json(alloc: Global, limit: Option<&Limit>) -> Result<Json, NoMemory>
+    ensures { IfOk result
+        (λ v. view v ≡ limit_value (option_map (λ l. limit_seen l.now) limit.entry)) }
+{
+    let Some(limit) = limit else {
+        return Ok(Json::Null);
+    };
+    let value = limit.value.copy(alloc)?;
+    let mut told = Json::empty_object(alloc);
+    told.insert(alloc, "value", value)?;
+    told.insert(alloc, "inclusive", Json::Flag(limit.inclusive))?;
+    Ok(told)
+}

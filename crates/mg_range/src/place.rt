@@ -1,0 +1,10 @@
+/// Where a key stands to a range, in the order of keys.
+#[derive(Clone, Copy, PartialEq, Eq, Debug, Drop)]
+pub enum Place {
+    /// Below each key of the range.
+    Before,
+    /// One of its keys.
+    Within,
+    /// Above each of them, or the range is empty.
+    Past,
+}

@@ -1,0 +1,103 @@
+ghost use Rattle.std.specs.Prelude.{◌≡◌, ℕ, List, IfOk, is_none, length, map};
+ghost use Rattle.mg_value.specs.Value.{Value};
+ghost use Rattle.mg_value.specs.View.{view as json_view};
+ghost use Rattle.mg_normal.specs.Normal.{normal_atoms};
+ghost use Rattle.mg_range.specs.Listed.{range_value};
+ghost use Rattle.mg_range.specs.Place.{has_key, place_of};
+ghost use Rattle.mg_range.specs.Range.{in_range, range_of};
+
+use crate::listed::{empty_json, span_json};
+use crate::place::Place;
+use crate::span::{Span, place_in, span_of};
+use mg_normal::Normal;
+use mg_path::Path;
+use mg_value::{Json, NoMemory};
+use std::alloc::Global;
+use std::marker::Model;
+
+/// The keys of an index that a query looks at: the values of the leading columns, as far as the query
+/// fixes them, and limits on that of the next column. A range may be empty.
+#[derive(Debug, Drop)]
+pub struct KeyRange {
+    span: Option<Span>,
+}
+
+impl Model for KeyRange {
+    ghost use Rattle.std.specs.Prelude.{option_map};
+    ghost use Rattle.mg_range.specs.Range.{Range, range_code};
+
+    ghost Value = { Range };
+
+    ghost coded = { range_code };
+
+    ghost use Rattle.mg_range.specs.View.{span_seen};
+
+    ghost view = { λ r. option_map span_seen r.span };
+}
+
+impl KeyRange {
+    /// The range of an index of these columns for a query.
+    ///
+    /// The bounds come from the atoms alone: `$eq`, `$lt`, `$lte`, `$gt` and `$gte`, and these and `$ne` in
+    /// the negated sense as their opposites. The leading columns that an `$eq` bounds have its value, and
+    /// the next column lies between its tightest bounds.
+    /// Errors: `NoMemory` where a growth is refused. Cost: the columns times the atoms, and each bound that
+    /// is kept, which is copied once.
+    pub fn of(alloc: Global, columns: &[Path], normal: &Normal) -> Result<KeyRange, NoMemory>
+        ensures range { IfOk result (λ r. r ≡ range_of (normal_atoms normal.now) columns.now) }
+        ensures keys { IfOk result (λ r. (key : List Value) → length key ≡ length columns.now
+            → has_key r key ≡ in_range (normal_atoms normal.now) columns.now key) }
+    {
+        Ok(KeyRange {
+            span: span_of(alloc, columns, normal.atoms())?,
+        })
+    }
+
+    /// Whether the key is in the range. Takes no memory. Cost: one pass over the key at most.
+    pub fn contains(&self, key: &[Json]) -> bool
+        ensures { result ≡ has_key self.now (map json_view key.now) }
+    {
+        match self.place(key) {
+            Place::Before => false,
+            Place::Within => true,
+            Place::Past => false,
+        }
+    }
+
+    /// Where the key stands to the range. Takes no memory. Cost: one pass over the key at most.
+    ///
+    /// In rows that are in order all that are before the range come first, then all that are in it, then
+    /// all that are past it, so that its ends are found by halves.
+    pub fn place(&self, key: &[Json]) -> Place
+        ensures { result ≡ place_of self.now (map json_view key.now) }
+    {
+        match &self.span {
+            Some(span) => place_in(span, key),
+            None => Place::Past,
+        }
+    }
+
+    /// Whether a value that is fixed breaks another bound on its column, or the lower limit is above the
+    /// upper one, or at it where one of them is exclusive. Then no key is in the range. Takes no memory.
+    pub fn is_empty(&self) -> bool
+        ensures { result ≡ is_none self.now }
+    {
+        match &self.span {
+            Some(_) => false,
+            None => true,
+        }
+    }
+
+    /// The range as it is told: `{"empty":true}`, or `{"equal":[..],"lower":..,"upper":..}`, each limit as
+    /// null or `{"inclusive":..,"value":..}`.
+    ///
+    /// Errors: `NoMemory` where a growth is refused. Cost: the size of the values.
+    pub fn to_json(&self, alloc: Global) -> Result<Json, NoMemory>
+        ensures { IfOk result (λ v. json_view v ≡ range_value self.now) }
+    {
+        match &self.span {
+            Some(span) => span_json(alloc, span),
+            None => empty_json(alloc),
+        }
+    }
+}

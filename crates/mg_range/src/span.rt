@@ -1,0 +1,177 @@
+// The keys between two limits, behind values that are fixed.
+ghost use Rattle.std.specs.Prelude.{◌≡◌, List, Some, IfOk, map, not, option_map};
+ghost use Rattle.mg_value.specs.View.{view};
+ghost use Rattle.mg_normal.specs.View.{atoms_view};
+ghost use Rattle.mg_collate.specs.declared.direction.Direction.TheVariants.{Asc, Desc};
+ghost use Rattle.mg_range.specs.Edge.{edge_seen};
+ghost use Rattle.mg_range.specs.Range.{range_of, between, are_crossed as cross, is_crossed as is_cross};
+ghost use Rattle.mg_range.specs.Place.{place_from, place_between as stands_between, is_before as stands_before, is_past as stands_past, is_within as stands_within};
+ghost use Rattle.mg_range.specs.View.{limit_seen, span_seen, with_equals};
+
+use crate::edge::{Edge, fixed_value, meets_all, tightest};
+use crate::place::Place;
+use mg_collate::{Direction, compare};
+use mg_normal::Atom;
+use mg_path::Path;
+use mg_value::{Json, NoMemory};
+use std::alloc::Global;
+use std::cmp::Ordering;
+
+// A limit on the values of a column.
+#[derive(Debug, Drop)]
+pub(crate) struct Limit {
+    pub(crate) value: Json,
+    pub(crate) inclusive: bool,
+}
+
+// The values of the leading columns, and the limits on that of the next one.
+#[derive(Debug, Drop)]
+pub(crate) struct Span {
+    pub(crate) equal: Vec<Json>,
+    pub(crate) lower: Option<Limit>,
+    pub(crate) upper: Option<Limit>,
+}
+
+// The span of the columns, none where no value can meet the bounds of the atoms.
+pub(crate) fn span_of(
+    alloc: Global,
+    columns: &[Path],
+    atoms: &[Atom],
+) -> Result<Option<Span>, NoMemory>
+    ensures { IfOk result (λ s. option_map span_seen s ≡ range_of (atoms_view atoms.now) columns.now) }
+{
+    let mut equal = Vec::new(alloc);
+    for column in columns {
+        let Some(value) = fixed_value(column, atoms) else {
+            let lower = tightest(Direction::Asc, column, atoms);
+            let upper = tightest(Direction::Desc, column, atoms);
+            return span_between(alloc, equal, lower, upper);
+        };
+        if !meets_all(column, atoms, value) {
+            return Ok(None);
+        }
+        equal.push(value.copy(alloc)?)?;
+    }
+    Ok(Some(Span {
+        equal,
+        lower: None,
+        upper: None,
+    }))
+}
+
+// The span of these values and limits, none where the limits cross.
+fn span_between(
+    alloc: Global,
+    equal: Vec<Json>,
+    lower: Option<Edge<'_>>,
+    upper: Option<Edge<'_>>,
+) -> Result<Option<Span>, NoMemory>
+    ensures { IfOk result (λ s. option_map span_seen s ≡ with_equals (map view equal.items)
+        (between (option_map edge_seen lower.entry) (option_map edge_seen upper.entry))) }
+{
+    if is_crossed(lower, upper) {
+        return Ok(None);
+    }
+    Ok(Some(Span {
+        equal,
+        lower: kept(alloc, lower)?,
+        upper: kept(alloc, upper)?,
+    }))
+}
+
+// Whether both limits are there, and no value is within both of them.
+fn is_crossed(lower: Option<Edge<'_>>, upper: Option<Edge<'_>>) -> bool
+    ensures { result ≡ is_cross (option_map edge_seen lower.entry) (option_map edge_seen upper.entry) }
+{
+    match (lower, upper) {
+        (Some(lower), Some(upper)) => are_crossed(lower, upper),
+        _ => false,
+    }
+}
+
+fn are_crossed(lower: Edge<'_>, upper: Edge<'_>) -> bool
+    ensures { result ≡ cross (edge_seen lower.entry) (edge_seen upper.entry) }
+{
+    match compare(lower.value, upper.value) {
+        Ordering::Less => false,
+        Ordering::Equal => !(lower.inclusive && upper.inclusive),
+        Ordering::Greater => true,
+    }
+}
+
+// The limit with a value of its own.
+fn kept(alloc: Global, edge: Option<Edge<'_>>) -> Result<Option<Limit>, NoMemory>
+    ensures { IfOk result (λ l. option_map limit_seen l ≡ option_map edge_seen edge.entry) }
+{
+    match edge {
+        None => Ok(None),
+        Some(edge) => Ok(Some(Limit {
+            value: edge.value.copy(alloc)?,
+            inclusive: edge.inclusive,
+        })),
+    }
+}
+
+// Where the key stands to the span.
+pub(crate) fn place_in(span: &Span, key: &[Json]) -> Place
+    ensures { result ≡ place_from (map view span.now.equal.items) (option_map limit_seen span.now.lower)
+        (option_map limit_seen span.now.upper) (map view key.now) }
+{
+    for (place, fixed) in span.equal.iter().enumerate() {
+        let Some(value) = key.get(place) else {
+            return Place::Before;
+        };
+        match compare(value, fixed) {
+            Ordering::Less => return Place::Before,
+            Ordering::Equal => {}
+            Ordering::Greater => return Place::Past,
+        }
+    }
+    place_at_limits(&span.lower, &span.upper, &key[span.equal.len()..])
+}
+
+// Where the rest of a key stands to the limits.
+fn place_at_limits(lower: &Option<Limit>, upper: &Option<Limit>, rest: &[Json]) -> Place
+    ensures { result ≡ stands_between (option_map limit_seen lower.now) (option_map limit_seen upper.now)
+        (map view rest.now) }
+{
+    if is_before(lower, rest) {
+        Place::Before
+    } else if is_past(upper, rest) {
+        Place::Past
+    } else {
+        Place::Within
+    }
+}
+
+fn is_before(lower: &Option<Limit>, rest: &[Json]) -> bool
+    ensures { result ≡ stands_before (option_map limit_seen lower.now) (map view rest.now) }
+{
+    let Some(lower) = lower else {
+        return false;
+    };
+    let Some((value, _)) = rest.split_first() else {
+        return true;
+    };
+    !is_within(Direction::Asc, lower, value)
+}
+
+fn is_past(upper: &Option<Limit>, rest: &[Json]) -> bool
+    ensures { result ≡ stands_past (option_map limit_seen upper.now) (map view rest.now) }
+{
+    let Some(upper) = upper else {
+        return false;
+    };
+    let Some((value, _)) = rest.split_first() else {
+        return false;
+    };
+    !is_within(Direction::Desc, upper, value)
+}
+
+// Whether the value is within the limit.
+fn is_within(direction: Direction, limit: &Limit, value: &Json) -> bool
+    ensures { result ≡ stands_within direction (limit_seen limit.now) (view value.now) }
+{
+    let order = direction.apply(compare(value, &limit.value));
+    if limit.inclusive { order.is_ge() } else { order.is_gt() }
+}
