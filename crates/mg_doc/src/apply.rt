@@ -29,6 +29,21 @@ pub(crate) fn look_for(tree: &RevTree, path: &History) -> Result<Option<Rev>, Ed
 
 // Merges the path of a replica.
 pub(crate) fn merge(
+    tree: &mut RevTree,
+    path: &History,
+    deleted: bool,
+    body: Json,
+) -> Result<Rev, EditError>
+    ensures brings { (h : Paths) → StandsFor tree.old h → Brings h deleted (view body) (replicated h path.now) result tree.new }
+    ensures unchanged { OnErr result (tree.new ≡ tree.old) }
+{
+    let rev = path.newest()?;
+    tree.merge(path, deleted, body)?;
+    Ok(rev)
+}
+
+// The same with a copy of the body.
+pub(crate) fn merge_by_copy(
     alloc: Global,
     tree: &mut RevTree,
     path: &History,
@@ -38,10 +53,8 @@ pub(crate) fn merge(
     ensures brings { (h : Paths) → StandsFor tree.old h → Brings h deleted (view body.now) (replicated h path.now) result tree.new }
     ensures unchanged { OnErr result (tree.new ≡ tree.old) }
 {
-    let rev = path.newest()?;
     let body = body.copy(alloc)?;
-    tree.merge(path, deleted, body)?;
-    Ok(rev)
+    Ok(merge(tree, path, deleted, body)?)
 }
 
 // Whether a revision may be made over a named one, or where none is named.
@@ -94,10 +107,10 @@ pub(crate) fn extend(
     tree: &mut RevTree,
     named: Option<&Rev>,
     deleted: bool,
-    body: &Json,
+    body: Json,
 ) -> Result<Rev, EditError>
-    ensures brings { (h : Paths) → StandsFor tree.old h → Brings h deleted (view body.now)
-        (extended h deleted (view body.now) (option_copied named.entry)) result tree.new }
+    ensures brings { (h : Paths) → StandsFor tree.old h → Brings h deleted (view body)
+        (extended h deleted (view body) (option_copied named.entry)) result tree.new }
     ensures unchanged { OnErr result (tree.new ≡ tree.old) }
 {
     match named {
@@ -109,24 +122,39 @@ pub(crate) fn extend(
     }
 }
 
+// The same with a copy of the body.
+pub(crate) fn extend_by_copy(
+    alloc: Global,
+    tree: &mut RevTree,
+    named: Option<&Rev>,
+    deleted: bool,
+    body: &Json,
+) -> Result<Rev, EditError>
+    ensures brings { (h : Paths) → StandsFor tree.old h → Brings h deleted (view body.now)
+        (extended h deleted (view body.now) (option_copied named.entry)) result tree.new }
+    ensures unchanged { OnErr result (tree.new ≡ tree.old) }
+{
+    let body = body.copy(alloc)?;
+    Ok(extend(alloc, tree, named, deleted, body)?)
+}
+
 // Makes a revision over a base, or the first of a document.
 fn extend_over(
     alloc: Global,
     tree: &mut RevTree,
     base: Option<&Rev>,
     deleted: bool,
-    body: &Json,
+    body: Json,
 ) -> Result<Rev, EditError>
-    ensures brings { (h : Paths) → StandsFor tree.old h → Brings h deleted (view body.now)
-        (made_over h deleted (view body.now) (option_copied base.entry)) result tree.new }
+    ensures brings { (h : Paths) → StandsFor tree.old h → Brings h deleted (view body)
+        (made_over h deleted (view body) (option_copied base.entry)) result tree.new }
     ensures unchanged { OnErr result (tree.new ≡ tree.old) }
 {
-    let id = rev_id(alloc, deleted, base, body)?;
+    let id = rev_id(alloc, deleted, base, &body)?;
     let rev = Rev {
         pos: position_over(base),
         id: id.clone()?,
     };
-    let body = body.copy(alloc)?;
     tree.extend(base, id, deleted, body)?;
     Ok(rev)
 }

@@ -5,7 +5,7 @@ ghost use Rattle.mg_revtree.specs.Tree.{StandsFor};
 ghost use Rattle.mg_doc.specs.Applied.{Applied, Foreseen};
 ghost use Rattle.mg_doc.specs.Document.{Gives, edit_of, is_object, members_read};
 
-use crate::apply::{check_base, extend, look_for, merge};
+use crate::apply::{check_base, extend, extend_by_copy, look_for, merge, merge_by_copy};
 use crate::change::Change;
 use crate::error::{DocError, EditError};
 use crate::members::{checked_mark, keep_own, take_id};
@@ -122,8 +122,30 @@ impl Edit {
             return Ok(rev);
         }
         match &self.change {
-            Change::New(named) => { extend(alloc, tree, named.as_ref(), self.deleted, &self.body) }
-            Change::Replica(path) => merge(alloc, tree, path, self.deleted, &self.body),
+            Change::New(named) => {
+                extend_by_copy(alloc, tree, named.as_ref(), self.deleted, &self.body)
+            }
+            Change::Replica(path) => merge_by_copy(alloc, tree, path, self.deleted, &self.body),
+        }
+    }
+
+    /// Does what `apply` does, and moves the body into the tree where the edit is accepted. Cost: a step of the tree.
+    pub fn bring(self, alloc: Global, tree: &mut RevTree) -> Result<Rev, EditError>
+        ensures applied { (h : Paths) → StandsFor tree.old h → Applied h self result tree.new }
+        ensures unchanged { OnErr result (tree.new ≡ tree.old) }
+    {
+        if let Some(rev) = self.look(tree)? {
+            return Ok(rev);
+        }
+        let Edit {
+            id: _,
+            change,
+            deleted,
+            body,
+        } = self;
+        match change {
+            Change::New(named) => extend(alloc, tree, named.as_ref(), deleted, body),
+            Change::Replica(path) => merge(tree, &path, deleted, body),
         }
     }
 }

@@ -12,7 +12,7 @@ pub returns-in_err-base-in-None-clause-brings : goal.returns-in_err-base-in-None
 returns-in_err-base-in-None-clause-brings c = λ h stands.
     let x = c.in_err-base-in-None.field-0.0 in
     let t = c.args.tree.now in
-    let b = view c.args.body.now in
+    let b = view c.args.body in
     let p = err_from_is_err_and c.from_residual.result c.from_residual.ensures.1 in
     let is : c.from_residual.result ≡ Err x = cc (p.1, p.2) in
     let named : option_copied c.args.named ≡ None = ap option_copied c.in-None.is in

@@ -11,6 +11,5 @@ returns-clause-brings c = λ h stands.
     let base = option_copied c.args.base in
     let id = string_bytes c.in_ok-id.id in
     let t = c.extend.new.self in
-    let P : Value → Type 0 = λ b. StandsFor t (with_path h (extension base id c.args.deleted b)) in
-    made_over_base h c.args.deleted (view c.args.body.now) base id (string_bytes c.in_ok-clone.field-0) c.position_over.result t c.in_ok-id.ensures c.in_ok-clone.ensures.cases (no_refusal _ _ (c.in_ok-extend.ensures.decided h stands)) c.position_over.ensures
-    (subst P c.in_ok-body.ensures (c.in_ok-extend.ensures.accepted h stands))
+    made_over_base h c.args.deleted (view c.args.body) base id (string_bytes c.in_ok-clone.field-0) c.position_over.result t c.in_ok-id.ensures c.in_ok-clone.ensures.cases (no_refusal _ _ (c.in_ok-extend.ensures.decided h stands)) c.position_over.ensures
+    (c.in_ok-extend.ensures.accepted h stands)

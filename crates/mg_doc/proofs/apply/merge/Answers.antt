@@ -17,7 +17,7 @@ returns-in_err-merge-clause-brings c = λ h stands.
     let x = c.in_err-merge.field-0.0 in
     let p = err_from_is_err_and c.from_residual-in_err-merge.result c.from_residual-in_err-merge.ensures.1 in
     let is : c.from_residual-in_err-merge.result ≡ Err (error_of_merge x) = cc (p.1, p.2) in
-    let P : Result Revision EditError → Type 0 = λ r. Brings h c.args.deleted (view c.args.body.now) (replicated h c.args.path.now) r c.merge.new.self in
+    let P : Result Revision EditError → Type 0 = λ r. Brings h c.args.deleted (view c.args.body) (replicated h c.args.path.now) r c.merge.new.self in
     subst P (sym is) (not_merged h c.args.path.now x (λ t. c.in_err-merge.ensures.fitting h stands t))
 
 pub returns-clause-brings : goal.returns-clause-brings
@@ -27,5 +27,4 @@ returns-clause-brings c = λ h stands.
       | inl t ↦ t
       | inr f ↦ absurd (let e = c.in_ok-merge.ensures.refused h stands f in cc)
     ] in
-    let Q : Value → Type 0 = λ b. Brings h c.args.deleted b (replicated h run) (Ok c.in_ok-rev.rev) c.merge.new.self in
-    subst Q c.in_ok-body.ensures (merged h c.args.deleted (view c.in_ok-body.body) run c.in_ok-rev.rev c.merge.new.self c.in_ok-rev.ensures fit (c.in_ok-merge.ensures.accepted h stands))
+    merged h c.args.deleted (view c.args.body) run c.in_ok-rev.rev c.merge.new.self c.in_ok-rev.ensures fit (c.in_ok-merge.ensures.accepted h stands)
