@@ -7,6 +7,7 @@ pub mod Texts
 pub mod Rooms
 pub mod Leaves
 pub mod Ranks
+pub mod Places
 pub mod Winners
 pub mod Losers
 pub mod Step

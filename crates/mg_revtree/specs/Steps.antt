@@ -1,10 +1,11 @@
 -- What a tree changes when it takes in one link or one leaf.
 use Rattle.std.specs.Prelude.{◌≡◌, ℕ, zero, suc, List, [], ◌∷◌, Bool, true, false, is_some, if◌then◌else◌, Option, Some, None}
 use Rattle.std.specs.Ordering.{is_lt}
-use Rattle.std.specs.declared.cmp.Ordering.TheVariants.{Less}
+use Rattle.std.specs.declared.cmp.Ordering.TheVariants.{Less, Equal}
+use Rattle.mg_value.specs.Value.{null}
 use Rattle.mg_revtree.specs.Revision.{Revision, revision_order, same_revision}
 use Rattle.mg_revtree.specs.History.{Link, Leaf, or_else, agrees, gives, leaf_order}
-use Rattle.mg_revtree.specs.Tree.{IsBelow, leaf_in}
+use Rattle.mg_revtree.specs.Tree.{BeforeAll, IsBelow, leaf_in}
 
 -- what is kept of a revision after one more link of it
 abbrev pub joined : Option (Option Revision) → Option Revision → Option (Option Revision)
@@ -41,6 +42,28 @@ held_found (Some p) q = gives p q
 abbrev pub ranked : Leaf → List Leaf → List Leaf
 ranked l [] = l ∷ []
 ranked l (m ∷ ms) = if is_lt (leaf_order m l) then l ∷ m ∷ ms else m ∷ ranked l ms
+
+-- a leaf of this mark and revision, whatever its body
+abbrev pub marked_as : Bool → Revision → Leaf
+marked_as d r = record { rev = r; deleted = d; body = null }
+
+-- the leaf at place i ties with k
+abbrev pub IsTied : Leaf → List Leaf → ℕ → Type 0
+IsTied k [] i = ⊥
+IsTied k (l ∷ ls) zero = leaf_order k l ≡ Equal
+IsTied k (l ∷ ls) (suc i) = IsTied k ls i
+
+-- k goes before place i
+abbrev pub IsBetween : Leaf → List Leaf → ℕ → Type 0
+IsBetween k ls zero = BeforeAll k ls
+IsBetween k [] (suc i) = ⊥
+IsBetween k (l ∷ ls) (suc i) = (leaf_order k l ≡ Less) × IsBetween k ls i
+
+-- the leaf at place i is that of r
+abbrev pub IsLeafAt : Revision → List Leaf → ℕ → Type 0
+IsLeafAt r [] i = ⊥
+IsLeafAt r (l ∷ ls) zero = same_revision r l.rev ≡ true
+IsLeafAt r (l ∷ ls) (suc i) = IsLeafAt r ls i
 
 -- whether there are no leaves, or the revision is one
 abbrev pub base_in : List Leaf → Option Revision → Bool

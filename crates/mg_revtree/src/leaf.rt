@@ -1,5 +1,6 @@
 ghost use Rattle.std.specs.Prelude.{◌≡◌, IfOk};
 ghost use Rattle.mg_revtree.specs.History.{leaf_order};
+ghost use Rattle.mg_revtree.specs.Steps.{marked_as};
 
 use crate::error::NoMemory;
 use crate::revision::Rev;
@@ -39,6 +40,15 @@ impl Leaf {
         (!self.deleted)
             .cmp(&!other.deleted)
             .then(self.rev.order(&other.rev))
+    }
+
+    // How a leaf of this mark and revision compares with it.
+    pub(crate) fn against(&self, deleted: bool, pos: u32, id: &[u8]) -> Ordering
+        ensures { result ≡ leaf_order (marked_as deleted (pos, id.now)) self.now }
+    {
+        (!deleted)
+            .cmp(&!self.deleted)
+            .then(self.rev.against(pos, id))
     }
 }
 

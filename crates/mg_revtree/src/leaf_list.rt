@@ -1,70 +1,96 @@
-ghost use Rattle.std.specs.Prelude.{◌≡◌, ◌+◌, ◌<◌, ◌≤◌, IfOk, filter, is_some, length, map, not, string_bytes, vec_capacity, vec_len};
+ghost use Rattle.std.specs.Prelude.{◌≡◌, ◌<◌, ◌≤◌, IfErr, IfNone, IfOk, IfSome, None, filter, is_some, length, map, not, string_bytes, vec_capacity, vec_len};
 ghost use Rattle.std.specs.List.{insert};
-ghost use Rattle.mg_revtree.specs.Revision.{run_from};
+ghost use Rattle.mg_revtree.specs.Revision.{run_from, same_revision};
 ghost use Rattle.mg_revtree.specs.History.{has_child, links};
-ghost use Rattle.mg_revtree.specs.Tree.{leaf_in};
-ghost use Rattle.mg_revtree.specs.Steps.{ranked};
+ghost use Rattle.mg_revtree.specs.Tree.{AreApart, AreRanked, leaf_in};
+ghost use Rattle.mg_revtree.specs.Steps.{IsBetween, IsLeafAt, IsTied, marked_as, ranked};
 
 use crate::error::NoMemory;
 use crate::leaf::{Leaf, Shared};
 use crate::revision::Rev;
 use std::alloc::Global;
 
-// Whether a revision is a parent in a run, given by its start and its ids, newest first. One comparison tells, with the
-// id at the revision's position.
-fn is_parent(rev: &Rev, start: u32, ids: &[String]) -> bool
-    ensures { length ids.now ≤ start + 1 → result ≡ has_child rev.now (links (run_from start (map string_bytes ids.now))) }
+// Where the leaf of a mark and a revision is among leaves, best first, or where it would go.
+fn place_of(leaves: &[Shared], deleted: bool, pos: u32, id: &[u8]) -> Result<usize, usize>
+    ensures found { IfOk result (λ i. (i < length leaves.now) × IsTied (marked_as deleted (pos, id.now)) leaves.now i) }
+    ensures absent { IfErr result (λ i. (i ≤ length leaves.now) × (AreRanked leaves.now → IsBetween (marked_as deleted (pos, id.now)) leaves.now i)) }
 {
-    if rev.pos >= start {
-        return false;
+    leaves.binary_search_by(|leaf| leaf.leaf().against(deleted, pos, id))
+}
+
+// Where the leaf of a revision is.
+fn place_among(leaves: &[Shared], pos: u32, id: &[u8]) -> Option<usize>
+    ensures found { IfSome result (λ i. (i < length leaves.now) × IsLeafAt (pos, id.now) leaves.now i) }
+    ensures absent { IfNone result (AreRanked leaves.now → leaf_in (pos, id.now) leaves.now ≡ None) }
+{
+    if let Ok(at) = place_of(leaves, false, pos, id) {
+        return Some(at);
     }
-    match ids.get((start - rev.pos) as usize) {
-        Some(id) => rev.id.as_str().cmp(id.as_str()).is_eq(),
-        None => false,
+    match place_of(leaves, true, pos, id) {
+        Ok(at) => Some(at),
+        Err(_) => None,
     }
 }
 
-/// Takes away the leaves that are parents in a run.
-pub fn unleaf(leaves: &mut Vec<Shared>, start: u32, ids: &[String])
-    ensures kept { length ids.now ≤ start + 1 → leaves.new.items ≡ filter (λ l. not (has_child l.rev (links (run_from start (map string_bytes ids.now))))) leaves.old.items }
+/// Whether a revision is a leaf. Cost: the logarithm of the leaves.
+pub fn is_leaf(leaves: &[Shared], pos: u32, id: &[u8]) -> bool
+    ensures { AreRanked leaves.now → result ≡ is_some (leaf_in (pos, id.now) leaves.now) }
+{
+    place_among(leaves, pos, id).is_some()
+}
+
+// Takes away the leaf of a revision, if there is one.
+fn take_away(leaves: &mut Vec<Shared>, pos: u32, id: &[u8])
+    ensures kept { AreRanked leaves.old.items → AreApart leaves.old.items → leaves.new.items ≡ filter (λ l. not (same_revision l.rev (pos, id.now))) leaves.old.items }
     ensures capacity { vec_capacity leaves.new ≡ vec_capacity leaves.old }
     ensures len { vec_len leaves.new ≤ vec_len leaves.old }
 {
-    leaves.retain(|leaf| !is_parent(&leaf.leaf().rev, start, ids));
+    if let Some(at) = place_among(leaves, pos, id) {
+        drop(leaves.remove(at));
+    }
 }
 
-// Before which leaf a leaf goes.
+/// Takes away the leaves that are parents in a run. Cost: for each of its revisions the logarithm of the leaves, and a
+/// move of a word for each leaf that comes after one that is taken away.
+pub fn unleaf(leaves: &mut Vec<Shared>, start: u32, ids: &[String])
+    ensures kept { AreRanked leaves.old.items → AreApart leaves.old.items → leaves.new.items ≡ filter (λ l. not (has_child l.rev (links (run_from start (map string_bytes ids.now))))) leaves.old.items }
+    ensures capacity { vec_capacity leaves.new ≡ vec_capacity leaves.old }
+    ensures len { vec_len leaves.new ≤ vec_len leaves.old }
+{
+    let mut pos = start;
+    for i in 1..ids.len() {
+        pos = pos.saturating_sub(1);
+        take_away(leaves, pos, ids[i].as_bytes());
+    }
+}
+
+// Where a leaf is among leaves, best first, or where it would go.
+fn place_for(leaves: &[Shared], leaf: &Leaf) -> Result<usize, usize>
+    ensures found { IfOk result (λ i. (i < length leaves.now) × IsTied leaf.now leaves.now i) }
+    ensures absent { IfErr result (λ i. (i ≤ length leaves.now) × (AreRanked leaves.now → IsBetween leaf.now leaves.now i)) }
+{
+    leaves.binary_search_by(|other| leaf.order(other.leaf()))
+}
+
+// Before which leaf a leaf goes, whose revision is none of theirs.
 fn rank(leaves: &[Shared], leaf: &Leaf) -> usize
     ensures within { result ≤ length leaves.now }
-    ensures ranked { insert leaves.now result leaf.now ≡ ranked leaf.now leaves.now }
+    ensures ranked { AreRanked leaves.now → leaf_in leaf.now.rev leaves.now ≡ None → insert leaves.now result leaf.now ≡ ranked leaf.now leaves.now }
 {
-    for (i, other) in leaves.iter().enumerate() {
-        if other.leaf().order(leaf).is_lt() {
-            return i;
-        }
+    match place_for(leaves, leaf) {
+        Ok(at) => at,
+        Err(at) => at,
     }
-    leaves.len()
 }
 
-/// Adds a leaf, for which there is room.
+/// Adds a leaf of a revision that is none yet, for which there is room. Cost: the logarithm of the leaves, and a move
+/// of a word for each that is worse.
 pub fn add_leaf(leaves: &mut Vec<Shared>, leaf: Shared)
     requires { vec_len leaves.old < vec_capacity leaves.old }
-    ensures { leaves.new.items ≡ ranked leaf leaves.old.items }
+    ensures { AreRanked leaves.old.items → leaf_in leaf.rev leaves.old.items ≡ None → leaves.new.items ≡ ranked leaf leaves.old.items }
 {
     let at = rank(leaves, leaf.leaf());
     drop(leaves.insert(at, leaf));
-}
-
-/// Whether a revision is a leaf.
-pub fn is_leaf(leaves: &[Shared], rev: &Rev) -> bool
-    ensures { result ≡ is_some (leaf_in rev.now leaves.now) }
-{
-    for leaf in leaves {
-        if rev.is(&leaf.leaf().rev) {
-            return true;
-        }
-    }
-    false
 }
 
 /// Those leaves that are not deleted.

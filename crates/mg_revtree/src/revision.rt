@@ -70,6 +70,13 @@ impl Rev {
             .then(self.id.as_str().cmp(other.id.as_str()))
     }
 
+    // How the revision of a position and an id compares with it.
+    pub(crate) fn against(&self, pos: u32, id: &[u8]) -> Ordering
+        ensures { result ≡ revision_order (pos, id.now) self.now }
+    {
+        pos.cmp(&self.pos).then(id.cmp(self.id.as_bytes()))
+    }
+
     /// Whether both are the same revision.
     pub fn is(&self, other: &Rev) -> bool
         ensures { result ≡ same_revision self.now other.now }

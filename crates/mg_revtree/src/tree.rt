@@ -1,8 +1,8 @@
-ghost use Rattle.std.specs.Prelude.{◌≡◌, ◌+◌, ◌<◌, ◌≤◌, [], Err, IfOk, IsOkUnless, MatchOption, Ok, OnErr, OnOk, false, length, map, option_copied, string_bytes, true};
+ghost use Rattle.std.specs.Prelude.{◌≡◌, ◌+◌, ◌<◌, ◌≤◌, [], Err, IfOk, IfSome, IsOkUnless, Ok, OnErr, OnOk, false, is_some, length, map, option_copied, string_bytes, true};
 ghost use Rattle.mg_value.specs.View.{view};
 ghost use Rattle.mg_revtree.specs.Revision.{run_from};
 ghost use Rattle.mg_revtree.specs.History.{History as Paths, fits, is_whole, winner_of};
-ghost use Rattle.mg_revtree.specs.Tree.{AreLeaves, AreLosers, StandsFor};
+ghost use Rattle.mg_revtree.specs.Tree.{AreLeaves, AreLosers, AreRanked, StandsFor};
 ghost use Rattle.mg_revtree.specs.Changes.{Decides, extension, found_of, next_position, path_of, position_below, refusal_of, with_path};
 ghost use Rattle.mg_revtree.specs.Steps.{base_in, ids_over};
 
@@ -18,11 +18,12 @@ use std::marker::Model;
 
 // The position below a new revision, if that may be made.
 fn position_under(leaves: &[Shared], parent: Option<&Rev>) -> Option<u32>
-    ensures { MatchOption result (base_in leaves.now (option_copied parent.entry) ≡ false) (λ n. (base_in leaves.now (option_copied parent.entry) ≡ true) × (n ≡ position_below (option_copied parent.entry))) }
+    ensures asked { AreRanked leaves.now → base_in leaves.now (option_copied parent.entry) ≡ is_some result }
+    ensures below { IfSome result (λ n. n ≡ position_below (option_copied parent.entry)) }
 {
     match parent {
         None => if leaves.is_empty() { Some(0) } else { None },
-        Some(parent) => if is_leaf(leaves, parent) {
+        Some(parent) => if is_leaf(leaves, parent.pos, parent.id.as_bytes()) {
             Some(parent.pos)
         } else {
             None
@@ -139,7 +140,7 @@ impl RevTree {
     /// Takes no memory.
     ///
     /// Errors, in this order: `NotLeaf` where the parent is no leaf, or where there is none and the tree has leaves;
-    /// `Full` where the parent's position is 4,294,967,295. Cost: a look at the leaves.
+    /// `Full` where the parent's position is 4,294,967,295. Cost: the logarithm of the leaves.
     pub fn next_position(&self, parent: Option<&Rev>) -> Result<u32, Refusal>
         ensures position { (h : Paths) → StandsFor self.now h → result ≡ next_position h (option_copied parent.entry) }
         ensures above { IfOk result (λ n. n ≡ position_below (option_copied parent.entry) + 1) }
@@ -151,8 +152,8 @@ impl RevTree {
     }
 
     /// Why a new revision over a leaf, or the first of a tree without leaves, is not made, if it is not: as
-    /// `next_position`, and then `Known` where the revision is known. Takes no memory. Cost: a look at the leaves, and
-    /// the logarithm of the known revisions.
+    /// `next_position`, and then `Known` where the revision is known. Takes no memory. Cost: the logarithms of the leaves and
+    /// of the known revisions.
     pub fn refusal(&self, parent: Option<&Rev>, id: &String) -> Option<Refusal>
         ensures { (h : Paths) → StandsFor self.now h → result ≡ refusal_of h (option_copied parent.entry) (string_bytes id.now) }
     {
@@ -173,7 +174,7 @@ impl RevTree {
     ///
     /// Errors: `BadHistory` where the path contradicts a parent that is known already, and else `NoMemory` where a
     /// growth is refused; neither a bad path nor one that is known whole needs memory. A refusal leaves the tree as it
-    /// was. Cost: the length of the path times the logarithm of the known revisions, a look at the leaves, and one pass
+    /// was. Cost: the length of the path times the logarithm of the known revisions and that of the leaves, a word for each leaf, and one pass
     /// over the known revisions that are above the lowest unknown one of the path: none where the path goes on the line
     /// with the highest positions. Source: the replication model of CouchDB.
     pub fn merge(&mut self, path: &History, deleted: bool, body: Json) -> Result<Merged, MergeError>
