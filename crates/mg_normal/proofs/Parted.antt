@@ -1,6 +1,5 @@
 -- A form holds where its atoms and what else it asks do.
-use Rattle.std.proofs.Common.{◌≡◌, ℕ, Bool, true, false, ◌&&◌, ◌||◌, List, [], ◌∷◌, ◌++◌, length, take, map, String, Global, string_bytes, Option, Some, None, option_and_then, option_map, refl, ap, ap₂, sym, ◌∙◌}
-use Rattle.std.specs.List.{list_all}
+use Rattle.std.proofs.Common.{◌≡◌, ℕ, Bool, true, false, ◌&&◌, List, [], ◌∷◌, ◌++◌, length, take, map, String, Global, string_bytes, Option, Some, None, option_and_then, option_map, refl, ap, ap₂, sym, ◌∙◌}
 use Rattle.mg_value.specs.Value.{Value}
 use Rattle.mg_path.specs.Part.{part_of}
 use Rattle.mg_selector.specs.Meaning.{holds_in, operator_holds}

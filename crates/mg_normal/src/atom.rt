@@ -34,13 +34,18 @@ pub(crate) fn all_hold(atoms: &[Atom], document: &Json) -> bool
 fn holds(atom: &Atom, document: &Json) -> bool
     ensures { result ≡ atom_holds (Some (view document.now)) (atom_view atom.now) }
 {
-    atom.op.holds_in(sense_of(atom.negated), part_of(&atom.steps, document))
+    atom.op
+        .holds_in(sense_of(atom.negated), part_of(&atom.steps, document))
 }
 
 fn sense_of(negated: bool) -> Sense
     ensures { result ≡ sense_of negated }
 {
-    if negated { Sense::Negated } else { Sense::Plain }
+    if negated {
+        Sense::Negated
+    } else {
+        Sense::Plain
+    }
 }
 
 // Whether the sense is the negated one, as an atom marks it.

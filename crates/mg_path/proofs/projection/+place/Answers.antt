@@ -1,9 +1,7 @@
 use Rattle.std.proofs.Common.{string_bytes, string_cmp, map, ap, sym, ◌∙◌}
 use Rattle.std.specs.BTreeMap.{insert_entry}
 use Rattle.std.specs.Map.{lookup, set_value}
-use Rattle.mg_value.specs.Value as value
-use Rattle.mg_value.specs.View.{view, members_view}
-use Rattle.mg_value.proofs.Views.{view-Object}
+use Rattle.mg_value.specs.View.{view}
 use Rattle.mg_path.specs.Part.{placed}
 use Rattle.mg_path.proofs.Members.{at_name, placed-there, placed-new}
 use Rattle.mg_path.proofs.projection.+place.Goals as goal
