@@ -1,18 +1,23 @@
 -- The least of a list, found from the front on.
-use Rattle.std.proofs.Common.{◌≡◌, ℕ, zero, suc, ◌+◌, ◌<◌, ◌≤◌, Bool, true, false, cond, List, [], ◌∷◌, length, get_or, drop, Option, Some, None, slice_get, refl, sym, ap, ◌∙◌, arith}
+use Rattle.std.proofs.Common.{◌≡◌, ℕ, zero, suc, ◌+◌, ◌<◌, ◌≤◌, Bool, true, false, cond, List, [], ◌∷◌, length, get_or, drop, ◌⊎◌, inl, inr, ⊎_elim, Option, Some, None, slice_get, refl, sym, subst, ap, ◌∙◌, arith}
 use Rattle.std.proofs.lemmas.Bool.{false≢true}
-use Rattle.std.proofs.lemmas.Cmp.{upto, then_total, on_total, back_total, nat_cmp_total, nat_list_cmp_total}
+use Rattle.std.proofs.lemmas.Cmp.{upto, tied_itself, then_total, on_total, back_total, nat_cmp_total, nat_list_cmp_total}
 use Rattle.std.specs.Cmp.{IsTotalOrder, bool_cmp_total}
-use Rattle.std.specs.Ordering.{is_gt, ordering_reverse}
+use Rattle.std.specs.Ordering.{is_gt, ordering_reverse, ordering_then, bool_cmp, nat_cmp, on, then_cmp, flip_args}
 use Rattle.std.specs.declared.cmp.Ordering.{Ordering}
 use Rattle.std.specs.declared.cmp.Ordering.TheVariants.{Less, Equal, Greater}
 use Rattle.mg_normal.specs.Atoms.{Atom}
 use Rattle.mg_index.specs.Bound.{bounded_count}
 use Rattle.mg_index.specs.Choice.{Hint, is_hinted, is_usable, lesser, least, preference, usable_of}
 use Rattle.mg_index.specs.Definition.{Steps, IndexDefinition}
-use Rattle.mg_index.specs.Candidates.{Describes, least_with, Names}
+use Rattle.mg_index.specs.Candidates.{least_with}
 use Rattle.mg_index.specs.declared.choice.Candidate.{Candidate}
+use Rattle.mg_index.specs.Laws.{IsLeast}
+use Rattle.mg_collate.proofs.Ties.{same_text}
 use Rattle.std.proofs.lemmas.List.{at_drop_more, at_drop_all}
+use Rattle.std.proofs.lemmas.List.Elements.{All-nil, All-cons, All-weaker}
+use Rattle.std.specs.Cmp.Lexicographic.{slice_cmp}
+use Rattle.std.specs.List.{Contains}
 
 not_both_ways : (o : Ordering) → is_gt o ≡ true → is_gt (ordering_reverse o) ≡ false
 not_both_ways Less h = absurd (false≢true h)
@@ -85,3 +90,60 @@ pub read_at : {X : Type 0} (xs : List X) (i : ℕ) (x : X) → i < length xs →
 read_at [] i x lt is = absurd (omega arith)
 read_at (y ∷ ys) zero x lt is = ap (λ z. Some z) (sym is)
 read_at (y ∷ ys) (suc i) x lt is = read_at ys i x (omega arith) is
+
+-- ---- laws
+
+then_ties : (o p : Ordering) → ordering_then o p ≡ Equal → (o ≡ Equal) × (p ≡ Equal)
+then_ties Less p h = absurd cc
+then_ties Equal p h = (refl, h)
+then_ties Greater p h = absurd cc
+
+abbrev by_name : IndexDefinition → IndexDefinition → Ordering
+by_name = then_cmp (on (λ d. d.name) (slice_cmp nat_cmp)) (on (λ d. d.ddoc) (slice_cmp nat_cmp))
+
+abbrev by_columns : IndexDefinition → IndexDefinition → Ordering
+by_columns = then_cmp (on (λ d. length d.columns) nat_cmp) by_name
+
+abbrev by_bounds : List Atom → IndexDefinition → IndexDefinition → Ordering
+by_bounds atoms = then_cmp (flip_args (on (λ d. bounded_count atoms d.columns) nat_cmp)) by_columns
+
+-- only definitions of one design document and name tie
+pub decides : (atoms : List Atom) (hint : Hint) (a b : IndexDefinition) → preference atoms hint a b ≡ Equal → (a.ddoc ≡ b.ddoc) × (a.name ≡ b.name)
+decides atoms hint a b h =
+    let p = then_ties (bool_cmp (is_hinted hint b) (is_hinted hint a)) (by_bounds atoms a b) h in
+    let q = then_ties (nat_cmp (bounded_count atoms b.columns) (bounded_count atoms a.columns)) (by_columns a b) p.1 in
+    let r = then_ties (nat_cmp (length a.columns) (length b.columns)) (by_name a b) q.1 in
+    let s = then_ties (slice_cmp nat_cmp a.name b.name) (slice_cmp nat_cmp a.ddoc b.ddoc) r.1 in
+    (same_text a.ddoc b.ddoc s.1, same_text a.name b.name s.0)
+
+-- the lesser of x and y is one of them, and above neither
+lesser_is : {X : Type 0} {R : X → X → Ordering} (o : IsTotalOrder R) (x y : X) (b : Bool) → is_gt (R x y) ≡ b
+    → ((cond b y x ≡ x) ⊎ (cond b y x ≡ y)) × (is_gt (R (cond b y x) x) ≡ false) × (is_gt (R (cond b y x) y) ≡ false)
+lesser_is {X} {R} o x y true e = (inr refl, ap is_gt (o.antisymm y x) ∙ not_both_ways (R x y) e, ap is_gt (tied_itself o y))
+lesser_is {X} {R} o x y false e = (inl refl, ap is_gt (tied_itself o x), e)
+
+contains_head : {X : Type 0} (xs : List X) (x y : X) → y ≡ x → Contains (x ∷ xs) y
+contains_head xs x y e = (0, omega arith, sym e)
+
+contains_tail : {X : Type 0} (xs : List X) (x y : X) → Contains xs y → Contains (x ∷ xs) y
+contains_tail xs x y c = (suc c.0, omega (arith, c.1), c.2)
+
+least_at : {X : Type 0} {R : X → X → Ordering} (o : IsTotalOrder R) (x : X) (xs : List X) (l : Option X) → least R xs ≡ l → ((y : X) → l ≡ Some y → IsLeast R xs y)
+    → (z : X) → Some (lesser R x l) ≡ Some z → IsLeast R (x ∷ xs) z
+least_at {X} {R} o x [] None e more z h =
+    let same : x ≡ z = cc h in
+    (contains_head [] x z (sym same), All-cons (λ w. is_gt (R z w) ≡ false) x [] (ap (λ w. is_gt (R z w)) same ∙ ap is_gt (tied_itself o z)) (All-nil (λ w. is_gt (R z w) ≡ false)))
+least_at {X} {R} o x (w ∷ ws) None e more z h = absurd cc
+least_at {X} {R} o x xs (Some y) e more z h =
+    let found = more y refl in
+    let p = lesser_is o x y (is_gt (R x y)) refl in
+    let same : lesser R x (Some y) ≡ z = cc h in
+    let below_y : is_gt (R z y) ≡ false = ap (λ w. is_gt (R w y)) (sym same) ∙ p.2 in
+    let below_x : is_gt (R z x) ≡ false = ap (λ w. is_gt (R w x)) (sym same) ∙ p.1 in (
+      ⊎_elim (λ k. contains_head xs x z (sym same ∙ k)) (λ k. contains_tail xs x z (subst (Contains xs) (sym (sym same ∙ k)) found.0)) p.0,
+      All-cons (λ w. is_gt (R z w) ≡ false) x xs below_x (All-weaker (λ w. is_gt (R y w) ≡ false) (λ w. is_gt (R z w) ≡ false) (λ w k. upto o z y w below_y k) xs found.1),
+    )
+
+pub least_is : {X : Type 0} {R : X → X → Ordering} (o : IsTotalOrder R) (xs : List X) (z : X) → least R xs ≡ Some z → IsLeast R xs z
+least_is o [] z h = absurd cc
+least_is {X} {R} o (x ∷ xs) z h = least_at o x xs (least R xs) refl (λ y k. least_is o xs y k) z h

@@ -1,5 +1,5 @@
 -- Lists of definitions in the order of a catalog: where one goes, and that the order stays.
-use Rattle.std.proofs.Common.{◌≡◌, ℕ, zero, suc, ◌+◌, ◌-◌, ◌<◌, ◌≤◌, Bool, true, false, cond, ◌&&◌, List, [], ◌∷◌, ◌++◌, length, get_or, set, take, drop, Option, Some, None, is_some, Ordering, Less, Equal, Greater, refl, sym, ap, ap₂, ◌∙◌, arith}
+use Rattle.std.proofs.Common.{◌≡◌, ℕ, zero, suc, ◌<◌, ◌≤◌, Bool, true, false, cond, ◌&&◌, List, [], ◌∷◌, length, get_or, set, Option, Some, None, is_some, Ordering, Less, Equal, Greater, refl, sym, ap, ap₂, ◌∙◌, arith}
 use Rattle.std.proofs.lemmas.Bool.Decides.{nat_tests}
 use Rattle.std.proofs.lemmas.Bool.{and_parts, false≢true}
 use Rattle.std.proofs.lemmas.Cmp.{then_total, on_total, nat_list_cmp_total, same_from_slice_cmp}
@@ -8,7 +8,6 @@ use Rattle.std.specs.Cmp.{IsTotalOrder}
 use Rattle.std.specs.Cmp.Lexicographic.{slice_cmp, pointwise}
 use Rattle.std.specs.List.{AllByRecursion, remove, insert}
 use Rattle.std.specs.Ordering.{is_eq, nat_cmp, ordering_then, ordering_reverse, match_ordering}
-use Rattle.std.specs.Prelude.{nat_eq}
 use Rattle.std.specs.Str.{bytes_eq}
 use Rattle.mg_collate.specs.declared.direction.Direction.{Direction}
 use Rattle.mg_collate.specs.declared.direction.Direction.TheVariants.{Asc, Desc}
@@ -67,8 +66,7 @@ goes_before d (e ∷ es) zero c le above here =
     (ap (with_at d e es) h, none_below d (e ∷ es) (h, below_all d e es h c.0))
 goes_before d (e ∷ es) (suc i) c le above here =
     let g : definition_order d e ≡ Greater = above d 0 (omega arith) in
-    let more = goes_before d es i c.1 (omega arith) (λ x k lt. above x (suc k) (omega arith)) (λ lt. here (omega arith)) in
-    (
+    let more = goes_before d es i c.1 (omega arith) (λ x k lt. above x (suc k) (omega arith)) (λ lt. here (omega arith)) in (
       ap (with_at d e es) g ∙ ap (λ xs. e ∷ xs) more.0,
       ap (λ b. cond b (Some e) (definition_at d.ddoc d.name es)) (is_at-is d e ∙ ap is_eq g) ∙ more.1,
     )
@@ -83,8 +81,7 @@ goes_at d (e ∷ es) zero lt above here =
     (ap (with_at d e es) here, λ x. ap (λ b. cond b (Some e) (definition_at d.ddoc d.name es)) (is_at-is d e ∙ ap is_eq here))
 goes_at d (e ∷ es) (suc i) lt above here =
     let g : definition_order d e ≡ Greater = above d 0 (omega arith) in
-    let more = goes_at d es i (omega arith) (λ x k lt. above x (suc k) (omega arith)) here in
-    (
+    let more = goes_at d es i (omega arith) (λ x k lt. above x (suc k) (omega arith)) here in (
       ap (with_at d e es) g ∙ ap (λ xs. e ∷ xs) more.0,
       λ x. ap (λ b. cond b (Some e) (definition_at d.ddoc d.name es)) (is_at-is d e ∙ ap is_eq g) ∙ more.1 x,
     )
@@ -101,8 +98,7 @@ stands_at ddoc name (e ∷ es) zero d lt before here =
     (ap (λ b. is_some (cond b (Some e) (definition_at ddoc name es))) here, ap (λ b. cond b es (e ∷ without_definition ddoc name es)) here)
 stands_at ddoc name (e ∷ es) (suc i) d lt before here =
     let no : is_at ddoc name e ≡ false = before d 0 (omega arith) in
-    let more = stands_at ddoc name es i d (omega arith) (λ x k lt. before x (suc k) (omega arith)) here in
-    (
+    let more = stands_at ddoc name es i d (omega arith) (λ x k lt. before x (suc k) (omega arith)) here in (
       ap (λ b. is_some (cond b (Some e) (definition_at ddoc name es))) no ∙ more.0,
       ap (λ b. cond b es (e ∷ without_definition ddoc name es)) no ∙ ap (λ xs. e ∷ xs) more.1,
     )
@@ -114,8 +110,7 @@ pub stands_nowhere : (ddoc name : List ℕ) (ds : List IndexDefinition) (n : ℕ
 stands_nowhere ddoc name [] n e before = (refl, refl)
 stands_nowhere ddoc name (d ∷ ds) n e before =
     let no : is_at ddoc name d ≡ false = before d 0 (omega arith) in
-    let more = stands_nowhere ddoc name ds (length ds) refl (λ x k lt. before x (suc k) (omega arith)) in
-    (
+    let more = stands_nowhere ddoc name ds (length ds) refl (λ x k lt. before x (suc k) (omega arith)) in (
       ap (λ b. is_some (cond b (Some d) (definition_at ddoc name ds))) no ∙ more.0,
       ap (λ b. cond b ds (d ∷ without_definition ddoc name ds)) no ∙ ap (λ xs. d ∷ xs) more.1,
     )

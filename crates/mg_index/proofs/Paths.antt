@@ -1,5 +1,5 @@
 -- Paths are the same where a test says so.
-use Rattle.std.proofs.Common.{◌≡◌, ℕ, List, Bool, true, Decides, refl}
+use Rattle.std.proofs.Common.{◌≡◌, ℕ, List, Decides, refl}
 use Rattle.std.specs.Cmp.Lexicographic.{pointwise}
 use Rattle.std.proofs.lemmas.Slice.Eq.{slice_eq-Decides, bytes_eq-Decides}
 use Rattle.mg_path.specs.Equal.{path_eq}

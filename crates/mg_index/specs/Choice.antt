@@ -1,7 +1,7 @@
 -- Which index serves a query, after the selection of indexes and sorts in the CouchDB 3.x API reference: of the usable ones the
 -- least in one total order, the index of all documents where there is none, if the sort allows it. How ties are decided is this
 -- project's own choice.
-use Rattle.std.specs.Prelude.{◌≡◌, ℕ, List, [], ◌∷◌, codes, Bool, true, false, not, ◌&&◌, ◌||◌, Option, Some, None, option_map, Result, Ok, Err, length, slice_get, if◌then◌else◌}
+use Rattle.std.specs.Prelude.{ℕ, List, [], ◌∷◌, codes, Bool, true, false, not, ◌&&◌, ◌||◌, Option, Some, None, length, if◌then◌else◌}
 use Rattle.std.specs.List.{list_all, list_any, filter, starts_with}
 use Rattle.std.specs.Cmp.Lexicographic.{slice_cmp}
 use Rattle.std.specs.Ordering.{nat_cmp, bool_cmp, is_gt, on, then_cmp, flip_args}

@@ -5,7 +5,7 @@ use Rattle.std.specs.Coded.{Coded, code_by, coded×, coded_ℕ, coded_list}
 use Rattle.std.specs.List.{starts_with}
 use Rattle.md5.specs.Md5.{md5}
 use Rattle.hex.specs.Hex.{encode_lower}
-use Rattle.mg_value.specs.Value.{Value, text, list, object, Items, Members, no_members, member}
+use Rattle.mg_value.specs.Value.{Value, text, list, object, no_members, member}
 use Rattle.mg_value.specs.View.{items_of}
 use Rattle.mg_value.specs.Text.{compact}
 use Rattle.mg_collate.specs.contracts.direction.Direction as direction

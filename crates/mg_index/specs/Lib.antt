@@ -7,3 +7,4 @@ pub mod View
 pub mod Places
 pub mod Candidates
 pub mod Same
+pub mod Laws

@@ -3,7 +3,7 @@ use Rattle.std.specs.Prelude.{◌≡◌, ℕ, List, [], ◌∷◌, ◌++◌, cod
 use Rattle.std.specs.List.{list_all}
 use Rattle.std.specs.Option.{option_map_or}
 use Rattle.std.specs.Str.{bytes_eq}
-use Rattle.mg_value.specs.Value.{Value, flag, text, list, object, Items, no_items, item, Members, no_members, member, member_of, item_list}
+use Rattle.mg_value.specs.Value.{Value, flag, text, list, object, Members, no_members, member, member_of, item_list}
 use Rattle.mg_path.specs.Part.{steps_of}
 use Rattle.mg_path.specs.declared.error.PathError.{PathError}
 use Rattle.mg_path.specs.declared.error.PathError.TheVariants as path_fault

@@ -1,5 +1,5 @@
 -- What the code's hints, bounds and choices stand for.
-use Rattle.std.specs.Prelude.{◌≡◌, ℕ, List, Option, Some, None, Result, Ok, Err, map, slice_get, string_bytes}
+use Rattle.std.specs.Prelude.{◌≡◌, List, Option, Some, None, Result, Ok, Err, map, slice_get, string_bytes}
 use Rattle.mg_index.specs.Choice.{Hint, no_hint, in_document, exactly, Source, all_docs, defined}
 use Rattle.mg_index.specs.Definition.{IndexDefinition}
 use Rattle.mg_index.specs.Reading.{Columns}

@@ -65,23 +65,19 @@ pub fn choose(
 }
 
 // The place of the usable index that is preferred to all others.
-fn preferred(
-    definitions: &[IndexDef],
-    atoms: &[Atom],
-    sort: &[Path],
-    hint: &Hint,
-) -> Option<usize>
+fn preferred(definitions: &[IndexDef], atoms: &[Atom], sort: &[Path], hint: &Hint) -> Option<usize>
     ensures { Names definitions.now (least (preference (atoms_view atoms.now) (hint_of hint.now))
         (usable_of (atoms_view atoms.now) sort.now definitions.now)) result }
 {
     let mut best = None;
     for (place, definition) in definitions.iter().enumerate() {
-        if is_usable(atoms, sort, definition.columns()) {
+        let columns = definition.columns();
+        if is_usable(atoms, sort, columns) {
             let candidate = Candidate {
                 definition,
                 place,
                 hinted: hint.names(definition),
-                bounded: bounded_count(definition.columns(), atoms),
+                bounded: bounded_count(columns, atoms),
             };
             best = Some(better(best, candidate));
         }
@@ -117,10 +113,15 @@ fn order(a: &Candidate<'_>, b: &Candidate<'_>) -> Ordering
         → IsRanked atoms hint a.now → IsRanked atoms hint b.now
         → result ≡ preference atoms hint a.now.definition.now b.now.definition.now }
 {
-    let by_columns = a.definition.columns().len().cmp(&b.definition.columns().len());
+    let by_columns = a
+        .definition
+        .columns()
+        .len()
+        .cmp(&b.definition.columns().len());
     let by_name = a.definition.name().cmp(b.definition.name());
     let by_ddoc = a.definition.ddoc().cmp(b.definition.ddoc());
-    b.hinted.cmp(&a.hinted)
+    b.hinted
+        .cmp(&a.hinted)
         .then(b.bounded.cmp(&a.bounded))
         .then(by_columns)
         .then(by_name)

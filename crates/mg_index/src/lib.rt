@@ -7,6 +7,7 @@ pub mod choice;
 mod column;
 pub mod definition;
 pub mod error;
+pub mod laws;
 mod listing;
 pub mod query;
 mod reader;

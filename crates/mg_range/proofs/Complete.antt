@@ -1,23 +1,22 @@
 -- No document that a query finds is outside the range of a usable index.
-use Rattle.std.proofs.Common.{◌≡◌, ℕ, Bool, true, false, cond, not, ◌&&◌, ◌||◌, List, [], ◌∷◌, Option, Some, None, option_and_then, option_map, IsSome, is_some, Ordering, Less, Equal, Greater, refl, sym, subst, ap, ap₂, ◌∙◌, ⊎_elim}
+use Rattle.std.proofs.Common.{◌≡◌, Bool, true, false, cond, not, ◌||◌, List, [], ◌∷◌, Option, Some, None, option_and_then, option_map, IsSome, Ordering, Less, Equal, Greater, refl, sym, subst, ap, ap₂, ◌∙◌, ⊎_elim}
 use Rattle.std.proofs.lemmas.Bool.{false≢true, and_parts, and_from, or_cases}
 use Rattle.std.proofs.lemmas.List.Elements.{All-head, All-tail}
-use Rattle.std.specs.List.{All, list_any, list_all, filter_map, cons_option, starts_with}
+use Rattle.std.specs.List.{All, list_any, list_all, cons_option, starts_with}
 use Rattle.std.specs.Ordering.{is_lt, is_le, is_eq, is_ne, is_ge, is_gt}
 use Rattle.mg_value.specs.Value.{Value}
 use Rattle.mg_collate.specs.Order.{value_order}
 use Rattle.mg_path.specs.Equal.{path_eq}
 use Rattle.mg_path.specs.Part.{part_of}
-use Rattle.mg_selector.specs.Meaning.{operator_holds, holds_in}
-use Rattle.mg_selector.specs.Selector.{Selector, Operator, less, at_most, equal, unequal, at_least, greater, exists, of_type, among, not_among, size, modulo, containing, some_element, each_element}
+use Rattle.mg_selector.specs.Meaning.{operator_holds}
+use Rattle.mg_selector.specs.Selector.{Operator, less, at_most, equal, unequal, at_least, greater, exists, of_type, among, not_among, size, modulo, containing, some_element, each_element}
 use Rattle.mg_selector.specs.declared.sense.Sense.{Sense}
 use Rattle.mg_selector.specs.declared.sense.Sense.TheVariants.{Plain, Negated}
 use Rattle.mg_normal.specs.Atoms.{Atom, atoms_of, atom_holds}
 use Rattle.mg_normal.specs.Laws.{AtomsAreNecessary}
 use Rattle.mg_index.specs.Bound.{Bound, bound_in, bound_on, bounds_on, meets, meets_all, is_fixed}
-use Rattle.mg_index.specs.Choice.{is_usable, is_covered, asks_of, needs_part, id_path, rev_path}
+use Rattle.mg_index.specs.Choice.{is_covered, asks_of, needs_part, id_path, rev_path}
 use Rattle.mg_index.specs.Definition.{Steps}
-use Rattle.mg_index.specs.Reading.{each_of}
 use Rattle.mg_index.proofs.Paths.{path_eq-Decides}
 use Rattle.mg_range.specs.Laws.{Has, HasKey, RangesAreComplete}
 use Rattle.mg_range.specs.Range.{in_range}
@@ -56,8 +55,8 @@ asked v c [] h k = absurd (false≢true k)
 asked v c (a ∷ atoms) h k =
     ⊎_elim
     (λ e.
-      let p = and_parts (path_eq a.steps c) (needs_part a) e in
-      subst (λ s. Part (part_of s v)) ((path_eq-Decides a.steps c).0 p.0) (needed a (part_of a.steps v) (All-head (λ b. atom_holds (Some v) b ≡ true) a atoms h) p.1))
+    let p = and_parts (path_eq a.steps c) (needs_part a) e in
+    subst (λ s. Part (part_of s v)) ((path_eq-Decides a.steps c).0 p.0) (needed a (part_of a.steps v) (All-head (λ b. atom_holds (Some v) b ≡ true) a atoms h) p.1))
     (λ e. asked v c atoms (All-tail (λ b. atom_holds (Some v) b ≡ true) a atoms h) e)
     (or_cases (asks_of c a) (list_any (asks_of c) atoms) k)
 
@@ -66,8 +65,8 @@ covered : (v : Value) (atoms : List Atom) (sort : List Steps) (c : Steps) → Ho
 covered v atoms sort c h i r s k =
     ⊎_elim (λ e. along v c id_path e (there v id_path i))
     (λ e. ⊎_elim (λ f. along v c rev_path f (there v rev_path r))
-      (λ f. ⊎_elim (in_sort v c sort s) (asked v c atoms h) (or_cases (list_any (path_eq c) sort) (list_any (asks_of c) atoms) f))
-      (or_cases (path_eq c rev_path) (list_any (path_eq c) sort || list_any (asks_of c) atoms) e))
+    (λ f. ⊎_elim (in_sort v c sort s) (asked v c atoms h) (or_cases (list_any (path_eq c) sort) (list_any (asks_of c) atoms) f))
+    (or_cases (path_eq c rev_path) (list_any (path_eq c) sort || list_any (asks_of c) atoms) e))
     (or_cases (path_eq c id_path) (path_eq c rev_path || (list_any (path_eq c) sort || list_any (asks_of c) atoms)) k)
 
 -- ---- its value meets the bounds
@@ -162,12 +161,11 @@ key_of v atoms sort [] h i r s k = ([], refl, refl)
 key_of v atoms sort (c ∷ cs) h i r s k =
     let p = and_parts (is_covered atoms sort c) (list_all (is_covered atoms sort) cs) k in
     let first = covered v atoms sort c h i r s p.0 in
-    let more = key_of v atoms sort cs h i r s p.1 in
-    (
+    let more = key_of v atoms sort cs h i r s p.1 in (
       first.0 ∷ more.0,
       ap₂ (λ o os. option_and_then (λ y. option_map (λ ys. y ∷ ys) os) o) first.1 more.1,
       and_from (meets_all first.0 (bounds_on atoms c)) (cond (is_fixed atoms c) (in_range atoms cs more.0) true) (all_met v c first.0 atoms first.1 h)
-      (either_way (is_fixed atoms c) (in_range atoms cs more.0) more.2),
+          (either_way (is_fixed atoms c) (in_range atoms cs more.0) more.2),
     )
 
 pub complete : AtomsAreNecessary → RangesAreComplete

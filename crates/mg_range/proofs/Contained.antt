@@ -2,19 +2,19 @@
 use Rattle.std.proofs.Common.{◌≡◌, Bool, true, false, cond, not, ◌&&◌, ◌||◌, List, [], ◌∷◌, length, Option, Some, None, is_some, Ordering, Less, Equal, Greater, refl, sym, ap, ap₂, ◌∙◌, arith}
 use Rattle.std.proofs.lemmas.Bool.{false≢true, and_parts}
 use Rattle.std.specs.List.{list_any, list_all, find}
-use Rattle.std.specs.Ordering.{is_eq, is_ge, is_gt, ordering_reverse, match_ordering}
+use Rattle.std.specs.Ordering.{is_eq, ordering_reverse, match_ordering}
 use Rattle.mg_value.specs.Value.{Value}
 use Rattle.mg_collate.specs.Order.{value_order}
 use Rattle.mg_collate.specs.declared.direction.Direction.TheVariants.{Asc, Desc}
 use Rattle.mg_collate.proofs.Ties.{value_order_total, value_tie}
 use Rattle.mg_normal.specs.Atoms.{Atom}
-use Rattle.mg_index.specs.Bound.{Bound, bounds_on, meets, meets_all, allows, is_exact, is_exactly, is_fixed}
+use Rattle.mg_index.specs.Bound.{Bound, bounds_on, meets, meets_all, allows, is_exact, is_exactly}
 use Rattle.mg_index.specs.Definition.{Steps}
 use Rattle.mg_index.specs.declared.bound.Comparison.{Comparison}
 use Rattle.mg_index.specs.declared.bound.Comparison.TheVariants.{Below, AtMost, Exactly, AtLeast, Above}
 use Rattle.mg_range.proofs.Limits.{and_false, and_true, above, is_within_some, meets_tightest}
 use Rattle.mg_range.specs.Place.{admits, is_within, place_between, place_from, is_place_within, has_key}
-use Rattle.mg_range.specs.Range.{Limit, Span, Range, span_of, are_crossed, is_crossed, between, with_equal, range_from, range_of, in_range, tightest}
+use Rattle.mg_range.specs.Range.{Limit, Range, span_of, is_crossed, between, with_equal, range_from, range_of, in_range, tightest}
 use Rattle.mg_range.specs.declared.place.Place.{Place}
 use Rattle.mg_range.specs.declared.place.Place.TheVariants.{Before, Within, Past}
 

@@ -1,7 +1,5 @@
 -- Limits on values: a value is within the tightest of them exactly where it is within each, and so meets each bound.
-use Rattle.std.proofs.Common.{◌≡◌, Bool, true, false, cond, not, ◌&&◌, List, [], ◌∷◌, Option, Some, None, Ordering, Less, Equal, Greater, refl, sym, ap, ap₂, ◌∙◌, ◌↔◌}
-use Rattle.std.proofs.lemmas.Bool.{false≢true}
-use Rattle.std.proofs.lemmas.Cmp.{tied_back, alike_right, upto}
+use Rattle.std.proofs.Common.{◌≡◌, Bool, true, false, cond, ◌&&◌, List, [], ◌∷◌, Option, Some, None, Ordering, Less, Equal, Greater, refl, sym, ap, ap₂, ◌∙◌}
 use Rattle.std.specs.Cmp.{IsTotalOrder}
 use Rattle.std.specs.List.{list_all, filter_map, cons_option, fold}
 use Rattle.std.specs.Ordering.{is_lt, is_le, is_eq, is_ge, is_gt, ordering_reverse, match_ordering}
@@ -10,7 +8,7 @@ use Rattle.mg_collate.specs.Order.{value_order}
 use Rattle.mg_collate.specs.declared.direction.Direction.{Direction}
 use Rattle.mg_collate.specs.declared.direction.Direction.TheVariants.{Asc, Desc}
 use Rattle.mg_collate.proofs.Ties.{value_order_total, value_tie}
-use Rattle.mg_index.specs.Bound.{Bound, meets, meets_all, allows}
+use Rattle.mg_index.specs.Bound.{Bound, meets_all, allows}
 use Rattle.mg_index.specs.declared.bound.Comparison.{Comparison}
 use Rattle.mg_index.specs.declared.bound.Comparison.TheVariants.{Below, AtMost, Exactly, AtLeast, Above}
 use Rattle.mg_range.specs.Place.{admits, is_within}

@@ -1,12 +1,14 @@
 -- Keys in order have their places to a range in order.
-use Rattle.std.proofs.Common.{◌≡◌, ◌≤◌, Bool, true, false, cond, not, List, [], ◌∷◌, Option, Some, None, Ordering, Less, Equal, Greater, refl, sym, ap, ◌∙◌, arith}
+use Rattle.std.proofs.Common.{◌≡◌, ℕ, ◌≤◌, Bool, true, false, cond, not, List, [], ◌∷◌, Option, Some, None, Ordering, Less, Equal, Greater, refl, sym, ap, ◌∙◌, arith}
 use Rattle.std.proofs.lemmas.Bool.{false≢true}
 use Rattle.std.proofs.lemmas.Cmp.{alike_right, upto}
 use Rattle.std.specs.Cmp.{IsTotalOrder}
-use Rattle.std.specs.Ordering.{is_ge, is_gt, is_le, ordering_reverse, ordering_then, match_ordering}
-use Rattle.mg_value.specs.Value.{Value, no_items, item}
+use Rattle.std.specs.Ordering.{nat_cmp, is_gt, is_le, ordering_reverse, ordering_then, match_ordering}
+use Rattle.std.specs.Cmp.Lexicographic.{slice_cmp}
+use Rattle.mg_value.specs.Value.{Value}
 use Rattle.mg_value.specs.View.{items_of}
 use Rattle.mg_collate.specs.Order.{value_order, items_order}
+use Rattle.mg_collate.specs.Row.{row_value_order}
 use Rattle.mg_collate.specs.declared.direction.Direction.{Direction}
 use Rattle.mg_collate.specs.declared.direction.Direction.TheVariants.{Asc, Desc}
 use Rattle.mg_collate.proofs.Flat.{items_order-item, items_order-above}
@@ -153,3 +155,12 @@ stands (e ∷ es) lower upper (v ∷ vs) (w ∷ ws) h =
 pub together : (range : Range) (a b : List Value) → NotAfter a b → place_rank (place_of range a) ≤ place_rank (place_of range b)
 together None a b h = omega arith
 together (Some s) a b h = stands s.equal s.lower s.upper a b h
+
+first_not_after : (o p : Ordering) → is_le (ordering_then o p) ≡ true → is_le o ≡ true
+first_not_after Less p h = refl
+first_not_after Equal p h = refl
+first_not_after Greater p h = h
+
+pub rows_together : (range : Range) (a b : List Value) (i j : List ℕ) → is_le (row_value_order (items_of a, i) (items_of b, j)) ≡ true
+    → place_rank (place_of range a) ≤ place_rank (place_of range b)
+rows_together range a b i j h = together range a b (first_not_after (items_order (items_of a) (items_of b)) (slice_cmp nat_cmp i j) h)

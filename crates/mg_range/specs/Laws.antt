@@ -5,6 +5,7 @@ use Rattle.std.specs.Ordering.{is_le}
 use Rattle.mg_value.specs.Value.{Value}
 use Rattle.mg_value.specs.View.{items_of}
 use Rattle.mg_collate.specs.Order.{items_order}
+use Rattle.mg_collate.specs.Row.{row_value_order}
 use Rattle.mg_path.specs.Part.{part_of}
 use Rattle.mg_selector.specs.Meaning.{holds_in}
 use Rattle.mg_selector.specs.Selector.{Selector}
@@ -36,3 +37,9 @@ RangesAreComplete =
 abbrev pub RangesStandTogether : Type 0
 RangesStandTogether =
     (range : Range) (a b : List Value) → is_le (items_order (items_of a) (items_of b)) ≡ true → place_rank (place_of range a) ≤ place_rank (place_of range b)
+
+-- and so it is for rows in their order, which is by key and then by id
+abbrev pub RowsStandTogether : Type 0
+RowsStandTogether =
+    (range : Range) (a b : List Value) (i j : List ℕ) → is_le (row_value_order (items_of a, i) (items_of b, j)) ≡ true
+    → place_rank (place_of range a) ≤ place_rank (place_of range b)

@@ -3,7 +3,7 @@
 use Rattle.std.specs.Prelude.{codes, true, Option, Some, None}
 use Rattle.mg_value.specs.Value.{Value, null, flag, list, object, no_members, member}
 use Rattle.mg_value.specs.View.{items_of}
-use Rattle.mg_range.specs.Range.{Limit, Span, Range}
+use Rattle.mg_range.specs.Range.{Limit, Range}
 
 abbrev pub limit_value : Option Limit → Value
 limit_value None = null

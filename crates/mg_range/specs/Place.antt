@@ -6,7 +6,7 @@ use Rattle.mg_value.specs.Value.{Value}
 use Rattle.mg_collate.specs.Order.{value_order}
 use Rattle.mg_collate.specs.declared.direction.Direction.{Direction}
 use Rattle.mg_collate.specs.declared.direction.Direction.TheVariants.{Asc, Desc}
-use Rattle.mg_range.specs.Range.{Limit, Span, Range, order_from}
+use Rattle.mg_range.specs.Range.{Limit, Range, order_from}
 use Rattle.mg_range.specs.declared.place.Place.{Place}
 use Rattle.mg_range.specs.declared.place.Place.TheVariants.{Before, Within, Past}
 

@@ -1,9 +1,9 @@
 -- Key ranges: which keys of an index a query has to look at, from the bounds that its atoms give, as `range` of CouchDB's
 -- `_explain` tells them. The rule is this project's own.
-use Rattle.std.specs.Prelude.{◌≡◌, ℕ, List, [], ◌∷◌, ◌++◌, Bool, true, false, not, ◌&&◌, Option, Some, None, option_map, refl, if◌then◌else◌}
+use Rattle.std.specs.Prelude.{List, [], ◌∷◌, Bool, true, false, not, ◌&&◌, Option, Some, None, option_map, refl, if◌then◌else◌}
 use Rattle.std.specs.Coded.{Coded, code_by, coded×, coded_bool, coded_list, coded_option}
 use Rattle.std.specs.List.{filter_map, find, fold}
-use Rattle.std.specs.Ordering.{is_ge, is_gt, match_ordering}
+use Rattle.std.specs.Ordering.{match_ordering}
 use Rattle.std.specs.declared.cmp.Ordering.{Ordering}
 use Rattle.mg_value.specs.Value.{Value}
 use Rattle.mg_value.specs.Code.{value_code}

@@ -1,5 +1,5 @@
 -- The limits and the span that the code's stand for.
-use Rattle.std.specs.Prelude.{List, ◌++◌, Option, map, option_map}
+use Rattle.std.specs.Prelude.{List, ◌++◌, map, option_map}
 use Rattle.mg_value.specs.Value.{Value}
 use Rattle.mg_value.specs.View.{view}
 use Rattle.mg_range.specs.Range.{Limit, Span, Range, limit_at, span_of}

@@ -1,5 +1,5 @@
 //! What key ranges are for, each law the contract of a function that does nothing.
-ghost use Rattle.mg_range.specs.Laws.{RangesAreComplete, RangesStandTogether};
+ghost use Rattle.mg_range.specs.Laws.{RangesAreComplete, RangesStandTogether, RowsStandTogether};
 
 use mg_normal::laws::atoms_are_necessary;
 
@@ -15,5 +15,6 @@ pub fn ranges_are_complete()
 /// A key that does not come after another has no later place to a range: in rows that are in order those
 /// before the range come first, then those in it, then those past it.
 pub fn ranges_stand_together()
-    ensures { RangesStandTogether }
+    ensures keys { RangesStandTogether }
+    ensures rows { RowsStandTogether }
 {}

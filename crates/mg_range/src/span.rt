@@ -173,5 +173,9 @@ fn is_within(direction: Direction, limit: &Limit, value: &Json) -> bool
     ensures { result ≡ stands_within direction (limit_seen limit.now) (view value.now) }
 {
     let order = direction.apply(compare(value, &limit.value));
-    if limit.inclusive { order.is_ge() } else { order.is_gt() }
+    if limit.inclusive {
+        order.is_ge()
+    } else {
+        order.is_gt()
+    }
 }

@@ -1,4 +1,4 @@
-use Rattle.std.proofs.Common.{below_more, sym, ap, ◌∙◌, arith}
+use Rattle.std.proofs.Common.{sym, ap, ◌∙◌, arith}
 use Rattle.mg_index.specs.Catalog.{is_at}
 use Rattle.mg_index.proofs.Catalogs.{stands_at, stands_nowhere}
 use Rattle.mg_index.proofs.catalog.place_at.Goals as goal

@@ -1,4 +1,4 @@
-use Rattle.std.proofs.Common.{◌≡◌, ◌++◌, drop, map, option_map, string_bytes}
+use Rattle.std.proofs.Common.{◌≡◌, ◌++◌, drop, map, option_map}
 use Rattle.mg_value.specs.View.{view}
 use Rattle.mg_index.specs.Reading.{field_direction}
 use Rattle.mg_index.specs.Reading.{each_of}

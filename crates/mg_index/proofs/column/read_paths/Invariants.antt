@@ -1,5 +1,4 @@
 use Rattle.std.proofs.Common.{◌≡◌, ◌++◌, drop, map, option_map, string_bytes}
-use Rattle.mg_value.specs.View.{view}
 use Rattle.mg_path.specs.Part.{steps_of}
 use Rattle.mg_index.specs.Reading.{each_of}
 use Rattle.mg_index.proofs.column.read_paths.Given as goal

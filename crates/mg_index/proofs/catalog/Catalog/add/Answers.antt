@@ -1,4 +1,4 @@
-use Rattle.std.proofs.Common.{◌≡◌, Some, get_or, set, sym, subst, ap, ◌∙◌}
+use Rattle.std.proofs.Common.{◌≡◌, Some, set, sym, subst, ap, ◌∙◌}
 use Rattle.std.specs.List.{insert}
 use Rattle.mg_index.specs.Catalog.{IsCatalog, with_definition, definition_at}
 use Rattle.mg_index.proofs.Catalogs.{IsCatalog-with, found_same, found_other}
@@ -24,8 +24,8 @@ returns-after-is_same-clause-exists c =
     let found : definition_at d.ddoc d.name c.args.self.now ≡ Some c.index.result.now =
     ap (definition_at d.ddoc d.name) (sym c.self.view_is) ∙ there ∙ ap (λ x. Some x) (sym c.index.ensures) in
     elim c.if-is_same.branch [
-      then-is_same w ↦ λ h. found_same d c.index.result.now _ found (sym c.is_same.ensures ∙ w.if-is_same.true)
-    | else-is_same w ↦ λ h. absurd (cc (h, w.added-is))
+      | then-is_same w ↦ λ h. found_same d c.index.result.now _ found (sym c.is_same.ensures ∙ w.if-is_same.true)
+      | else-is_same w ↦ λ h. absurd (cc (h, w.added-is))
     ]
 
 pub returns-after-is_same-clause-created : goal.returns-after-is_same-clause-created
@@ -35,6 +35,6 @@ returns-after-is_same-clause-created c =
     let found : definition_at d.ddoc d.name c.args.self.now ≡ Some c.index.result.now =
     ap (definition_at d.ddoc d.name) (sym c.self.view_is) ∙ there ∙ ap (λ x. Some x) (sym c.index.ensures) in
     elim c.if-is_same.branch [
-      then-is_same w ↦ λ h. absurd (cc (h, w.added-is))
-    | else-is_same w ↦ λ h. found_other d c.index.result.now _ found (sym c.is_same.ensures ∙ w.if-is_same.false)
+      | then-is_same w ↦ λ h. absurd (cc (h, w.added-is))
+      | else-is_same w ↦ λ h. found_other d c.index.result.now _ found (sym c.is_same.ensures ∙ w.if-is_same.false)
     ]

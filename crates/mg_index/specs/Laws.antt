@@ -1,0 +1,26 @@
+-- What the choice among usable indexes is: the least of them in a total order in which no two of a catalog tie.
+use Rattle.std.specs.Prelude.{◌≡◌, List, false, Some}
+use Rattle.std.specs.List.{All, Contains}
+use Rattle.std.specs.Cmp.{IsTotalOrder}
+use Rattle.std.specs.Ordering.{is_gt}
+use Rattle.std.specs.declared.cmp.Ordering.{Ordering}
+use Rattle.std.specs.declared.cmp.Ordering.TheVariants.{Equal}
+use Rattle.mg_normal.specs.Atoms.{Atom}
+use Rattle.mg_index.specs.Choice.{Hint, least, preference}
+use Rattle.mg_index.specs.Definition.{IndexDefinition}
+
+-- it is one of the list, and stands above none of it
+abbrev pub IsLeast : {X : Type 0} → (X → X → Ordering) → List X → X → Type 0
+IsLeast order xs x = Contains xs x × All (λ y. is_gt (order x y) ≡ false) xs
+
+-- the order of preference is total
+abbrev pub PreferenceIsTotal : Type 0
+PreferenceIsTotal = (atoms : List Atom) (hint : Hint) → IsTotalOrder (preference atoms hint)
+
+-- only definitions of one design document and name tie in it
+abbrev pub PreferenceDecides : Type 0
+PreferenceDecides = (atoms : List Atom) (hint : Hint) (a b : IndexDefinition) → preference atoms hint a b ≡ Equal → (a.ddoc ≡ b.ddoc) × (a.name ≡ b.name)
+
+-- the least of definitions is one of them, and none of them is preferred to it
+abbrev pub LeastIsLeast : Type 0
+LeastIsLeast = (atoms : List Atom) (hint : Hint) (ds : List IndexDefinition) (d : IndexDefinition) → least (preference atoms hint) ds ≡ Some d → IsLeast (preference atoms hint) ds d
