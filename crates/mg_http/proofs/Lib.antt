@@ -1,8 +1,10 @@
+pub mod CutLemmas
 pub mod DeviceLemmas
+pub mod FaultLemmas
 pub mod HeadLemmas
 pub mod ListLemmas
 pub mod MessageLemmas
 pub mod ReplyLemmas
+pub mod RouteLemmas
 pub mod SessionLemmas
 pub mod TalkLemmas
-pub mod TargetLemmas

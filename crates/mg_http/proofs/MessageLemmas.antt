@@ -1,22 +1,16 @@
--- A head that is read in a window of the bytes, and two readings of the same bytes.
-use Rattle.std.proofs.Common.{◌≡◌, ℕ, ◌+◌, ◌-◌, ◌<◌, ◌≤◌, List, [], ◌∷◌, ◌++◌, length, take, drop, sym, ap, ◌∙◌, subst, append_assoc, append-nil, take-append-drop, drop-drop, arith, map, Some, length-append, length-take, length-drop, inl, inr}
-use Rattle.std.specs.Prelude.{slice_range}
-use Rattle.std.proofs.lemmas.Grind.{common_steps}
-use Rattle.std.proofs.lemmas.List.{drop-append-le}
-use Rattle.std.proofs.Math.Seq.{take-append_seam, drop-append_seam}
-use Rattle.httparse.specs.Grammar.{RequestHead, print_request, ReadsRequest, NeverHasRequest}
-use Rattle.httparse.specs.Spans.{name_and_value}
+-- Heads in a window of the bytes, and what the bytes begin with when more come.
+use Rattle.std.proofs.Common.{◌≡◌, ℕ, ◌+◌, ◌-◌, ◌≤◌, ◌⊎◌, min, Bool, List, [], ◌∷◌, ◌++◌, length, take, drop, refl, sym, ap, ◌∙◌, subst, append_assoc, append-nil, take-append-drop, arith, length-append, length-take, inl, inr, codes}
+use Rattle.std.specs.Bool.{IsTrue}
+use Rattle.std.proofs.lemmas.Bool.{cases_lt}
+use Rattle.std.proofs.lemmas.List.{append_cancel_left, take-append-le, drop-append-le, take_all, get_or_append_left}
+use Rattle.std.proofs.lemmas.List.Elements.{All-nil, All-cons}
+use Rattle.std.proofs.Math.Seq.{take-append_seam, drop-append_seam, take-append-add}
+use Rattle.httparse.specs.Grammar.{RequestHead, IsRequestHead, LineEnd, crlf, print_blank, print_request, ReadsRequest, NeverHasRequest, EndsInTarget, IsToken, AllPass, is_uri_byte, IsField}
 use Rattle.httparse.proofs.GrammarLemmas.{request_unique, ReadsRequest-append}
-use Rattle.mg_http.specs.declared.target.Target.{Target}
-use Rattle.mg_http.specs.declared.head.HeadRead.TheVariants.{Framed}
-use Rattle.mg_http.specs.Head.{length_for, IsHeadRead}
-use Rattle.mg_http.specs.Message.{Begins, IsPartHead, IsWaiting}
-use Rattle.mg_http.specs.Target.{Request, method_of, AsksFor, request_of}
-use Rattle.mg_http.proofs.TargetLemmas.{one_request}
-
--- a part, and what follows it
-cut : (xs : List ℕ) (i n : ℕ) → drop i xs ≡ slice_range xs i (i + n) ++ drop (i + n) xs
-cut xs i n = let e : i + n - i ≡ n = omega arith in rw e (sym (take-append-drop n (drop i xs)) ∙ ap (λ (t : List ℕ). take n (drop i xs) ++ t) (drop-drop n i xs))
+use Rattle.mg_engine.specs.declared.refusal.Refusal.{Refusal}
+use Rattle.mg_http.specs.Head.{framed, unframed, asks_of, is_silent, closes_after}
+use Rattle.mg_http.specs.Message.{Message, HasHead, Begins, IsNoHead}
+use Rattle.mg_http.specs.Target.{Request}
 
 module _ (bytes : List ℕ) (k : ℕ) where
   -- a head of the window is one of the bytes
@@ -27,47 +21,37 @@ module _ (bytes : List ℕ) (k : ℕ) where
   pub head_fits : (h : RequestHead) (r : List ℕ) → ReadsRequest (take k bytes) h r → length (print_request h) ≤ k
   head_fits h r x = omega (arith, ap length x.1, length-append (print_request h) r, length-take k bytes)
 
-  -- what can become no head in the window can become none
-  pub never_widen : NeverHasRequest (take k bytes) → NeverHasRequest bytes
-  never_widen never = λ more h r x.
-      let e : bytes ++ more ≡ take k bytes ++ (drop k bytes ++ more) =
-      ap (λ (t : List ℕ). t ++ more) (sym (take-append-drop k bytes)) ∙ append_assoc (take k bytes) (drop k bytes) more in
-      never (drop k bytes ++ more) h r (subst (λ (t : List ℕ). ReadsRequest t h r) e x)
+  -- what is at the front of the bytes is at that of the window
+  pub has_head : (h : RequestHead) (r : List ℕ) → k ≤ 16384 → ReadsRequest (take k bytes) h r → HasHead bytes h (r ++ drop k bytes)
+  has_head h r small x = record { reads = widen h r x; fits = omega (arith, head_fits h r x) }
 
-  module _ (db : List ℕ) (target : Target) (start n : ℕ) (small : k ≤ 16384) (read : IsHeadRead db (take k bytes) (Framed target start n)) where
-    after_head : ReadsRequest bytes read.2 (drop start bytes)
-    after_head =
-        let e : drop start (take k bytes) ++ drop k bytes ≡ drop start bytes =
-        sym (drop-append-le start (take k bytes) (drop k bytes) read.0) ∙ ap (drop start) (take-append-drop k bytes) in
-        subst (ReadsRequest bytes read.2) e (widen read.2 _ read.3)
+take_over : (k : ℕ) (front rest : List ℕ) → length front ≤ k → take k (front ++ rest) ≡ front ++ take (k - length front) rest
+take_over k front rest fits =
+    let split : k ≡ length front + (k - length front) = omega (arith, fits) in
+    ap (λ (j : ℕ). take j (front ++ rest)) split ∙ take-append-add front rest (k - length front)
 
-    pub within : start ≤ length bytes
-    within = omega (arith, read.0, length-take k bytes)
+-- a head within its limit is read in the window
+pub in_window : (bytes : List ℕ) (h : RequestHead) (after : List ℕ) → HasHead bytes h after
+    → ReadsRequest (take 16384 bytes) h (take (16384 - length (print_request h)) after)
+in_window bytes h after x =
+    (x.reads.0, ap (take 16384) x.reads.1 ∙ take_over 16384 (print_request h) after x.fits)
 
-    -- a body that is there
-    pub whole : start + n ≤ length bytes → Begins db bytes (request_of target) (slice_range bytes start (start + n)) (drop (start + n) bytes)
-    whole there =
-        let long : length (slice_range bytes start (start + n)) ≡ n = grind (arith, common_steps) in
-        record {
-          head = read.2;
-          after = drop start bytes;
-          reads = after_head;
-          fits = omega (arith, head_fits read.2 _ read.3);
-          framed = rw long read.4;
-          joined = cut bytes start n;
-        }
+-- two heads at the front are one
+pub one_head : (bytes : List ℕ) (h k : RequestHead) (r q : List ℕ) → HasHead bytes h r → HasHead bytes k q → (h ≡ k) × (r ≡ q)
+one_head bytes h k r q x y = request_unique bytes h k r q x.reads y.reads
 
-    -- a body that is not there yet
-    pub waits : (more : List ℕ) → length (bytes ++ more) < start + n → IsWaiting db (bytes ++ more)
-    waits more short =
-        let size : length (drop start bytes ++ more) < n =
-        simp (length-append, length-drop) (omega (arith, within, simp length-append at short)) in
-        inr (read.2, drop start bytes ++ more, request_of target, n, ReadsRequest-append bytes read.2 (drop start bytes) more after_head, omega (arith, head_fits read.2 _ read.3), read.4, size)
+pub HasHead-append : (bytes : List ℕ) (h : RequestHead) (after more : List ℕ) → HasHead bytes h after → HasHead (bytes ++ more) h (after ++ more)
+HasHead-append bytes h after more x = record { reads = ReadsRequest-append bytes h after more x.reads; fits = x.fits }
 
--- a head that is not whole yet, and no byte more
-pub part_head : (db bytes more : List ℕ) → IsPartHead bytes → length (bytes ++ more) < length bytes + 1 → IsWaiting db (bytes ++ more)
-part_head db bytes [] h short = rw append-nil (inl h)
-part_head db bytes (b ∷ more) h short = absurd (omega (arith, simp length-append at short))
+-- a message stays at the front when more comes
+pub Begins-append : (db bytes : List ℕ) (m : Message) (rest more : List ℕ) → Begins db bytes m rest → Begins db (bytes ++ more) m (rest ++ more)
+Begins-append db bytes m rest more x = record {
+  head = x.head;
+  after = x.after ++ more;
+  has = HasHead-append bytes x.head x.after more x.has;
+  framed = x.framed;
+  joined = ap (λ (t : List ℕ). t ++ more) x.joined ∙ append_assoc m.body rest more;
+}
 
 same_length : (b c p q : List ℕ) → length b ≡ length c → b ++ p ≡ c ++ q → (b ≡ c) × (p ≡ q)
 same_length b c p q size rest = (
@@ -75,17 +59,115 @@ same_length b c p q size rest = (
   sym (drop-append_seam b p) ∙ ap (drop (length b)) rest ∙ ap (λ (k : ℕ). drop k (c ++ q)) size ∙ drop-append_seam c q,
 )
 
+pub framed_request : (r s : Request) (n k : ℕ) → framed r n ≡ framed s k → (r ≡ s) × (n ≡ k)
+framed_request r s n k e = (cc, cc)
+
+pub never_framed : (r : Request) (n : ℕ) (refusal : Refusal) → framed r n ≡ unframed refusal → ⊥
+never_framed r n refusal e = cc
+
+same_message : (m n : Message) → m.request ≡ n.request → m.body ≡ n.body → m.silent ≡ n.silent → m.closes ≡ n.closes → m ≡ n
+same_message m n a b c d =
+    let with : Request → List ℕ → Bool → Bool → Message = λ r x s e. record { request = r; body = x; silent = s; closes = e } in
+    ap (λ (r : Request). with r m.body m.silent m.closes) a ∙ ap (λ (x : List ℕ). with n.request x m.silent m.closes) b
+    ∙ ap (λ (s : Bool). with n.request n.body s m.closes) c ∙ ap (λ (e : Bool). with n.request n.body n.silent e) d
+
 -- two messages at the front of the same bytes are one
-pub two_messages : (db bytes : List ℕ) (r s : Request) (b c p q : List ℕ) → Begins db bytes r b p → Begins db bytes s c q
-    → (r ≡ s) × (b ≡ c) × (p ≡ q)
-two_messages db bytes r s b c p q x y =
-    let one = request_unique bytes x.head y.head x.after y.after x.reads y.reads in
-    let method : method_of r ≡ method_of s = sym x.framed.method ∙ ap (λ (h : RequestHead). h.method) one.0 ∙ y.framed.method in
-    let asked : AsksFor db y.head.target r = subst (λ (h : RequestHead). AsksFor db h.target r) one.0 x.framed.target in
-    let request = one_request db y.head.target r s method asked y.framed.target in
-    let lengths : Some (length b) ≡ Some (length c) =
-    sym x.framed.body_is ∙ ap (λ (h : RequestHead). length_for r (map name_and_value h.fields)) one.0
-    ∙ ap (λ (t : Request). length_for t (map name_and_value y.head.fields)) request ∙ y.framed.body_is in
-    let size : length b ≡ length c = cc in
-    let bodies = same_length b c p q size (sym x.joined ∙ one.1 ∙ y.joined) in
-    (request, bodies.0, bodies.1)
+pub two_messages : (db bytes : List ℕ) (m n : Message) (p q : List ℕ) → Begins db bytes m p → Begins db bytes n q → (m ≡ n) × (p ≡ q)
+two_messages db bytes m n p q x y =
+    let one = one_head bytes x.head y.head x.after y.after x.has y.has in
+    let asked : framed m.request (length m.body) ≡ framed n.request (length n.body) = sym x.framed.asks ∙ ap (asks_of db) one.0 ∙ y.framed.asks in
+    let parts = framed_request m.request n.request (length m.body) (length n.body) asked in
+    let bodies = same_length m.body n.body p q parts.1 (sym x.joined ∙ one.1 ∙ y.joined) in
+    let silent : m.silent ≡ n.silent = x.framed.silent ∙ ap is_silent one.0 ∙ sym y.framed.silent in
+    let closes : m.closes ≡ n.closes = x.framed.closes ∙ ap closes_after one.0 ∙ sym y.framed.closes in
+    (same_message m n parts.0 bodies.0 silent closes, bodies.1)
+
+-- ---- what is refused stays so
+
+-- one of two fronts of a list begins the other
+either_front : (a b c d : List ℕ) → a ++ b ≡ c ++ d → ((u : List ℕ) × (a ++ u ≡ c)) ⊎ ((u : List ℕ) × (a ≡ c ++ u))
+either_front [] b c d e = inl (c, refl)
+either_front (x ∷ a) b [] d e = inr (x ∷ a, refl)
+either_front (x ∷ a) b (y ∷ c) d e =
+    let heads : x ≡ y = cc in
+    let tails : a ++ b ≡ c ++ d = cc in
+    elim (either_front a b c d tails) [
+      | inl r ↦ inl (r.0, rw (heads, r.1) refl)
+      | inr r ↦ inr (r.0, rw (heads, r.1) refl)
+    ]
+
+-- the shortest target, the version and the end of a head
+tail : List ℕ
+tail = codes "/ HTTP/1.1\r\n\r\n"
+
+-- a head of this method
+some_head : List LineEnd → List ℕ → RequestHead
+some_head blank method =
+    record { blank = blank; method = method; target = codes "/"; minor = 1; line_end = crlf; fields = []; last = crlf }
+
+-- a head of that kind is one, and what it is written as
+some_head_is : (blank : List LineEnd) (method : List ℕ) → IsToken method → IsRequestHead (some_head blank method)
+unfolding some_head lib.Utf8.encode
+some_head_is blank method is = record {
+  method = is;
+  target = (omega arith, All-cons (λ b. IsTrue (is_uri_byte b)) 47 [] refl (All-nil (λ b. IsTrue (is_uri_byte b))));
+  target_text = (47 ∷ [], (refl, refl));
+  minor = omega arith;
+  fields = All-nil IsField;
+}
+
+some_head_text : (blank : List LineEnd) (method : List ℕ) → print_request (some_head blank method) ≡ (print_blank blank ++ method) ++ (32 ∷ tail)
+unfolding some_head print_request tail
+some_head_text blank method = simp append_assoc refl
+
+part_of_target : (u more : List ℕ) → AllPass is_uri_byte (u ++ more) → AllPass is_uri_byte u
+part_of_target u more all = λ k d inside. rw (get_or_append_left u more d k inside) at (all k d (omega (arith, length-append u more)))
+
+-- bytes that can become no head, and end in a target with more, end in one
+in_target_before : (w more : List ℕ) → NeverHasRequest w → EndsInTarget (w ++ more) → EndsInTarget w
+in_target_before w more never (blank, method, target, token, uri, is) =
+    let start : List ℕ = print_blank blank ++ method in
+    let front : List ℕ = start ++ 32 ∷ [] in
+    let whole : w ++ more ≡ front ++ target = is ∙ sym (append_assoc start (32 ∷ []) target) in
+    elim (either_front w more front target whole) [
+      | inl r ↦
+          let joined : w ++ (r.0 ++ tail) ≡ print_request (some_head blank method) ++ [] =
+          sym (append_assoc w r.0 tail) ∙ ap (λ (t : List ℕ). t ++ tail) r.1 ∙ append_assoc start (32 ∷ []) tail
+          ∙ sym (some_head_text blank method) ∙ sym (append-nil (print_request (some_head blank method))) in
+          absurd (never (r.0 ++ tail) (some_head blank method) [] (some_head_is blank method token, joined))
+      | inr r ↦
+          let behind : r.0 ++ more ≡ target =
+          append_cancel_left front (r.0 ++ more) target (sym (append_assoc front r.0 more) ∙ ap (λ (t : List ℕ). t ++ more) (sym r.1) ∙ whole) in
+          (blank, method, r.0, token, part_of_target r.0 more (rw (← behind) at uri), r.1 ∙ append_assoc start (32 ∷ []) r.0)
+    ]
+
+pub no_head_more : (w more : List ℕ) → IsNoHead w → IsNoHead (w ++ more)
+no_head_more w more x =
+    (λ others h r reads. x.0 (more ++ others) h r (rw append_assoc at reads), λ t. x.1 (in_target_before w more x.0 t))
+
+pub never_none : (w : List ℕ) (h : RequestHead) (r : List ℕ) → NeverHasRequest w → ReadsRequest w h r → ⊥
+never_none w h r never x = never [] h r (rw append-nil x)
+
+-- a window of more bytes
+pub window_more : (k : ℕ) (bytes more : List ℕ) → (u : List ℕ) × (take k (bytes ++ more) ≡ take k bytes ++ u)
+window_more k bytes more =
+    elim (cases_lt k (length bytes)) [
+      | inl short ↦ ([], take-append-le k bytes more (omega (arith, short)) ∙ sym (append-nil (take k bytes)))
+      | inr long ↦ (take (k - length bytes) more, take_over k bytes more long ∙ ap (λ (t : List ℕ). t ++ take (k - length bytes) more) (sym (take_all k bytes long)))
+    ]
+
+-- a full window stays as it is
+pub window_full : (k : ℕ) (bytes more : List ℕ) → k ≤ length bytes → take k (bytes ++ more) ≡ take k bytes
+window_full k bytes more full = take-append-le k bytes more full
+
+-- what follows a front of the window, and the rest of the bytes
+pub rest_of_window : (bytes : List ℕ) (k n : ℕ) → n ≤ length (take k bytes) → drop n (take k bytes) ++ drop k bytes ≡ drop n bytes
+rest_of_window bytes k n inside = sym (drop-append-le n (take k bytes) (drop k bytes) inside) ∙ ap (drop n) (take-append-drop k bytes)
+
+-- the window of at most 16,384 bytes is that of all bytes
+pub same_window : (k : ℕ) (bytes : List ℕ) → k ≡ min (length bytes) 16384 → take k bytes ≡ take 16384 bytes
+same_window k bytes e =
+    elim (cases_lt (length bytes) 16384) [
+      | inl short ↦ take_all k bytes (omega (arith, e, short)) ∙ sym (take_all 16384 bytes (omega (arith, short)))
+      | inr long ↦ let full : k ≡ 16384 = omega (arith, e, long) in ap (λ (j : ℕ). take j bytes) full
+    ]

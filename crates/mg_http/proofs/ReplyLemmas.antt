@@ -1,5 +1,5 @@
 -- The parts of a reply's text.
-use Rattle.std.proofs.Common.{◌≡◌, ℕ, List, Option, Some, None, refl}
+use Rattle.std.proofs.Common.{◌≡◌, ℕ, Bool, List, Option, Some, None, refl}
 use Rattle.std.specs.Prelude.{option_map, unwrap_or}
 use Rattle.mg_engine.specs.declared.reply.Reply.{Reply}
 use Rattle.mg_engine.specs.declared.reply.Reply.TheVariants.{Full, NoMemory}
@@ -13,6 +13,6 @@ found_or_nothing f None d o none e z = rw (← e) z
 found_or_nothing f (Some x) d o none e z = rw (← e) refl
 
 -- a reply's status and body are those of its text
-pub said_text : (r : Reply) → text_of (answer_in r) ≡ reply_text (said r)
-said_text (Full status body) = refl
-said_text NoMemory = refl
+pub said_text : (silent : Bool) (r : Reply) → text_of silent (answer_in r) ≡ reply_text silent (said r)
+said_text silent (Full status body) = refl
+said_text silent NoMemory = refl

@@ -1,18 +1,25 @@
 -- What a session has done stays done when it goes on.
-use Rattle.std.proofs.Common.{◌≡◌, ℕ, List, [], ◌∷◌, ◌++◌, Option, Some, None, refl, sym, ap, ◌∙◌, append_assoc, append-nil, inl, inr, Result, Ok, Err, is_ok, cond, Bool}
+use Rattle.std.proofs.Common.{◌≡◌, ℕ, ◌+◌, ◌-◌, ◌<◌, ◌≤◌, List, [], ◌∷◌, ◌++◌, length, take, drop, Option, Some, None, refl, sym, ap, ◌∙◌, subst, append_assoc, append-nil, take-append-drop, drop-drop, arith, length-append, length-drop, inl, inr, Result, Ok, Err, is_ok, cond, Bool, true, false}
+use Rattle.std.specs.Prelude.{slice_range}
 use Rattle.std.specs.Bool.{⊤}
 use Rattle.std.specs.Io.KnownBytes.{Appends, Consumes}
 use Rattle.std.proofs.KnownBytes.{Consumes-nil, Appends-nil, Consumes-trans, Appends-trans}
-use Rattle.httparse.proofs.GrammarLemmas.{ReadsRequest-append}
+use Rattle.std.proofs.lemmas.Grind.{common_steps}
+use Rattle.std.proofs.lemmas.List.{drop-append-le}
+use Rattle.httparse.specs.Grammar.{RequestHead}
 use Rattle.mg_engine.specs.Commands.{Asked, Answer}
 use Rattle.mg_http.specs.declared.device.Fault.{Fault}
+use Rattle.mg_http.specs.declared.head.Framed.{Framed}
+use Rattle.mg_http.specs.declared.inbox.Stop.{Stop}
+use Rattle.mg_http.specs.declared.inbox.Stop.TheVariants as stop
 use Rattle.mg_http.specs.declared.sessions.SessionEnd.{SessionEnd}
-use Rattle.mg_http.specs.declared.sessions.SessionEnd.TheVariants.{Refused, WriteFault}
+use Rattle.mg_http.specs.declared.sessions.SessionEnd.TheVariants.{Eof, Closed, Refused, ReadFault, WriteFault, Limit}
 use Rattle.mg_http.specs.Device.{Writes}
-use Rattle.mg_http.specs.Message.{Begins}
+use Rattle.mg_http.specs.Message.{HasHead, Begins, IsWaiting}
 use Rattle.mg_http.specs.Reply.{reply_text}
-use Rattle.mg_http.specs.Session.{Call, Handles, Serves, Refuses, Ends, Converses, Turns}
-use Rattle.mg_http.specs.Target.{Request, document}
+use Rattle.mg_http.specs.Session.{Call, IsHandled, Handles, call_text, Serves, LacksMemory, Refuses, Ends, Converses}
+use Rattle.mg_http.specs.Turns.{request_in, message_of, IsFramed, Turns, StopsWith}
+use Rattle.mg_http.proofs.MessageLemmas.{HasHead-append, Begins-append}
 
 -- what is found has no value, so nothing found has one
 pub never_both : {D V U : Type 0} (found : Option D) (value_of : D → Option V) → ((d : D) × (U × (found ≡ Some d)) × (value_of d ≡ None)) → (v : V)
@@ -22,17 +29,36 @@ never_both found value_of h v r =
     let same : h.0 ≡ r.0 = cc in
     let none : None ≡ Some v = sym h.2 ∙ ap value_of same ∙ r.2 in cc
 
--- a message stays at the front when more comes
-pub Begins-append : (db bytes : List ℕ) (request : Request) (body rest more : List ℕ) → Begins db bytes request body rest
-    → Begins db (bytes ++ more) request body (rest ++ more)
-Begins-append db bytes request body rest more h = record {
-  head = h.head;
-  after = h.after ++ more;
-  reads = ReadsRequest-append bytes h.head h.after more h.reads;
-  fits = h.fits;
-  framed = h.framed;
-  joined = ap (λ (t : List ℕ). t ++ more) h.joined ∙ append_assoc body rest more;
-}
+-- a part, and what follows it
+cut : (xs : List ℕ) (i n : ℕ) → drop i xs ≡ slice_range xs i (i + n) ++ drop (i + n) xs
+cut xs i n = let e : i + n - i ≡ n = omega arith in rw e (sym (take-append-drop n (drop i xs)) ∙ ap (λ (t : List ℕ). take n (drop i xs) ++ t) (drop-drop n i xs))
+
+module _ (db : List ℕ) (h : RequestHead) (f : Framed) (bytes : List ℕ) (has : HasHead bytes h (drop f.len bytes)) (is : IsFramed db h f) where
+  -- a body that is there
+  pub whole_message : f.len + f.body ≤ length bytes
+      → Begins db bytes (message_of f (slice_range bytes f.len (f.len + f.body))) (drop (f.len + f.body) bytes)
+  whole_message there =
+      let long : length (slice_range bytes f.len (f.len + f.body)) ≡ f.body = grind (arith, common_steps) in
+      record {
+        head = h;
+        after = drop f.len bytes;
+        has = has;
+        framed = record { asks = rw long is.asks; silent = is.silent; closes = is.closes };
+        joined = cut bytes f.len f.body;
+      }
+
+  -- a body that is not there
+  pub part_message : f.len ≤ length bytes → length bytes < f.len + f.body → IsWaiting db bytes
+  part_message within short =
+      inr (h, drop f.len bytes, request_in f.target, f.body, has, is.asks, omega (arith, within, short, length-drop f.len bytes))
+
+  -- no memory for it
+  pub lacks_memory : LacksMemory bytes f.silent
+  lacks_memory = inr (inr (h, drop f.len bytes, has, is.silent))
+
+  -- more bytes
+  pub head_with : (more : List ℕ) → f.len ≤ length bytes → HasHead (bytes ++ more) h (drop f.len (bytes ++ more))
+  head_with more within = rw (drop-append-le f.len bytes more within) (HasHead-append bytes h (drop f.len bytes) more has)
 
 module _ {S : Type 0} (answers : S → Asked → Option Answer → S → Type 0) (db : List ℕ) where
   -- a session that ends with the first thing it does
@@ -46,7 +72,7 @@ module _ {S : Type 0} (answers : S → Asked → Option Answer → S → Type 0)
       → Serves answers db old bytes calls text rest new → Serves answers db old (bytes ++ more) calls text (rest ++ more) new
   Serves-append old bytes [] text rest new more h = (ap (λ (t : List ℕ). t ++ more) h.0, h.1, h.2)
   Serves-append old bytes (call ∷ calls) text rest new more h =
-      (h.0 ++ more, h.1, h.2, Begins-append db bytes call.request call.body h.0 more h.3, h.4, h.5, Serves-append h.2 h.0 calls h.1 rest new more h.6)
+      (h.0 ++ more, h.1, h.2, Begins-append db bytes call.message h.0 more h.3, h.4, h.5, h.6, Serves-append h.2 h.0 calls h.1 rest new more h.7)
 
   -- one run of calls after another
   pub Serves-then : (old : S) (bytes : List ℕ) (calls : List Call) (text mid : List ℕ) (between : S) (others : List Call) (later rest : List ℕ) (new : S)
@@ -59,8 +85,9 @@ module _ {S : Type 0} (answers : S → Asked → Option Answer → S → Type 0)
     h.2,
     h.3,
     h.4,
-    ap (λ (t : List ℕ). t ++ later) h.5 ∙ append_assoc (reply_text call.reply) h.1 later,
-    Serves-then h.2 h.0 calls h.1 mid between others later rest new h.6 k,
+    h.5,
+    ap (λ (t : List ℕ). t ++ later) h.6 ∙ append_assoc (call_text call) h.1 later,
+    Serves-then h.2 h.0 calls h.1 mid between others later rest new h.7 k,
   )
 
   -- a run of calls, and then a session that ends
@@ -90,53 +117,78 @@ module _ {S : Type 0} (answers : S → Asked → Option Answer → S → Type 0)
       × ((calls : List Call) × Serves answers db old (before ++ came) calls written held new)
 
   -- a message at the front was handled, and its reply written, or a front of it
-  pub handled_one : {A : Type 0} (w w' : Option (List ℕ)) (old : S) (bytes : List ℕ) (request : Request) (body rest : List ℕ) (new : S) (reply : Option Answer) (written : Result A Fault) (r : Result ⊤ SessionEnd)
-      → Begins db bytes request body rest → Handles answers old request body reply new → Writes w w' (reply_text reply) written
-      → r ≡ cond (is_ok written) (Ok tt) (Err WriteFault) → (text : List ℕ) × Appends w w' text × Turns answers db old bytes text rest new r
-  handled_one w w' old bytes request body rest new reply (Ok a) r h k t e = (
-    reply_text reply,
-    t,
-    rw e (record { request = request; body = body; reply = reply } ∷ [], (rest, [], new, h, k, sym (append-nil (reply_text reply)), (refl, refl, refl))),
-  )
-  handled_one w w' old bytes request body rest new reply (Err f) r h k t e = (
-    t.0,
-    t.2,
-    rw e (ends_at old bytes t.0 new WriteFault
-        (reply_text reply, t.1, inl (record { request = request; body = body; reply = reply }, rest, h, k, refl))),
-  )
+  handled_one : {A : Type 0} (w w' : Option (List ℕ)) (old : S) (bytes rest : List ℕ) (new : S) (call : Call) (written : Result A Fault) (closes : Bool)
+      → call.message.closes ≡ closes → Begins db bytes call.message rest → IsHandled answers old call new → Writes w w' (call_text call) written
+      → (text : List ℕ) × Appends w w' text
+      × Turns answers db old bytes text rest new (cond (is_ok written) (cond closes (Err Closed) (Ok tt)) (Err WriteFault))
+  handled_one w w' old bytes rest new call (Ok a) true c h k t =
+      (call_text call, t, ends_at old bytes (call_text call) new Closed (call, c, (rest, h, k, refl)))
+  handled_one w w' old bytes rest new call (Ok a) false c h k t =
+      (call_text call, t, (call ∷ [], (rest, [], new, h, c, k, sym (append-nil (call_text call)), (refl, refl, refl))))
+  handled_one w w' old bytes rest new call (Err f) closes c h k t =
+      (t.0, t.2, ends_at old bytes t.0 new WriteFault (call_text call, t.1, inl (call, (rest, h, k, refl))))
 
-  -- a message at the front for whose segment there is no memory
-  pub refused_one : {A : Type 0} (w w' : Option (List ℕ)) (old : S) (bytes : List ℕ) (segment : List ℕ) (conflicts : Bool) (body rest : List ℕ) (written : Result A Fault) (end : SessionEnd)
-      → Begins db bytes (document segment conflicts) body rest → Writes w w' (reply_text None) written
-      → end ≡ cond (is_ok written) Refused WriteFault → (text : List ℕ) × Appends w w' text × Converses answers db old bytes text old end
-  refused_one w w' old bytes segment conflicts body rest (Ok a) end h t e =
-      (reply_text None, t, rw e (ends_at old bytes (reply_text None) old Refused (inr (inr (inr (segment, conflicts, body, rest, h)), refl), refl)))
-  refused_one w w' old bytes segment conflicts body rest (Err f) end h t e =
-      (t.0, t.2, rw e (ends_at old bytes t.0 old WriteFault (reply_text None, t.1, inr (inr (inr (inr (segment, conflicts, body, rest, h)), refl), refl))))
+  -- a message whose head was read, whose body is there, and whose reply was written
+  pub answered : {A : Type 0} (r r' w w' : Option (List ℕ)) (old : S) (held came bytes left : List ℕ) (h : RequestHead) (f : Framed) (new : S) (reply : Option Answer)
+      (written : Result A Fault) (result : Result ⊤ SessionEnd)
+      → HasHead held h (drop f.len held) → IsFramed db h f → f.len ≤ length held → Consumes r r' came → bytes ≡ held ++ came → f.len + f.body ≤ length bytes
+      → left ≡ drop (f.len + f.body) bytes
+      → Handles answers old (request_in f.target) (slice_range bytes f.len (f.len + f.body)) reply new → Writes w w' (reply_text f.silent reply) written
+      → result ≡ cond (is_ok written) (cond f.closes (Err Closed) (Ok tt)) (Err WriteFault)
+      → (came : List ℕ) × (text : List ℕ) × Consumes r r' came × Appends w w' text × Turns answers db old (held ++ came) text left new result
+  answered r r' w w' old held came bytes left h f new reply written result has is within read joined there rest handled wrote e =
+      let now : HasHead bytes h (drop f.len bytes) = subst (λ (t : List ℕ). HasHead t h (drop f.len t)) (sym joined) (head_with db h f held has is came within) in
+      let message = whole_message db h f bytes now is there in
+      let call : Call = record { message = message_of f (slice_range bytes f.len (f.len + f.body)); reply = reply } in
+      let one = handled_one w w' old bytes (drop (f.len + f.body) bytes) new call written f.closes refl message handled wrote in
+      let last : Turns answers db old bytes one.0 left new result =
+      subst (λ (t : List ℕ). Turns answers db old bytes one.0 t new result) (sym rest) (subst (Turns answers db old bytes one.0 (drop (f.len + f.body) bytes) new) (sym e) one.2) in
+      (came, one.0, read, one.1, subst (λ (t : List ℕ). Turns answers db old t one.0 left new result) joined last)
 
-  -- the message at the front ends the session, and nothing is read
-  pub ends_here : (r w w' : Option (List ℕ)) (old : S) (held : List ℕ) (new : S) (end : SessionEnd)
-      → ((text : List ℕ) × Appends w w' text × Converses answers db old held text new end) → Promises r r w w' old held new end
-  ends_here r w w' old held new end k = ([], k.0, Consumes-nil r, k.1, rw append-nil k.2)
+  -- the session stopped reading within a message or between two
+  stopped : (w w' : Option (List ℕ)) (old : S) (bytes : List ℕ) (silent : Bool) (s : Stop) (end : SessionEnd) → IsWaiting db bytes → LacksMemory bytes silent
+      → StopsWith w w' silent s end → (text : List ℕ) × Appends w w' text × Converses answers db old bytes text old end
+  stopped w w' old bytes silent stop.End end waiting lacks h = ([], rw h.1 (Appends-nil w), rw h.0 (ends_at old bytes [] old Eof (waiting, refl, refl)))
+  stopped w w' old bytes silent stop.Failed end waiting lacks h = ([], rw h.1 (Appends-nil w), rw h.0 (ends_at old bytes [] old ReadFault (waiting, refl, refl)))
+  stopped w w' old bytes silent stop.Limit end waiting lacks h = ([], rw h.1 (Appends-nil w), rw h.0 (ends_at old bytes [] old Limit (refl, refl)))
+  stopped w w' old bytes silent stop.NoMemory Refused waiting lacks h =
+      (reply_text silent None, h, ends_at old bytes (reply_text silent None) old Refused (inr (silent, lacks, refl), refl))
+  stopped w w' old bytes silent stop.NoMemory WriteFault waiting lacks h =
+      (h.0, h.2, ends_at old bytes h.0 old WriteFault (reply_text silent None, h.1, inr (inr (silent, lacks, refl), refl)))
+  stopped w w' old bytes silent stop.NoMemory Eof waiting lacks h = absurd h
+  stopped w w' old bytes silent stop.NoMemory Closed waiting lacks h = absurd h
+  stopped w w' old bytes silent stop.NoMemory ReadFault waiting lacks h = absurd h
+  stopped w w' old bytes silent stop.NoMemory Limit waiting lacks h = absurd h
 
-  -- the message at the front is answered, and nothing is read
-  pub goes_on : (r w w' : Option (List ℕ)) (old : S) (held rest left : List ℕ) (new : S) → left ≡ rest
-      → ((text : List ℕ) × Appends w w' text × ((calls : List Call) × Serves answers db old held calls text rest new)) → Runs r r w w' old held left new
-  goes_on r w w' old held rest left new e k = ([], k.0, Consumes-nil r, k.1, rw (append-nil, e) k.2)
+  -- in a message whose body is not there
+  pub stopped_in_body : (r r' w w' : Option (List ℕ)) (old : S) (held came bytes : List ℕ) (h : RequestHead) (f : Framed) (s : Stop) (end : SessionEnd)
+      → HasHead held h (drop f.len held) → IsFramed db h f → f.len ≤ length held → Consumes r r' came → bytes ≡ held ++ came → length bytes < f.len + f.body
+      → StopsWith w w' f.silent s end → Promises r r' w w' old held old end
+  stopped_in_body r r' w w' old held came bytes h f s end has is within read joined short stops =
+      let now : HasHead bytes h (drop f.len bytes) = subst (λ (t : List ℕ). HasHead t h (drop f.len t)) (sym joined) (head_with db h f held has is came within) in
+      let inside : f.len ≤ length bytes = omega (arith, within, ap length joined, length-append held came) in
+      let one = stopped w w' old bytes f.silent s end (part_message db h f bytes now is inside short) (lacks_memory db h f bytes now is) stops in
+      (came, one.0, read, one.1, subst (λ (t : List ℕ). Converses answers db old t one.0 old end) joined one.2)
 
-  -- the last text is a refusal, or a front of it
-  pub refuses : {A : Type 0} (r r' w w' : Option (List ℕ)) (old : S) (held came text : List ℕ) (written : Result A Fault) (end : SessionEnd)
-      → Consumes r r' came → Refuses db (held ++ came) text → Writes w w' text written
-      → end ≡ cond (is_ok written) Refused WriteFault → Promises r r' w w' old held old end
-  refuses r r' w w' old held came text (Ok a) end c h k e =
-      (came, text, c, k, rw e (ends_at old (held ++ came) text old Refused (h, refl)))
-  refuses r r' w w' old held came text (Err f) end c h k e =
-      (came, k.0, c, k.2, rw e (ends_at old (held ++ came) k.0 old WriteFault (text, k.1, inr (h, refl))))
+  -- between two messages or in a head
+  pub stopped_in_head : (r r' w w' : Option (List ℕ)) (old : S) (held came bytes : List ℕ) (s : Stop) (end : SessionEnd)
+      → IsWaiting db held → LacksMemory held false → Consumes r r' came → bytes ≡ held ++ came → bytes ≡ held
+      → StopsWith w w' false s end → Promises r r' w w' old held old end
+  stopped_in_head r r' w w' old held came bytes s end waiting lacks read joined none stops =
+      let one = stopped w w' old held false s end waiting lacks stops in
+      (came, one.0, read, one.1, subst (λ (t : List ℕ). Converses answers db old t one.0 old end) (sym none ∙ joined) one.2)
 
-  -- nothing more is written
-  pub stops : (r r' w : Option (List ℕ)) (old : S) (held came : List ℕ) (end : SessionEnd) → Consumes r r' came
-      → Ends answers db end old (held ++ came) [] old → Promises r r' w w old held old end
-  stops r r' w old held came end c h = (came, [], c, Appends-nil w, ends_at old (held ++ came) [] old end h)
+  -- a limit, with nothing written
+  pub limited : (r r' w : Option (List ℕ)) (old : S) (held came : List ℕ) → Consumes r r' came → Promises r r' w w old held old Limit
+  limited r r' w old held came c = (came, [], c, Appends-nil w, ends_at old (held ++ came) [] old Limit (refl, refl))
+
+  -- a text that refuses was written, or a front of it
+  pub refuses_now : {A : Type 0} (r w w' : Option (List ℕ)) (old : S) (held text : List ℕ) (written : Result A Fault) (end : SessionEnd)
+      → Refuses db held text → Writes w w' text written → end ≡ cond (is_ok written) Refused WriteFault → Promises r r w w' old held old end
+  refuses_now r w w' old held text (Ok a) end h k e =
+      ([], text, Consumes-nil r, k, rw (append-nil held, e) (ends_at old held text old Refused (h, refl)))
+  refuses_now r w w' old held text (Err f) end h k e =
+      ([], k.0, Consumes-nil r, k.2, rw (append-nil held, e) (ends_at old held k.0 old WriteFault (text, k.1, inr (h, refl))))
 
   -- more is held
   pub reads_on : (r r' w : Option (List ℕ)) (old : S) (held came left : List ℕ) → Consumes r r' came → left ≡ held ++ came

@@ -3,12 +3,12 @@ use Rattle.std.proofs.Common.{◌≡◌, ℕ, List, [], ◌∷◌, Option, Some,
 use Rattle.mg_engine.specs.Commands.{Asked, Answer, next}
 use Rattle.mg_engine.specs.Run.{Answers}
 use Rattle.mg_engine.specs.World.{World}
-use Rattle.mg_http.specs.declared.target.Route.{Route}
+use Rattle.mg_http.specs.declared.routes.Endpoint.{Endpoint}
 use Rattle.mg_http.specs.declared.sessions.SessionEnd.{SessionEnd}
 use Rattle.mg_http.specs.declared.sessions.SessionEnd.TheVariants.{Eof, Closed, Refused, ReadFault, WriteFault, Limit}
 use Rattle.mg_http.specs.Session.{Call, HandlesBody, Handles, Serves, Ends, Converses}
 use Rattle.mg_http.specs.Talk.{AtWorld, Talks}
-use Rattle.mg_http.specs.Target.{Request, post, document}
+use Rattle.mg_http.specs.Target.{Request, body, asks, refuses}
 
 -- a command that is answered at a world leaves one for which the service stands
 pub at_world : (ends : World → Type 0) (w : World) (c : Asked) (r : Option Answer) → Answers w c r ends → (u : World) × AtWorld w c r u × ends u
@@ -20,40 +20,40 @@ module _ {S : Type 0} (answers : S → Asked → Option Answer → S → Type 0)
   same : (old new : S) (w : World) → new ≡ old → stands old w → stands new w
   same old new w e h = subst (λ (s : S). stands s w) (sym e) h
 
-  body_handled : (old : S) (route : Route) (body : List ℕ) (reply : Option Answer) (new : S) (w : World) → HandlesBody answers old route body reply new → stands old w
-      → (u : World) × HandlesBody AtWorld w route body reply u × stands new u
-  body_handled old route body reply new w (inl asked) h =
+  body_handled : (old : S) (endpoint : Endpoint) (bytes : List ℕ) (reply : Option Answer) (new : S) (w : World) → HandlesBody answers old endpoint bytes reply new → stands old w
+      → (u : World) × HandlesBody AtWorld w endpoint bytes reply u × stands new u
+  body_handled old endpoint bytes reply new w (inl asked) h =
       let s = steps old _ reply new w asked.2 h in
       (s.0, inl (asked.0, asked.1, s.1), s.2)
-  body_handled old route body reply new w (inr (inl none)) h = (w, inr (inl (none.0, none.1, refl)), same old new w none.2 h)
-  body_handled old route body reply new w (inr (inr refused)) h = (w, inr (inr (refused.0, refl)), same old new w refused.1 h)
+  body_handled old endpoint bytes reply new w (inr (inl none)) h = (w, inr (inl (none.0, none.1, refl)), same old new w none.2 h)
+  body_handled old endpoint bytes reply new w (inr (inr refused)) h = (w, inr (inr (refused.0, refl)), same old new w refused.1 h)
 
-  handled : (old : S) (request : Request) (body : List ℕ) (reply : Option Answer) (new : S) (w : World) → Handles answers old request body reply new → stands old w
-      → (u : World) × Handles AtWorld w request body reply u × stands new u
-  handled old (post route) body reply new w k h = body_handled old route body reply new w k h
-  handled old (document segment conflicts) body reply new w (inl asked) h =
-      let s = steps old _ reply new w asked.1 h in
-      (s.0, inl (asked.0, s.1), s.2)
-  handled old (document segment conflicts) body reply new w (inr none) h = (w, inr (none.0, none.1, refl), same old new w none.2 h)
+  handled : (old : S) (request : Request) (bytes : List ℕ) (reply : Option Answer) (new : S) (w : World) → Handles answers old request bytes reply new → stands old w
+      → (u : World) × Handles AtWorld w request bytes reply u × stands new u
+  handled old (body endpoint) bytes reply new w k h = body_handled old endpoint bytes reply new w k h
+  handled old (asks command) bytes reply new w k h = steps old command reply new w k h
+  handled old (refuses refusal) bytes reply new w k h = (w, (k.0, refl), same old new w k.1 h)
 
   served : (old : S) (bytes : List ℕ) (calls : List Call) (text rest : List ℕ) (new : S) (w : World) → Serves answers db old bytes calls text rest new → stands old w
       → (u : World) × Serves AtWorld db w bytes calls text rest u × stands new u
   served old bytes [] text rest new w h st = (w, (h.0, h.1, refl), same old new w h.2 st)
   served old bytes (call ∷ calls) text rest new w h st =
-      let one = handled old call.request call.body call.reply h.2 w h.4 st in
-      let more = served h.2 h.0 calls h.1 rest new one.0 h.6 one.2 in
-      (more.0, (h.0, h.1, one.0, h.3, one.1, h.5, more.1), more.2)
+      let one = handled old call.message.request call.message.body call.reply h.2 w h.5 st in
+      let more = served h.2 h.0 calls h.1 rest new one.0 h.7 one.2 in
+      (more.0, (h.0, h.1, one.0, h.3, h.4, one.1, h.6, more.1), more.2)
 
   ended : (end : SessionEnd) (old : S) (rest last : List ℕ) (new : S) (w : World) → Ends answers db end old rest last new → stands old w
       → (u : World) × Ends AtWorld db end w rest last u × stands new u
   ended Eof old rest last new w h st = (w, (h.0, h.1, refl), same old new w h.2 st)
   ended ReadFault old rest last new w h st = (w, (h.0, h.1, refl), same old new w h.2 st)
   ended Limit old rest last new w h st = (w, (h.0, refl), same old new w h.1 st)
-  ended Closed old rest last new w h st = absurd h
+  ended Closed old rest last new w (call, closes, answered) st =
+      let one = handled old call.message.request call.message.body call.reply new w answered.2 st in
+      (one.0, (call, closes, (answered.0, answered.1, one.1, answered.3)), one.2)
   ended Refused old rest last new w h st = (w, (h.0, refl), same old new w h.1 st)
-  ended WriteFault old rest last new w (whole, prefix, inl answered) st =
-      let one = handled old answered.0.request answered.0.body answered.0.reply new w answered.3 st in
-      (one.0, (whole, prefix, inl (answered.0, answered.1, answered.2, one.1, answered.4)), one.2)
+  ended WriteFault old rest last new w (whole, prefix, inl (call, answered)) st =
+      let one = handled old call.message.request call.message.body call.reply new w answered.2 st in
+      (one.0, (whole, prefix, inl (call, (answered.0, answered.1, one.1, answered.3))), one.2)
   ended WriteFault old rest last new w (whole, prefix, inr refused) st =
       (w, (whole, prefix, inr (refused.0, refl)), same old new w refused.1 st)
 

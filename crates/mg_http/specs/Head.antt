@@ -1,31 +1,51 @@
--- The heads that a session answers.
-use Rattle.std.specs.Prelude.{◌≡◌, ℕ, ◌≤◌, List, length, map, drop, Option, Some}
-use Rattle.httparse.specs.Grammar.{RequestHead, ReadsRequest, HasNoRequest, NeverHasRequest, MayBecomeRequest}
+-- What a head asks for, and how its body is framed (RFC 9112, sections 2 to 6 and 9.6).
+use Rattle.std.specs.Prelude.{ℕ, Bool, ◌||◌, ◌==◌, List, length, map, bytes_eq, nat_le, codes, if◌then◌else◌}
+use Rattle.std.specs.List.{list_any}
+use Rattle.httparse.specs.Grammar.{RequestHead}
 use Rattle.httparse.specs.Spans.{name_and_value}
-use Rattle.mg_http.specs.declared.head.HeadRead.{HeadRead}
-use Rattle.mg_http.specs.declared.head.HeadRead.TheVariants.{Framed, Unframed, Partial, Bad}
-use Rattle.mg_http.specs.Fields.{Field, body_length, length_or_none}
-use Rattle.mg_http.specs.Target.{Request, post, document, method_of, AsksFor, request_of}
+use Rattle.mg_engine.specs.declared.refusal.Refusal.{Refusal}
+use Rattle.mg_engine.specs.declared.refusal.Refusal.TheVariants.{LengthRequired, TooLarge, HeadTooLarge, BadHead}
+use Rattle.mg_http.specs.declared.fields.Length.{Length}
+use Rattle.mg_http.specs.declared.fields.Length.TheVariants.{Absent, Bytes, TooMany, Faulty}
+use Rattle.mg_http.specs.Fields.{Field, has_field, length_in, asks_close}
+use Rattle.mg_http.specs.Target.{Request, body, asks, refuses, request_of}
 
--- the length of the body of a request: a POST has to give it, a GET may leave it out
-abbrev pub length_for : Request → List Field → Option ℕ
-length_for (post route) fields = body_length fields
-length_for (document segment conflicts) fields = length_or_none fields
+-- what a head asks: a request, whose body has so many bytes; or it is refused where it ends
+pub data Asks : Type 0 where
+  framed : Request → ℕ → Asks
+  unframed : Refusal → Asks
 
--- the head asks for the request, and a body of so many bytes follows it
-pub record IsFramed (db : List ℕ) (h : RequestHead) (request : Request) (body : ℕ) : Type 0 where
-  pub method : h.method ≡ method_of request
-  pub version : h.minor ≡ 1
-  pub target : AsksFor db h.target request
-  pub fields : length h.fields ≤ 64
-  pub body_is : length_for request (map name_and_value h.fields) ≡ Some body
+-- the refusal that a request is, before this one
+abbrev pub refusal_before : Refusal → Request → Refusal
+refusal_before refusal (body endpoint) = refusal
+refusal_before refusal (asks command) = refusal
+refusal_before refusal (refuses first) = first
 
--- what the bytes begin with
-abbrev pub IsHeadRead : List ℕ → List ℕ → HeadRead → Type 0
-IsHeadRead db bytes (Framed target len body) =
-    (len ≤ length bytes) × (body ≤ 8388608)
-    × (h : RequestHead) × ReadsRequest bytes h (drop len bytes) × IsFramed db h (request_of target) body
-IsHeadRead db bytes Unframed =
-    (h : RequestHead) × (rest : List ℕ) × ReadsRequest bytes h rest × ((request : Request) (body : ℕ) → ¬ (IsFramed db h request body))
-IsHeadRead db bytes Partial = HasNoRequest bytes × MayBecomeRequest bytes
-IsHeadRead db bytes Bad = NeverHasRequest bytes
+-- by the length that is given, whether another framing is asked for, and whether the method is POST, which needs a length
+abbrev pub framed_by : Length → Bool → Bool → Request → Asks
+framed_by Faulty coded post request = unframed BadHead
+framed_by Absent coded post request =
+    if coded || post then unframed (refusal_before LengthRequired request) else framed request 0
+framed_by (Bytes n) coded post request =
+    if coded then unframed (refusal_before LengthRequired request) else framed request n
+framed_by TooMany coded post request =
+    if coded then unframed (refusal_before LengthRequired request) else unframed (refusal_before TooLarge request)
+
+-- what a head of these parts asks of the database
+abbrev pub parts_ask : List ℕ → List ℕ → List ℕ → List Field → Asks
+parts_ask db method target fields =
+    if nat_le (length fields) 64
+    then framed_by (length_in fields) (has_field (codes "transfer-encoding") fields) (bytes_eq method (codes "POST")) (request_of db method target)
+    else unframed HeadTooLarge
+
+-- what a head asks of the database
+abbrev pub asks_of : List ℕ → RequestHead → Asks
+asks_of db h = parts_ask db h.method h.target (map name_and_value h.fields)
+
+-- the reply leaves out the bytes of its body
+abbrev pub is_silent : RequestHead → Bool
+is_silent h = bytes_eq h.method (codes "HEAD")
+
+-- the session ends after the reply: the version is 1.0, or a Connection asks to close
+abbrev pub closes_after : RequestHead → Bool
+closes_after h = h.minor == 0 || list_any asks_close (map name_and_value h.fields)

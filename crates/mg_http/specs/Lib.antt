@@ -4,7 +4,12 @@ pub mod Head
 pub mod Inbox
 pub mod Message
 pub mod Reply
+pub mod RouteViews
+pub mod Routes
+pub mod Segments
 pub mod Session
 pub mod Solo
 pub mod Talk
 pub mod Target
+pub mod TargetScan
+pub mod Turns

@@ -1,55 +1,63 @@
 -- The messages of a session (RFC 9112, sections 2 to 6): a head, and a body of the length that the head's fields give.
-use Rattle.std.specs.Prelude.{◌≡◌, ℕ, ◌<◌, ◌≤◌, ◌⊎◌, Bool, List, ◌++◌, length, take, drop, slice_range}
-use Rattle.httparse.specs.Grammar.{RequestHead, print_request, ReadsRequest, HasNoRequest, NeverHasRequest, MayBecomeRequest}
-use Rattle.mg_http.specs.declared.message.Front.{Front}
-use Rattle.mg_http.specs.declared.message.Front.TheVariants.{Whole, Waiting, Refused}
-use Rattle.mg_http.specs.Head.{IsFramed}
-use Rattle.mg_http.specs.Target.{Request, document, request_of}
+use Rattle.std.specs.Prelude.{◌≡◌, ℕ, ◌<◌, ◌≤◌, ◌⊎◌, Bool, false, List, ◌++◌, length, take}
+use Rattle.httparse.specs.Grammar.{RequestHead, print_request, ReadsRequest, HasNoRequest, NeverHasRequest, EndsInTarget}
+use Rattle.mg_engine.specs.declared.refusal.Refusal.{Refusal}
+use Rattle.mg_engine.specs.declared.refusal.Refusal.TheVariants.{HeadTooLarge, BadHead}
+use Rattle.mg_http.specs.Head.{framed, unframed, asks_of, is_silent, closes_after}
+use Rattle.mg_http.specs.Target.{Request}
 
--- the bytes begin with a head that asks for the request, then this body, and then rest
-pub record Begins (db bytes : List ℕ) (request : Request) (body rest : List ℕ) : Type 0 where
+-- what a message asks for, its body, whether its reply is without the body's bytes, and whether the session ends then
+pub record Message : Type 0 where
+  pub request : Request
+  pub body : List ℕ
+  pub silent : Bool
+  pub closes : Bool
+
+-- the bytes begin with a head within its limit, and then `after`
+pub record HasHead (bytes : List ℕ) (h : RequestHead) (after : List ℕ) : Type 0 where
+  pub reads : ReadsRequest bytes h after
+  pub fits : length (print_request h) ≤ 16384
+
+-- the head is that of the message
+pub record IsHeadOf (db : List ℕ) (h : RequestHead) (m : Message) : Type 0 where
+  pub asks : asks_of db h ≡ framed m.request (length m.body)
+  pub silent : m.silent ≡ is_silent h
+  pub closes : m.closes ≡ closes_after h
+
+-- the bytes begin with the message, and then rest
+pub record Begins (db bytes : List ℕ) (m : Message) (rest : List ℕ) : Type 0 where
   pub head : RequestHead
   pub after : List ℕ
-  pub reads : ReadsRequest bytes head after
-  pub fits : length (print_request head) ≤ 16384
-  pub framed : IsFramed db head request (length body)
-  pub joined : after ≡ body ++ rest
+  pub has : HasHead bytes head after
+  pub framed : IsHeadOf db head m
+  pub joined : after ≡ m.body ++ rest
 
--- a message that asks for a document is at the front
-abbrev pub AsksDocument : List ℕ → List ℕ → Type 0
-AsksDocument db bytes =
-    (segment : List ℕ) × (conflicts : Bool) × (body : List ℕ) × (rest : List ℕ)
-    × Begins db bytes (document segment conflicts) body rest
+-- what can become no head; a target that has not ended may still be one, whatever its bytes are
+abbrev pub IsNoHead : List ℕ → Type 0
+IsNoHead bytes = NeverHasRequest bytes × (¬ (EndsInTarget bytes))
 
--- a whole head is at the front, within its limit, and it asks for nothing that is answered
-abbrev pub HasOther : List ℕ → List ℕ → Type 0
-HasOther db bytes =
-    (h : RequestHead) × (rest : List ℕ) × ReadsRequest bytes h rest × (length (print_request h) ≤ 16384)
-    × ((request : Request) (body : ℕ) → ¬ (IsFramed db h request body))
+-- what is no head yet, and may become one
+abbrev pub CanGoOn : List ℕ → Type 0
+CanGoOn bytes = HasNoRequest bytes × (¬ (IsNoHead bytes))
 
--- what is refused: another head, what can become no head, and a head that goes on past its limit
-abbrev pub IsRefused : List ℕ → List ℕ → Type 0
-IsRefused db bytes =
-    HasOther db bytes ⊎ (NeverHasRequest bytes ⊎ ((16384 ≤ length bytes) × HasNoRequest (take 16384 bytes)))
+-- What is refused, why, and whether the reply leaves out its body: a head that is, what can become none, and a head
+-- that goes on past its limit.
+abbrev pub IsRefused : List ℕ → List ℕ → Refusal → Bool → Type 0
+IsRefused db bytes refusal silent =
+    ((h : RequestHead) × (after : List ℕ) × HasHead bytes h after × (asks_of db h ≡ unframed refusal) × (silent ≡ is_silent h))
+    ⊎ ((IsNoHead (take 16384 bytes) × (refusal ≡ BadHead) × (silent ≡ false))
+    ⊎ ((16384 ≤ length bytes) × CanGoOn (take 16384 bytes) × (refusal ≡ HeadTooLarge) × (silent ≡ false)))
 
 -- a head within its limit that is not whole yet
 abbrev pub IsPartHead : List ℕ → Type 0
-IsPartHead bytes = (length bytes < 16384) × HasNoRequest bytes × MayBecomeRequest bytes
+IsPartHead bytes = (length bytes < 16384) × CanGoOn bytes
 
--- a head that asks for something, and a body that is not whole yet
+-- a head, and a body that is not whole yet
 abbrev pub IsPartBody : List ℕ → List ℕ → Type 0
 IsPartBody db bytes =
     (h : RequestHead) × (after : List ℕ) × (request : Request) × (body : ℕ)
-    × ReadsRequest bytes h after × (length (print_request h) ≤ 16384) × IsFramed db h request body × (length after < body)
+    × HasHead bytes h after × (asks_of db h ≡ framed request body) × (length after < body)
 
 -- what is not whole yet, or nothing at all
 abbrev pub IsWaiting : List ℕ → List ℕ → Type 0
 IsWaiting db bytes = IsPartHead bytes ⊎ IsPartBody db bytes
-
--- what is at the front
-abbrev pub IsFront : List ℕ → List ℕ → Front → Type 0
-IsFront db bytes (Whole target start end) =
-    (end ≤ length bytes) × (start ≤ end) × Begins db bytes (request_of target) (slice_range bytes start end) (drop end bytes)
-IsFront db bytes (Waiting want) =
-    (length bytes < want) × ((more : List ℕ) → length (bytes ++ more) < want → IsWaiting db (bytes ++ more))
-IsFront db bytes Refused = IsRefused db bytes

@@ -1,5 +1,5 @@
 -- The text of a reply (RFC 9112, section 4): a status line, the type and the length of the body, and the body.
-use Rattle.std.specs.Prelude.{ℕ, List, [], ◌++◌, length, codes, decimal, Option, unwrap_or, nat_le, nat_lt, ◌&&◌, if◌then◌else◌}
+use Rattle.std.specs.Prelude.{ℕ, Bool, List, [], ◌++◌, length, codes, decimal, Option, unwrap_or, nat_le, nat_lt, ◌&&◌, if◌then◌else◌}
 use Rattle.http.specs.StatusCode.{reason_phrase}
 use Rattle.mg_engine.specs.declared.refusal.Refusal.TheVariants.{OutOfMemory}
 use Rattle.mg_engine.specs.Commands.{Answer, refused}
@@ -15,10 +15,11 @@ text_with code phrase size body =
     codes "HTTP/1.1 " ++ (code ++ (codes " " ++ (phrase
     ++ (codes "\r\nContent-Type: application/json\r\nContent-Length: " ++ (size ++ (codes "\r\n\r\n" ++ body))))))
 
--- the bytes of a reply
-abbrev pub text_of : Answer → List ℕ
-text_of a = text_with (decimal a.status) (phrase_of a.status) (decimal (length a.body)) a.body
+-- the bytes of a reply; where it is silent, those of the body are left out, and its length stays
+abbrev pub text_of : Bool → Answer → List ℕ
+text_of silent a =
+    text_with (decimal a.status) (phrase_of a.status) (decimal (length a.body)) (if silent then [] else a.body)
 
 -- the bytes of what a service answered; none is for want of memory
-abbrev pub reply_text : Option Answer → List ℕ
-reply_text reply = text_of (unwrap_or reply (refused OutOfMemory))
+abbrev pub reply_text : Bool → Option Answer → List ℕ
+reply_text silent reply = text_of silent (unwrap_or reply (refused OutOfMemory))

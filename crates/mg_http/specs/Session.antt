@@ -1,77 +1,86 @@
--- What a session writes for what it reads: the text of each message's reply, in order, and at most one refusal.
-use Rattle.std.specs.Prelude.{◌≡◌, ℕ, ◌⊎◌, Bool, IsUtf8, List, [], ◌∷◌, ◌++◌, Option, Some, None, Result, Ok, Err, ⊤}
+-- What a session writes for what it reads (RFC 9112, section 9). `answers` says of two states of a service, a command and
+-- a reply (none for want of memory) that the command was answered so and took the service from the first to the second.
+use Rattle.std.specs.Prelude.{◌≡◌, ◌⊎◌, ℕ, Bool, true, false, List, [], ◌∷◌, ◌++◌, Option, Some, None}
+use Rattle.httparse.specs.Grammar.{RequestHead}
 use Rattle.mg_value.specs.Value.{Value}
 use Rattle.mg_value.specs.Text.{Reads}
-use Rattle.percent_encoding.specs.Percent.{percent_decode}
-use Rattle.mg_engine.specs.declared.refusal.Refusal.TheVariants.{InvalidJson, BadHead, Missing}
-use Rattle.mg_engine.specs.Commands.{Asked, bulk, find, get, Answer, refused}
-use Rattle.mg_http.specs.declared.target.Route.{Route}
-use Rattle.mg_http.specs.declared.target.Route.TheVariants.{BulkDocs, Find}
+use Rattle.mg_engine.specs.declared.refusal.Refusal.{Refusal}
+use Rattle.mg_engine.specs.declared.refusal.Refusal.TheVariants.{InvalidJson}
+use Rattle.mg_engine.specs.Commands.{Asked, bulk, find, Answer, refused}
+use Rattle.mg_http.specs.declared.routes.Endpoint.{Endpoint}
+use Rattle.mg_http.specs.declared.routes.Endpoint.TheVariants.{BulkDocs, Find}
 use Rattle.mg_http.specs.declared.sessions.SessionEnd.{SessionEnd}
 use Rattle.mg_http.specs.declared.sessions.SessionEnd.TheVariants.{Eof, Closed, Refused, ReadFault, WriteFault, Limit}
 use Rattle.mg_http.specs.Device.{IsPrefix}
-use Rattle.mg_http.specs.Message.{Begins, AsksDocument, IsRefused, IsWaiting}
+use Rattle.mg_http.specs.Head.{is_silent}
+use Rattle.mg_http.specs.Message.{Message, Begins, HasHead, IsRefused, IsPartHead, IsWaiting}
 use Rattle.mg_http.specs.Reply.{text_of, reply_text}
-use Rattle.mg_http.specs.Target.{Request, post, document}
+use Rattle.mg_http.specs.Target.{Request, body, asks, refuses}
 
--- what a body for the route asks that is this value
-abbrev pub asked_by : Route → Value → Asked
+-- what an endpoint asks with a body that is this value
+abbrev pub asked_by : Endpoint → Value → Asked
 asked_by BulkDocs v = bulk v
 asked_by Find v = find v
 
 -- The reply to a body: that of the service to the value that the body is, or that the body is none, or that memory was
 -- refused before the service was asked.
 abbrev pub HandlesBody
-    : {S : Type 0} → (S → Asked → Option Answer → S → Type 0) → S → Route → List ℕ → Option Answer → S → Type 0
-HandlesBody answers old route body reply new =
-    ((value : Value) × Reads body value × answers old (asked_by route value) reply new)
-    ⊎ ((((value : Value) → ¬ (Reads body value)) × (reply ≡ Some (refused InvalidJson)) × (new ≡ old))
+    : {S : Type 0} → (S → Asked → Option Answer → S → Type 0) → S → Endpoint → List ℕ → Option Answer → S → Type 0
+HandlesBody answers old endpoint bytes reply new =
+    ((value : Value) × Reads bytes value × answers old (asked_by endpoint value) reply new)
+    ⊎ ((((value : Value) → ¬ (Reads bytes value)) × (reply ≡ Some (refused InvalidJson)) × (new ≡ old))
     ⊎ ((reply ≡ None) × (new ≡ old)))
 
--- The reply to a segment: that of the service to the id that the segment decodes to, or that the document is missing,
--- where that is no text.
-abbrev pub HandlesSegment
-    : {S : Type 0} → (S → Asked → Option Answer → S → Type 0) → S → List ℕ → Bool → Option Answer → S → Type 0
-HandlesSegment answers old segment conflicts reply new =
-    (IsUtf8 (percent_decode segment) × answers old (get (percent_decode segment) conflicts) reply new)
-    ⊎ ((¬ (IsUtf8 (percent_decode segment))) × (reply ≡ Some (refused Missing)) × (new ≡ old))
-
--- the reply to a message; where it asks for a document, its body is not looked at
+-- the reply to a request with this body, which only an endpoint looks at
 abbrev pub Handles
     : {S : Type 0} → (S → Asked → Option Answer → S → Type 0) → S → Request → List ℕ → Option Answer → S → Type 0
-Handles answers old (post route) body reply new = HandlesBody answers old route body reply new
-Handles answers old (document segment conflicts) body reply new = HandlesSegment answers old segment conflicts reply new
+Handles answers old (body endpoint) bytes reply new = HandlesBody answers old endpoint bytes reply new
+Handles answers old (asks command) bytes reply new = answers old command reply new
+Handles answers old (refuses refusal) bytes reply new = (reply ≡ Some (refused refusal)) × (new ≡ old)
 
 -- a message, and its reply
 pub record Call : Type 0 where
-  pub request : Request
-  pub body : List ℕ
+  pub message : Message
   pub reply : Option Answer
 
+-- the call's message was handled
+abbrev pub IsHandled : {S : Type 0} → (S → Asked → Option Answer → S → Type 0) → S → Call → S → Type 0
+IsHandled answers old call new = Handles answers old call.message.request call.message.body call.reply new
+
+-- the text of the reply to the call's message
+abbrev pub call_text : Call → List ℕ
+call_text call = reply_text call.message.silent call.reply
+
 -- The bytes are the messages of the calls and then rest, the text is the replies to them in order, and the service
--- went from old to new.
+-- went from old to new. None of them ends the session.
 abbrev pub Serves
     : {S : Type 0} → (S → Asked → Option Answer → S → Type 0)
     → List ℕ → S → List ℕ → List Call → List ℕ → List ℕ → S → Type 0
 Serves answers db old bytes [] text rest new = (bytes ≡ rest) × (text ≡ []) × (new ≡ old)
 Serves {S} answers db old bytes (call ∷ calls) text rest new =
     (after : List ℕ) × (later : List ℕ) × (mid : S)
-    × Begins db bytes call.request call.body after
-    × Handles answers old call.request call.body call.reply mid
-    × (text ≡ reply_text call.reply ++ later) × Serves answers db mid after calls later rest new
+    × Begins db bytes call.message after × (call.message.closes ≡ false) × IsHandled answers old call mid
+    × (text ≡ call_text call ++ later) × Serves answers db mid after calls later rest new
 
 -- the message at the front was handled, and this text is its reply
-abbrev pub Answered : {S : Type 0} → (S → Asked → Option Answer → S → Type 0) → List ℕ → S → List ℕ → List ℕ → S → Type 0
-Answered answers db old bytes text new =
-    (call : Call) × (after : List ℕ) × Begins db bytes call.request call.body after
-    × Handles answers old call.request call.body call.reply new × (text ≡ reply_text call.reply)
+abbrev pub Answered
+    : {S : Type 0} → (S → Asked → Option Answer → S → Type 0) → List ℕ → S → List ℕ → Call → List ℕ → S → Type 0
+Answered answers db old bytes call text new =
+    (after : List ℕ) × Begins db bytes call.message after × IsHandled answers old call new × (text ≡ call_text call)
 
--- This text refuses the bytes: no message is at the front, or there was no memory: for one before it was whole, or for
--- what the target of one spells.
+-- There was no memory for the message: for its first byte, or its head, or what a whole head asks for and its body.
+-- Where the head is whole, it says whether the reply is without its body.
+abbrev pub LacksMemory : List ℕ → Bool → Type 0
+LacksMemory bytes silent =
+    ((bytes ≡ []) × (silent ≡ false))
+    ⊎ ((IsPartHead bytes × (silent ≡ false))
+    ⊎ ((h : RequestHead) × (after : List ℕ) × HasHead bytes h after × (silent ≡ is_silent h)))
+
+-- this text refuses the bytes: for what they are, or because there was no memory
 abbrev pub Refuses : List ℕ → List ℕ → List ℕ → Type 0
 Refuses db bytes text =
-    (IsRefused db bytes × (text ≡ text_of (refused BadHead)))
-    ⊎ (((bytes ≡ []) ⊎ (IsWaiting db bytes ⊎ AsksDocument db bytes)) × (text ≡ reply_text None))
+    ((refusal : Refusal) × (silent : Bool) × IsRefused db bytes refusal silent × (text ≡ text_of silent (refused refusal)))
+    ⊎ ((silent : Bool) × LacksMemory bytes silent × (text ≡ reply_text silent None))
 
 -- How a session ends that answered all but rest, with the text that came last.
 abbrev pub Ends
@@ -79,11 +88,12 @@ abbrev pub Ends
 Ends answers db Eof old rest last new = IsWaiting db rest × (last ≡ []) × (new ≡ old)
 Ends answers db ReadFault old rest last new = IsWaiting db rest × (last ≡ []) × (new ≡ old)
 Ends answers db Limit old rest last new = (last ≡ []) × (new ≡ old)
-Ends answers db Closed old rest last new = ⊥
+Ends answers db Closed old rest last new =
+    (call : Call) × (call.message.closes ≡ true) × Answered answers db old rest call last new
 Ends answers db Refused old rest last new = Refuses db rest last × (new ≡ old)
 Ends answers db WriteFault old rest last new =
     (whole : List ℕ) × IsPrefix last whole
-    × (Answered answers db old rest whole new ⊎ (Refuses db rest whole × (new ≡ old)))
+    × (((call : Call) × Answered answers db old rest call whole new) ⊎ (Refuses db rest whole × (new ≡ old)))
 
 -- a session that read these bytes, wrote these, and took the service from old to new
 pub record Converses
@@ -97,11 +107,3 @@ pub record Converses
   pub last : List ℕ
   pub ended : Ends answers db end mid rest last new
   pub written_is : written ≡ text ++ last
-
--- Where so many bytes were held and these came, the session went on holding left, or it ended.
-abbrev pub Turns
-    : {S : Type 0} → (S → Asked → Option Answer → S → Type 0)
-    → List ℕ → S → List ℕ → List ℕ → List ℕ → S → Result ⊤ SessionEnd → Type 0
-Turns answers db old bytes written left new (Ok a) =
-    (calls : List Call) × Serves answers db old bytes calls written left new
-Turns answers db old bytes written left new (Err end) = Converses answers db old bytes written new end

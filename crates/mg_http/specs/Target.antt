@@ -1,31 +1,22 @@
--- What a request asks for, and how its method and its target say so (RFC 9110, section 9.3; RFC 3986, section 3).
-use Rattle.std.specs.Prelude.{◌≡◌, ◌≢◌, ℕ, ◌<◌, Bool, false, ◌&&◌, ◌==◌, bytes_eq, List, ◌++◌, length, codes}
-use Rattle.std.specs.List.{list_any}
+-- What the method and the target of a head ask for (RFC 9110, section 9; RFC 3986, sections 2 and 3).
+use Rattle.std.specs.Prelude.{ℕ, Bool, false, not, ◌&&◌, List, [], ◌∷◌, bytes_eq, codes, find, Option, Some, None, if◌then◌else◌}
+use Rattle.std.specs.List.{list_all, list_any}
+use Rattle.std.specs.Str.{is_utf8}
 use Rattle.std.specs.Str.Lossy.{utf8_lossy}
 use Rattle.form_urlencoded.specs.Form.{split_once, raw_pairs, decode}
-use Rattle.mg_http.specs.declared.target.Route.{Route}
-use Rattle.mg_http.specs.declared.target.Route.TheVariants.{BulkDocs, Find}
-use Rattle.mg_http.specs.declared.target.Target.{Target}
-use Rattle.mg_http.specs.declared.target.Target.TheVariants.{Post, Document}
+use Rattle.mg_engine.specs.declared.refusal.Refusal.{Refusal}
+use Rattle.mg_engine.specs.declared.refusal.Refusal.TheVariants.{Missing, NoDatabase, MethodNotAllowed}
+use Rattle.mg_engine.specs.Commands.{Asked, get}
+use Rattle.mg_http.specs.declared.routes.Endpoint.{Endpoint}
+use Rattle.mg_http.specs.declared.routes.Action.{Action}
+use Rattle.mg_http.specs.declared.routes.Action.TheVariants.{Body, Document}
+use Rattle.mg_http.specs.Routes.{Route, Place, place_of, segments_of, ends_here, is_asked}
 
--- what a route does with a body; or the document of a segment, with or without its conflicts
+-- what is asked: what an endpoint does with the value that the body is, a command, or a refusal
 pub data Request : Type 0 where
-  post : Route → Request
-  document : List ℕ → Bool → Request
-
--- the method of a request
-abbrev pub method_of : Request → List ℕ
-method_of (post route) = codes "POST"
-method_of (document segment conflicts) = codes "GET"
-
--- the segment of a route
-abbrev pub name_of : Route → List ℕ
-name_of BulkDocs = codes "_bulk_docs"
-name_of Find = codes "_find"
-
--- the path of a segment in the database
-abbrev pub path_to : List ℕ → List ℕ → List ℕ
-path_to db segment = codes "/" ++ (db ++ (codes "/" ++ segment))
+  body : Endpoint → Request
+  asks : Asked → Request
+  refuses : Refusal → Request
 
 -- the path of a target: what stands before its first question mark
 abbrev pub path_in : List ℕ → List ℕ
@@ -35,12 +26,6 @@ path_in target = (split_once 63 target).0
 abbrev pub query_in : List ℕ → List ℕ
 query_in target = (split_once 63 target).1
 
--- a segment of a document: not empty, with no slash, and not that of a route
-pub record NamesDocument (segment : List ℕ) : Type 0 where
-  pub some : 0 < length segment
-  pub one : list_any (λ b. b == 47) segment ≡ false
-  pub free : (route : Route) → segment ≢ name_of route
-
 -- a pair of a query that reads as conflicts=true
 abbrev pub is_conflicts : List ℕ × List ℕ → Bool
 is_conflicts pair = bytes_eq (utf8_lossy (decode pair.0)) (codes "conflicts") && bytes_eq (utf8_lossy (decode pair.1)) (codes "true")
@@ -49,13 +34,29 @@ is_conflicts pair = bytes_eq (utf8_lossy (decode pair.0)) (codes "conflicts") &&
 abbrev pub asks_conflicts : List ℕ → Bool
 asks_conflicts query = list_any is_conflicts (raw_pairs query)
 
--- the target asks for this in the database
-abbrev pub AsksFor : List ℕ → List ℕ → Request → Type 0
-AsksFor db target (post route) = target ≡ path_to db (name_of route)
-AsksFor db target (document segment conflicts) =
-    (path_in target ≡ path_to db segment) × NamesDocument segment × (conflicts ≡ asks_conflicts (query_in target))
+-- what a route asks for with these parameters, of which the first is the database's name
+abbrev pub requested : Action → List (List ℕ) → List ℕ → Request
+requested (Body endpoint) parameters query = body endpoint
+requested Document (name ∷ id ∷ []) query = asks (get id (asks_conflicts query))
+requested Document parameters query = refuses Missing
 
--- what a target that was read asks for
-abbrev pub request_of : Target → Request
-request_of (Post route) = post route
-request_of (Document segment query) = document segment.now (asks_conflicts query.now)
+-- the same of the route that was found; there is none for another method
+abbrev pub requested_by : Option Route → List (List ℕ) → List ℕ → Request
+requested_by None parameters query = refuses MethodNotAllowed
+requested_by (Some r) parameters query = requested r.asks parameters query
+
+-- the first parameter is this database's name
+abbrev pub names : List ℕ → List (List ℕ) → Bool
+names db [] = false
+names db (name ∷ parameters) = bytes_eq name db
+
+-- what is asked at a place: a route that ends there, parameters that are text, this database, and then the method
+abbrev pub request_at : List ℕ → List ℕ → List ℕ → Place → Request
+request_at db method query place =
+    if not (list_any ends_here place.routes_left && list_all is_utf8 place.parameters) then refuses Missing
+    else (if names db place.parameters then requested_by (find (is_asked method) place.routes_left) place.parameters query
+    else refuses NoDatabase)
+
+-- what a method and a target ask of the database
+abbrev pub request_of : List ℕ → List ℕ → List ℕ → Request
+request_of db method target = request_at db method (query_in target) (place_of (segments_of (path_in target)))

@@ -1,13 +1,30 @@
-ghost use Rattle.std.specs.Prelude.{◌≡◌, length, map, count_by, find, All};
+ghost use Rattle.std.specs.Prelude.{◌≡◌, ℕ, ◌≤◌, length, map, find, All, true};
+ghost use Rattle.std.specs.List.{list_all, list_any};
 ghost use Rattle.std.specs.Option.{option_map};
+ghost use Rattle.std.specs.Char.{is_ascii_digit};
 ghost use Rattle.std.specs.Str.{str_eq_ignore_ascii_case};
+ghost use Rattle.std.specs.Str.Parse.{digits_value};
 ghost use Rattle.httparse.specs.Spans.{IsHeaderWithin, header_bytes};
-ghost use Rattle.mg_http.specs.Fields.{is_named, length_written, body_length, length_or_none};
+ghost use Rattle.mg_http.specs.Fields.{is_named, has_field, is_number, significant, agrees, counted, length_in, words_of, is_close, asks_close};
 
+use crate::text::trim_blanks;
 use httparse::spans::HeaderSpan;
 
 /// The most bytes of a body.
 const MAX_BODY: u64 = 8_388_608;
+
+/// What the Content-Length fields of a head say.
+#[derive(Clone, Copy, Debug, PartialEq, Eq)]
+pub enum Length {
+    /// There is none.
+    Absent,
+    /// All say this number, which a body may have.
+    Bytes(u64),
+    /// All say the same number, which is more than 8,388,608.
+    TooMany,
+    /// One says no number, or two say different ones.
+    Faulty,
+}
 
 fn same_name(a: &[u8], b: &[u8]) -> bool
     ensures { result ≡ str_eq_ignore_ascii_case a.now b.now }
@@ -15,18 +32,17 @@ fn same_name(a: &[u8], b: &[u8]) -> bool
     a.eq_ignore_ascii_case(b)
 }
 
-/// How many fields have the name.
-fn count_named(bytes: &[u8], fields: &[HeaderSpan], name: &[u8]) -> usize
+/// Whether some field has the name.
+pub(crate) fn has_field(bytes: &[u8], fields: &[HeaderSpan], name: &[u8]) -> bool
     requires { All (IsHeaderWithin (length bytes.now)) fields.now }
-    ensures { result ≡ count_by (is_named name.now) (map (header_bytes bytes.now) fields.now) }
+    ensures { result ≡ has_field name.now (map (header_bytes bytes.now) fields.now) }
 {
-    let mut count = 0;
     for field in fields {
         if same_name(field.name.of(bytes), name) {
-            count += 1;
+            return true;
         }
     }
-    count
+    false
 }
 
 /// The value of the first field of the name.
@@ -43,52 +59,96 @@ fn find_named<'b>(bytes: &'b [u8], fields: &[HeaderSpan], name: &[u8]) -> Option
     None
 }
 
-/// The number that the digits write, up to the most bytes of a body.
-fn parse_length(text: &[u8]) -> Option<u64>
-    ensures { result ≡ length_written text.now }
+/// Whether the text is one or more digits.
+fn is_number(text: &[u8]) -> bool
+    ensures { result ≡ is_number text.now }
 {
-    if text.is_empty() {
-        return None;
+    !text.is_empty() && text.iter().all(|b| b.is_ascii_digit())
+}
+
+/// The text from the first digit that is not 0.
+fn significant(mut text: &[u8]) -> &[u8]
+    ensures { result.now ≡ significant text.now }
+{
+    while let [first, rest @ ..] = text
+        && *first == b'0'
+    {
+        text = rest;
     }
-    let mut n: u64 = 0;
-    for b in text {
-        if !b.is_ascii_digit() {
-            return None;
+    text
+}
+
+/// Whether a field, if it is a Content-Length, is the same number as the text.
+fn agrees(name: &[u8], value: &[u8], text: &[u8]) -> bool
+    ensures { result ≡ agrees text.now (name.now, value.now) }
+{
+    !same_name(name, b"content-length")
+        || (is_number(value) && significant(value) == significant(text))
+}
+
+/// Whether all fields that are a Content-Length are the same number as the text.
+fn all_agree(bytes: &[u8], fields: &[HeaderSpan], text: &[u8]) -> bool
+    requires { All (IsHeaderWithin (length bytes.now)) fields.now }
+    ensures { result ≡ list_all (agrees text.now) (map (header_bytes bytes.now) fields.now) }
+{
+    for field in fields {
+        if !agrees(field.name.of(bytes), field.value.of(bytes), text) {
+            return false;
         }
+    }
+    true
+}
+
+/// The number that the digits write, if a body may have so many bytes.
+fn counted(digits: &[u8]) -> Length
+    requires { list_all is_ascii_digit digits.now ≡ true }
+    ensures counted { result ≡ counted (digits_value 10 digits.now) }
+    ensures small { (n : ℕ) → result ≡ Length.Bytes n → n ≤ 8388608 }
+{
+    let mut n: u64 = 0;
+    for b in digits {
         n = n * 10 + u64::from(*b - b'0');
         if n > MAX_BODY {
-            return None;
+            return Length::TooMany;
         }
     }
-    Some(n)
+    Length::Bytes(n)
 }
 
 /// The length that the fields give to the body.
-pub(crate) fn length_of(bytes: &[u8], fields: &[HeaderSpan]) -> Option<u64>
+pub(crate) fn length_in(bytes: &[u8], fields: &[HeaderSpan]) -> Length
     requires { All (IsHeaderWithin (length bytes.now)) fields.now }
-    ensures { result ≡ body_length (map (header_bytes bytes.now) fields.now) }
+    ensures length { result ≡ length_in (map (header_bytes bytes.now) fields.now) }
+    ensures small { (n : ℕ) → result ≡ Length.Bytes n → n ≤ 8388608 }
 {
-    if count_named(bytes, fields, b"content-length") == 1
-        && count_named(bytes, fields, b"transfer-encoding") == 0
-        && count_named(bytes, fields, b"connection") == 0
-    {
-        parse_length(find_named(bytes, fields, b"content-length")?)
+    let Some(text) = find_named(bytes, fields, b"content-length") else {
+        return Length::Absent;
+    };
+    if is_number(text) && all_agree(bytes, fields, text) {
+        counted(text)
     } else {
-        None
+        Length::Faulty
     }
 }
 
-/// The length that the fields give to a body that may be left out; 0 where they give none.
-pub(crate) fn length_or_none(bytes: &[u8], fields: &[HeaderSpan]) -> Option<u64>
-    requires { All (IsHeaderWithin (length bytes.now)) fields.now }
-    ensures { result ≡ length_or_none (map (header_bytes bytes.now) fields.now) }
+/// Whether some word of the value is close.
+fn has_close(value: &[u8]) -> bool
+    ensures { result ≡ list_any is_close (words_of value.now) }
 {
-    if count_named(bytes, fields, b"content-length") == 0
-        && count_named(bytes, fields, b"transfer-encoding") == 0
-        && count_named(bytes, fields, b"connection") == 0
-    {
-        Some(0)
-    } else {
-        length_of(bytes, fields)
+    value
+        .split(|b| *b == b',')
+        .any(|word| trim_blanks(word).eq_ignore_ascii_case(b"close"))
+}
+
+/// Whether some Connection field asks to close.
+pub(crate) fn asks_close(bytes: &[u8], fields: &[HeaderSpan]) -> bool
+    requires { All (IsHeaderWithin (length bytes.now)) fields.now }
+    ensures { result ≡ list_any asks_close (map (header_bytes bytes.now) fields.now) }
+{
+    for field in fields {
+        if same_name(field.name.of(bytes), b"connection") && has_close(field.value.of(bytes)) {
+            return true;
+        }
     }
+    false
 }

@@ -1,59 +1,183 @@
-ghost use Rattle.std.specs.Prelude.{◌≡◌, ◌≤◌, length, map, All};
-ghost use Rattle.httparse.specs.Spans.{IsHeaderWithin, header_bytes};
-ghost use Rattle.mg_http.specs.Head.{length_for, IsHeadRead};
-ghost use Rattle.mg_http.specs.Target.{request_of};
+//! The head at the front of some bytes.
+ghost use Rattle.std.specs.Prelude.{◌≡◌, ◌==◌, ◌||◌, ℕ, ◌≤◌, List, length, map, All, take, IfOk, bytes_eq, codes};
+ghost use Rattle.std.specs.List.{list_any};
+ghost use Rattle.httparse.specs.Grammar.{RequestHead, NeverHasRequest};
+ghost use Rattle.httparse.specs.Spans.{IsHeaderWithin, header_bytes, IsRequestWithin, IsRequestAt};
+ghost use Rattle.mg_http.specs.Fields.{asks_close};
+ghost use Rattle.mg_http.specs.Head.{framed_by, refusal_before, parts_ask};
+ghost use Rattle.mg_http.specs.Turns.{IsHeadRead, request_in, IsFramedBy};
 
-use crate::fields::{length_of, length_or_none};
+use crate::fault::ends_in_target;
+use crate::fields::{Length, asks_close, has_field, length_in};
 use crate::target::{Target, read_target};
-use httparse::spans::{HeaderSpan, parse_request};
+use httparse::spans::{HeaderSpan, RequestSpans, parse_request};
 use httparse::{Error, Status};
+use mg_engine::Refusal;
+use std::alloc::{AllocError, Global};
+
+/// The most fields of a head.
+const MAX_FIELDS: usize = 64;
+
+/// A head whose body's length is known.
+#[derive(Drop)]
+pub struct Framed {
+    /// What it asks for.
+    pub target: Target,
+    /// How many bytes the head has.
+    pub len: usize,
+    /// How many bytes the body has.
+    pub body: u64,
+    /// Whether the reply leaves out the bytes of its body.
+    pub silent: bool,
+    /// Whether the session ends after the reply.
+    pub closes: bool,
+}
 
 /// What some bytes begin with.
-#[derive(Clone, Copy)]
-pub(crate) enum HeadRead<'a> {
-    /// A head of so many bytes that asks for something, and a body of so many bytes follows.
-    Framed(Target<'a>, usize, u64),
-    /// A head that asks for nothing that is answered.
-    Unframed,
+#[derive(Drop)]
+pub(crate) enum HeadRead {
+    /// A head, and its body's length is known.
+    Whole(Framed),
+    /// A head that is refused where it ends, and whether the reply leaves out its body.
+    Unframed(Refusal, bool),
     /// The front of a head.
     Partial,
     /// Nothing that can become a head.
     Bad,
+    /// A head for whose target there was no memory, and whether the reply leaves out its body.
+    NoMemory(bool),
 }
 
-/// The length that the fields give to the body of what is asked for.
-fn length_for(target: Target<'_>, bytes: &[u8], fields: &[HeaderSpan]) -> Option<u64>
-    requires { All (IsHeaderWithin (length bytes.now)) fields.now }
-    ensures { result ≡ length_for (request_of target.entry) (map (header_bytes bytes.now) fields.now) }
+/// How the body of a message is framed.
+#[derive(Drop)]
+pub(crate) enum Framing {
+    /// It has so many bytes.
+    Bytes(Target, u64),
+    /// It is refused.
+    Refused(Refusal),
+}
+
+/// The refusal that the target is, before this one.
+fn refusal_before(refusal: Refusal, target: &Target) -> Refusal
+    ensures { result ≡ refusal_before refusal (request_in target.now) }
 {
     match target {
-        Target::Post(_) => length_of(bytes, fields),
-        Target::Document { .. } => length_or_none(bytes, fields),
+        Target::Refuses(first) => *first,
+        Target::Body(_) => refusal,
+        Target::Asks(_) => refusal,
+    }
+}
+
+/// How the body is framed by a length, whether another framing is asked for, and whether the method is POST.
+fn framed_by(length: Length, coded: bool, post: bool, target: Target) -> Framing
+    requires { (n : ℕ) → length ≡ Length.Bytes n → n ≤ 8388608 }
+    ensures { IsFramedBy (framed_by length coded post (request_in target)) result }
+{
+    match length {
+        Length::Faulty => Framing::Refused(Refusal::BadHead),
+        Length::Absent if coded || post => {
+            Framing::Refused(refusal_before(Refusal::LengthRequired, &target))
+        }
+        Length::Absent => Framing::Bytes(target, 0),
+        _ if coded => Framing::Refused(refusal_before(Refusal::LengthRequired, &target)),
+        Length::Bytes(n) => Framing::Bytes(target, n),
+        Length::TooMany => Framing::Refused(refusal_before(Refusal::TooLarge, &target)),
+    }
+}
+
+/// What a head of this method, this target and these fields asks.
+fn read_framing(
+    alloc: Global,
+    db: &str,
+    method: &[u8],
+    target: &[u8],
+    bytes: &[u8],
+    fields: &[HeaderSpan],
+) -> Result<Framing, AllocError>
+    requires { All (IsHeaderWithin (length bytes.now)) fields.now }
+    ensures { IfOk result (λ f. IsFramedBy (parts_ask db.now method.now target.now (map (header_bytes bytes.now) fields.now)) f) }
+{
+    if fields.len() > MAX_FIELDS {
+        return Ok(Framing::Refused(Refusal::HeadTooLarge));
+    }
+    let target = read_target(alloc, db, method, target)?;
+    let length = length_in(bytes, fields);
+    let coded = has_field(bytes, fields, b"transfer-encoding");
+    Ok(framed_by(length, coded, method == b"POST".as_slice(), target))
+}
+
+/// The first spans.
+fn first_of(spans: &[HeaderSpan], count: usize) -> &[HeaderSpan]
+    requires { count ≤ length spans.now }
+    ensures { result.now ≡ take count spans.now }
+{
+    &spans[..count]
+}
+
+/// Whether the method is HEAD.
+fn is_head(method: &[u8]) -> bool
+    ensures { result ≡ bytes_eq method.now (codes "HEAD") }
+{
+    method == b"HEAD".as_slice()
+}
+
+/// Whether the session ends after the reply to a message of this minor version with these fields.
+fn closes_after(minor: u8, bytes: &[u8], fields: &[HeaderSpan]) -> bool
+    requires { All (IsHeaderWithin (length bytes.now)) fields.now }
+    ensures { result ≡ (minor == 0 || list_any asks_close (map (header_bytes bytes.now) fields.now)) }
+{
+    minor == 0 || asks_close(bytes, fields)
+}
+
+/// What bytes are at whose front the parser found that no head can come.
+fn fault(bytes: &[u8]) -> HeadRead
+    requires { NeverHasRequest bytes.now }
+    ensures { (db : List ℕ) → IsHeadRead db bytes.now result }
+{
+    if ends_in_target(bytes) {
+        HeadRead::Partial
+    } else {
+        HeadRead::Bad
+    }
+}
+
+/// What the head asks that the parser found in the bytes.
+fn read_whole(
+    alloc: Global,
+    db: &str,
+    bytes: &[u8],
+    spans: &[HeaderSpan],
+    head: RequestSpans,
+) -> HeadRead
+    requires { IsRequestWithin bytes.now spans.now head }
+    ensures { (h : RequestHead) → IsRequestAt bytes.now spans.now head h → IsHeadRead db.now bytes.now result }
+{
+    let method = head.method.of(bytes);
+    let fields = first_of(spans, head.headers);
+    let silent = is_head(method);
+    match read_framing(alloc, db, method, head.path.of(bytes), bytes, fields) {
+        Err(AllocError) => HeadRead::NoMemory(silent),
+        Ok(Framing::Refused(refusal)) => HeadRead::Unframed(refusal, silent),
+        Ok(Framing::Bytes(target, body)) => HeadRead::Whole(Framed {
+            target,
+            len: head.len,
+            body,
+            silent,
+            closes: closes_after(head.version, bytes, fields),
+        }),
     }
 }
 
 /// Reads the head at the front of at most 16,384 bytes; the spans are room for its fields.
-pub(crate) fn read_head<'a>(db: &str, bytes: &'a [u8], spans: &mut [HeaderSpan]) -> HeadRead<'a>
+pub(crate) fn read_head(alloc: Global, db: &str, bytes: &[u8], spans: &mut [HeaderSpan]) -> HeadRead
     requires size { length bytes.now ≤ 16384 }
     requires room { 5461 ≤ length spans.old }
     ensures { IsHeadRead db.now bytes.now result }
 {
     match parse_request(bytes, spans) {
-        Ok(Status::Complete(head)) => {
-            let fields = &spans[..head.headers];
-            if fields.len() > 64 || head.version != 1 {
-                return HeadRead::Unframed;
-            }
-            match read_target(db, head.method.of(bytes), head.path.of(bytes)) {
-                None => HeadRead::Unframed,
-                Some(target) => match length_for(target, bytes, fields) {
-                    None => HeadRead::Unframed,
-                    Some(body) => HeadRead::Framed(target, head.len, body),
-                },
-            }
-        }
+        Ok(Status::Complete(head)) => read_whole(alloc, db, bytes, spans, head),
         Ok(Status::Partial) => HeadRead::Partial,
         Err(Error::TooManyHeaders) => unreachable!(),
-        Err(_) => HeadRead::Bad,
+        Err(_) => fault(bytes),
     }
 }

@@ -1,8 +1,10 @@
-ghost use Rattle.std.specs.Prelude.{◌≡◌, ◌↔◌, ℕ, List, [], ◌++◌, IfOk, ◌+◌, ◌-◌, ◌^◌, ◌<◌, ◌≤◌, length, drop, vec_len, IsTrue, false};
-ghost use Rattle.std.specs.Io.KnownBytes.{Consumes, IsAtEnd};
+//! What a session has read and not yet answered.
+ghost use Rattle.std.specs.Prelude.{◌≡◌, ◌↔◌, ℕ, List, [], ◌++◌, Ok, IfOk, IsErrOf, OnErr, OnOk, ◌<◌, ◌≤◌, ◌+◌, length, drop, vec_len, IsTrue, false};
+ghost use Rattle.std.specs.Io.KnownBytes.{Consumes, IsAtEnd, Keeps};
 ghost use Rattle.mg_http.specs.Device.{inner_of, has_failed};
 
 use crate::device::{Device, Fault};
+use crate::message::{Front, read_front};
 use httparse::spans::{EMPTY_HEADER_SPAN, HeaderSpan};
 use std::alloc::{AllocError, Global};
 use std::io::Read;
@@ -16,7 +18,7 @@ const PIECE: usize = 16_384;
 /// What a session keeps from one message to the next.
 #[derive(Drop)]
 pub(crate) struct Inbox {
-    /// What was read; the bytes before `start` are answered.
+    /// What was read; the bytes before `start` are answered. They are dropped when the reader is asked again.
     pub(crate) held: Vec<u8>,
     pub(crate) start: usize,
     /// Room for the fields of a head.
@@ -34,8 +36,30 @@ pub(crate) struct Inbox {
     ghost piece_room: { vec_len piece ≡ 16384 },
 }
 
+/// Why no byte came.
+#[derive(Clone, Copy)]
+pub(crate) enum Stop {
+    /// The input is at its end.
+    End,
+    /// The reader answered an error.
+    Failed,
+    /// The room for another piece was refused.
+    NoMemory,
+    /// The reader may not be called again.
+    Limit,
+}
+
+/// What is held after the answered bytes.
+pub(crate) fn rest_of(held: &[u8], start: usize) -> &[u8]
+    requires { start ≤ length held.now }
+    ensures { result.now ≡ drop start held.now }
+{
+    &held[start..]
+}
+
 impl Inbox {
-    ghost use Rattle.mg_http.specs.Inbox.{unanswered};
+    ghost use Rattle.mg_http.specs.Inbox.{unanswered, turns_left};
+    ghost use Rattle.mg_http.specs.Turns.{IsFront};
 
     /// An inbox that holds nothing.
     pub(crate) fn new(alloc: Global) -> Result<Inbox, AllocError>
@@ -52,8 +76,17 @@ impl Inbox {
         })
     }
 
+    /// What is at the front of the unanswered bytes.
+    pub(crate) fn front(&mut self, alloc: Global, db: &str) -> Front
+        ensures front { IsFront db.now (unanswered self.old) result }
+        ensures held { unanswered self.new ≡ unanswered self.old }
+        ensures turns { turns_left self.new ≡ turns_left self.old }
+    {
+        read_front(alloc, db, rest_of(&self.held, self.start), &mut self.spans)
+    }
+
     /// Lets the answered bytes go.
-    pub(crate) fn drop_answered(&mut self)
+    fn drop_answered(&mut self)
         ensures start { self.new.start ≡ 0 }
         ensures held { self.new.held.items ≡ unanswered self.old }
         ensures reads { self.new.reads ≡ self.old.reads }
@@ -63,72 +96,59 @@ impl Inbox {
         self.start = 0;
         self.held.drain(..answered);
     }
-}
 
-/// What is held after the answered bytes.
-pub(crate) fn rest_of(held: &[u8], start: usize) -> &[u8]
-    requires { start ≤ length held.now }
-    ensures { result.now ≡ drop start held.now }
-{
-    &held[start..]
-}
-
-/// Why reading stopped.
-#[derive(Clone, Copy)]
-pub(crate) enum Filled {
-    /// So many bytes are held.
-    Enough,
-    /// The input is at its end.
-    End,
-    /// The reader answered an error.
-    Failed,
-    /// The room for another piece was refused.
-    NoMemory,
-    /// The reader may not be called again.
-    Limit,
-}
-
-/// Reads pieces until so many bytes are held. The room for a piece is taken before it is read, so no byte is lost.
-pub(crate) fn fill<R: Read>(
-    reader: &mut Device<R>,
-    held: &mut Vec<u8>,
-    piece: &mut [u8],
-    reads: &mut u32,
-    want: usize,
-) -> Filled
-    requires working { has_failed reader.old ≡ false }
-    requires room { 0 < length piece.old }
-    requires wanting { vec_len held.old < want }
-    ensures bytes { (came : List ℕ)
-        × Consumes (R.remaining (inner_of reader.old)) (R.remaining (inner_of reader.new)) came
-        × (held.new.items ≡ held.old.items ++ came) }
-    ensures enough { result ≡ Filled.Enough → want ≤ vec_len held.new }
-    ensures short { (result ≡ Filled.Enough → ⊥) → vec_len held.new < want }
-    ensures end { result ≡ Filled.End → IsAtEnd (R.remaining (inner_of reader.new)) }
-    ensures failed { IsTrue (has_failed reader.new) ↔ (result ≡ Filled.Failed) }
-    ensures counted { result ≡ Filled.Enough → (reads.old < reads.new) × (reads.new < 2 ^ 32) }
-{
-    loop {
-        if *reads == u32::MAX {
-            return Filled::Limit;
+    /// Reads once. The room for what comes is taken before, so no byte is lost.
+    ///
+    /// Errors: why no byte came.
+    pub(crate) fn read_piece<R: Read>(&mut self, reader: &mut Device<R>) -> Result<(), Stop>
+        requires { has_failed reader.old ≡ false }
+        ensures bytes { (came : List ℕ)
+            × Consumes (R.remaining (inner_of reader.old)) (R.remaining (inner_of reader.new)) came
+            × (unanswered self.new ≡ unanswered self.old ++ came) }
+        ensures none { OnErr result (unanswered self.new ≡ unanswered self.old) }
+        ensures some { OnOk result (length (unanswered self.old) < length (unanswered self.new)) }
+        ensures end { IsErrOf result Stop.End → IsAtEnd (R.remaining (inner_of reader.new)) }
+        ensures failed { IsTrue (has_failed reader.new) ↔ IsErrOf result Stop.Failed }
+        ensures turns { OnOk result (turns_left self.new < turns_left self.old) }
+        ensures turns_most { turns_left self.new ≤ turns_left self.old }
+    {
+        self.drop_answered();
+        if self.reads == u32::MAX {
+            return Err(Stop::Limit);
         }
-        if held.try_reserve(piece.len()).is_err() {
-            return Filled::NoMemory;
+        if self.held.try_reserve(self.piece.len()).is_err() {
+            return Err(Stop::NoMemory);
         }
-        *reads += 1;
-        match reader.fetch(piece) {
-            Err(Fault) => return Filled::Failed,
+        self.reads += 1;
+        match reader.fetch(&mut self.piece) {
+            Err(Fault) => Err(Stop::Failed),
+            Ok(0) => Err(Stop::End),
             Ok(n) => {
-                if n == 0 {
-                    return Filled::End;
-                }
-                if held.extend_from_slice(&piece[..n]).is_err() {
+                if self.held.extend_from_slice(&self.piece[..n]).is_err() {
                     unreachable!()
                 }
+                Ok(())
             }
         }
-        if held.len() >= want {
-            return Filled::Enough;
+    }
+
+    /// Reads until so many bytes are unanswered.
+    ///
+    /// Errors: why no more came.
+    pub(crate) fn fill<R: Read>(&mut self, reader: &mut Device<R>, want: usize) -> Result<(), Stop>
+        requires { has_failed reader.old ≡ false }
+        ensures bytes { (came : List ℕ)
+            × Consumes (R.remaining (inner_of reader.old)) (R.remaining (inner_of reader.new)) came
+            × (unanswered self.new ≡ unanswered self.old ++ came) }
+        ensures enough { OnOk result (want ≤ length (unanswered self.new)) }
+        ensures short { OnErr result (length (unanswered self.new) < want) }
+        ensures end { IsErrOf result Stop.End → IsAtEnd (R.remaining (inner_of reader.new)) }
+        ensures failed { IsTrue (has_failed reader.new) ↔ IsErrOf result Stop.Failed }
+        ensures turns_most { turns_left self.new ≤ turns_left self.old }
+    {
+        while self.held.len() - self.start < want {
+            self.read_piece(reader)?;
         }
+        Ok(())
     }
 }

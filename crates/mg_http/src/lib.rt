@@ -1,18 +1,23 @@
 //! HTTP sessions: requests come in from any reader, and their replies go out to any writer.
 #![tactic(auto)]
 
+mod answer;
 mod decode;
 pub mod device;
-mod fields;
+mod fault;
+pub mod fields;
 pub mod head;
-mod inbox;
+pub mod inbox;
 pub mod laws;
 pub mod message;
+pub mod place;
 mod reply;
+pub mod routes;
 pub mod service;
 pub mod sessions;
 mod talks;
 pub mod target;
+mod text;
 
 pub use device::Device;
 pub use service::{Service, Solo};

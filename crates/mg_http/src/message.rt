@@ -1,46 +1,39 @@
-ghost use Rattle.std.specs.Prelude.{◌≡◌, ℕ, ◌≤◌, length};
-ghost use Rattle.mg_http.specs.Message.{IsFront};
+//! What is at the front of some bytes.
+ghost use Rattle.std.specs.Prelude.{◌≡◌, ◌≤◌, length};
+ghost use Rattle.mg_http.specs.Turns.{IsFront};
 
-use crate::head::{HeadRead, read_head};
-use crate::target::Target;
+use crate::head::{Framed, HeadRead, read_head};
 use httparse::spans::HeaderSpan;
+use mg_engine::Refusal;
+use std::alloc::Global;
 
 /// The most bytes of a head.
-const MAX_HEAD: usize = 16_384;
+pub(crate) const MAX_HEAD: usize = 16_384;
 
 /// What is at the front of some bytes.
-#[derive(Clone, Copy)]
-pub(crate) enum Front<'a> {
-    /// A whole message: what it asks for, and where its body begins and ends.
-    Whole(Target<'a>, usize, usize),
-    /// A message that is not whole before so many bytes are there.
-    Waiting(usize),
-    /// Nothing that is answered.
-    Refused,
+#[derive(Drop)]
+pub(crate) enum Front {
+    /// A head; the body that it frames may not be whole yet.
+    Message(Framed),
+    /// The front of a head within its limit, or nothing.
+    Waiting,
+    /// What is refused, and whether the reply leaves out its body.
+    Refused(Refusal, bool),
+    /// A head for whose target there was no memory, and whether the reply leaves out its body.
+    NoMemory(bool),
 }
 
-/// What is at the front of the bytes.
-pub(crate) fn read_message<'a>(db: &str, bytes: &'a [u8], spans: &mut [HeaderSpan]) -> Front<'a>
+/// What is at the front of the bytes; the spans are room for the fields of a head.
+pub(crate) fn read_front(alloc: Global, db: &str, bytes: &[u8], spans: &mut [HeaderSpan]) -> Front
     requires { 5461 ≤ length spans.old }
     ensures { IsFront db.now bytes.now result }
 {
-    match read_head(db, &bytes[..bytes.len().min(MAX_HEAD)], spans) {
-        HeadRead::Framed(target, start, body) => {
-            let end = start + body as usize;
-            if bytes.len() < end {
-                Front::Waiting(end)
-            } else {
-                Front::Whole(target, start, end)
-            }
-        }
-        HeadRead::Unframed => Front::Refused,
-        HeadRead::Bad => Front::Refused,
-        HeadRead::Partial => {
-            if bytes.len() < MAX_HEAD {
-                Front::Waiting(bytes.len() + 1)
-            } else {
-                Front::Refused
-            }
-        }
+    match read_head(alloc, db, &bytes[..bytes.len().min(MAX_HEAD)], spans) {
+        HeadRead::Whole(framed) => Front::Message(framed),
+        HeadRead::Unframed(refusal, silent) => Front::Refused(refusal, silent),
+        HeadRead::Bad => Front::Refused(Refusal::BadHead, false),
+        HeadRead::Partial if bytes.len() < MAX_HEAD => Front::Waiting,
+        HeadRead::Partial => Front::Refused(Refusal::HeadTooLarge, false),
+        HeadRead::NoMemory(silent) => Front::NoMemory(silent),
     }
 }

@@ -1,4 +1,4 @@
-ghost use Rattle.std.specs.Prelude.{◌≡◌, true, is_ok, if◌then◌else◌};
+ghost use Rattle.std.specs.Prelude.{◌≡◌, [], true, is_ok, if◌then◌else◌};
 ghost use Rattle.mg_engine.specs.Commands.{refused};
 ghost use Rattle.mg_engine.specs.View.{said};
 ghost use Rattle.mg_http.specs.Device.{inner_of, has_failed, Writes};
@@ -48,15 +48,24 @@ fn write_parts<'a, W: Write>(
     )
 }
 
-/// Writes a status and a body as a reply's text, gathered in the page. Errors as those of the writer.
+/// The bytes of the body that a reply has: none where it is silent.
+fn shown_body(silent: bool, body: &[u8]) -> &[u8]
+    ensures { result.now ≡ (if silent then [] else body.now) }
+{
+    if silent { &[] } else { body }
+}
+
+/// Writes a status and a body as a reply's text, gathered in the page; where it is silent, without the bytes of the
+/// body. Errors as those of the writer.
 fn write_text<W: Write>(
     writer: &mut Device<W>,
     page: &mut Vec<u8>,
+    silent: bool,
     status: u16,
     body: &[u8],
 ) -> Result<(), Fault>
     ensures bytes { Writes (W.contents (inner_of writer.old)) (W.contents (inner_of writer.new))
-        (text_of (record { status = status; body = body.now })) result }
+        (text_of silent (record { status = status; body = body.now })) result }
     ensures failed { has_failed writer.new ≡ (if is_ok result then has_failed writer.old else true) }
 {
     let mut code = Buffer::new();
@@ -67,7 +76,7 @@ fn write_text<W: Write>(
         code.format(status).as_bytes(),
         phrase(status).as_bytes(),
         length.format(body.len()).as_bytes(),
-        body,
+        shown_body(silent, body),
     )
 }
 
@@ -75,24 +84,32 @@ fn write_text<W: Write>(
 pub(crate) fn write_reply<W: Write>(
     writer: &mut Device<W>,
     page: &mut Vec<u8>,
+    silent: bool,
     reply: &Reply,
 ) -> Result<(), Fault>
     ensures bytes { Writes (W.contents (inner_of writer.old)) (W.contents (inner_of writer.new))
-        (reply_text (said reply.now)) result }
+        (reply_text silent (said reply.now)) result }
     ensures failed { has_failed writer.new ≡ (if is_ok result then has_failed writer.old else true) }
 {
-    write_text(writer, page, reply.status(), reply.body())
+    write_text(writer, page, silent, reply.status(), reply.body())
 }
 
 /// Writes a refusal as a reply. Takes no memory but for the page.
 pub(crate) fn write_refusal<W: Write>(
     writer: &mut Device<W>,
     page: &mut Vec<u8>,
+    silent: bool,
     refusal: Refusal,
 ) -> Result<(), Fault>
     ensures bytes { Writes (W.contents (inner_of writer.old)) (W.contents (inner_of writer.new))
-        (text_of (refused refusal)) result }
+        (text_of silent (refused refusal)) result }
     ensures failed { has_failed writer.new ≡ (if is_ok result then has_failed writer.old else true) }
 {
-    write_text(writer, page, refusal.status(), refusal.body().as_bytes())
+    write_text(
+        writer,
+        page,
+        silent,
+        refusal.status(),
+        refusal.body().as_bytes(),
+    )
 }

@@ -1,25 +1,22 @@
-ghost use Rattle.std.specs.Prelude.{◌≡◌, ◌↔◌, ◌⊎◌, ℕ, ◌<◌, ◌≤◌, List, [], ◌++◌, true, false, IsTrue, IsErrOf, IfErr, is_ok, if◌then◌else◌, Option, OnOk};
+//! Sessions.
+ghost use Rattle.std.specs.Prelude.{◌≡◌, ◌↔◌, ℕ, ◌<◌, ◌≤◌, List, [], ◌++◌, length, drop, false, IsTrue, IsErrOf, is_ok, if◌then◌else◌, OnOk};
 ghost use Rattle.std.specs.Io.KnownBytes.{Appends, Consumes, IsAtEnd};
-ghost use Rattle.mg_value.specs.View.{view};
-ghost use Rattle.mg_engine.specs.Commands.{Answer};
-ghost use Rattle.mg_engine.specs.View.{asked};
-ghost use Rattle.mg_http.specs.Device.{inner_of, has_failed, Writes};
+ghost use Rattle.httparse.specs.Grammar.{RequestHead};
+ghost use Rattle.mg_http.specs.Device.{inner_of, has_failed};
 ghost use Rattle.mg_http.specs.Inbox.{unanswered, turns_left};
-ghost use Rattle.mg_http.specs.Message.{Begins};
-ghost use Rattle.mg_http.specs.Reply.{reply_text};
-ghost use Rattle.mg_http.specs.Session.{asked_by, HandlesBody, Converses, Turns};
-ghost use Rattle.mg_http.specs.Target.{request_of};
+ghost use Rattle.mg_http.specs.Message.{HasHead};
+ghost use Rattle.mg_http.specs.Session.{Converses};
+ghost use Rattle.mg_http.specs.Turns.{IsFramed, Turns, StopsWith};
 
-use crate::decode::command_for;
+use crate::answer::answer;
 use crate::device::{Device, Fault};
-use crate::inbox::{Filled, Inbox, fill, rest_of};
-use crate::message::{Front, read_message};
+use crate::head::Framed;
+use crate::inbox::{Inbox, Stop, rest_of};
+use crate::message::Front;
 use crate::reply::{write_refusal, write_reply};
 use crate::service::Service;
-use crate::target::{Route, Target};
-use mg_engine::{Command, Refusal, Reply};
-use mg_value::{Json, ReadError};
-use std::alloc::{AllocError, Global};
+use mg_engine::Reply;
+use std::alloc::Global;
 use std::io::{Read, Write};
 use std::sync::Wait;
 use std::thread::Threads;
@@ -29,9 +26,9 @@ use std::thread::Threads;
 pub enum SessionEnd {
     /// The input ended.
     Eof,
-    /// A message asked to close; not yet.
+    /// The last message asked to close, or was one of version 1.0.
     Closed,
-    /// Bytes that are no message that is answered, or no memory for one: the last text says which.
+    /// What came is refused where a head ends, or as none, or for want of memory: the last text says which.
     Refused,
     /// The reader failed.
     ReadFault,
@@ -39,41 +36,6 @@ pub enum SessionEnd {
     WriteFault,
     /// As many messages were answered, or as many reads made, as a session may have.
     Limit,
-}
-
-/// The command that a body for the route asks.
-fn command_of(route: Route, value: Json) -> Command
-    ensures { asked result ≡ asked_by route (view value) }
-{
-    match route {
-        Route::BulkDocs => Command::Bulk(value),
-        Route::Find => Command::Find(value),
-    }
-}
-
-/// Answers the body for a route, and writes the reply.
-fn answer_body<H: Wait + Threads, S: Service, W: Write>(
-    rt: &H,
-    alloc: Global,
-    service: &mut S,
-    writer: &mut Device<W>,
-    page: &mut Vec<u8>,
-    route: Route,
-    body: &[u8],
-) -> Result<(), Fault>
-    ensures bytes { (reply : Option Answer) × HandlesBody S.answers service.old route body.now reply service.new
-        × Writes (W.contents (inner_of writer.old)) (W.contents (inner_of writer.new)) (reply_text reply) result }
-    ensures failed { has_failed writer.new ≡ (if is_ok result then has_failed writer.old else true) }
-{
-    match mg_value::read(alloc, body) {
-        Ok(value) => {
-            let reply = service.ask(rt, alloc, &command_of(route, value));
-            write_reply(writer, page, &reply)
-        }
-        Err(ReadError::NoMemory) => write_reply(writer, page, &Reply::NoMemory),
-        Err(ReadError::NotJson) => write_refusal(writer, page, Refusal::InvalidJson),
-        Err(ReadError::NotWhole) => write_refusal(writer, page, Refusal::InvalidJson),
-    }
 }
 
 /// How a session ends whose last text was written so.
@@ -86,48 +48,83 @@ fn refused(written: Result<(), Fault>) -> SessionEnd
     }
 }
 
-/// How a session goes on whose reply was written so.
-fn replied(written: Result<(), Fault>) -> Result<(), SessionEnd>
-    ensures { result ≡ (if is_ok written then Ok tt else Err SessionEnd.WriteFault) }
+/// How a session goes on whose reply was written so, and whose message closes it or not.
+fn replied(written: Result<(), Fault>, closes: bool) -> Result<(), SessionEnd>
+    ensures { result ≡ (if is_ok written then (if closes then Err SessionEnd.Closed else Ok tt) else Err SessionEnd.WriteFault) }
 {
     match written {
-        Ok(()) => Ok(()),
         Err(Fault) => Err(SessionEnd::WriteFault),
+        Ok(()) if closes => Err(SessionEnd::Closed),
+        Ok(()) => Ok(()),
     }
 }
 
-/// Answers one message, and writes its reply. Where memory for what its target spells is refused, the session ends.
-fn answer<H: Wait + Threads, S: Service, W: Write>(
-    rt: &H,
-    alloc: Global,
-    service: &mut S,
+/// How a session ends that stopped reading; where memory was refused, that is told.
+fn stopped<W: Write>(
     writer: &mut Device<W>,
     page: &mut Vec<u8>,
-    target: Target<'_>,
-    body: &[u8],
-) -> Result<(), SessionEnd>
+    silent: bool,
+    stop: Stop,
+) -> SessionEnd
     requires { has_failed writer.old ≡ false }
-
-    // Where such a message is at the front of some bytes: what was written for it.
-    ensures bytes { (db bytes rest : List ℕ) → Begins db bytes (request_of target.entry) body.now rest
-        → (written : List ℕ) × Appends (W.contents (inner_of writer.old)) (W.contents (inner_of writer.new)) written
-        × Turns S.answers db service.old bytes written rest service.new result }
-    ensures end { IfErr result (λ end. (end ≡ SessionEnd.Refused) ⊎ (end ≡ SessionEnd.WriteFault)) }
-    ensures write_fault { IsTrue (has_failed writer.new) ↔ IsErrOf result SessionEnd.WriteFault }
+    ensures bytes { StopsWith (W.contents (inner_of writer.old)) (W.contents (inner_of writer.new)) silent stop result }
+    ensures write_fault { IsTrue (has_failed writer.new) ↔ (result ≡ SessionEnd.WriteFault) }
 {
-    match target {
-        Target::Post(route) => {
-            replied(answer_body(rt, alloc, service, writer, page, route, body))
-        }
-        Target::Document { segment, query } => match command_for(alloc, segment, query) {
-            Ok(Some(command)) => {
-                let reply = service.ask(rt, alloc, &command);
-                replied(write_reply(writer, page, &reply))
-            }
-            Ok(None) => replied(write_refusal(writer, page, Refusal::Missing)),
-            Err(AllocError) => Err(refused(write_reply(writer, page, &Reply::NoMemory))),
-        },
+    match stop {
+        Stop::End => SessionEnd::Eof,
+        Stop::Failed => SessionEnd::ReadFault,
+        Stop::Limit => SessionEnd::Limit,
+        Stop::NoMemory => refused(write_reply(writer, page, silent, &Reply::NoMemory)),
     }
+}
+
+/// Reads the rest of the message whose head is at the front, and answers it.
+fn message<H: Wait + Threads, S: Service, R: Read, W: Write>(
+    rt: &H,
+    alloc: Global,
+    inbox: &mut Inbox,
+    reader: &mut Device<R>,
+    writer: &mut Device<W>,
+    service: &mut S,
+    framed: &Framed,
+) -> Result<(), SessionEnd>
+    requires reading { has_failed reader.old ≡ false }
+    requires writing { has_failed writer.old ≡ false }
+    requires len { framed.now.len ≤ length (unanswered inbox.old) }
+    requires body { framed.now.body ≤ 8388608 }
+
+    // Where such a head is at the front: what was read and written.
+    ensures bytes { (db : List ℕ) (h : RequestHead) → HasHead (unanswered inbox.old) h (drop framed.now.len (unanswered inbox.old))
+        → IsFramed db h framed.now → (came : List ℕ) × (written : List ℕ)
+        × Consumes (R.remaining (inner_of reader.old)) (R.remaining (inner_of reader.new)) came
+        × Appends (W.contents (inner_of writer.old)) (W.contents (inner_of writer.new)) written
+        × Turns S.answers db service.old (unanswered inbox.old ++ came) written (unanswered inbox.new) service.new result }
+    ensures end { IsErrOf result SessionEnd.Eof → IsAtEnd (R.remaining (inner_of reader.new)) }
+    ensures read_fault { IsTrue (has_failed reader.new) ↔ IsErrOf result SessionEnd.ReadFault }
+    ensures write_fault { IsTrue (has_failed writer.new) ↔ IsErrOf result SessionEnd.WriteFault }
+    ensures progress { OnOk result (turns_left inbox.new < turns_left inbox.old) }
+{
+    let end = framed.len + framed.body as usize;
+    if let Err(stop) = inbox.fill(reader, end) {
+        return Err(stopped(writer, &mut inbox.page, framed.silent, stop));
+    }
+    if inbox.requests == u32::MAX {
+        return Err(SessionEnd::Limit);
+    }
+    let body = &rest_of(&inbox.held, inbox.start)[framed.len..end];
+    let written = answer(
+        rt,
+        alloc,
+        service,
+        writer,
+        &mut inbox.page,
+        framed.silent,
+        &framed.target,
+        body,
+    );
+    inbox.requests += 1;
+    inbox.start += end;
+    replied(written, framed.closes)
 }
 
 /// One turn: a message is answered, or more bytes are read, or the session ends.
@@ -151,43 +148,24 @@ fn turn<H: Wait + Threads, S: Service, R: Read, W: Write>(
     ensures write_fault { IsTrue (has_failed writer.new) ↔ IsErrOf result SessionEnd.WriteFault }
     ensures progress { OnOk result (turns_left inbox.new < turns_left inbox.old) }
 {
-    let bytes = rest_of(&inbox.held, inbox.start);
-    match read_message(db, bytes, &mut inbox.spans) {
-        Front::Whole(target, start, end) => {
-            if inbox.requests == u32::MAX {
-                return Err(SessionEnd::Limit);
-            }
-            let body = &bytes[start..end];
-            match answer(rt, alloc, service, writer, &mut inbox.page, target, body) {
-                Err(stop) => Err(stop),
-                Ok(()) => {
-                    inbox.requests += 1;
-                    inbox.start += end;
-                    Ok(())
-                }
-            }
-        }
-        Front::Waiting(want) => {
-            inbox.drop_answered();
-            match fill(
-                reader,
-                &mut inbox.held,
-                &mut inbox.piece,
-                &mut inbox.reads,
-                want,
-            ) {
-                Filled::Enough => Ok(()),
-                Filled::End => Err(SessionEnd::Eof),
-                Filled::Failed => Err(SessionEnd::ReadFault),
-                Filled::Limit => Err(SessionEnd::Limit),
-                Filled::NoMemory => Err(refused(write_reply(
-                    writer,
-                    &mut inbox.page,
-                    &Reply::NoMemory,
-                ))),
-            }
-        }
-        Front::Refused => Err(refused(write_refusal(writer, &mut inbox.page, Refusal::BadHead))),
+    match inbox.front(alloc, db) {
+        Front::Message(framed) => message(rt, alloc, inbox, reader, writer, service, &framed),
+        Front::Waiting => match inbox.read_piece(reader) {
+            Ok(()) => Ok(()),
+            Err(stop) => Err(stopped(writer, &mut inbox.page, false, stop)),
+        },
+        Front::Refused(refusal, silent) => Err(refused(write_refusal(
+            writer,
+            &mut inbox.page,
+            silent,
+            refusal,
+        ))),
+        Front::NoMemory(silent) => Err(refused(write_reply(
+            writer,
+            &mut inbox.page,
+            silent,
+            &Reply::NoMemory,
+        ))),
     }
 }
 
@@ -216,7 +194,12 @@ pub fn session<H: Wait + Threads, S: Service, R: Read, W: Write>(
         Ok(inbox) => inbox,
         Err(_) => {
             let mut page = Vec::new(alloc);
-            return refused(write_reply(writer, &mut page, &Reply::NoMemory));
+            return refused(write_reply(
+                writer,
+                &mut page,
+                false,
+                &Reply::NoMemory,
+            ));
         }
     };
     loop {

@@ -1,56 +1,26 @@
-ghost use Rattle.std.specs.Prelude.{◌≡◌, ◌≢◌, ◌↔◌, ℕ, List, ◌++◌, IsTrue, MatchOption};
-ghost use Rattle.mg_http.specs.Target.{Request, method_of, name_of, path_to, path_in, query_in, NamesDocument, AsksFor, request_of};
+//! What the method and the target of a head ask for.
+ghost use Rattle.std.specs.Prelude.{◌≡◌, map, IfOk, true};
+ghost use Rattle.std.specs.List.{list_all};
+ghost use Rattle.std.specs.Str.{is_utf8};
+ghost use Rattle.mg_http.specs.RouteViews.{shown};
+ghost use Rattle.mg_http.specs.Target.{path_in, query_in, names, requested, request_at, request_of};
+ghost use Rattle.mg_http.specs.Turns.{request_in};
 
-/// The requests with a body.
-#[derive(Clone, Copy, Debug, PartialEq, Eq)]
-pub enum Route {
-    /// `POST /{db}/_bulk_docs`
-    BulkDocs,
-    /// `POST /{db}/_find`
-    Find,
-}
+use crate::decode::asks_conflicts;
+use crate::place::Place;
+use crate::routes::{Action, Endpoint};
+use mg_engine::{Command, Refusal};
+use std::alloc::{AllocError, Global};
 
-/// What the method and the target of a head ask for. The parts of the target stand as they came.
-#[derive(Clone, Copy)]
-pub enum Target<'a> {
-    /// What the route does with a body.
-    Post(Route),
-    /// `GET /{db}/{id}`: the segment of the id, and the query.
-    Document { segment: &'a [u8], query: &'a [u8] },
-}
-
-/// What follows the front in the bytes; none where they begin otherwise.
-fn after<'a>(bytes: &'a [u8], front: &[u8]) -> Option<&'a [u8]>
-    ensures { MatchOption result ((rest : List ℕ) → bytes.now ≢ front.now ++ rest) (λ rest. bytes.now ≡ front.now ++ rest.now) }
-{
-    bytes.strip_prefix(front)
-}
-
-/// The segment of the path, if it is one in the database.
-fn segment_in<'a>(db: &str, path: &'a [u8]) -> Option<&'a [u8]>
-    ensures { MatchOption result ((segment : List ℕ) → path.now ≢ path_to db.now segment) (λ s. path.now ≡ path_to db.now s.now) }
-{
-    after(after(after(path, b"/")?, db.as_bytes())?, b"/")
-}
-
-/// The route of the segment.
-fn route_named(segment: &[u8]) -> Option<Route>
-    ensures { MatchOption result ((route : _) → segment.now ≢ name_of route) (λ route. segment.now ≡ name_of route) }
-{
-    if segment == b"_bulk_docs".as_slice() {
-        Some(Route::BulkDocs)
-    } else if segment == b"_find".as_slice() {
-        Some(Route::Find)
-    } else {
-        None
-    }
-}
-
-/// Whether the segment is one of a document.
-fn names_document(segment: &[u8]) -> bool
-    ensures { IsTrue result ↔ NamesDocument segment.now }
-{
-    !segment.is_empty() && !segment.contains(&b'/') && route_named(segment).is_none()
+/// What a target that was read asks for.
+#[derive(Drop)]
+pub enum Target {
+    /// What the endpoint does with the body.
+    Body(Endpoint),
+    /// A command; the body is not looked at.
+    Asks(Command),
+    /// A refusal, which is answered behind the body.
+    Refuses(Refusal),
 }
 
 /// The path and the query of the target.
@@ -64,39 +34,86 @@ fn split_query(target: &[u8]) -> (&[u8], &[u8])
     }
 }
 
-/// The route that the target is.
-fn route_at(db: &str, target: &[u8]) -> Option<Route>
-    ensures { MatchOption result ((route : _) → target.now ≢ path_to db.now (name_of route))
-        (λ route. target.now ≡ path_to db.now (name_of route)) }
+/// Whether the bytes are UTF-8.
+fn is_text(bytes: &[u8]) -> bool
+    ensures { result ≡ is_utf8 bytes.now }
 {
-    route_named(segment_in(db, target)?)
+    match str::from_utf8(bytes) {
+        Ok(_) => true,
+        Err(_) => false,
+    }
 }
 
-/// The segment of a document and the query, if the target has them.
-fn document_at<'a>(db: &str, target: &'a [u8]) -> Option<(&'a [u8], &'a [u8])>
-    ensures { MatchOption result ((segment : List ℕ) → path_in target.now ≡ path_to db.now segment → ¬ (NamesDocument segment))
-        (λ d. (path_in target.now ≡ path_to db.now d.0.now) × NamesDocument d.0.now × (d.1.now ≡ query_in target.now)) }
+/// Whether each parameter is a text.
+fn are_texts(parameters: &[Vec<u8>]) -> bool
+    ensures { result ≡ list_all is_utf8 (map (λ v. v.items) parameters.now) }
+{
+    parameters.iter().all(|parameter| is_text(parameter))
+}
+
+/// Whether the first parameter is the database's name.
+fn names(db: &str, parameters: &[Vec<u8>]) -> bool
+    ensures { result ≡ names db.now (map (λ v. v.items) parameters.now) }
+{
+    match parameters.first() {
+        Some(name) => name.as_slice() == db.as_bytes(),
+        None => false,
+    }
+}
+
+/// The command that asks for the document of these parameters; they are the database's name and an id that is text.
+fn document(alloc: Global, mut parameters: Vec<Vec<u8>>, query: &[u8]) -> Result<Target, AllocError>
+    requires { list_all is_utf8 (map (λ v. v.items) parameters.items) ≡ true }
+    ensures { IfOk result (λ t. request_in t ≡ requested Action.Document (map (λ v. v.items) parameters.items) query.now) }
+{
+    if parameters.len() != 2 {
+        return Ok(Target::Refuses(Refusal::Missing));
+    }
+    let Some(id) = parameters.pop() else {
+        return Ok(Target::Refuses(Refusal::Missing));
+    };
+    let conflicts = asks_conflicts(alloc, query)?;
+    match String::from_utf8(id) {
+        Ok(id) => Ok(Target::Asks(Command::Get { id, conflicts })),
+        Err(_) => unreachable!(),
+    }
+}
+
+/// What is asked at the place.
+fn target_at(
+    alloc: Global,
+    db: &str,
+    method: &[u8],
+    query: &[u8],
+    place: Place,
+) -> Result<Target, AllocError>
+    ensures { IfOk result (λ t. request_in t ≡ request_at db.now method.now query.now (shown place)) }
+{
+    if !place.is_end() || !are_texts(&place.parameters) {
+        return Ok(Target::Refuses(Refusal::Missing));
+    }
+    if !names(db, &place.parameters) {
+        return Ok(Target::Refuses(Refusal::NoDatabase));
+    }
+    match place.action(method) {
+        None => Ok(Target::Refuses(Refusal::MethodNotAllowed)),
+        Some(Action::Body(endpoint)) => Ok(Target::Body(endpoint)),
+        Some(Action::Document) => document(alloc, place.parameters, query),
+    }
+}
+
+/// What the method and the target ask of the database.
+///
+/// Errors: where memory for the table of routes, or for what the target spells, is refused.
+pub(crate) fn read_target(
+    alloc: Global,
+    db: &str,
+    method: &[u8],
+    target: &[u8],
+) -> Result<Target, AllocError>
+    ensures { IfOk result (λ t. request_in t ≡ request_of db.now method.now target.now) }
 {
     let (path, query) = split_query(target);
-    let segment = segment_in(db, path)?;
-    if names_document(segment) {
-        Some((segment, query))
-    } else {
-        None
-    }
-}
-
-/// What the method and the target ask of the database, if it is something that is answered.
-pub(crate) fn read_target<'a>(db: &str, method: &[u8], target: &'a [u8]) -> Option<Target<'a>>
-    ensures { MatchOption result ((request : Request) → method.now ≡ method_of request → ¬ (AsksFor db.now target.now request))
-        (λ t. (method.now ≡ method_of (request_of t)) × AsksFor db.now target.now (request_of t)) }
-{
-    if method == b"POST".as_slice() {
-        Some(Target::Post(route_at(db, target)?))
-    } else if method == b"GET".as_slice() {
-        let (segment, query) = document_at(db, target)?;
-        Some(Target::Document { segment, query })
-    } else {
-        None
-    }
+    let place = Place::of(alloc, path)?;
+    target_at(alloc, db, method, query, place)
 }

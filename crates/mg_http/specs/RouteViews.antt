@@ -1,0 +1,20 @@
+-- What the code's table of routes and its places stand for.
+use Rattle.std.specs.Prelude.{map}
+use Rattle.mg_http.specs.declared.routes.Part.{Part}
+use Rattle.mg_http.specs.declared.routes.Part.TheVariants.{Literal, Parameter}
+use Rattle.mg_http.specs.declared.routes.Route.{Route}
+use Rattle.mg_http.specs.declared.place.Place.{Place}
+use Rattle.mg_http.specs.Routes as spec
+
+-- a part
+abbrev pub part_of : Part → spec.Part
+part_of (Literal segment) = spec.literal segment.now
+part_of Parameter = spec.parameter
+
+-- a row of the table
+abbrev pub route_of : Route → spec.Route
+route_of r = record { method = r.method.now; path = map part_of r.path.now; asks = r.action }
+
+-- a place
+abbrev pub shown : Place → spec.Place
+shown p = record { routes_left = map route_of p.routes.items; parameters = map (λ v. v.items) p.parameters.items }

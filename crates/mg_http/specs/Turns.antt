@@ -1,0 +1,92 @@
+-- Words that serve the loop of a session and the functions under it; a reader of what a session promises needs none of them.
+use Rattle.std.specs.Prelude.{◌≡◌, ℕ, ◌≤◌, List, length, drop, Bool, Option, None, Result, Ok, Err, ⊤}
+use Rattle.std.specs.Io.KnownBytes.{Appends}
+use Rattle.httparse.specs.Grammar.{RequestHead, ReadsRequest}
+use Rattle.mg_engine.specs.Commands.{Asked, Answer}
+use Rattle.mg_engine.specs.View as engine
+use Rattle.mg_http.specs.declared.head.HeadRead.{HeadRead}
+use Rattle.mg_http.specs.declared.head.HeadRead.TheVariants as head
+use Rattle.mg_http.specs.declared.head.Framed.{Framed}
+use Rattle.mg_http.specs.declared.head.Framing.{Framing}
+use Rattle.mg_http.specs.declared.head.Framing.TheVariants as framing
+use Rattle.mg_http.specs.declared.message.Front.{Front}
+use Rattle.mg_http.specs.declared.message.Front.TheVariants as front
+use Rattle.mg_http.specs.declared.inbox.Stop.{Stop}
+use Rattle.mg_http.specs.declared.inbox.Stop.TheVariants as stop
+use Rattle.mg_http.specs.declared.sessions.SessionEnd.{SessionEnd}
+use Rattle.mg_http.specs.declared.sessions.SessionEnd.TheVariants.{Eof, Closed, Refused, ReadFault, WriteFault, Limit}
+use Rattle.mg_http.specs.declared.target.Target.{Target}
+use Rattle.mg_http.specs.declared.target.Target.TheVariants as target
+use Rattle.mg_http.specs.Device.{WritesPart}
+use Rattle.mg_http.specs.Reply.{reply_text}
+use Rattle.mg_http.specs.Head.{Asks, framed, unframed, asks_of, is_silent, closes_after}
+use Rattle.mg_http.specs.Message.{Message, HasHead, IsNoHead, CanGoOn, IsPartHead, IsRefused}
+use Rattle.mg_http.specs.Session.{Call, Serves, Converses}
+use Rattle.mg_http.specs.Target.{Request, body, asks, refuses}
+
+-- what a target that was read asks for
+abbrev pub request_in : Target → Request
+request_in (target.Body endpoint) = body endpoint
+request_in (target.Asks command) = asks (engine.asked command)
+request_in (target.Refuses refusal) = refuses refusal
+
+-- the message of a head that was read, with its body
+abbrev pub message_of : Framed → List ℕ → Message
+message_of f bytes = record { request = request_in f.target; body = bytes; silent = f.silent; closes = f.closes }
+
+-- the head asks for this
+pub record IsFramed (db : List ℕ) (h : RequestHead) (f : Framed) : Type 0 where
+  pub asks : asks_of db h ≡ framed (request_in f.target) f.body
+  pub silent : f.silent ≡ is_silent h
+  pub closes : f.closes ≡ closes_after h
+
+-- how the body was found to be framed
+abbrev pub IsFramedBy : Asks → Framing → Type 0
+IsFramedBy asked (framing.Bytes t n) = (asked ≡ framed (request_in t) n) × (n ≤ 8388608)
+IsFramedBy asked (framing.Refused refusal) = asked ≡ unframed refusal
+
+-- what at most 16,384 bytes begin with
+abbrev pub IsHeadRead : List ℕ → List ℕ → HeadRead → Type 0
+IsHeadRead db bytes (head.Whole f) =
+    (f.len ≤ length bytes) × (f.body ≤ 8388608)
+    × (h : RequestHead) × ReadsRequest bytes h (drop f.len bytes) × IsFramed db h f
+IsHeadRead db bytes (head.Unframed refusal silent) =
+    (h : RequestHead) × (after : List ℕ) × ReadsRequest bytes h after × (asks_of db h ≡ unframed refusal) × (silent ≡ is_silent h)
+IsHeadRead db bytes head.Partial = CanGoOn bytes
+IsHeadRead db bytes head.Bad = IsNoHead bytes
+IsHeadRead db bytes (head.NoMemory silent) =
+    (h : RequestHead) × (after : List ℕ) × ReadsRequest bytes h after × (silent ≡ is_silent h)
+
+-- what is at the front of the bytes
+abbrev pub IsFront : List ℕ → List ℕ → Front → Type 0
+IsFront db bytes (front.Message f) =
+    (f.len ≤ length bytes) × (f.body ≤ 8388608)
+    × (h : RequestHead) × HasHead bytes h (drop f.len bytes) × IsFramed db h f
+IsFront db bytes front.Waiting = IsPartHead bytes
+IsFront db bytes (front.Refused refusal silent) = IsRefused db bytes refusal silent
+IsFront db bytes (front.NoMemory silent) =
+    (h : RequestHead) × (after : List ℕ) × HasHead bytes h after × (silent ≡ is_silent h)
+
+-- Where so many bytes were held and these came, the session went on holding left, or it ended.
+abbrev pub Turns
+    : {S : Type 0} → (S → Asked → Option Answer → S → Type 0)
+    → List ℕ → S → List ℕ → List ℕ → List ℕ → S → Result ⊤ SessionEnd → Type 0
+Turns answers db old bytes written left new (Ok a) =
+    (calls : List Call) × Serves answers db old bytes calls written left new
+Turns answers db old bytes written left new (Err end) = Converses answers db old bytes written new end
+
+-- What was written of a text that refuses: all of it where the session ends Refused, a front of it at a write fault.
+abbrev pub RefusesBy : Option (List ℕ) → Option (List ℕ) → List ℕ → SessionEnd → Type 0
+RefusesBy old new text Refused = Appends old new text
+RefusesBy old new text WriteFault = WritesPart old new text
+RefusesBy old new text Eof = ⊥
+RefusesBy old new text Closed = ⊥
+RefusesBy old new text ReadFault = ⊥
+RefusesBy old new text Limit = ⊥
+
+-- How a session ends that stopped reading so, and what was written then.
+abbrev pub StopsWith : Option (List ℕ) → Option (List ℕ) → Bool → Stop → SessionEnd → Type 0
+StopsWith old new silent stop.End end = (end ≡ Eof) × (new ≡ old)
+StopsWith old new silent stop.Failed end = (end ≡ ReadFault) × (new ≡ old)
+StopsWith old new silent stop.Limit end = (end ≡ Limit) × (new ≡ old)
+StopsWith old new silent stop.NoMemory end = RefusesBy old new (reply_text silent None) end

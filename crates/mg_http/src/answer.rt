@@ -1,0 +1,86 @@
+//! The answer to one message.
+ghost use Rattle.std.specs.Prelude.{◌≡◌, ◌↔◌, ◌⊎◌, ℕ, List, ◌++◌, true, false, IsTrue, IsErrOf, IfErr, is_ok, if◌then◌else◌, Option};
+ghost use Rattle.std.specs.Io.KnownBytes.{Appends};
+ghost use Rattle.mg_value.specs.View.{view};
+ghost use Rattle.mg_engine.specs.Commands.{Answer};
+ghost use Rattle.mg_engine.specs.View.{asked};
+ghost use Rattle.mg_http.specs.Device.{inner_of, has_failed, Writes};
+ghost use Rattle.mg_http.specs.Message.{Message};
+ghost use Rattle.mg_http.specs.Reply.{reply_text};
+ghost use Rattle.mg_http.specs.Session.{asked_by, HandlesBody, Handles};
+ghost use Rattle.mg_http.specs.Turns.{request_in};
+
+use crate::device::{Device, Fault};
+use crate::reply::{write_refusal, write_reply};
+use crate::routes::Endpoint;
+use crate::service::Service;
+use crate::target::Target;
+use mg_engine::{Command, Refusal, Reply};
+use mg_value::{Json, ReadError};
+use std::alloc::Global;
+use std::io::Write;
+use std::sync::Wait;
+use std::thread::Threads;
+
+/// What the endpoint asks with this body.
+fn command_of(endpoint: Endpoint, value: Json) -> Command
+    ensures { asked result ≡ asked_by endpoint (view value) }
+{
+    match endpoint {
+        Endpoint::BulkDocs => Command::Bulk(value),
+        Endpoint::Find => Command::Find(value),
+    }
+}
+
+/// Answers the body for an endpoint, and writes the reply.
+fn answer_body<H: Wait + Threads, S: Service, W: Write>(
+    rt: &H,
+    alloc: Global,
+    service: &mut S,
+    writer: &mut Device<W>,
+    page: &mut Vec<u8>,
+    silent: bool,
+    endpoint: Endpoint,
+    body: &[u8],
+) -> Result<(), Fault>
+    ensures bytes { (reply : Option Answer) × HandlesBody S.answers service.old endpoint body.now reply service.new
+        × Writes (W.contents (inner_of writer.old)) (W.contents (inner_of writer.new)) (reply_text silent reply) result }
+    ensures failed { has_failed writer.new ≡ (if is_ok result then has_failed writer.old else true) }
+{
+    match mg_value::read(alloc, body) {
+        Ok(value) => {
+            let reply = service.ask(rt, alloc, &command_of(endpoint, value));
+            write_reply(writer, page, silent, &reply)
+        }
+        Err(ReadError::NoMemory) => write_reply(writer, page, silent, &Reply::NoMemory),
+        Err(ReadError::NotJson) => write_refusal(writer, page, silent, Refusal::InvalidJson),
+        Err(ReadError::NotWhole) => write_refusal(writer, page, silent, Refusal::InvalidJson),
+    }
+}
+
+/// Answers what a message asks for with its body, and writes the reply; where it is silent, without its body.
+pub(crate) fn answer<H: Wait + Threads, S: Service, W: Write>(
+    rt: &H,
+    alloc: Global,
+    service: &mut S,
+    writer: &mut Device<W>,
+    page: &mut Vec<u8>,
+    silent: bool,
+    target: &Target,
+    body: &[u8],
+) -> Result<(), Fault>
+    ensures bytes { (reply : Option Answer) × Handles S.answers service.old (request_in target.now) body.now reply service.new
+        × Writes (W.contents (inner_of writer.old)) (W.contents (inner_of writer.new)) (reply_text silent reply) result }
+    ensures failed { has_failed writer.new ≡ (if is_ok result then has_failed writer.old else true) }
+{
+    match target {
+        Target::Body(endpoint) => {
+            answer_body(rt, alloc, service, writer, page, silent, *endpoint, body)
+        }
+        Target::Asks(command) => {
+            let reply = service.ask(rt, alloc, command);
+            write_reply(writer, page, silent, &reply)
+        }
+        Target::Refuses(refusal) => write_refusal(writer, page, silent, *refusal),
+    }
+}

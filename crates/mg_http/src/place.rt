@@ -1,0 +1,262 @@
+//! Where a path leads in the table of routes.
+ghost use Rattle.std.specs.Prelude.{◌≡◌, ◌==◌, ◌⊎◌, List, [], ◌∷◌, ◌++◌, map, length, option_to_list, IfOk, OnOk, find, if◌then◌else◌};
+ghost use Rattle.percent_encoding.specs.Percent.{percent_decode};
+ghost use Rattle.std.specs.Iterator.{YieldsFirstRef, item_count};
+ghost use Rattle.std.specs.List.{list_any};
+ghost use Rattle.std.specs.Option.{option_map};
+ghost use Rattle.mg_http.specs.RouteViews.{part_of, route_of, shown};
+ghost use Rattle.mg_http.specs.Routes.{literal, routes, same_part, route_behind, behind, begins_with, goes_on, enter, place_of, segments_of, ends_here, is_asked};
+ghost use Rattle.mg_http.specs.Segments.{segments_left};
+
+use crate::decode::decoded;
+use crate::routes::{Action, Part, Route, all_routes};
+use matchit::{InsertError, Router};
+use std::alloc::{AllocError, Global};
+
+/// What is left of the routes on which a path goes, and what its parameters spell.
+#[derive(Drop)]
+pub struct Place {
+    pub routes: Vec<Route>,
+    pub parameters: Vec<Vec<u8>>,
+}
+
+/// The segments of a path that are still to come.
+#[derive(Drop)]
+pub struct Segments<'a> {
+    rest: Option<&'a [u8]>,
+}
+
+impl<'a> Segments<'a> {
+    /// All segments of the path.
+    fn new(path: &'a [u8]) -> Segments<'a>
+        ensures { segments_left result ≡ segments_of path.now }
+    {
+        match path.split_first() {
+            Some((b'/', rest)) => Segments { rest: Some(rest) },
+            _ => Segments { rest: None },
+        }
+    }
+}
+
+impl<'a> Iterator for Segments<'a> {
+    type Item = &'a [u8];
+
+    ghost next_gives = { YieldsFirstRef segments_left };
+
+    ghost remaining = { item_count segments_left };
+
+    fn next(&mut self) -> Option<&'a [u8]> {
+        let rest = self.rest?;
+        match rest.iter().position(|b| *b == b'/') {
+            Some(slash) => {
+                self.rest = Some(&rest[slash + 1..]);
+                Some(&rest[..slash])
+            }
+            None => {
+                self.rest = None;
+                Some(rest)
+            }
+        }
+    }
+}
+
+/// Whether two parts are the same.
+fn same_part(a: Part<'_>, b: Part<'_>) -> bool
+    ensures { result ≡ same_part (part_of a.entry) (part_of b.entry) }
+{
+    match (a, b) {
+        (Part::Literal(a), Part::Literal(b)) => a == b,
+        (Part::Parameter, Part::Parameter) => true,
+        (Part::Literal(_), Part::Parameter) => false,
+        (Part::Parameter, Part::Literal(_)) => false,
+    }
+}
+
+/// What is left of the route behind the part, if its path begins with it.
+fn route_behind(route: &Route, part: Part<'_>) -> Option<Route>
+    ensures { option_map route_of result ≡ route_behind (part_of part.entry) (route_of route.now) }
+{
+    let (first, rest) = route.path.split_first()?;
+    if same_part(*first, part) {
+        Some(Route {
+            method: route.method,
+            path: rest,
+            action: route.action,
+        })
+    } else {
+        None
+    }
+}
+
+/// Puts what is left of a route behind the others, if something is.
+fn push_some(routes: &mut Vec<Route>, left: Option<Route>) -> Result<(), AllocError>
+    ensures { OnOk result (map route_of routes.new.items ≡ map route_of routes.old.items ++ option_to_list (option_map route_of left)) }
+{
+    match left {
+        Some(route) => {
+            routes.push(route)?;
+            Ok(())
+        }
+        None => Ok(()),
+    }
+}
+
+/// What is left of the routes on which one can go on by the part.
+fn behind(alloc: Global, routes: &[Route], part: Part<'_>) -> Result<Vec<Route>, AllocError>
+    ensures { IfOk result (λ v. map route_of v.items ≡ behind (part_of part.entry) (map route_of routes.now)) }
+{
+    let mut behind = Vec::new(alloc);
+    for route in routes {
+        push_some(&mut behind, route_behind(route, part))?;
+    }
+    Ok(behind)
+}
+
+/// Whether the route's path begins with the segment as it stands.
+fn begins_with(route: &Route, segment: &[u8]) -> bool
+    ensures { result ≡ begins_with (literal segment.now) (route_of route.now).path }
+{
+    match route.path.first() {
+        Some(part) => same_part(*part, Part::Literal(segment)),
+        None => false,
+    }
+}
+
+/// Whether some of the routes goes on by the segment as it stands.
+fn goes_on(routes: &[Route], segment: &[u8]) -> bool
+    ensures { result ≡ goes_on (literal segment.now) (map route_of routes.now) }
+{
+    routes.iter().any(|route| begins_with(route, segment))
+}
+
+/// Whether the route ends here.
+fn ends_here(route: &Route) -> bool
+    ensures { result ≡ ends_here (route_of route.now) }
+{
+    route.path.is_empty()
+}
+
+/// Whether the route ends here and has the method.
+fn is_asked(route: &Route, method: &[u8]) -> bool
+    ensures { result ≡ is_asked method.now (route_of route.now) }
+{
+    ends_here(route) && route.method == method
+}
+
+/// Whether the text is the second segment of some route as it stands. The table has these segments alone.
+fn look_up(alloc: Global, text: &str) -> Result<bool, InsertError>
+    ensures { IfOk result (λ b. b ≡ goes_on (literal text.now) routes) }
+{
+    let mut table = Router::new(alloc);
+    table.insert("_bulk_docs", ())?;
+    table.insert("_find", ())?;
+    match table.at(text) {
+        Ok(_) => Ok(true),
+        Err(_) => Ok(false),
+    }
+}
+
+/// Whether the segment is the second one of some route as it stands.
+fn is_literal(alloc: Global, segment: &[u8]) -> Result<bool, AllocError>
+    ensures { IfOk result (λ b. b ≡ goes_on (literal segment.now) routes) }
+{
+    match str::from_utf8(segment) {
+        Ok(text) => match look_up(alloc, text) {
+            Ok(found) => Ok(found),
+            Err(_) => Err(AllocError),
+        },
+        Err(_) => Ok(goes_on(all_routes(), segment)),
+    }
+}
+
+impl Place {
+    /// The place behind the database's name.
+    fn new(alloc: Global, name: &[u8]) -> Result<Place, AllocError>
+        ensures place { IfOk result (λ p. shown p ≡ record {
+            routes_left = if length name.now == 0 then [] else routes;
+            parameters = percent_decode name.now ∷ [];
+        }) }
+        ensures routes { IfOk result (λ p. (map route_of p.routes.items ≡ []) ⊎ (map route_of p.routes.items ≡ routes)) }
+    {
+        let mut parameters = Vec::new(alloc);
+        parameters.push(decoded(alloc, name)?)?;
+        if name.is_empty() {
+            return Ok(Place {
+                routes: Vec::new(alloc),
+                parameters,
+            });
+        }
+        Ok(Place {
+            routes: Vec::from_slice(alloc, all_routes())?,
+            parameters,
+        })
+    }
+
+    /// Whether some route goes on by the second segment as it stands, from the place behind the database's name.
+    fn stands_second(&self, alloc: Global, segment: &[u8]) -> Result<bool, AllocError>
+        requires { (map route_of self.now.routes.items ≡ []) ⊎ (map route_of self.now.routes.items ≡ routes) }
+        ensures { IfOk result (λ b. b ≡ goes_on (literal segment.now) (map route_of self.now.routes.items)) }
+    {
+        if self.routes.is_empty() {
+            return Ok(false);
+        }
+        is_literal(alloc, segment)
+    }
+
+    /// The place one segment further, which is taken as it stands if some route goes on by it.
+    fn enter(mut self, alloc: Global, segment: &[u8], stands: bool) -> Result<Place, AllocError>
+        requires { stands ≡ goes_on (literal segment.now) (map route_of self.routes.items) }
+        ensures { IfOk result (λ p. shown p ≡ enter (shown self) segment.now) }
+    {
+        if stands {
+            self.routes = behind(alloc, &self.routes, Part::Literal(segment))?;
+            return Ok(self);
+        }
+        self.parameters.push(decoded(alloc, segment)?)?;
+        self.routes = if segment.is_empty() {
+            Vec::new(alloc)
+        } else {
+            behind(alloc, &self.routes, Part::Parameter)?
+        };
+        Ok(self)
+    }
+
+    /// Where the path leads.
+    pub(crate) fn of(alloc: Global, path: &[u8]) -> Result<Place, AllocError>
+        ensures { IfOk result (λ p. shown p ≡ place_of (segments_of path.now)) }
+    {
+        let mut segments = Segments::new(path);
+        let Some(name) = segments.next() else {
+            return Ok(Place {
+                routes: Vec::new(alloc),
+                parameters: Vec::new(alloc),
+            });
+        };
+        let mut place = Place::new(alloc, name)?;
+        let Some(second) = segments.next() else {
+            return Ok(place);
+        };
+        let stands = place.stands_second(alloc, second)?;
+        place = place.enter(alloc, second, stands)?;
+        for segment in segments {
+            let stands = goes_on(&place.routes, segment);
+            place = place.enter(alloc, segment, stands)?;
+        }
+        Ok(place)
+    }
+
+    /// Whether some route ends here.
+    pub(crate) fn is_end(&self) -> bool
+        ensures { result ≡ list_any ends_here (shown self.now).routes_left }
+    {
+        self.routes.iter().any(|route| ends_here(route))
+    }
+
+    /// What the first route asks for that ends here and has the method.
+    pub(crate) fn action(&self, method: &[u8]) -> Option<Action>
+        ensures { result ≡ option_map (λ r. r.asks) (find (is_asked method.now) (shown self.now).routes_left) }
+    {
+        let route = self.routes.iter().find(|route| is_asked(route, method))?;
+        Some(route.action)
+    }
+}

@@ -1,0 +1,65 @@
+//! The table of the routes.
+ghost use Rattle.std.specs.Prelude.{◌≡◌, map};
+ghost use Rattle.mg_http.specs.RouteViews.{route_of};
+ghost use Rattle.mg_http.specs.Routes.{routes};
+
+/// What takes the body of a message.
+#[derive(Clone, Copy, Debug, PartialEq, Eq)]
+pub enum Endpoint {
+    /// A bulk of edits.
+    BulkDocs,
+    /// A query.
+    Find,
+}
+
+/// What a route asks for.
+#[derive(Clone, Copy, Debug, PartialEq, Eq)]
+pub enum Action {
+    /// What the endpoint does with the body.
+    Body(Endpoint),
+    /// The document whose id is the parameter behind the database's name.
+    Document,
+}
+
+/// A part of a path.
+#[derive(Clone, Copy)]
+pub enum Part<'a> {
+    /// A segment as it stands.
+    Literal(&'a [u8]),
+    /// Any segment that is not empty.
+    Parameter,
+}
+
+/// A route: its method, its path below that of the database, and what it asks for.
+#[derive(Clone, Copy)]
+pub struct Route {
+    pub method: &'static [u8],
+    pub path: &'static [Part<'static>],
+    pub action: Action,
+}
+
+/// The table. A route is a row here, and the same row of the definition.
+const ROUTES: [Route; 3] = [
+    Route {
+        method: b"POST",
+        path: &[Part::Literal(b"_bulk_docs")],
+        action: Action::Body(Endpoint::BulkDocs),
+    },
+    Route {
+        method: b"POST",
+        path: &[Part::Literal(b"_find")],
+        action: Action::Body(Endpoint::Find),
+    },
+    Route {
+        method: b"GET",
+        path: &[Part::Parameter],
+        action: Action::Document,
+    },
+];
+
+/// The routes of a database.
+pub(crate) fn all_routes() -> &'static [Route]
+    ensures { map route_of result.now ≡ routes }
+{
+    &ROUTES
+}

@@ -1,0 +1,39 @@
+//! Small scans over bytes.
+ghost use Rattle.std.specs.Prelude.{◌≡◌, reverse};
+ghost use Rattle.httparse.specs.Grammar.{is_ows, skip_ows, trim_ows};
+
+/// Whether the byte is a space or a tab.
+fn is_blank(byte: u8) -> bool
+    ensures { result ≡ is_ows byte }
+{
+    byte == b' ' || byte == b'\t'
+}
+
+fn trim_start(mut text: &[u8]) -> &[u8]
+    ensures { result.now ≡ skip_ows text.now }
+{
+    while let [first, rest @ ..] = text
+        && is_blank(*first)
+    {
+        text = rest;
+    }
+    text
+}
+
+fn trim_end(mut text: &[u8]) -> &[u8]
+    ensures { result.now ≡ reverse (skip_ows (reverse text.now)) }
+{
+    while let [rest @ .., last] = text
+        && is_blank(*last)
+    {
+        text = rest;
+    }
+    text
+}
+
+/// The text without the spaces and tabs at both ends.
+pub(crate) fn trim_blanks(text: &[u8]) -> &[u8]
+    ensures { result.now ≡ trim_ows text.now }
+{
+    trim_end(trim_start(text))
+}
