@@ -87,16 +87,11 @@ fn refusal_in(error: EditError) -> Result<Refused, NoMemory>
 
 // What becomes of an edit that changes nothing, as a look at the tree tells: of one that is refused, or whose path is
 // known whole. None where the tree has to be tried.
-fn foreseen(
-    docs: &Documents,
-    id: &str,
-    edit: &Edit,
-) -> Result<Option<Result<Rev, Refused>>, NoMemory>
-    requires { id.now ≡ id_in edit.now }
+fn foreseen(docs: &Documents, edit: &Edit) -> Result<Option<Result<Rev, Refused>>, NoMemory>
     ensures { IfOk result (λ o. IfSome o (λ outcome. (hs : Histories) → StandFor (documents_seen docs.now.entries) hs
         → StandFor (documents_seen docs.now.entries) (after_edit hs edit.now) × (outcome ≡ outcome_in hs edit.now))) }
 {
-    let Some(document) = docs.get(id) else {
+    let Some(document) = docs.get(id_in(edit)) else {
         return Ok(None);
     };
     match edit.look(&document.tree) {
@@ -110,11 +105,11 @@ fn foreseen(
 fn try_on(
     alloc: Global,
     tree: &mut RevTree,
-    edit: &Edit,
+    edit: Edit,
 ) -> Result<Result<Rev, Refused>, NoMemory>
-    ensures { IfOk result (λ o. (h : History) → StandsFor tree.old h → (o ≡ outcome_of h edit.now) × StandsFor tree.new (edited h edit.now)) }
+    ensures { IfOk result (λ o. (h : History) → StandsFor tree.old h → (o ≡ outcome_of h edit) × StandsFor tree.new (edited h edit)) }
 {
-    match edit.apply(alloc, tree) {
+    match edit.bring(alloc, tree) {
         Ok(rev) => Ok(Ok(rev)),
         Err(error) => Ok(Err(refusal_in(error)?)),
     }
@@ -124,17 +119,16 @@ fn try_on(
 fn begin(
     alloc: Global,
     docs: &mut Documents,
-    id: &str,
-    edit: &Edit,
+    edit: Edit,
 ) -> Result<Result<Rev, Refused>, NoMemory>
-    requires { id.now ≡ id_in edit.now }
-    ensures { IfOk result (λ o. (hs : Histories) → get (documents_seen docs.old.entries) (id_in edit.now) ≡ None → StandFor (documents_seen docs.old.entries) hs
-        → StandFor (documents_seen docs.new.entries) (after_edit hs edit.now) × (o ≡ outcome_in hs edit.now)) }
+    ensures { IfOk result (λ o. (hs : Histories) → get (documents_seen docs.old.entries) (id_in edit) ≡ None → StandFor (documents_seen docs.old.entries) hs
+        → StandFor (documents_seen docs.new.entries) (after_edit hs edit) × (o ≡ outcome_in hs edit)) }
 {
+    let id = String::from_str(alloc, id_in(&edit))?;
     let mut tree = RevTree::new(alloc);
     match try_on(alloc, &mut tree, edit)? {
         Ok(rev) => {
-            keep(alloc, docs, String::from_str(alloc, id)?, tree)?;
+            keep(alloc, docs, id, tree)?;
             Ok(Ok(rev))
         }
         Err(refused) => Ok(Err(refused)),
@@ -147,12 +141,12 @@ fn change(
     docs: &mut Documents,
     id: String,
     tree: RevTree,
-    edit: &Edit,
+    edit: Edit,
 ) -> Result<Result<Rev, Refused>, NoMemory>
-    requires { string_bytes id ≡ id_in edit.now }
-    ensures { IfOk result (λ o. (hs : Histories) (h : History) → StandApart (documents_seen docs.old.entries) hs (id_in edit.now)
-        → get hs (id_in edit.now) ≡ Some h → StandsFor tree h
-        → StandFor (documents_seen docs.new.entries) (after_edit hs edit.now) × (o ≡ outcome_in hs edit.now)) }
+    requires { string_bytes id ≡ id_in edit }
+    ensures { IfOk result (λ o. (hs : Histories) (h : History) → StandApart (documents_seen docs.old.entries) hs (id_in edit)
+        → get hs (id_in edit) ≡ Some h → StandsFor tree h
+        → StandFor (documents_seen docs.new.entries) (after_edit hs edit) × (o ≡ outcome_in hs edit)) }
 {
     let mut tree = tree;
     let outcome = try_on(alloc, &mut tree, edit)?;
@@ -178,18 +172,17 @@ fn tree_of(document: Arc<Document>) -> Result<RevTree, NoMemory>
 pub(crate) fn apply(
     alloc: Global,
     docs: &mut Documents,
-    edit: &Edit,
+    edit: Edit,
 ) -> Result<Result<Rev, Refused>, NoMemory>
     ensures { IfOk result (λ o. (hs : Histories) → StandFor (documents_seen docs.old.entries) hs
-        → StandFor (documents_seen docs.new.entries) (after_edit hs edit.now) × (o ≡ outcome_in hs edit.now)) }
+        → StandFor (documents_seen docs.new.entries) (after_edit hs edit) × (o ≡ outcome_in hs edit)) }
 {
-    let id = id_in(edit);
-    if let Some(outcome) = foreseen(docs, id, edit)? {
+    if let Some(outcome) = foreseen(docs, &edit)? {
         return Ok(outcome);
     }
-    match docs.remove_entry(id) {
+    match docs.remove_entry(id_in(&edit)) {
         Some((id, document)) => Ok(change(alloc, docs, id, tree_of(document)?, edit)?),
-        None => Ok(begin(alloc, docs, id, edit)?),
+        None => Ok(begin(alloc, docs, edit)?),
     }
 }
 

@@ -38,16 +38,16 @@ fn apply_on<P: Placement>(
     alloc: Global,
     placement: &P,
     drafts: &mut [Draft],
-    edit: &Edit,
+    edit: Edit,
 ) -> Result<Result<Rev, Refused>, NoMemory>
     requires { 0 < length drafts.old }
     ensures outcome { IfOk result (λ o. (hs : Histories) → ShardsStandFor (P.place placement.now) (drafts_seen drafts.old) hs
-        → o ≡ outcome_in hs edit.now) }
+        → o ≡ outcome_in hs edit) }
     ensures stands { IfOk result (λ o. (hs : Histories) → ShardsStandFor (P.place placement.now) (drafts_seen drafts.old) hs
-        → ShardsStandFor (P.place placement.now) (drafts_seen drafts.new) (after_edit hs edit.now)) }
+        → ShardsStandFor (P.place placement.now) (drafts_seen drafts.new) (after_edit hs edit)) }
     ensures number { length drafts.new ≡ length drafts.old }
 {
-    let place = placement.shard_of(id_in(edit), drafts.len());
+    let place = placement.shard_of(id_in(&edit), drafts.len());
     let draft = replace(&mut drafts[place], Draft::Changed(BTreeMap::new(alloc)));
     let mut docs = draft.into_changed()?;
     let outcome = apply(alloc, &mut docs, edit)?;
@@ -61,14 +61,14 @@ pub(crate) fn edited<P: Placement>(
     alloc: Global,
     placement: &P,
     shards: &[Arc<Documents>],
-    edits: &[Edit],
+    edits: Vec<Edit>,
     new_edits: bool,
 ) -> Result<(Vec<Json>, Vec<Arc<Documents>>), NoMemory>
     requires { 0 < length shards.now }
     ensures entries { IfOk result (λ r. (hs : Histories) → ShardsStandFor (P.place placement.now) (shards_seen shards.now) hs
-        → items_view r.0.items ≡ entries_of new_edits (outcomes hs edits.now)) }
+        → items_view r.0.items ≡ entries_of new_edits (outcomes hs edits.items)) }
     ensures stands { IfOk result (λ r. (hs : Histories) → ShardsStandFor (P.place placement.now) (shards_seen shards.now) hs
-        → ShardsStandFor (P.place placement.now) (shards_seen r.1.items) (after_edits hs edits.now)) }
+        → ShardsStandFor (P.place placement.now) (shards_seen r.1.items) (after_edits hs edits.items)) }
     ensures number { IfOk result (λ r. length r.1.items ≡ length shards.now) }
 {
     let mut drafts = drafts_of(alloc, shards)?;
@@ -81,20 +81,21 @@ fn apply_all<P: Placement>(
     alloc: Global,
     placement: &P,
     drafts: &mut [Draft],
-    edits: &[Edit],
+    edits: Vec<Edit>,
     new_edits: bool,
 ) -> Result<Vec<Json>, NoMemory>
     requires { 0 < length drafts.old }
     ensures entries { IfOk result (λ v. (hs : Histories) → ShardsStandFor (P.place placement.now) (drafts_seen drafts.old) hs
-        → items_view v.items ≡ entries_of new_edits (outcomes hs edits.now)) }
+        → items_view v.items ≡ entries_of new_edits (outcomes hs edits.items)) }
     ensures stands { IfOk result (λ v. (hs : Histories) → ShardsStandFor (P.place placement.now) (drafts_seen drafts.old) hs
-        → ShardsStandFor (P.place placement.now) (drafts_seen drafts.new) (after_edits hs edits.now)) }
+        → ShardsStandFor (P.place placement.now) (drafts_seen drafts.new) (after_edits hs edits.items)) }
     ensures number { length drafts.new ≡ length drafts.old }
 {
     let mut entries = Vec::new(alloc);
     for edit in edits {
+        let id = String::from_str(alloc, id_in(&edit))?;
         let outcome = apply_on(alloc, placement, drafts, edit)?;
-        let entry = entry(alloc, new_edits, id_in(edit), &outcome)?;
+        let entry = entry(alloc, new_edits, id.as_str(), &outcome)?;
         push_entry(&mut entries, entry)?;
     }
     Ok(entries)

@@ -139,7 +139,7 @@ impl State {
         ensures number { IfOk result (λ r. length r.1.shards ≡ length self.now.shards) }
     {
         let (edits, counter) = numbered(alloc, edits, self.counter)?;
-        let (entries, shards) = edited(alloc, placement, &self.shards, &edits, new_edits)?;
+        let (entries, shards) = edited(alloc, placement, &self.shards, edits, new_edits)?;
         let body = line(alloc, &Json::List(entries))?;
         let name = self.name.clone()?;
         Ok((

@@ -10,7 +10,7 @@ use Rattle.mg_engine.proofs.documents.change.Goals as goal
 
 pub returns : goal.returns
 returns c = λ hs h apart there stands.
-    let e = c.args.edit.now in
+    let e = c.args.edit in
     let after = documents_seen c.keep.new.docs.entries in
     let tried = c.in_ok-outcome.ensures h stands in
     let apart_there : StandApart (documents_seen c.args.docs.now.entries) hs (string_bytes c.args.id) = subst (λ i. StandApart (documents_seen c.args.docs.now.entries) hs i) (sym c.requires) apart in

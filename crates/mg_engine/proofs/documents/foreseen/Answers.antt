@@ -16,7 +16,7 @@ returns-in-Ok-Some c = λ hs st.
     let e = c.args.edit.now in
     let kept = kept_in c.in-Some.document.now in
     let there : get (documents_seen docs) (id_in e) ≡ Some kept =
-    ap (get (documents_seen docs)) (sym c.requires) ∙ sym (shown-lookup c.args.id.now docs) ∙ sym (ap (option_map kept_in) c.in-Some.ensures.value) in
+    ap (get (documents_seen docs)) (sym c.id_in.ensures) ∙ sym (shown-lookup c.id_in.result.now docs) ∙ sym (ap (option_map kept_in) c.in-Some.ensures.value) in
     let stands : StandsFor c.deref.result.now.tree (history_at hs (id_in e)) = rw c.deref.ensures (tree_there (documents_seen docs) hs (id_in e) kept st there) in
     let seen = rw c.in-Ok-Some.field-0-is at (c.in-Ok-Some.ensures (history_at hs (id_in e)) stands) in
     (stand_known (documents_seen docs) hs e kept c.in-Ok-Some.rev st there seen.0 (rw c.deref.ensures at seen.1), sym seen.0)
@@ -28,7 +28,7 @@ returns-in_ok-refusal_in-in-Err c = λ hs st.
     let kept = kept_in c.in-Some.document.now in
     let refused = c.in_ok-refusal_in-in-Err.field-0 in
     let there : get (documents_seen docs) (id_in e) ≡ Some kept =
-    ap (get (documents_seen docs)) (sym c.requires) ∙ sym (shown-lookup c.args.id.now docs) ∙ sym (ap (option_map kept_in) c.in-Some.ensures.value) in
+    ap (get (documents_seen docs)) (sym c.id_in.ensures) ∙ sym (shown-lookup c.id_in.result.now docs) ∙ sym (ap (option_map kept_in) c.in-Some.ensures.value) in
     let stands : StandsFor c.deref.result.now.tree (history_at hs (id_in e)) = rw c.deref.ensures (tree_there (documents_seen docs) hs (id_in e) kept st there) in
     let is : outcome_in hs e ≡ Err refused = subst (λ o. Refuses (history_at hs (id_in e)) e o) c.in_ok-refusal_in-in-Err.ensures (c.in-Err.ensures (history_at hs (id_in e)) stands) in
     (subst (λ (m : Histories). StandFor (documents_seen docs) m) (sym (after_refused hs e refused is)) st, sym is)

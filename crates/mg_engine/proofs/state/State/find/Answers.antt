@@ -21,4 +21,4 @@ returns-in_ok-body-in-Ok g c = λ w h.
     let shards : shards_seen c.self.inside.shards.items ≡ c.args.self.now.shards = ap (λ (s : Shown). s.shards) c.self.view_is in
     let page = c.in_ok-page-in-Ok.ensures ∙ ap (λ (s : List KeptDocuments). page_value (found_page place s q)) (ap shards_seen c.deref.ensures.value ∙ shards)
     ∙ ap page_value (found_is_answer place c.args.self.now.shards w.docs q h.documents) in
-    ap (λ b. Some (answer b)) (c.in_ok-body-in-Ok.ensures ∙ ap line_of page) ∙ sym (ap (λ r. Some (found w r)) c.in-Ok.ensures)
+    ap (λ b. Some (answer b)) (c.in_ok-body-in-Ok.ensures ∙ ap line_of page) ∙ sym (ap (λ r. Some (found w r)) c.in-Ok.ensures.query)
