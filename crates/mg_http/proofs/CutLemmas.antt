@@ -12,7 +12,7 @@ use Rattle.mg_http.specs.Head.{framed, unframed, asks_of, is_silent}
 use Rattle.mg_http.specs.Message.{Message, HasHead, Begins, IsRefused, IsWaiting}
 use Rattle.mg_http.specs.Reply.{text_of}
 use Rattle.mg_http.specs.Session.{Handles, HandlesBody, asked_by}
-use Rattle.mg_http.specs.Talk.{AtWorld, Stops, Writes}
+use Rattle.mg_http.specs.Talk.{AtWorld, Stops, Speaks}
 use Rattle.mg_http.specs.Target.{Request, body, asks, refuses}
 use Rattle.mg_http.proofs.MessageLemmas.{in_window, one_head, HasHead-append, Begins-append, two_messages, never_framed, framed_request, no_head_more, never_none, window_more, window_full}
 
@@ -109,7 +109,7 @@ one_reply w (refuses refusal) bytes a b u v x y = (some_some a b (x.0 ∙ sym y.
 
 module _ (db : List ℕ) where
   -- where nothing more is answered in what came first
-  after_stop : (w : World) (bytes more text : List ℕ) (ns : List Message) (longer : List ℕ) → Stops db bytes text → Writes db w (bytes ++ more) ns longer → IsPrefix text longer
+  after_stop : (w : World) (bytes more text : List ℕ) (ns : List Message) (longer : List ℕ) → Stops db bytes text → Speaks db w (bytes ++ more) ns longer → IsPrefix text longer
   after_stop w bytes more text ns longer (inl x) k = (longer, rw x.1 refl)
   after_stop w bytes more text [] longer (inr x) (inl y) = absurd (waiting_not_refused db (bytes ++ more) x.0 x.1 y.0 (refused_more db bytes more x.0 x.1 x.2))
   after_stop w bytes more text [] longer (inr x) (inr y) =
@@ -119,7 +119,7 @@ module _ (db : List ℕ) where
       absurd (message_not_refused db (bytes ++ more) n k.0 x.0 x.1 k.4 (refused_more db bytes more x.0 x.1 x.2))
 
   pub begins : (w : World) (bytes more : List ℕ) (ms : List Message) (text : List ℕ) (ns : List Message) (longer : List ℕ)
-      → Writes db w bytes ms text → Writes db w (bytes ++ more) ns longer → IsPrefix text longer
+      → Speaks db w bytes ms text → Speaks db w (bytes ++ more) ns longer → IsPrefix text longer
   begins w bytes more [] text ns longer h k = after_stop w bytes more text ns longer h k
   begins w bytes more (m ∷ ms) text [] longer h k = absurd (no_stop db (bytes ++ more) m (h.0 ++ more) longer (Begins-append db bytes m h.0 more h.4) k)
   begins w bytes more (m ∷ ms) text (n ∷ ns) longer h k =

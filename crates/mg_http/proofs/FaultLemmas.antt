@@ -1,5 +1,5 @@
 -- How bytes are seen to end in a target.
-use Rattle.std.proofs.Common.{◌≡◌, ℕ, zero, suc, ◌<◌, ◌≤◌, ◌==◌, ◌&&◌, Bool, true, false, cond, List, [], ◌∷◌, ◌++◌, length, drop, get_or, refl, sym, ap, ◌∙◌, append_assoc, arith}
+use Rattle.std.proofs.Common.{◌≡◌, ℕ, zero, suc, ◌<◌, ◌≤◌, ◌==◌, ◌&&◌, Bool, true, false, cond, List, [], ◌∷◌, ◌++◌, length, refl, sym, ap, ◌∙◌, append_assoc, arith}
 use Rattle.std.specs.Bool.{IsTrue}
 use Rattle.std.specs.List.{list_all}
 use Rattle.std.proofs.lemmas.Bool.{and_parts}
@@ -125,13 +125,3 @@ seen_in_target bytes (blank, x ∷ m, t, token, uri, is) =
     let whole : bytes ≡ print_blank blank ++ x ∷ (m ++ 32 ∷ t) = is ∙ append_assoc (print_blank blank) (x ∷ m) (32 ∷ t) in
     ap (λ (b : List ℕ). is_method_and_target false (skip_blank b)) whole ∙ ap (is_method_and_target false) (skipped blank x (m ++ 32 ∷ t) first)
     ∙ method_found (x ∷ m) t token.0 token.1 uri
-
--- a space behind a method
-pub after_method : (bytes target : List ℕ) (seen all : Bool) → seen ≡ true → all ≡ list_all is_uri_byte target → bytes ≡ 32 ∷ target
-    → all ≡ is_method_and_target seen bytes
-after_method bytes target seen all s a e = rw (e, s, no_space) a
-
--- the first of some bytes, and those behind it
-pub first_is : (bytes : List ℕ) (b : ℕ) → 1 ≤ length bytes → get_or bytes 0 0 ≡ b → bytes ≡ b ∷ drop 1 bytes
-first_is [] b some e = absurd (omega arith)
-first_is (x ∷ bytes) b some e = ap (λ (y : ℕ). y ∷ bytes) e

@@ -1,5 +1,5 @@
 -- A table whose routes have no parameter, what is left of routes, and the segments of a path.
-use Rattle.std.proofs.Common.{◌≡◌, ◌+◌, ◌<◌, ◌≤◌, ℕ, zero, suc, ◌-◌, ◌==◌, Bool, true, false, ◌&&◌, ◌||◌, cond, List, [], ◌∷◌, ◌++◌, length, map, get_or, take, drop, Option, Some, None, refl, sym, ap, ◌∙◌, arith, ◌⊎◌, inl, inr}
+use Rattle.std.proofs.Common.{◌≡◌, ◌+◌, ◌<◌, ◌≤◌, ℕ, zero, suc, ◌-◌, ◌==◌, Bool, true, false, ◌&&◌, ◌||◌, cond, List, [], ◌∷◌, ◌++◌, length, map, get_or, take, drop, Option, Some, None, refl, sym, ap, ◌∙◌, arith}
 use Rattle.std.specs.Prelude.{bytes_eq, nat_lt, is_some}
 use Rattle.std.specs.List.{list_all, list_any, filter_map, cons_option, slice_split, position_or_len}
 use Rattle.std.proofs.lemmas.Bool.{cond-false, and_from}
@@ -93,10 +93,6 @@ module _ {K : Type 0} where
       ]
       )
 
-  -- what a table of plain rows answers
-  pub from_first : (rows : RowsOf K) (path : List ℕ) (answer : Option K) → list_all is_plain rows ≡ true → first rows path ≡ answer → row_at path rows ≡ answer
-  from_first rows path answer plain e = sym (first_plain rows path plain) ∙ e
-
   -- whether there is a row with this text
   pub some_row : (rows : RowsOf K) (path : List ℕ) → is_some (row_at path rows) ≡ list_any (λ row. bytes_eq row.0 path) rows
   some_row [] path = refl
@@ -127,17 +123,6 @@ first_segment rest i e inside =
 pub whole_segment : (rest : List ℕ) → position_or_len (λ b. b == 47) rest ≡ length rest → slice_split (λ c. c == 47) rest ≡ rest ∷ []
 whole_segment rest e =
     slice_split_none (λ c. c == 47) rest (λ k d inside. fails_before_first (λ c. c == 47) rest k d (rw e inside))
-
--- the routes behind a database's name: none or all
-pub either_routes : {X : Type 0} (shown : List X) (empty : Bool) (all : List X) → shown ≡ cond empty [] all → (shown ≡ []) ⊎ (shown ≡ all)
-either_routes shown true all e = inl e
-either_routes shown false all e = inr e
-
--- where routes are left, they are all
-pub all_left : {X Y : Type 0} (f : X → Y) (xs : List X) (all : List Y) → (map f xs ≡ []) ⊎ (map f xs ≡ all) → (length xs ≡ 0 → ⊥) → map f xs ≡ all
-all_left f xs all (inr e) some = e
-all_left f [] all (inl e) some = absurd (some refl)
-all_left f (x ∷ xs) all (inl e) some = cc
 
 one_or_none : {X : Type 0} (o : Option X) → option_to_list o ≡ cons_option o []
 one_or_none None = refl

@@ -16,5 +16,5 @@ abbrev pub route_of : Route → spec.Route
 route_of r = record { method = r.method.now; path = map part_of r.path.now; asks = r.action }
 
 -- a place
-abbrev pub shown : Place → spec.Place
-shown p = record { routes_left = map route_of p.routes.items; parameters = map (λ v. v.items) p.parameters.items }
+abbrev pub place_in : Place → spec.Place
+place_in p = record { routes_left = map route_of p.routes.items; parameters = map (λ v. v.items) p.parameters.items }

@@ -25,14 +25,14 @@ Stops db bytes text =
 
 -- What the world writes for the bytes where memory suffices, of which these are the messages that are answered: each has
 -- its reply, and what follows is answered in the world that it leaves, unless it ends the session.
-abbrev pub Writes : List ℕ → World → List ℕ → List Message → List ℕ → Type 0
-Writes db w bytes [] text = Stops db bytes text
-Writes db w bytes (m ∷ ms) text =
+abbrev pub Speaks : List ℕ → World → List ℕ → List Message → List ℕ → Type 0
+Speaks db w bytes [] text = Stops db bytes text
+Speaks db w bytes (m ∷ ms) text =
     (after : List ℕ) × (later : List ℕ) × (answer : Answer) × (u : World)
     × Begins db bytes m after × Handles AtWorld w m.request m.body (Some answer) u
     × (text ≡ text_of m.silent answer ++ later)
-    × (((m.closes ≡ true) × (ms ≡ []) × (later ≡ [])) ⊎ ((m.closes ≡ false) × Writes db u after ms later))
+    × (((m.closes ≡ true) × (ms ≡ []) × (later ≡ [])) ⊎ ((m.closes ≡ false) × Speaks db u after ms later))
 
 -- what the world writes for the bytes where memory suffices
 abbrev pub IsTalk : List ℕ → World → List ℕ → List ℕ → Type 0
-IsTalk db w bytes text = (messages : List Message) × Writes db w bytes messages text
+IsTalk db w bytes text = (messages : List Message) × Speaks db w bytes messages text

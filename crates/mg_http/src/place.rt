@@ -4,7 +4,7 @@ ghost use Rattle.percent_encoding.specs.Percent.{percent_decode};
 ghost use Rattle.std.specs.Iterator.{YieldsFirstRef, item_count};
 ghost use Rattle.std.specs.List.{list_any};
 ghost use Rattle.std.specs.Option.{option_map};
-ghost use Rattle.mg_http.specs.RouteViews.{part_of, route_of, shown};
+ghost use Rattle.mg_http.specs.RouteViews.{part_of, route_of, place_in};
 ghost use Rattle.mg_http.specs.Routes.{literal, routes, same_part, route_behind, behind, begins_with, goes_on, enter, place_of, segments_of, ends_here, is_asked};
 ghost use Rattle.mg_http.specs.Segments.{segments_left};
 
@@ -172,7 +172,7 @@ fn is_literal(alloc: Global, segment: &[u8]) -> Result<bool, AllocError>
 impl Place {
     /// The place behind the database's name.
     fn new(alloc: Global, name: &[u8]) -> Result<Place, AllocError>
-        ensures place { IfOk result (λ p. shown p ≡ record {
+        ensures place { IfOk result (λ p. place_in p ≡ record {
             routes_left = if length name.now == 0 then [] else routes;
             parameters = percent_decode name.now ∷ [];
         }) }
@@ -206,7 +206,7 @@ impl Place {
     /// The place one segment further, which is taken as it stands if some route goes on by it.
     fn enter(mut self, alloc: Global, segment: &[u8], stands: bool) -> Result<Place, AllocError>
         requires { stands ≡ goes_on (literal segment.now) (map route_of self.routes.items) }
-        ensures { IfOk result (λ p. shown p ≡ enter (shown self) segment.now) }
+        ensures { IfOk result (λ p. place_in p ≡ enter (place_in self) segment.now) }
     {
         if stands {
             self.routes = behind(alloc, &self.routes, Part::Literal(segment))?;
@@ -223,7 +223,7 @@ impl Place {
 
     /// Where the path leads.
     pub(crate) fn of(alloc: Global, path: &[u8]) -> Result<Place, AllocError>
-        ensures { IfOk result (λ p. shown p ≡ place_of (segments_of path.now)) }
+        ensures { IfOk result (λ p. place_in p ≡ place_of (segments_of path.now)) }
     {
         let mut segments = Segments::new(path);
         let Some(name) = segments.next() else {
@@ -247,14 +247,14 @@ impl Place {
 
     /// Whether some route ends here.
     pub(crate) fn is_end(&self) -> bool
-        ensures { result ≡ list_any ends_here (shown self.now).routes_left }
+        ensures { result ≡ list_any ends_here (place_in self.now).routes_left }
     {
         self.routes.iter().any(|route| ends_here(route))
     }
 
     /// What the first route asks for that ends here and has the method.
     pub(crate) fn action(&self, method: &[u8]) -> Option<Action>
-        ensures { result ≡ option_map (λ r. r.asks) (find (is_asked method.now) (shown self.now).routes_left) }
+        ensures { result ≡ option_map (λ r. r.asks) (find (is_asked method.now) (place_in self.now).routes_left) }
     {
         let route = self.routes.iter().find(|route| is_asked(route, method))?;
         Some(route.action)

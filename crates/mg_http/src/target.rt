@@ -2,7 +2,7 @@
 ghost use Rattle.std.specs.Prelude.{◌≡◌, map, IfOk, true};
 ghost use Rattle.std.specs.List.{list_all};
 ghost use Rattle.std.specs.Str.{is_utf8};
-ghost use Rattle.mg_http.specs.RouteViews.{shown};
+ghost use Rattle.mg_http.specs.RouteViews.{place_in};
 ghost use Rattle.mg_http.specs.Target.{path_in, query_in, names, requested, request_at, request_of};
 ghost use Rattle.mg_http.specs.Turns.{request_in};
 
@@ -87,7 +87,7 @@ fn target_at(
     query: &[u8],
     place: Place,
 ) -> Result<Target, AllocError>
-    ensures { IfOk result (λ t. request_in t ≡ request_at db.now method.now query.now (shown place)) }
+    ensures { IfOk result (λ t. request_in t ≡ request_at db.now method.now query.now (place_in place)) }
 {
     if !place.is_end() || !are_texts(&place.parameters) {
         return Ok(Target::Refuses(Refusal::Missing));
