@@ -60,7 +60,7 @@ part_of [] v = Some v
 part_of (step ∷ steps) v = option_and_then (part_of steps) (part_at step v)
 
 -- the value with the part under the steps, as nested objects' names, in place of what stands there;
--- a way through a value that is not an object adds nothing
+-- where some value on the way is no object, all stays as it is
 abbrev pub placed : List (List ℕ) → Value → Value → Value
 placed [] part v = part
 placed (step ∷ steps) part (object ms) = object (put step (placed steps part (unwrap_or (get_member step ms) (object no_members))) ms)

@@ -43,8 +43,8 @@ impl Eq for Path {
 }
 
 impl Path {
-    /// Reads a text such as `a.b.0`: steps between dots. `\.` is a dot within a step; any other
-    /// backslash stands for itself.
+    /// Reads a text such as `a.b.0`: steps between dots. `\.` is a dot within a step, and a
+    /// backslash before anything else a backslash.
     ///
     /// Errors: `Empty` exactly where a step is empty, which is found before memory is taken;
     /// `NoMemory` where a growth is refused.

@@ -10,11 +10,12 @@ use std::collections::BTreeMap;
 use std::mem;
 
 /// The parts of the value at the paths, in an object: each stands under its steps, as the names of
-/// nested objects, and a later path replaces what an earlier one put there. A path whose part is
-/// missing adds nothing, nor does one that leads through a value that is not an object.
+/// nested objects, and a later path replaces what an earlier one put there. Nothing comes of a path
+/// whose part is missing, or on whose way an earlier path has put anything but an object.
 ///
 /// Errors: `NoMemory` where a growth is refused.
-/// Cost: for each path its steps, and the size of its part. Source: `fields` of CouchDB's `_find`.
+/// Cost: for each path its steps, and the size of its part, also where a later one replaces it.
+/// Source: `fields` of CouchDB's `_find`.
 pub fn project(alloc: Global, value: &Json, paths: &[Path]) -> Result<Json, NoMemory>
     ensures { IfOk result (λ projected. view projected ≡ projection_of paths.now (view value.now)) }
 {

@@ -1,5 +1,5 @@
--- Which selector a value spells, or its first fault, after the selector syntax of the CouchDB 3.x API reference. Members are
--- read in the order of their names, arms in their order, and what is inside before what follows; the first fault decides.
+-- Which selector a value spells, or the fault that is met first, after the selector syntax of the CouchDB 3.x API reference. A
+-- member is read whole before the one with the next name, and an arm before the next arm.
 use Rattle.std.specs.Prelude.{◌≡◌, ℕ, List, [], ◌∷◌, codes, Result, Ok, Err, if◌then◌else◌}
 use Rattle.std.specs.Str.{bytes_eq}
 use Rattle.std.specs.Option.{option_map_or}
