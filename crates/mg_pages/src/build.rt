@@ -6,8 +6,8 @@ ghost use Rattle.mg_pages.specs.Parts.{values, children, child_seen, child_whole
 use crate::child::{Child, child_of, copied_children};
 use crate::keyed::Keyed;
 use crate::level::Level;
-use crate::page::Page;
-use crate::part::{LIMIT, Part, copied};
+use crate::page::{Page, page_of};
+use crate::part::{LIMIT, Part};
 use std::alloc::{AllocError, Global};
 use std::sync::Arc;
 
@@ -23,8 +23,8 @@ pub fn paged<T: Keyed>(
     let mut rest = elements;
     while rest.len() > 0 {
         let (chunk, others) = rest.split_at(rest.len().min(LIMIT));
-        let elements = copied(alloc, chunk)?;
-        let page = child_of::<T, Page<T>>(alloc, Page { elements })?;
+        let own = page_of(alloc, chunk)?;
+        let page = child_of::<T, Page<T>>(alloc, own)?;
         pages.push(page)?;
         rest = others;
     }

@@ -4,16 +4,18 @@ ghost use Rattle.std.specs.Arc.{arc_value};
 ghost use Rattle.mg_pages.specs.Order.{Ascends, found, inserted, removed};
 ghost use Rattle.mg_pages.specs.Parts.{IsLast, child_value, child_seen, child_whole, children};
 
+use crate::hint::number_of;
 use crate::keyed::{Keyed, Probe};
 use crate::part::Part;
 use std::alloc::{AllocError, Global};
 use std::sync::Arc;
 
-/// A part, and its last element, so that a search need not look into the part.
+/// A part, its last element, so that a search need not look into the part, and the number of that element.
 #[derive(Drop)]
 pub struct Child<T, P> {
     pub(crate) last: Arc<T>,
     pub(crate) part: Arc<P>,
+    pub(crate) hint: u64,
 }
 
 /// A part as a child.
@@ -23,8 +25,9 @@ pub fn child_of<T: Keyed, P: Part<T>>(alloc: Global, part: P) -> Result<Child<T,
     ensures seen { IfOk result (λ c. child_seen P.seen (child_value c) ≡ P.seen part) }
 {
     let last = part.last().clone()?;
+    let hint = number_of(&last);
     let part = Arc::new(alloc, part)?;
-    Ok(Child { last, part })
+    Ok(Child { last, part, hint })
 }
 
 // The same child, which shares the part.
@@ -33,7 +36,8 @@ fn copy<T: Drop, P: Drop>(child: &Child<T, P>) -> Result<Child<T, P>, AllocError
 {
     let last = child.last.clone()?;
     let part = child.part.clone()?;
-    Ok(Child { last, part })
+    let hint = child.hint;
+    Ok(Child { last, part, hint })
 }
 
 /// The same children, each of which shares its part, with room for one more.
@@ -151,6 +155,7 @@ pub fn put_into<T: Keyed, P: Part<T>>(
 {
     let last = last_with(&child.last, &element)?;
     let had = put_shared::<T, P>(alloc, &mut child.part, element)?;
+    child.hint = number_of(&last);
     child.last = last;
     Ok(had)
 }
@@ -171,6 +176,7 @@ pub fn take_out_of<T: Keyed, P: Part<T>, Q: Probe<T>>(
 {
     let last = last_without::<T, P, Q>(&child.part, &child.last, key)?;
     let emptied = take_out_shared::<T, P, Q>(alloc, &mut child.part, key)?;
+    child.hint = number_of(&last);
     child.last = last;
     Ok(emptied)
 }

@@ -1,6 +1,7 @@
 //! Elements that are ordered by an id.
 ghost use Rattle.std.specs.Prelude.{◌≡◌, ℕ, List};
 
+use crate::hint::text_hint;
 use crate::keyed::{Keyed, Probe};
 use std::cmp::Ordering;
 
@@ -21,6 +22,10 @@ impl<T: Identified> Keyed for T {
 
     ghost total = { id_order_total T.id };
 
+    fn hint(&self) -> u64 {
+        text_hint(self.id())
+    }
+
     fn order(&self, other: &T) -> Ordering {
         self.id().cmp(other.id())
     }
@@ -32,6 +37,10 @@ impl<'a, T: Identified> Probe<T> for &'a str {
     ghost against = { λ key t. id_against T.id key.now t };
 
     ghost probes = { λ key. id_probes T.id key.now };
+
+    fn hint(&self) -> u64 {
+        text_hint(*self)
+    }
 
     fn against(&self, element: &T) -> Ordering {
         (*self).cmp(element.id())

@@ -12,6 +12,12 @@ pub trait Keyed: Drop {
     // the order
     ghost order: { Self → Self → Ordering };
 
+    /// A number that rises with the order, as far as a number can. Searches begin by it: one that does not rise costs
+    /// time, and changes no answer.
+    fn hint(&self) -> u64 {
+        0
+    }
+
     /// The order of two elements. Takes no memory.
     fn order(&self, other: &Self) -> Ordering
         ensures { result ≡ order self.now other.now };
@@ -26,6 +32,11 @@ pub trait Probe<T: Keyed> {
     // the order of the key against an element
     ghost against: { Self → T → Ordering };
 
+    /// The number of the key among those of the elements: where a search begins.
+    fn hint(&self) -> u64 {
+        0
+    }
+
     /// The order of the key against an element: `Less` where the key is below it. Takes no memory.
     fn against(&self, element: &T) -> Ordering
         ensures { result ≡ against self.now element.now };
@@ -39,6 +50,10 @@ impl<T: Keyed> Probe<T> for Arc<T> {
     ghost against = { λ a t. T.order a.value t };
 
     ghost probes = { λ a. probe_from_total T.total a.value };
+
+    fn hint(&self) -> u64 {
+        (**self).hint()
+    }
 
     fn against(&self, element: &T) -> Ordering {
         (**self).order(element)

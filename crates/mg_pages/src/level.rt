@@ -8,6 +8,7 @@ ghost use Rattle.mg_pages.specs.Runs.{IsRun, IsEndRun};
 ghost use Rattle.mg_pages.specs.Parts.{values, children, child_seen, child_value, child_whole, AreWhole};
 
 use crate::child::{Child, child_of, copied_children, put_into, take_out_of};
+use crate::hint::next_guess;
 use crate::keyed::{Keyed, Probe};
 use crate::part::{LIMIT, Part};
 use std::alloc::{AllocError, Global};
@@ -17,6 +18,21 @@ use std::sync::Arc;
 #[derive(Drop)]
 pub struct Level<T, P> {
     pub(crate) parts: Vec<Child<T, P>>,
+}
+
+// Where the first part is whose last element has no number below one.
+fn guess_among<T: Drop, P: Drop>(parts: &[Child<T, P>], number: u64) -> usize {
+    let mut low = 0;
+    let mut high = parts.len();
+    while low < high {
+        let middle = low + (high - low) / 2;
+        if parts[middle].hint < number {
+            low = middle + 1;
+        } else {
+            high = middle;
+        }
+    }
+    low
 }
 
 // The part in which a key has its place: what is before it is below the key, and what comes after it above.
@@ -31,8 +47,9 @@ fn place<T: Keyed, P: Part<T>, Q: Probe<T>>(parts: &[Child<T, P>], key: &Q) -> u
 {
     let mut low = 0;
     let mut high = parts.len() - 1;
+    let guess = guess_among(parts, key.hint());
     while low < high {
-        let middle = low + (high - low) / 2;
+        let middle = next_guess(low, high, guess);
         let child = &parts[middle];
         let last: &T = &child.last;
         if key.against(last).is_gt() {

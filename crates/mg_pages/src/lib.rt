@@ -4,6 +4,7 @@
 mod back;
 mod build;
 mod child;
+mod hint;
 mod identified;
 mod iter;
 pub mod keyed;

@@ -5,28 +5,34 @@ ghost use Rattle.mg_pages.specs.Order.{Ascends, found, inserted, removed};
 ghost use Rattle.mg_pages.specs.Search.{IsTie, IsGap};
 ghost use Rattle.mg_pages.specs.Parts.{values};
 
+use crate::hint::{Hints, next_guess, number_of};
 use crate::keyed::{Keyed, Probe};
 use crate::part::{LIMIT, Part, copied};
 use std::alloc::{AllocError, Global};
 use std::cmp::Ordering;
 use std::sync::Arc;
 
-/// Some elements, each of them shared.
+/// Some elements, each of them shared, and their numbers.
 #[derive(Drop)]
 pub struct Page<T> {
     pub(crate) elements: Vec<Arc<T>>,
+    pub(crate) hints: Hints,
 }
 
 // Where the element is that ties with a key, or else where one would have its place.
 // Cost: a comparison each time the number of elements is halved.
-pub fn find<T: Keyed, Q: Probe<T>>(elements: &[Arc<T>], key: &Q) -> Result<usize, usize>
+pub fn find<T: Keyed, Q: Probe<T>>(
+    elements: &[Arc<T>],
+    key: &Q,
+    guess: usize,
+) -> Result<usize, usize>
     requires { Ascends T.order (values elements.now) }
     ensures { MatchResult result (IsTie (Q.against key.now) (values elements.now)) (IsGap (Q.against key.now) (values elements.now)) }
 {
     let mut low = 0;
     let mut high = elements.len();
     while low < high {
-        let middle = low + (high - low) / 2;
+        let middle = next_guess(low, high, guess);
         let element: &T = &elements[middle];
         match key.against(element) {
             Ordering::Greater => low = middle + 1,
@@ -35,6 +41,18 @@ pub fn find<T: Keyed, Q: Probe<T>>(elements: &[Arc<T>], key: &Q) -> Result<usize
         }
     }
     Err(low)
+}
+
+/// A page of the elements, each of them shared.
+pub fn page_of<T: Keyed>(alloc: Global, elements: &[Arc<T>]) -> Result<Page<T>, AllocError>
+    ensures { IfOk result (λ p. values p.elements.items ≡ values elements.now) }
+{
+    let mut hints = Hints::new(alloc);
+    for element in elements {
+        hints.push(number_of(element))?;
+    }
+    let elements = copied(alloc, elements)?;
+    Ok(Page { elements, hints })
 }
 
 impl<T: Keyed> Part<T> for Page<T> {
@@ -50,7 +68,7 @@ impl<T: Keyed> Part<T> for Page<T> {
     }
 
     fn get<Q: Probe<T>>(&self, key: &Q) -> Option<&T> {
-        match find::<T, Q>(&self.elements, key) {
+        match find::<T, Q>(&self.elements, key, self.hints.guess(key.hint())) {
             Ok(i) => Some(&self.elements[i]),
             Err(_) => None,
         }
@@ -61,7 +79,7 @@ impl<T: Keyed> Part<T> for Page<T> {
     }
 
     fn run_after<Q: Probe<T>>(&self, key: &Q) -> &[Arc<T>] {
-        match find::<T, Q>(&self.elements, key) {
+        match find::<T, Q>(&self.elements, key, self.hints.guess(key.hint())) {
             Ok(i) => &self.elements[i + 1..],
             Err(i) => &self.elements[i..],
         }
@@ -72,7 +90,7 @@ impl<T: Keyed> Part<T> for Page<T> {
     }
 
     fn run_before<Q: Probe<T>>(&self, key: &Q) -> &[Arc<T>] {
-        match find::<T, Q>(&self.elements, key) {
+        match find::<T, Q>(&self.elements, key, self.hints.guess(key.hint())) {
             Ok(i) => &self.elements[..i],
             Err(i) => &self.elements[..i],
         }
@@ -80,7 +98,8 @@ impl<T: Keyed> Part<T> for Page<T> {
 
     fn copy(&self, alloc: Global) -> Result<Page<T>, AllocError> {
         let elements = copied(alloc, &self.elements)?;
-        Ok(Page { elements })
+        let hints = self.hints.copied(alloc)?;
+        Ok(Page { elements, hints })
     }
 
     fn halves(
@@ -88,13 +107,13 @@ impl<T: Keyed> Part<T> for Page<T> {
         alloc: Global,
         element: &Arc<T>,
     ) -> Result<Option<(Page<T>, Page<T>)>, AllocError> {
-        if self.elements.len() < LIMIT || find::<T, Arc<T>>(&self.elements, element).is_ok() {
+        if self.elements.len() < LIMIT || find::<T, Arc<T>>(&self.elements, element, self.hints.guess(number_of(element))).is_ok() {
             return Ok(None);
         }
         let (front, back) = self.elements.split_at(self.elements.len() / 2);
-        let front = copied(alloc, front)?;
-        let back = copied(alloc, back)?;
-        Ok(Some((Page { elements: front }, Page { elements: back })))
+        let front = page_of(alloc, front)?;
+        let back = page_of(alloc, back)?;
+        Ok(Some((front, back)))
     }
 
     fn put(&mut self, _alloc: Global, element: Arc<T>) -> Result<bool, AllocError>
@@ -105,12 +124,15 @@ impl<T: Keyed> Part<T> for Page<T> {
         ensures ok { OnOk result (values self.new.elements.items ≡ inserted T.order (arc_value element) (values self.old.elements.items)) }
         ensures err { OnErr result (values self.new.elements.items ≡ values self.old.elements.items) }
     {
-        match find::<T, Arc<T>>(&self.elements, &element) {
+        let hint = number_of(&element);
+        let guess = self.hints.guess(hint);
+        match find::<T, Arc<T>>(&self.elements, &element, guess) {
             Ok(i) => {
                 self.elements[i] = element;
                 Ok(true)
             }
             Err(i) => {
+                self.hints.add_at(i, hint)?;
                 self.elements.insert(i, element)?;
                 Ok(false)
             }
@@ -127,9 +149,10 @@ impl<T: Keyed> Part<T> for Page<T> {
         ensures err { OnErr result (values self.new.elements.items ≡ values self.old.elements.items) }
         ensures err_whole { OnErr result (0 < length self.new.elements.items) }
     {
-        match find::<T, Q>(&self.elements, key) {
+        match find::<T, Q>(&self.elements, key, self.hints.guess(key.hint())) {
             Ok(i) => {
                 drop(self.elements.remove(i));
+                self.hints.drop_at(i);
                 Ok(self.elements.is_empty())
             }
             Err(_) => Ok(false),

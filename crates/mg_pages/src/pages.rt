@@ -8,6 +8,7 @@ ghost use Rattle.mg_pages.specs.Parts.{values, level_seen, level_whole, high_see
 use crate::back::Back;
 use crate::build::{grouped, paged};
 use crate::child::{child_of, copied_children};
+use crate::hint::{Hints, number_of};
 use crate::iter::Iter;
 use crate::keyed::{Keyed, Probe};
 use crate::level::{Level, take_out_of_parts};
@@ -38,8 +39,10 @@ fn root_of<T: Keyed>(alloc: Global, element: Arc<T>) -> Result<Root<T>, AllocErr
     ensures whole { IfOk result (λ r. level_whole high_whole high_seen r) }
     ensures seen { IfOk result (λ r. root_seen r ≡ arc_value element ∷ []) }
 {
+    let mut hints = Hints::new(alloc);
+    hints.push(number_of(&element))?;
     let elements = vec_of(alloc, element)?;
-    let low = level_of::<T, Page<T>>(alloc, Page { elements })?;
+    let low = level_of::<T, Page<T>>(alloc, Page { elements, hints })?;
     let high = level_of::<T, Level<T, Page<T>>>(alloc, low)?;
     let root = level_of::<T, Level<T, Level<T, Page<T>>>>(alloc, high)?;
     Ok(root)

@@ -1,4 +1,5 @@
 //! Rows of an index, and their keys.
+use crate::hint::key_hint;
 use crate::keyed::{Keyed, Probe};
 use mg_collate::{Row, compare_keys};
 use mg_value::Json;
@@ -10,6 +11,10 @@ impl Keyed for Row {
     ghost order = { row_order };
 
     ghost total = { row_order_total };
+
+    fn hint(&self) -> u64 {
+        key_hint(&self.key)
+    }
 
     fn order(&self, other: &Row) -> Ordering {
         self.cmp(other)
@@ -33,6 +38,10 @@ impl<'a> Probe<Row> for RowPlace<'a> {
     ghost against = { λ p row. row_against (items_view p.key.now, p.id.now) row };
 
     ghost probes = { λ p. row_probes (items_view p.key.now, p.id.now) };
+
+    fn hint(&self) -> u64 {
+        key_hint(self.key)
+    }
 
     fn against(&self, element: &Row) -> Ordering {
         compare_keys(self.key, &element.key).then(self.id.cmp(element.id.as_str()))

@@ -15,6 +15,10 @@ impl<'a, T: Keyed, Q: Probe<T>> Probe<T> for Under<'a, Q> {
 
     ghost probes = { λ u. probe_under T.order (Q.against u.key.now) (Q.probes u.key.now) };
 
+    fn hint(&self) -> u64 {
+        self.key.hint()
+    }
+
     fn against(&self, element: &T) -> Ordering {
         match self.key.against(element) {
             Ordering::Greater => Ordering::Greater,
@@ -35,6 +39,10 @@ impl<'a, T: Keyed, Q: Probe<T>> Probe<T> for Over<'a, Q> {
     ghost against = { λ o t. over (Q.against o.key.now t) };
 
     ghost probes = { λ o. probe_over T.order (Q.against o.key.now) (Q.probes o.key.now) };
+
+    fn hint(&self) -> u64 {
+        self.key.hint()
+    }
 
     fn against(&self, element: &T) -> Ordering {
         match self.key.against(element) {

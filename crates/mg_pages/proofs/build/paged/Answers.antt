@@ -13,7 +13,7 @@ loop-rest-preserved g c =
     let parts = c.loop-rest.pages.items in
     let page = c.in_ok-page.page in
     let pushed : children c.push.new.self.items ≡ children parts ++ child_value page ∷ [] = ap children c.in_ok-push.ensures.items ∙ mapped_push child_value parts page in
-    let own : values (take k left) ≡ child_seen page_seen (child_value page) = sym (c.in_ok-page.ensures.seen ∙ c.in_ok-elements.ensures ∙ ap values c.split_at.ensures.front) in
+    let own : values (take k left) ≡ child_seen page_seen (child_value page) = sym (c.in_ok-page.ensures.seen ∙ c.in_ok-own.ensures ∙ ap values c.split_at.ensures.front) in
     let split : values left ≡ child_seen page_seen (child_value page) ++ values c.split_at.result.1.now =
     sym (ap values (take-append-drop k left)) ∙ map-append arc_value (take k left) (drop k left) ∙ ap₂ (λ us vs. us ++ vs) own (sym (ap values c.split_at.ensures.back)) in
     record {

@@ -1,0 +1,128 @@
+//! Numbers by which searches begin. Where one is wrong, a search takes longer and finds the same.
+ghost use Rattle.std.specs.Prelude.{◌<◌, ◌≤◌};
+
+use crate::keyed::Keyed;
+use mg_value::Json;
+use std::alloc::{AllocError, Global};
+use std::sync::Arc;
+
+/// The number of an element.
+pub fn number_of<T: Keyed>(element: &Arc<T>) -> u64 {
+    let one: &T = element;
+    one.hint()
+}
+
+/// The number of a text: its first eight bytes, the first of them highest.
+pub fn text_hint(text: &str) -> u64 {
+    let mut hint = 0u64;
+    for i in 0..8usize {
+        let byte = text.as_bytes().get(i).copied().unwrap_or(0);
+        hint = (hint << 8) | u64::from(byte);
+    }
+    hint
+}
+
+/// The number of a key: that of its first value, by type and then by what begins the value.
+pub fn key_hint(key: &[Json]) -> u64 {
+    match key.first() {
+        None | Some(Json::Null) => 0,
+        Some(Json::Flag(false)) => 1 << 61,
+        Some(Json::Flag(true)) => 2 << 61,
+        Some(Json::Whole(number)) => (3 << 61) | (whole_hint(*number) >> 3),
+        Some(Json::Text(text)) => (4 << 61) | (text_hint(text.as_str()) >> 3),
+        Some(Json::List(_)) => 5 << 61,
+        Some(Json::Object(_)) => 6 << 61,
+    }
+}
+
+// The number of a whole number.
+fn whole_hint(number: i64) -> u64 {
+    u64::from_be_bytes(number.to_be_bytes()) ^ (1 << 63)
+}
+
+/// Where a search goes on: at the guess, then beside it, and then in the middle.
+pub fn next_guess(low: usize, high: usize, guess: usize) -> usize
+    requires { low < high }
+    ensures low { low ≤ result }
+    ensures high { result < high }
+{
+    if low <= guess && guess < high {
+        return guess;
+    }
+    if guess == high {
+        return high - 1;
+    }
+    if guess < low && low - guess == 1 {
+        return low;
+    }
+    low + (high - low) / 2
+}
+
+/// Numbers beside elements.
+#[derive(Drop)]
+pub struct Hints {
+    numbers: Vec<u64>,
+}
+
+impl Hints {
+    pub fn new(alloc: Global) -> Hints {
+        Hints {
+            numbers: Vec::new(alloc),
+        }
+    }
+
+    pub fn push(&mut self, number: u64) -> Result<(), AllocError> {
+        self.numbers.push(number)?;
+        Ok(())
+    }
+
+    pub fn copied(&self, alloc: Global) -> Result<Hints, AllocError> {
+        let mut numbers = Vec::with_capacity(alloc, self.numbers.len().saturating_add(1))?;
+        for number in &self.numbers {
+            numbers.push(*number)?;
+        }
+        Ok(Hints { numbers })
+    }
+
+    /// Puts the number of an element in, where it has its place.
+    pub fn add_at(&mut self, i: usize, number: u64) -> Result<(), AllocError> {
+        if i <= self.numbers.len() {
+            self.numbers.insert(i, number)?;
+        }
+        Ok(())
+    }
+
+    /// Takes the number of an element out.
+    pub fn drop_at(&mut self, i: usize) {
+        if i < self.numbers.len() {
+            self.numbers.remove(i);
+        }
+    }
+
+    /// Where the first number is that is not below one; in the middle of those that are the same.
+    pub fn guess(&self, number: u64) -> usize {
+        let first = begin_of(&self.numbers, number);
+        match self.numbers.get(first) {
+            Some(same) if *same == number => {
+                let end = begin_of(&self.numbers, number.saturating_add(1));
+                first.saturating_add(end.saturating_sub(first) / 2)
+            }
+            _ => first,
+        }
+    }
+}
+
+// Where the first number is that is not below one.
+fn begin_of(numbers: &[u64], number: u64) -> usize {
+    let mut low = 0;
+    let mut high = numbers.len();
+    while low < high {
+        let middle = low + (high - low) / 2;
+        if numbers[middle] < number {
+            low = middle + 1;
+        } else {
+            high = middle;
+        }
+    }
+    low
+}
