@@ -14,9 +14,17 @@ pub fn number_of<T: Keyed>(element: &Arc<T>) -> u64 {
 
 /// The number of a text: its first eight bytes, the first of them highest.
 pub fn text_hint(text: &str) -> u64 {
+    match text.as_bytes() {
+        [a, b, c, d, e, f, g, h, ..] => u64::from_be_bytes([*a, *b, *c, *d, *e, *f, *g, *h]),
+        short => short_hint(short),
+    }
+}
+
+// The number of a text of less than eight bytes.
+fn short_hint(bytes: &[u8]) -> u64 {
     let mut hint = 0u64;
     for i in 0..8usize {
-        let byte = text.as_bytes().get(i).copied().unwrap_or(0);
+        let byte = bytes.get(i).copied().unwrap_or(0);
         hint = (hint << 8) | u64::from(byte);
     }
     hint

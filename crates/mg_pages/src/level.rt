@@ -20,8 +20,12 @@ pub struct Level<T, P> {
     pub(crate) parts: Vec<Child<T, P>>,
 }
 
-// Where the first part is whose last element has no number below one.
-fn guess_among<T: Drop, P: Drop>(parts: &[Child<T, P>], number: u64) -> usize {
+// Where the first part is whose last element has no number below that of the key.
+fn guess_among<T: Keyed, P: Part<T>, Q: Probe<T>>(parts: &[Child<T, P>], key: &Q) -> usize {
+    if parts.len() < 2 {
+        return 0;
+    }
+    let number = key.hint();
     let mut low = 0;
     let mut high = parts.len();
     while low < high {
@@ -47,7 +51,7 @@ fn place<T: Keyed, P: Part<T>, Q: Probe<T>>(parts: &[Child<T, P>], key: &Q) -> u
 {
     let mut low = 0;
     let mut high = parts.len() - 1;
-    let guess = guess_among(parts, key.hint());
+    let guess = guess_among::<T, P, Q>(parts, key);
     while low < high {
         let middle = next_guess(low, high, guess);
         let child = &parts[middle];
