@@ -1,12 +1,12 @@
 -- Elements in order as a finite map: what an insertion, a removal and a look-up are there.
-use Rattle.std.proofs.Common.{◌≡◌, Bool, true, false, cond, not, ◌&&◌, T, List, [], ◌∷◌, ◌++◌, map, Option, Some, None, option_map, Ordering, Less, Equal, Greater, is_eq, is_lt, is_gt, refl, sym, ap, ap₂, ◌∙◌, subst}
+use Rattle.std.proofs.Common.{◌≡◌, Bool, true, false, cond, not, ◌&&◌, T, List, [], ◌∷◌, ◌++◌, map, Some, None, option_map, Ordering, Less, Equal, Greater, is_eq, is_lt, is_gt, refl, sym, ap, ap₂, ◌∙◌, subst}
 use Rattle.std.proofs.lemmas.Cmp.{alike_right, eq_by_cmp_equiv, on_total}
 use Rattle.std.specs.Cmp.{IsTotalOrder}
 use Rattle.std.specs.FinMap.{IsAntisymmetric, entries, get, insert, remove, find, put, is_sorted, same_entries_map, same_map, entries-from_sorted, get-from_sorted, entries-insert, get-remove}
 use Rattle.std.specs.FinMap.Entries.{by_order, below_all, where_key, find-where_key}
 use Rattle.std.specs.List.{AllByRecursion, filter}
 use Rattle.std.specs.Ordering.{eq_by_cmp, on}
-use Rattle.mg_pages.specs.Order.{Ascends, above, below, first_of_list, found, inserted, removed, probe_from_total, probe_through}
+use Rattle.mg_pages.specs.Order.{Ascends, above, below, first_of_list, found, inserted, removed, probe_through}
 use Rattle.mg_pages.specs.Finite.{finite}
 use Rattle.mg_pages.proofs.Sorted.{all_weaker, above_of_above, above_one_less, above_one_not, below_of_above, below_none, inserted_ascends, removed_ascends}
 

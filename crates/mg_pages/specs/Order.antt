@@ -1,6 +1,6 @@
 -- Sorted lists without ties, and keys that are looked up in them, as in a sorted map: what a collection stands for.
 -- A key is compared to an element by `against`: `Less` where the key is below the element.
-use Rattle.std.specs.Prelude.{◌≡◌, true, false, List, [], ◌∷◌, ◌++◌, Option, Some, None, refl}
+use Rattle.std.specs.Prelude.{◌≡◌, false, List, [], ◌∷◌, ◌++◌, Option, Some, None, refl}
 use Rattle.std.specs.Cmp.{IsTotalOrder}
 use Rattle.std.specs.List.{filter, AllByRecursion}
 use Rattle.std.specs.Ordering.{is_eq, is_lt, is_gt, is_le, is_ge}

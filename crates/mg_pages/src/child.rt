@@ -61,7 +61,11 @@ fn last_with<T: Keyed>(last: &Arc<T>, element: &Arc<T>) -> Result<Arc<T>, AllocE
         → IsLast (arc_value a) (inserted T.order (arc_value element.now) xs)) }
 {
     let one: &T = element;
-    let kept = if one.order(last).is_lt() { last } else { element };
+    let kept = if one.order(last).is_lt() {
+        last
+    } else {
+        element
+    };
     let kept = kept.clone()?;
     Ok(kept)
 }

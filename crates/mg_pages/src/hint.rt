@@ -110,7 +110,7 @@ impl Hints {
     /// Where the first number is that is not below one; in the middle of those that are the same.
     pub fn guess(&self, number: u64) -> usize {
         let first = begin_of(&self.numbers, number);
-        match self.numbers.get(first) {
+        match self.numbers.get(first.saturating_add(1)) {
             Some(same) if *same == number => {
                 let end = begin_of(&self.numbers, number.saturating_add(1));
                 first.saturating_add(end.saturating_sub(first) / 2)

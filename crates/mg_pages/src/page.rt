@@ -107,7 +107,14 @@ impl<T: Keyed> Part<T> for Page<T> {
         alloc: Global,
         element: &Arc<T>,
     ) -> Result<Option<(Page<T>, Page<T>)>, AllocError> {
-        if self.elements.len() < LIMIT || find::<T, Arc<T>>(&self.elements, element, self.hints.guess(number_of(element))).is_ok() {
+        if self.elements.len() < LIMIT
+            || find::<T, Arc<T>>(
+                &self.elements,
+                element,
+                self.hints.guess(number_of(element)),
+            )
+            .is_ok()
+        {
             return Ok(None);
         }
         let (front, back) = self.elements.split_at(self.elements.len() / 2);

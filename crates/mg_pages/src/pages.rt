@@ -49,11 +49,7 @@ fn root_of<T: Keyed>(alloc: Global, element: Arc<T>) -> Result<Root<T>, AllocErr
 }
 
 // Puts an element under a root that may be empty, and says whether one that ties gave way.
-fn put<T: Keyed>(
-    alloc: Global,
-    root: &mut Root<T>,
-    element: Arc<T>,
-) -> Result<bool, AllocError>
+fn put<T: Keyed>(alloc: Global, root: &mut Root<T>, element: Arc<T>) -> Result<bool, AllocError>
     requires { IsSound T.order root.old }
     ensures sound { IsSound T.order root.new }
     ensures had { IfOk result (λ had. had ≡ is_some (found (T.order (arc_value element)) (root_seen root.old))) }

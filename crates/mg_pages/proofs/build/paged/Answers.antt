@@ -1,4 +1,4 @@
-use Rattle.std.proofs.Common.{◌≡◌, ◌∷◌, ◌++◌, [], map, take, drop, ap, ap₂, sym, ◌∙◌}
+use Rattle.std.proofs.Common.{◌≡◌, ◌∷◌, ◌++◌, [], take, drop, ap, ap₂, sym, ◌∙◌}
 use Rattle.std.proofs.lemmas.List.{take-append-drop, map-append}
 use Rattle.std.specs.Arc.{arc_value}
 use Rattle.mg_pages.specs.Parts.{values, children, child_seen, child_value, child_whole, page_seen, page_whole}

@@ -1,4 +1,4 @@
-use Rattle.std.proofs.Common.{◌≡◌, ◌-◌, ◌<◌, length, is_lt, false, get_or, arith, ap, sym, ◌∙◌, subst, refl}
+use Rattle.std.proofs.Common.{◌≡◌, ◌-◌, ◌<◌, length, is_lt, false, get_or, arith, ap, sym, ◌∙◌, subst}
 use Rattle.std.specs.Arc.{arc_value}
 use Rattle.mg_pages.specs.Order.{removed, below}
 use Rattle.mg_pages.specs.Parts.{values, IsLast}

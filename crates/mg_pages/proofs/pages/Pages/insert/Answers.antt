@@ -1,6 +1,5 @@
-use Rattle.std.proofs.Common.{◌≡◌, true, false, is_some, length, arith, rules, ap, sym, ◌∙◌}
+use Rattle.std.proofs.Common.{◌≡◌, true, false, length, arith, rules, ap, sym, ◌∙◌}
 use Rattle.std.specs.Arc.{arc_value}
-use Rattle.mg_pages.specs.Order.{found}
 use Rattle.mg_pages.specs.Parts.{root_seen}
 use Rattle.mg_pages.proofs.Sorted.{inserted_new, inserted_over}
 use Rattle.mg_pages.proofs.pages.Pages.insert.Goals as goal
