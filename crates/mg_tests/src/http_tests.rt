@@ -1,13 +1,13 @@
-//! HTTP sessions over an engine of one shard. The bytes that are wanted are written after docs/PROFILE.md.
+//! Sessions over readers and writers that only Rust can make. Conversations stand in tests/sessions.
 ghost use Rattle.std.specs.Prelude.{None, Some};
 
 use mg_engine::Engine;
 use mg_http::{Device, SessionEnd, Solo, session};
 use mg_shard::Placement;
 use std::alloc::Global;
+use std::cell::Cell;
 use std::io;
 use std::io::{ErrorKind, Read, Write};
-use std::process::Abort;
 use std::sync::Wait;
 use std::test::Fail;
 use std::thread::Threads;
@@ -26,26 +26,11 @@ const CREATED: &[u8] =
 const ONE_FOUND: &[u8] =
     b"HTTP/1.1 200 OK\r\nContent-Type: application/json\r\nContent-Length: 105\r\n\r\n{\"bookmark\":\"W251bGwsIl9hbGxfZG9jcyIsImFzYyIsWyJkMSJdLCJkMSJd\",\"docs\":[{\"_id\":\"d1\",\"_rev\":\"1-a\",\"v\":1}]}\n";
 
-const BAD_HEAD: &[u8] =
-    b"HTTP/1.1 400 Bad Request\r\nContent-Type: application/json\r\nContent-Length: 50\r\n\r\n{\"error\":\"bad_head\",\"reason\":\"Bad request head.\"}\n";
-
-const INVALID_JSON: &[u8] =
-    b"HTTP/1.1 400 Bad Request\r\nContent-Type: application/json\r\nContent-Length: 49\r\n\r\n{\"error\":\"bad_request\",\"reason\":\"Invalid JSON.\"}\n";
-
 const MISSING: &[u8] =
     b"HTTP/1.1 404 Not Found\r\nContent-Type: application/json\r\nContent-Length: 41\r\n\r\n{\"error\":\"not_found\",\"reason\":\"missing\"}\n";
 
-const DELETED: &[u8] =
-    b"HTTP/1.1 404 Not Found\r\nContent-Type: application/json\r\nContent-Length: 41\r\n\r\n{\"error\":\"not_found\",\"reason\":\"deleted\"}\n";
-
-/// Documents with the ids that the targets below spell.
-const DOCUMENTS: &[u8] =
-    b"POST /db/_bulk_docs HTTP/1.1\r\nContent-Length: 289\r\n\r\n{\"docs\":[{\"_id\":\"d1\",\"_rev\":\"1-a\",\"v\":1},{\"_id\":\"a b\",\"_rev\":\"1-a\"},{\"_id\":\"a+b\",\"_rev\":\"1-a\"},{\"_id\":\"a/b\",\"_rev\":\"1-a\"},{\"_id\":\"%zz\",\"_rev\":\"1-a\"},{\"_id\":\"%\",\"_rev\":\"1-a\"},{\"_id\":\"%4\",\"_rev\":\"1-a\"},{\"_id\":\"\xC3\xA9\",\"_rev\":\"1-a\"},{\"_id\":\"gone\",\"_rev\":\"1-a\",\"_deleted\":true}],\"new_edits\":false}";
-
-const GET_D1: &[u8] = b"GET /db/d1 HTTP/1.1\r\n\r\n";
-
-const SERVED: &[u8] =
-    b"HTTP/1.1 200 OK\r\nContent-Type: application/json\r\nContent-Length: 32\r\n\r\n{\"_id\":\"d1\",\"_rev\":\"1-a\",\"v\":1}\n";
+const LENGTH_REQUIRED: &[u8] =
+    b"HTTP/1.1 411 Length Required\r\nContent-Type: application/json\r\nContent-Length: 64\r\n\r\n{\"error\":\"length_required\",\"reason\":\"Content-Length required.\"}\n";
 
 /// The placement of a database of one shard.
 #[derive(Clone, Copy, Drop)]
@@ -114,7 +99,8 @@ struct Ran {
     text: Vec<u8>,
     reads: u64,
     writes: u64,
-    failed: bool,
+    reader_failed: bool,
+    writer_failed: bool,
 }
 
 const ALL: usize = 1 << 20;
@@ -143,7 +129,8 @@ fn run(
         workers: 1,
     };
     let end = session(rt, alloc, "db", &mut reader, &mut writer, &mut service);
-    let failed = reader.failed() || writer.failed();
+    let reader_failed = reader.failed();
+    let writer_failed = writer.failed();
     let Pieces { reads, .. } = reader.into_inner();
     let Sink { taken, writes, .. } = writer.into_inner();
     Ok(Ran {
@@ -151,7 +138,8 @@ fn run(
         text: taken,
         reads,
         writes,
-        failed,
+        reader_failed,
+        writer_failed,
     })
 }
 
@@ -164,232 +152,137 @@ fn whole(
     run(rt, alloc, bytes, most, 99_999, ALL)
 }
 
-/// Runs a session over the bytes, in pieces of at most so many, and compares how it ended and what it wrote.
-fn expect(
-    rt: &(impl Wait + Threads + Abort + AllocGlobal),
-    bytes: &[u8],
-    most: usize,
-    end: SessionEnd,
-    text: &[u8],
-) -> Result<(), Fail> {
-    let ran = whole(rt, rt.alloc(), bytes, most)?;
-    assert_eq!(rt; ran.end, end);
-    assert_eq!(rt; ran.text.as_slice(), text);
-    Ok(())
-}
-
 #[test]
-fn first_query(rt: HostRuntime) -> Result<(), Fail> {
-    for most in [ALL, 1, 7] {
+fn session_that_ends_at_a_limit_or_at_once(rt: HostRuntime) -> Result<(), Fail> {
+    for most in [ALL, 7, 1] {
         let ran = whole(&rt, rt.alloc(), FIND, most)?;
         assert_eq!(rt; ran.end, SessionEnd::Eof);
         assert_eq!(rt; ran.text.as_slice(), EMPTY_PAGE);
-        assert!(rt; !ran.failed);
-    }
-    for end in 0..FIND.len() {
-        expect(&rt, &FIND[..end], ALL, SessionEnd::Eof, b"")?;
+        assert!(rt; !ran.reader_failed && !ran.writer_failed);
     }
     Ok(())
 }
 
 #[test]
-fn first_write_and_query(rt: HostRuntime) -> Result<(), Fail> {
+fn each_reply_is_one_write_however_its_message_came(rt: HostRuntime) -> Result<(), Fail> {
     let mut out = Vec::from_slice(rt.alloc(), CREATED)?;
     out.extend_from_slice(ONE_FOUND)?;
-    for most in [ALL, 1] {
+    for most in [ALL, 7, 1] {
         let ran = whole(&rt, rt.alloc(), WRITE_AND_FIND, most)?;
         assert_eq!(rt; ran.end, SessionEnd::Eof);
         assert_eq!(rt; ran.text.as_slice(), out.as_slice());
         assert_eq!(rt; ran.writes, 2);
     }
-    for end in 0..WRITE_AND_FIND.len() {
-        let ran = whole(&rt, rt.alloc(), &WRITE_AND_FIND[..end], ALL)?;
-        assert_eq!(rt; ran.end, SessionEnd::Eof);
-        assert!(rt; ran.text.is_empty() || ran.text.as_slice() == CREATED);
-    }
     Ok(())
 }
 
 #[test]
-fn pipelined_messages_cost_no_extra_read(rt: HostRuntime) -> Result<(), Fail> {
+fn messages_in_one_piece_cost_no_read_each(rt: HostRuntime) -> Result<(), Fail> {
     let ran = whole(&rt, rt.alloc(), WRITE_AND_FIND, ALL)?;
     assert_eq!(rt; ran.reads, 2);
     Ok(())
 }
 
 #[test]
-fn bytes_after_a_finished_message(rt: HostRuntime) -> Result<(), Fail> {
-    let mut bytes = Vec::from_slice(rt.alloc(), FIND)?;
-    bytes.extend_from_slice(b"GET /db/x HT")?;
-    for most in [ALL, 1] {
-        expect(&rt, &bytes, most, SessionEnd::Eof, EMPTY_PAGE)?;
-    }
-    for end in FIND.len()..bytes.len() {
-        expect(&rt, &bytes[..end], ALL, SessionEnd::Eof, EMPTY_PAGE)?;
-    }
-    Ok(())
-}
-
-// A head that is cut short is waited for, or refused as soon as nothing can make it one.
-#[test]
-fn head_that_is_none_is_cut(rt: HostRuntime) -> Result<(), Fail> {
-    for head in [b"".as_slice(), b"X"] {
-        expect(&rt, head, ALL, SessionEnd::Eof, b"")?;
-    }
-    expect(&rt, b"X\r", ALL, SessionEnd::Refused, BAD_HEAD)
-}
-
-#[test]
-fn heads_that_are_refused(rt: HostRuntime) -> Result<(), Fail> {
-    let heads: [&[u8]; 19] = [
-        b"X\r\n",
-        b"POST /other/_find HTTP/1.1\r\nContent-Length: 2\r\n\r\n{}",
-        b"POST /db/_find HTTP/1.1\r\nContent-Length: 2\r\nContent-Length: 3\r\n\r\n{}",
-        b"POST /db/_find HTTP/1.1\r\nContent-Length: 8388609\r\n\r\n",
-        b"POST /db/_find HTTP/1.1\r\nConnection: close\r\nContent-Length: 2\r\n\r\n{}",
-        b"GET /db/_find HTTP/1.1\r\n\r\n",
-        b"GET /db/_bulk_docs?conflicts=true HTTP/1.1\r\n\r\n",
-        b"GET /other/d1 HTTP/1.1\r\n\r\n",
-        b"GET /db/d1 HTTP/1.0\r\n\r\n",
-        b"GET /db/a/b HTTP/1.1\r\n\r\n",
-        b"GET /db/ HTTP/1.1\r\n\r\n",
-        b"GET /db HTTP/1.1\r\n\r\n",
-        b"HEAD /db/d1 HTTP/1.1\r\n\r\n",
-        b"GET /db/d1 HTTP/1.1\r\nConnection: close\r\n\r\n",
-        b"GET /db/d1 HTTP/1.1\r\nTransfer-Encoding: chunked\r\n\r\n",
-        b"GET /db/d1 HTTP/1.1\r\nContent-Length: 8388609\r\n\r\n",
-        b"GET /db/d1 HTTP/1.1\r\nContent-Length: 0\r\nContent-Length: 0\r\n\r\n",
-        b"POST /db/_find?a=b HTTP/1.1\r\nContent-Length: 2\r\n\r\n{}",
-        b"POST /db/d1 HTTP/1.1\r\nContent-Length: 2\r\n\r\n{}",
-    ];
-    for head in heads {
-        for most in [ALL, 1] {
-            expect(&rt, head, most, SessionEnd::Refused, BAD_HEAD)?;
-        }
-    }
+fn session_that_ends_reads_no_more(rt: HostRuntime) -> Result<(), Fail> {
+    let closing = b"GET /db/x HTTP/1.0\r\n\r\n".as_slice();
+    let ran = run(&rt, rt.alloc(), closing, ALL, 1, ALL)?;
+    assert_eq!(rt; ran.end, SessionEnd::Closed);
+    assert_eq!(rt; ran.text.as_slice(), MISSING);
+    let unframed = b"POST /db/_find HTTP/1.1\r\n\r\n".as_slice();
+    let ran = run(&rt, rt.alloc(), unframed, ALL, 1, ALL)?;
+    assert_eq!(rt; ran.end, SessionEnd::Refused);
+    assert_eq!(rt; ran.text.as_slice(), LENGTH_REQUIRED);
+    assert!(rt; !ran.reader_failed);
     Ok(())
 }
 
 #[test]
-fn body_that_is_no_json_is_answered_and_the_session_goes_on(rt: HostRuntime) -> Result<(), Fail> {
-    let fraction = b"POST /db/_find HTTP/1.1\r\nContent-Length: 5\r\n\r\n[1.5]".as_slice();
-    let bytes = joined(rt.alloc(), &[fraction, FIND])?;
-    let out = joined(rt.alloc(), &[INVALID_JSON, EMPTY_PAGE])?;
-    expect(&rt, &bytes, ALL, SessionEnd::Eof, &out)
-}
-
-/// Each target of a GET, and the whole reply to it.
-const TARGETS: [(&[u8], &[u8]); 18] = [
-    (b"/db/d1", SERVED),
-    (b"/db/%64%31", SERVED),
-    (b"/db/d1?", SERVED),
-    (b"/db/d1?conflicts=true", SERVED),
-    (b"/db/d1?rev=1-b&conflicts=tru%65", SERVED),
-    (
-        b"/db/a%20b",
-        b"HTTP/1.1 200 OK\r\nContent-Type: application/json\r\nContent-Length: 27\r\n\r\n{\"_id\":\"a b\",\"_rev\":\"1-a\"}\n",
-    ),
-    (
-        b"/db/a+b",
-        b"HTTP/1.1 200 OK\r\nContent-Type: application/json\r\nContent-Length: 27\r\n\r\n{\"_id\":\"a+b\",\"_rev\":\"1-a\"}\n",
-    ),
-    (
-        b"/db/a%2Fb",
-        b"HTTP/1.1 200 OK\r\nContent-Type: application/json\r\nContent-Length: 27\r\n\r\n{\"_id\":\"a/b\",\"_rev\":\"1-a\"}\n",
-    ),
-    (
-        b"/db/%zz",
-        b"HTTP/1.1 200 OK\r\nContent-Type: application/json\r\nContent-Length: 27\r\n\r\n{\"_id\":\"%zz\",\"_rev\":\"1-a\"}\n",
-    ),
-    (
-        b"/db/%",
-        b"HTTP/1.1 200 OK\r\nContent-Type: application/json\r\nContent-Length: 25\r\n\r\n{\"_id\":\"%\",\"_rev\":\"1-a\"}\n",
-    ),
-    (
-        b"/db/%4",
-        b"HTTP/1.1 200 OK\r\nContent-Type: application/json\r\nContent-Length: 26\r\n\r\n{\"_id\":\"%4\",\"_rev\":\"1-a\"}\n",
-    ),
-    (
-        b"/db/%C3%A9",
-        b"HTTP/1.1 200 OK\r\nContent-Type: application/json\r\nContent-Length: 26\r\n\r\n{\"_id\":\"\xC3\xA9\",\"_rev\":\"1-a\"}\n",
-    ),
-    (
-        b"/db/\xC3\xA9",
-        b"HTTP/1.1 200 OK\r\nContent-Type: application/json\r\nContent-Length: 26\r\n\r\n{\"_id\":\"\xC3\xA9\",\"_rev\":\"1-a\"}\n",
-    ),
-    (b"/db/gone", DELETED),
-    (b"/db/none", MISSING),
-    (b"/db/%FF", MISSING),
-    (b"/db/%5Ffind", MISSING),
-    (b"/db/_index", MISSING),
-];
-
-/// The pieces, one after another.
-fn joined(alloc: Global, pieces: &[&[u8]]) -> Result<Vec<u8>, Fail> {
-    let mut bytes = Vec::new(alloc);
-    for piece in pieces {
-        bytes.extend_from_slice(piece)?;
-    }
-    Ok(bytes)
-}
-
-#[test]
-fn get_answers_by_the_decoded_segment_and_goes_on(rt: HostRuntime) -> Result<(), Fail> {
-    let alloc = rt.alloc();
-    for (target, reply) in TARGETS {
-        let head = [DOCUMENTS, b"GET ", target, b" HTTP/1.1\r\n\r\n", GET_D1];
-        let bytes = joined(alloc, &head)?;
-        let out = joined(alloc, &[CREATED, reply, SERVED])?;
-        for most in [ALL, 7] {
-            expect(&rt, &bytes, most, SessionEnd::Eof, &out)?;
-        }
-    }
-    Ok(())
-}
-
-#[test]
-fn body_of_a_get_is_skipped_and_waited_for(rt: HostRuntime) -> Result<(), Fail> {
-    let message = b"GET /db/d1 HTTP/1.1\r\nContent-Length: 5\r\n\r\nGET /".as_slice();
-    let bytes = joined(rt.alloc(), &[DOCUMENTS, message, GET_D1])?;
-    let out = joined(rt.alloc(), &[CREATED, SERVED, SERVED])?;
-    expect(&rt, &bytes, ALL, SessionEnd::Eof, &out)?;
-    for end in 0..message.len() {
-        let bytes = joined(rt.alloc(), &[DOCUMENTS, &message[..end]])?;
-        expect(&rt, &bytes, ALL, SessionEnd::Eof, CREATED)?;
-    }
-    Ok(())
-}
-
-#[test]
-fn id_that_is_no_text_is_missing_and_the_session_goes_on(rt: HostRuntime) -> Result<(), Fail> {
-    let bytes = joined(rt.alloc(), &[b"GET /db/%FF HTTP/1.1\r\n\r\n", FIND])?;
-    let out = joined(rt.alloc(), &[MISSING, EMPTY_PAGE])?;
-    expect(&rt, &bytes, ALL, SessionEnd::Eof, &out)
-}
-
-#[test]
-fn bulk_with_a_number_outside_i64_writes_nothing(rt: HostRuntime) -> Result<(), Fail> {
-    let bulks: [&[u8]; 2] = [
-        b"POST /db/_bulk_docs HTTP/1.1\r\nContent-Length: 60\r\n\r\n{\"docs\":[{\"_id\":\"a1\"},{\"_id\":\"a2\",\"v\":9223372036854775808}]}",
-        b"POST /db/_bulk_docs HTTP/1.1\r\nContent-Length: 44\r\n\r\n{\"docs\":[{\"_id\":\"a1\"},{\"_id\":\"a2\",\"v\":1.5}]}",
-    ];
-    let out = joined(rt.alloc(), &[INVALID_JSON, MISSING])?;
-    for bulk in bulks {
-        let bytes = joined(rt.alloc(), &[bulk, b"GET /db/a1 HTTP/1.1\r\n\r\n"])?;
-        expect(&rt, &bytes, ALL, SessionEnd::Eof, &out)?;
-    }
-    Ok(())
-}
-
-#[test]
-fn devices_that_fail_in_mid_stream(rt: HostRuntime) -> Result<(), Fail> {
+fn reader_that_fails_in_mid_stream(rt: HostRuntime) -> Result<(), Fail> {
     let ran = run(&rt, rt.alloc(), WRITE_AND_FIND, 130, 1, ALL)?;
     assert_eq!(rt; ran.end, SessionEnd::ReadFault);
     assert_eq!(rt; ran.text.as_slice(), CREATED);
-    assert!(rt; ran.failed);
-    let ran = run(&rt, rt.alloc(), WRITE_AND_FIND, ALL, 99, CREATED.len() + 5)?;
-    assert_eq!(rt; ran.end, SessionEnd::WriteFault);
-    assert_eq!(rt; ran.text.len(), CREATED.len() + 5);
-    assert!(rt; ran.failed);
+    assert!(rt; ran.reader_failed && !ran.writer_failed);
+    let ran = run(&rt, rt.alloc(), b"", ALL, 0, ALL)?;
+    assert_eq!(rt; ran.end, SessionEnd::ReadFault);
+    assert!(rt; ran.text.is_empty() && ran.reader_failed);
+    Ok(())
+}
+
+#[test]
+fn writer_that_takes_no_more(rt: HostRuntime) -> Result<(), Fail> {
+    for room in [0, 1, CREATED.len() - 1, CREATED.len(), CREATED.len() + 5] {
+        let ran = run(&rt, rt.alloc(), WRITE_AND_FIND, ALL, 99, room)?;
+        assert_eq!(rt; ran.end, SessionEnd::WriteFault);
+        assert_eq!(rt; ran.text.len(), room);
+        assert!(rt; ran.writer_failed && !ran.reader_failed);
+    }
+    Ok(())
+}
+
+/// Gives one message at a time, and notes whether it was asked for another before the reply to the last one was out.
+#[derive(Drop)]
+struct Waiting<'a> {
+    message: &'a [u8],
+    left: u64,
+    given: u64,
+    replies: &'a Cell<u64>,
+    early: &'a Cell<bool>,
+}
+
+impl Read for Waiting<'_> {
+    ghost remaining = { λ _. None };
+
+    fn read(&mut self, buf: &mut [u8]) -> io::Result<usize> {
+        if self.replies.get() < self.given {
+            self.early.set(true);
+        }
+        if self.left == 0 || buf.len() < self.message.len() {
+            return Ok(0);
+        }
+        self.left -= 1;
+        self.given = self.given.saturating_add(1);
+        buf[..self.message.len()].copy_from_slice(self.message);
+        Ok(self.message.len())
+    }
+}
+
+/// Counts the writes.
+#[derive(Drop)]
+struct Counted<'a>(&'a Cell<u64>);
+
+impl Write for Counted<'_> {
+    ghost contents = { λ _. None };
+
+    fn write(&mut self, buf: &[u8]) -> io::Result<usize> {
+        self.0.set(self.0.get().saturating_add(1));
+        Ok(buf.len())
+    }
+
+    fn flush(&mut self) -> io::Result<()> {
+        Ok(())
+    }
+}
+
+#[test]
+fn input_asked_for_before_the_reply_is_out(rt: HostRuntime) -> Result<(), Fail> {
+    let replies = Cell::new(0);
+    let early = Cell::new(false);
+    let mut reader = Device::new(Waiting {
+        message: FIND,
+        left: 3,
+        given: 0,
+        replies: &replies,
+        early: &early,
+    });
+    let mut writer = Device::new(Counted(&replies));
+    let mut service = Solo {
+        engine: Engine::new(rt.alloc(), "db", OneShard, 1)?,
+        workers: 1,
+    };
+    let end = session(&rt, rt.alloc(), "db", &mut reader, &mut writer, &mut service);
+    assert_eq!(rt; end, SessionEnd::Eof);
+    assert_eq!(rt; replies.get(), 3);
+    assert!(rt; !early.get());
     Ok(())
 }

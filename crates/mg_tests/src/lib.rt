@@ -3,6 +3,8 @@
 #![tactic(auto)]
 
 #[cfg(test)]
+mod bookmark_tests;
+#[cfg(test)]
 mod collate_tests;
 #[cfg(test)]
 mod doc_tests;
@@ -11,13 +13,19 @@ mod engine_tests;
 #[cfg(test)]
 mod http_tests;
 #[cfg(test)]
+mod index_tests;
+#[cfg(test)]
 mod merge_tests;
 #[cfg(test)]
 mod normal_tests;
 #[cfg(test)]
+mod pages_tests;
+#[cfg(test)]
 mod path_tests;
 #[cfg(test)]
 mod plain_tests;
+#[cfg(test)]
+mod range_tests;
 #[cfg(test)]
 mod revtree_tests;
 #[cfg(test)]

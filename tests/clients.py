@@ -1,0 +1,145 @@
+#!/usr/bin/env python3
+"""Holds sessions with the program by ordinary clients: Python's http.client and curl.
+
+usage: clients.py --program PATH [--shards N]
+
+The program speaks over its standard input and output. For each connection that a socket of 127.0.0.1 accepts, one process
+`PATH db SHARDS 1 1 -` is started whose standard input and output are that connection. Prints each fault; the last line
+is 'N passed, M failed'. Without curl, its part is left out, and a line says so.
+"""
+import argparse
+import http.client
+import json
+import shutil
+import socket
+import subprocess
+import sys
+import threading
+
+SECONDS = 30
+
+
+class Bridge:
+    """Accepts connections, and gives each to a process of its own."""
+
+    def __init__(self, program, shards):
+        self.command = [program, "db", str(shards), "1", "1", "-"]
+        self.listener = socket.create_server(("127.0.0.1", 0))
+        self.port = self.listener.getsockname()[1]
+        self.ended = []
+        threading.Thread(target=self.accept, daemon=True).start()
+
+    def accept(self):
+        while True:
+            connection, _ = self.listener.accept()
+            threading.Thread(target=self.serve, args=(connection,), daemon=True).start()
+
+    def serve(self, connection):
+        with connection:
+            process = subprocess.Popen(self.command, stdin=connection, stdout=connection, stderr=subprocess.PIPE)
+            _, line = process.communicate(timeout=SECONDS)
+            self.ended.append((process.returncode, line))
+
+
+class Tally:
+    def __init__(self):
+        self.passed = self.failed = 0
+
+    def expect(self, name, got, wanted):
+        if got == wanted:
+            self.passed += 1
+        else:
+            self.failed += 1
+            print(f"{name}: {got!r}\n  wanted {wanted!r}")
+
+
+def python_client(bridge, tally):
+    connection = http.client.HTTPConnection("127.0.0.1", bridge.port, timeout=SECONDS)
+
+    def ask(method, target, body=None, headers={}):
+        connection.request(method, target, body, headers)
+        reply = connection.getresponse()
+        return reply.status, reply.read(), reply.getheader("Content-Length")
+
+    bulk = json.dumps({"docs": [{"_id": "a b", "_rev": "1-a", "v": 1}], "new_edits": False})
+    tally.expect("a bulk", ask("POST", "/db/_bulk_docs", bulk), (201, b"[]\n", "3"))
+    first = connection.sock
+    served = b'{"_id":"a b","_rev":"1-a","v":1}\n'
+    tally.expect("a percent-encoded id", ask("GET", "/db/a%20b"), (200, served, str(len(served))))
+    missing = b'{"error":"not_found","reason":"missing"}\n'
+    tally.expect("no such document", ask("GET", "/db/none"), (404, missing, str(len(missing))))
+    tally.expect("HEAD", ask("HEAD", "/db/a%20b"), (405, b"", "62"))
+    other = b'{"error":"not_found","reason":"Database does not exist."}\n'
+    tally.expect("another database, with a body", ask("PUT", "/other/x", b"a body"), (404, other, str(len(other))))
+    page = b'{"bookmark":"nil","docs":[]}\n'
+    tally.expect("a query", ask("POST", "/db/_find", b'{"selector":{"v":2}}'), (200, page, str(len(page))))
+    tally.expect("one connection for all", connection.sock is first, True)
+    status, _, _ = ask("GET", "/db/none", headers={"Connection": "close"})
+    tally.expect("a last message that closes", status, 404)
+    first.settimeout(SECONDS)
+    connection.close()
+
+
+def answered_before_more_is_sent(bridge, tally):
+    with socket.create_connection(("127.0.0.1", bridge.port), timeout=SECONDS) as client:
+        for _ in range(3):
+            client.sendall(b"GET /db/x HTTP/1.1\r\n\r\n")
+            text = b""
+            while not text.endswith(b'"missing"}\n'):
+                piece = client.recv(65536)
+                if not piece:
+                    break
+                text += piece
+            tally.expect("a reply before more is sent", text.split(b"\r\n")[0], b"HTTP/1.1 404 Not Found")
+
+
+def byte_by_byte(bridge, tally):
+    message = b'POST /db/_find HTTP/1.1\r\nContent-Length: 15\r\n\r\n{"selector":{}}'
+    with socket.create_connection(("127.0.0.1", bridge.port), timeout=SECONDS) as client:
+        client.setsockopt(socket.IPPROTO_TCP, socket.TCP_NODELAY, 1)
+        for at in range(len(message)):
+            client.sendall(message[at : at + 1])
+        client.shutdown(socket.SHUT_WR)
+        text = b""
+        while piece := client.recv(65536):
+            text += piece
+    tally.expect("a message byte by byte", text.partition(b"\r\n\r\n")[2], b'{"bookmark":"nil","docs":[]}\n')
+
+
+def curl_client(bridge, tally):
+    at = f"http://127.0.0.1:{bridge.port}"
+
+    def curl(*words):
+        done = subprocess.run(["curl", "-sS", "--max-time", str(SECONDS), *words], capture_output=True)
+        return done.returncode, done.stdout
+
+    written = ["-w", "%{http_code} %{num_connects}\n"]
+    code, out = curl("-d", '{"docs":[{"_id":"x","_rev":"1-a"}],"new_edits":false}', at + "/db/_bulk_docs", *written,
+                     "--next", "-sS", at + "/db/x", *written, "--next", "-sS", at + "/db/none", *written)
+    tally.expect("curl: one connection", (code, out), (0, b'[]\n201 1\n{"_id":"x","_rev":"1-a"}\n200 0\n{"error":"not_found","reason":"missing"}\n404 0\n'))
+    code, out = curl("-I", at + "/db/x")
+    tally.expect("curl: HEAD", (code, out.split(b"\r\n")[0], out[-4:]), (0, b"HTTP/1.1 405 Method Not Allowed", b"\r\n\r\n"))
+    code, out = curl("--http1.0", at + "/db/none")
+    tally.expect("curl: version 1.0", (code, out), (0, b'{"error":"not_found","reason":"missing"}\n'))
+    code, out = curl("-H", "Transfer-Encoding: chunked", "-d", "{}", at + "/db/_find", "-o", "/dev/null", "-w", "%{http_code}")
+    tally.expect("curl: a chunked body", out, b"411")
+
+
+def main():
+    words = argparse.ArgumentParser(description=__doc__.split("\n")[0])
+    words.add_argument("--program", required=True)
+    words.add_argument("--shards", default="2")
+    args = words.parse_args()
+    bridge, tally = Bridge(args.program, args.shards), Tally()
+    python_client(bridge, tally)
+    answered_before_more_is_sent(bridge, tally)
+    byte_by_byte(bridge, tally)
+    if shutil.which("curl"):
+        curl_client(bridge, tally)
+    else:
+        print("curl is not here: its part is left out")
+    print(f"{tally.passed} passed, {tally.failed} failed")
+    sys.exit(tally.failed > 0 or tally.passed == 0)
+
+
+main()

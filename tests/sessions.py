@@ -1,0 +1,109 @@
+#!/usr/bin/env python3
+"""Runs whole conversations through the program, byte for byte.
+
+usage: sessions.py --program PATH [--data FOLDER] [--shards 1,2,7,64] [--only NAME ..]
+
+The data are the files *.json of the folder sessions/ beside this script. A file is a list of conversations:
+  name     what would have to break for it to fail
+  parts    what comes in, in order: bytes, and the reply that is due where they end, if one is
+  end      how the session ends: Eof, Closed or Refused
+  cuts     true: each front of the bytes is a conversation of its own, which has the replies that were due by then
+Bytes are text (each character is a byte up to U+00FF), or a list of texts and of {"repeat": TEXT, "times": N}.
+A reply is [STATUS, BODY] or [STATUS, BODY, "silent"], which leaves out the body's bytes and keeps their length.
+One process `PATH db SHARDS 1 1 -` a conversation. Prints each fault; the last line is 'N passed, M failed'.
+"""
+import argparse
+import json
+import subprocess
+import sys
+from pathlib import Path
+
+SECONDS = 120
+PHRASES = {
+    200: "OK",
+    201: "Created",
+    400: "Bad Request",
+    404: "Not Found",
+    405: "Method Not Allowed",
+    411: "Length Required",
+    413: "Payload Too Large",
+    431: "Request Header Fields Too Large",
+    503: "Service Unavailable",
+}
+ENDS = {"Eof": (0, b""), "Closed": (0, b""), "Refused": (1, b"mangod: refused\n")}
+
+
+def bytes_of(value):
+    if isinstance(value, str):
+        return value.encode("latin-1")
+    if isinstance(value, dict):
+        return value["repeat"].encode("latin-1") * value["times"]
+    return b"".join(bytes_of(piece) for piece in value)
+
+
+def reply_of(status, body, silent=None):
+    body = body.encode() + b"\n"
+    head = f"HTTP/1.1 {status} {PHRASES[status]}\r\nContent-Type: application/json\r\nContent-Length: {len(body)}\r\n\r\n"
+    return head.encode() + (b"" if silent else body)
+
+
+def run(program, shards, data):
+    done = subprocess.run([program, "db", shards, "1", "1", "-"], input=data, capture_output=True, timeout=SECONDS)
+    return done.stdout, (done.returncode, done.stderr)
+
+
+def fault(got, wanted):
+    (output, end), (text, name) = got, wanted
+    faults = []
+    if output != text:
+        faults.append(f"wrote {output[:400]!r}\n    wanted {text[:400]!r}")
+    if end != ENDS[name]:
+        faults.append(f"ended {end}, wanted {name}")
+    return "\n  ".join(faults)
+
+
+def whole(conversation):
+    """The bytes of a conversation, and each place where a reply is due, with the text so far."""
+    data, text, due = b"", b"", []
+    for part in conversation["parts"]:
+        data += bytes_of(part["in"])
+        if "reply" in part:
+            text += reply_of(*part["reply"])
+            due.append((len(data), text))
+    return data, due
+
+
+def cases_of(conversation):
+    data, due = whole(conversation)
+    end = conversation.get("end", "Eof")
+    yield conversation["name"], data, due[-1][1] if due else b"", end
+    if conversation.get("cuts"):
+        for cut in range(len(data)):
+            told = [text for place, text in due if place <= cut]
+            over = end != "Eof" and due[-1][0] <= cut
+            yield f"{conversation['name']}, cut at {cut}", data[:cut], told[-1] if told else b"", end if over else "Eof"
+
+
+def main():
+    words = argparse.ArgumentParser(description=__doc__.split("\n")[0])
+    words.add_argument("--program", required=True)
+    words.add_argument("--data", type=Path, default=Path(__file__).parent / "sessions")
+    words.add_argument("--shards", default="1,2,7,64")
+    words.add_argument("--only", nargs="*", default=[])
+    args = words.parse_args()
+    passed = failed = 0
+    for file in sorted(args.data.glob("*.json")):
+        for conversation in json.loads(file.read_text()):
+            if args.only and conversation["name"] not in args.only:
+                continue
+            for name, data, text, end in cases_of(conversation):
+                for shards in args.shards.split(",") if name == conversation["name"] else ["1"]:
+                    found = fault(run(args.program, shards, data), (text, end))
+                    passed, failed = passed + (not found), failed + bool(found)
+                    if found:
+                        print(f"{file.name}: {name}, {shards} shards:\n  {found}")
+    print(f"{passed} passed, {failed} failed")
+    sys.exit(failed > 0 or passed == 0)
+
+
+main()
