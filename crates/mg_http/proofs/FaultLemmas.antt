@@ -79,7 +79,7 @@ blank_lines n (a ∷ []) small =
 blank_lines zero (a ∷ b ∷ rest) small = absurd (omega arith)
 blank_lines (suc n) (a ∷ b ∷ rest) small =
     elim (a == 10) as (λ v. (a == 10) ≡ v
-        → (blank : List LineEnd) × (a ∷ b ∷ rest ≡ print_blank blank ++ cond v (skip_blank (b ∷ rest)) (cond (a == 13 && b == 10) (skip_blank rest) (a ∷ b ∷ rest)))) [
+    → (blank : List LineEnd) × (a ∷ b ∷ rest ≡ print_blank blank ++ cond v (skip_blank (b ∷ rest)) (cond (a == 13 && b == 10) (skip_blank rest) (a ∷ b ∷ rest)))) [
       | true ↦ λ e.
           let is : a ≡ 10 = grind (arith, nat_tests, e) in
           let r = blank_lines n (b ∷ rest) (omega arith) in

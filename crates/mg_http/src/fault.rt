@@ -51,9 +51,7 @@ fn is_method_and_target(bytes: &[u8]) -> bool
         rest = others;
     }
     match rest.split_first() {
-        Some((first, target)) => {
-            *first == b' ' && rest.len() < bytes.len() && is_target(target)
-        }
+        Some((first, target)) => { *first == b' ' && rest.len() < bytes.len() && is_target(target) }
         None => false,
     }
 }

@@ -173,8 +173,8 @@ impl Place {
     /// The place behind the database's name.
     fn new(alloc: Global, name: &[u8]) -> Result<Place, AllocError>
         ensures place { IfOk result (λ p. place_in p ≡ record {
-            routes_left = if length name.now == 0 then [] else routes;
-            parameters = percent_decode name.now ∷ [];
+          routes_left = if length name.now == 0 then [] else routes;
+          parameters = percent_decode name.now ∷ [];
         }) }
         ensures routes { IfOk result (λ p. (map route_of p.routes.items ≡ []) ⊎ (map route_of p.routes.items ≡ routes)) }
     {

@@ -194,12 +194,7 @@ pub fn session<H: Wait + Threads, S: Service, R: Read, W: Write>(
         Ok(inbox) => inbox,
         Err(_) => {
             let mut page = Vec::new(alloc);
-            return refused(write_reply(
-                writer,
-                &mut page,
-                false,
-                &Reply::NoMemory,
-            ));
+            return refused(write_reply(writer, &mut page, false, &Reply::NoMemory));
         }
     };
     loop {
