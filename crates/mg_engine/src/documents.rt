@@ -102,11 +102,7 @@ fn foreseen(docs: &Documents, edit: &Edit) -> Result<Option<Result<Rev, Refused>
 }
 
 // Applies an edit to a tree: the revision that it brings, or why it is refused, after which the tree is as it was.
-fn try_on(
-    alloc: Global,
-    tree: &mut RevTree,
-    edit: Edit,
-) -> Result<Result<Rev, Refused>, NoMemory>
+fn try_on(alloc: Global, tree: &mut RevTree, edit: Edit) -> Result<Result<Rev, Refused>, NoMemory>
     ensures { IfOk result (λ o. (h : History) → StandsFor tree.old h → (o ≡ outcome_of h edit) × StandsFor tree.new (edited h edit)) }
 {
     match edit.bring(alloc, tree) {
@@ -116,11 +112,7 @@ fn try_on(
 }
 
 // Applies an edit to a document that is not there yet.
-fn begin(
-    alloc: Global,
-    docs: &mut Documents,
-    edit: Edit,
-) -> Result<Result<Rev, Refused>, NoMemory>
+fn begin(alloc: Global, docs: &mut Documents, edit: Edit) -> Result<Result<Rev, Refused>, NoMemory>
     ensures { IfOk result (λ o. (hs : Histories) → get (documents_seen docs.old.entries) (id_in edit) ≡ None → StandFor (documents_seen docs.old.entries) hs
         → StandFor (documents_seen docs.new.entries) (after_edit hs edit) × (o ≡ outcome_in hs edit)) }
 {

@@ -36,12 +36,7 @@ impl<P: Placement + Drop> Engine<P> {
     /// A database of this name with no document, and 1 to 64 shards.
     ///
     /// Errors: `NoMemory` where a growth was refused. Cost: the number of shards, and the name.
-    pub fn new(
-        alloc: Global,
-        db: &str,
-        placement: P,
-        shards: usize,
-    ) -> Result<Engine<P>, NoMemory>
+    pub fn new(alloc: Global, db: &str, placement: P, shards: usize) -> Result<Engine<P>, NoMemory>
         requires some { 1 ≤ shards }
         requires most { shards ≤ 64 }
         ensures stands { IfOk result (λ e. Stands P.place e (empty_world db.now)) }

@@ -25,8 +25,7 @@ pub const MISSING: &str = "{\"error\":\"not_found\",\"reason\":\"missing\"}\n";
 /// The body of `Deleted`.
 pub const DELETED: &str = "{\"error\":\"not_found\",\"reason\":\"deleted\"}\n";
 /// The body of `NoDatabase`.
-pub const NO_DATABASE: &str =
-    "{\"error\":\"not_found\",\"reason\":\"Database does not exist.\"}\n";
+pub const NO_DATABASE: &str = "{\"error\":\"not_found\",\"reason\":\"Database does not exist.\"}\n";
 /// The body of `MethodNotAllowed`.
 pub const METHOD_NOT_ALLOWED: &str =
     "{\"error\":\"method_not_allowed\",\"reason\":\"Method not allowed.\"}\n";

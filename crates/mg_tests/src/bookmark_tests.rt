@@ -9,7 +9,8 @@ use std::test::Fail;
 fn one_spelling_is_read(rt: HostRuntime) -> Result<(), Fail> {
     let alloc = rt.alloc();
     assert!(rt; matches!(Bookmark::decode(alloc, "nil"), Ok(None)));
-    let Ok(Some(first)) = Bookmark::decode(alloc, "W251bGwsIl9hbGxfZG9jcyIsImFzYyIsWyJhIl0sImEiXQ") else {
+    let Ok(Some(first)) = Bookmark::decode(alloc, "W251bGwsIl9hbGxfZG9jcyIsImFzYyIsWyJhIl0sImEiXQ")
+    else {
         return Err(Fail::from("a bookmark of all documents"));
     };
     assert!(rt; first.ddoc.is_none());
@@ -31,7 +32,10 @@ fn one_spelling_is_read(rt: HostRuntime) -> Result<(), Fail> {
 fn other_texts_are_invalid(rt: HostRuntime) -> Result<(), Fail> {
     let texts = [
         // nothing, no base64, no JSON
-        "", "*", "bmls", "nil ",
+        "",
+        "*",
+        "bmls",
+        "nil ",
         // a space within, an escape that is not the shortest, padding, the other alphabet
         "W251bGwsIl9hbGxfZG9jcyIsImFzYyIsWyJhIl0sICJhIl0",
         "W251bGwsIl9hbGxfZG9jcyIsImFzYyIsWyJcdTAwNjEiXSwiYSJd",
@@ -45,7 +49,13 @@ fn other_texts_are_invalid(rt: HostRuntime) -> Result<(), Fail> {
         "W251bGwsIl9hbGxfZG9jcyIsImFzYyIsWzEuNV0sImEiXQ",
     ];
     for text in texts {
-        assert!(rt; matches!(Bookmark::decode(rt.alloc(), text), Err(BookmarkError::Invalid)), "{text}");
+        assert!(rt;
+            matches!(
+                Bookmark::decode(rt.alloc(), text),
+                Err(BookmarkError::Invalid)
+            ),
+            "{text}"
+        );
     }
     Ok(())
 }

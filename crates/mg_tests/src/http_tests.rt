@@ -280,7 +280,14 @@ fn input_asked_for_before_the_reply_is_out(rt: HostRuntime) -> Result<(), Fail> 
         engine: Engine::new(rt.alloc(), "db", OneShard, 1)?,
         workers: 1,
     };
-    let end = session(&rt, rt.alloc(), "db", &mut reader, &mut writer, &mut service);
+    let end = session(
+        &rt,
+        rt.alloc(),
+        "db",
+        &mut reader,
+        &mut writer,
+        &mut service,
+    );
     assert_eq!(rt; end, SessionEnd::Eof);
     assert_eq!(rt; replies.get(), 3);
     assert!(rt; !early.get());

@@ -70,6 +70,7 @@ fn is_chosen(
 }
 
 const IA: &str = r#"{"index":{"fields":["a"]},"ddoc":"x","name":"ia"}"#;
+
 const IAB: &str = r#"{"index":{"fields":["a","b"]},"ddoc":"x","name":"iab"}"#;
 
 #[test]
@@ -79,7 +80,10 @@ fn the_same_definition_exists(rt: HostRuntime) -> Result<(), Fail> {
     assert_eq!(rt; catalog.add(definition(alloc, IA)?)?, Added::Created);
     assert_eq!(rt; catalog.add(definition(alloc, IA)?)?, Added::Exists);
     let descending = r#"{"index":{"fields":[{"a":"desc"}]},"ddoc":"_design/x","name":"ia"}"#;
-    assert_eq!(rt; catalog.add(definition(alloc, descending)?)?, Added::Created);
+    assert_eq!(rt;
+        catalog.add(definition(alloc, descending)?)?,
+        Added::Created
+    );
     assert_eq!(rt; catalog.list().len(), 1);
     let columns = r#"{"index":{"fields":[{"a":"desc"},{"a":"desc"}]},"ddoc":"x","name":"ia"}"#;
     assert_eq!(rt; catalog.add(definition(alloc, columns)?)?, Added::Created);
@@ -117,12 +121,27 @@ fn listed_in_the_order_of_ddoc_and_name(rt: HostRuntime) -> Result<(), Fail> {
 fn definitions(rt: HostRuntime) -> Result<(), Fail> {
     let alloc = rt.alloc();
     let iab = definition(alloc, IAB)?;
-    assert!(rt; is_text(alloc, &iab.listed(alloc)?, r#"{"ddoc":"_design/x","def":{"fields":[{"a":"asc"},{"b":"asc"}]},"name":"iab","type":"json"}"#)?);
+    assert!(rt;
+        is_text(
+            alloc,
+            &iab.listed(alloc)?,
+            r#"{"ddoc":"_design/x","def":{"fields":[{"a":"asc"},{"b":"asc"}]},"name":"iab","type":"json"}"#
+        )?
+    );
     assert_eq!(rt; iab.columns().len(), 2);
     assert_eq!(rt; iab.direction(), Direction::Asc);
     // the texts of paths stay as they were given
-    let dots = definition(alloc, r#"{"index":{"fields":[{"a\\.b.c":"desc"}]},"ddoc":"_design/","name":"n","type":"json","partitioned":false,"partial_filter_selector":{},"other":1}"#)?;
-    assert!(rt; is_text(alloc, &dots.listed(alloc)?, r#"{"ddoc":"_design/","def":{"fields":[{"a\\.b.c":"desc"}]},"name":"n","type":"json"}"#)?);
+    let dots = definition(
+        alloc,
+        r#"{"index":{"fields":[{"a\\.b.c":"desc"}]},"ddoc":"_design/","name":"n","type":"json","partitioned":false,"partial_filter_selector":{},"other":1}"#,
+    )?;
+    assert!(rt;
+        is_text(
+            alloc,
+            &dots.listed(alloc)?,
+            r#"{"ddoc":"_design/","def":{"fields":[{"a\\.b.c":"desc"}]},"name":"n","type":"json"}"#
+        )?
+    );
     assert_eq!(rt; dots.direction(), Direction::Desc);
     Ok(())
 }
@@ -138,7 +157,10 @@ fn names_that_are_not_given(rt: HostRuntime) -> Result<(), Fail> {
     assert!(rt; name.name() == "n");
     assert!(rt; name.ddoc() == "_design/a1ea6873048383f59db8f1f99f9b4fe0");
     // the MD5 of {"fields":[{"a":"desc"},{"b.c":"desc"}]}
-    let ddoc = definition(alloc, r#"{"index":{"fields":[{"a":"desc"},{"b.c":"desc"}]},"ddoc":"x"}"#)?;
+    let ddoc = definition(
+        alloc,
+        r#"{"index":{"fields":[{"a":"desc"},{"b.c":"desc"}]},"ddoc":"x"}"#,
+    )?;
     assert!(rt; ddoc.name() == "02c3183947f496d2c55830227d039c0d");
     assert!(rt; ddoc.ddoc() == "_design/x");
     assert!(rt; design_document(alloc, "_design/x")?.as_str() == "_design/x");
@@ -201,7 +223,16 @@ fn choice_of_index(rt: HostRuntime) -> Result<(), Fail> {
     let mut catalog = catalog(alloc, &[IA, IAB])?;
     assert!(rt; is_chosen(alloc, &catalog, query, &[], &Hint::None, "ia")?);
     assert!(rt; is_chosen(alloc, &catalog, r#"{"a":1,"b":2}"#, &[], &Hint::None, "iab")?);
-    assert!(rt; is_chosen(alloc, &catalog, r#"{"a":{"$gt":null}}"#, &[], &Hint::None, "ia")?);
+    assert!(rt;
+        is_chosen(
+            alloc,
+            &catalog,
+            r#"{"a":{"$gt":null}}"#,
+            &[],
+            &Hint::None,
+            "ia"
+        )?
+    );
     assert!(rt; catalog.remove("_design/x", "ia"));
     assert!(rt; is_chosen(alloc, &catalog, query, &[], &Hint::None, "iab")?);
     assert!(rt; is_chosen(alloc, &catalog, r#"{"a":1}"#, &[], &Hint::None, "_all_docs")?);
@@ -221,7 +252,10 @@ fn columns_that_may_be_missing(rt: HostRuntime) -> Result<(), Fail> {
         r#"{"$not":{"a":{"$exists":false}}}"#,
     ];
     for query in usable {
-        assert!(rt; is_chosen(alloc, &catalog, query, &[], &Hint::None, "ia")?, "{query}");
+        assert!(rt;
+            is_chosen(alloc, &catalog, query, &[], &Hint::None, "ia")?,
+            "{query}"
+        );
     }
     let unusable = [
         "{}",
@@ -234,7 +268,10 @@ fn columns_that_may_be_missing(rt: HostRuntime) -> Result<(), Fail> {
         r#"{"c":{"$elemMatch":{"a":1}}}"#,
     ];
     for query in unusable {
-        assert!(rt; is_chosen(alloc, &catalog, query, &[], &Hint::None, "_all_docs")?, "{query}");
+        assert!(rt;
+            is_chosen(alloc, &catalog, query, &[], &Hint::None, "_all_docs")?,
+            "{query}"
+        );
     }
     Ok(())
 }
@@ -266,11 +303,17 @@ fn hints(rt: HostRuntime) -> Result<(), Fail> {
     assert!(rt; is_chosen(alloc, &catalog, query, &[], &Hint::None, "iab")?);
     assert!(rt; is_chosen(alloc, &catalog, query, &[], &ddoc("_design/y")?, "ia")?);
     assert!(rt; is_chosen(alloc, &catalog, query, &[], &ddoc("_design/x")?, "iab")?);
-    let both = Hint::Both(String::from_str(alloc, "_design/x")?, String::from_str(alloc, "ia")?);
+    let both = Hint::Both(
+        String::from_str(alloc, "_design/x")?,
+        String::from_str(alloc, "ia")?,
+    );
     assert!(rt; is_chosen(alloc, &catalog, query, &[], &both, "ia")?);
     // one that names no index, or none that is usable, is dropped
     assert!(rt; is_chosen(alloc, &catalog, query, &[], &ddoc("_design/z")?, "iab")?);
-    let unusable = Hint::Both(String::from_str(alloc, "_design/x")?, String::from_str(alloc, "iab")?);
+    let unusable = Hint::Both(
+        String::from_str(alloc, "_design/x")?,
+        String::from_str(alloc, "iab")?,
+    );
     assert!(rt; is_chosen(alloc, &catalog, r#"{"a":1}"#, &[], &unusable, "ia")?);
     assert!(rt; is_chosen(alloc, &catalog, "{}", &[], &ddoc("_all_docs")?, "_all_docs")?);
     Ok(())
@@ -279,7 +322,10 @@ fn hints(rt: HostRuntime) -> Result<(), Fail> {
 #[test]
 fn an_index_of_ids_serves_every_query(rt: HostRuntime) -> Result<(), Fail> {
     let alloc = rt.alloc();
-    let catalog = catalog(alloc, &[r#"{"index":{"fields":["_id"]},"ddoc":"x","name":"ids"}"#])?;
+    let catalog = catalog(
+        alloc,
+        &[r#"{"index":{"fields":["_id"]},"ddoc":"x","name":"ids"}"#],
+    )?;
     assert!(rt; is_chosen(alloc, &catalog, "{}", &[], &Hint::None, "ids")?);
     assert!(rt; is_chosen(alloc, &catalog, "{}", &["_id"], &Hint::None, "ids")?);
     assert!(rt; is_chosen(alloc, &catalog, "{}", &["_rev"], &Hint::None, "none")?);

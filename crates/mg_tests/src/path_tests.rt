@@ -44,9 +44,14 @@ fn projections(rt: HostRuntime) -> Result<(), Fail> {
 #[test]
 fn an_empty_step_anywhere_is_a_fault(rt: HostRuntime) -> Result<(), Fail> {
     for text in ["", ".", "a.", ".a", "a..b", "a.b..", "..", "\\..a."] {
-        assert!(rt; matches!(Path::parse(rt.alloc(), text), Err(PathError::Empty)), "{text}");
+        assert!(rt;
+            matches!(Path::parse(rt.alloc(), text), Err(PathError::Empty)),
+            "{text}"
+        );
     }
-    for text in ["a", "a.b", "\\.", "a\\..b", "\\\\.a", "\\", "a.\\", "\\.\\."] {
+    for text in [
+        "a", "a.b", "\\.", "a\\..b", "\\\\.a", "\\", "a.\\", "\\.\\.",
+    ] {
         assert!(rt; Path::parse(rt.alloc(), text).is_ok(), "{text}");
     }
     Ok(())

@@ -32,6 +32,7 @@ fn place(alloc: Global, range: &KeyRange, key: &str) -> Result<Place, Fail> {
 }
 
 const OPEN: &str = r#"{"equal":[],"lower":null,"upper":null}"#;
+
 const EMPTY: &str = r#"{"empty":true}"#;
 
 #[test]
@@ -43,7 +44,10 @@ fn ranges(rt: HostRuntime) -> Result<(), Fail> {
             r#"{"a":{"$gt":3,"$lte":9}}"#,
             r#"{"equal":[],"lower":{"inclusive":false,"value":3},"upper":{"inclusive":true,"value":9}}"#,
         ),
-        (r#"{"$not":{"a":{"$ne":4}}}"#, r#"{"equal":[4],"lower":null,"upper":null}"#),
+        (
+            r#"{"$not":{"a":{"$ne":4}}}"#,
+            r#"{"equal":[4],"lower":null,"upper":null}"#,
+        ),
         (r#"{"a":{"$in":[1]}}"#, OPEN),
         (r#"{"a":{"$ne":1}}"#, OPEN),
         (r#"{"$or":[{"a":1}]}"#, OPEN),
@@ -82,8 +86,14 @@ fn ranges(rt: HostRuntime) -> Result<(), Fail> {
             r#"{"equal":[],"lower":{"inclusive":true,"value":3},"upper":{"inclusive":true,"value":3}}"#,
         ),
         (r#"{"a":{"$eq":3,"$lt":3}}"#, EMPTY),
-        (r#"{"a":{"$eq":3,"$lte":3}}"#, r#"{"equal":[3],"lower":null,"upper":null}"#),
-        (r#"{"$and":[{"a":1},{"a":1}]}"#, r#"{"equal":[1],"lower":null,"upper":null}"#),
+        (
+            r#"{"a":{"$eq":3,"$lte":3}}"#,
+            r#"{"equal":[3],"lower":null,"upper":null}"#,
+        ),
+        (
+            r#"{"$and":[{"a":1},{"a":1}]}"#,
+            r#"{"equal":[1],"lower":null,"upper":null}"#,
+        ),
     ];
     for (selector, expected) in rows {
         assert!(rt; is_told(alloc, &["a"], selector, expected)?, "{selector}");
@@ -101,8 +111,14 @@ fn several_columns(rt: HostRuntime) -> Result<(), Fail> {
             r#"{"equal":[1],"lower":null,"upper":{"inclusive":false,"value":7}}"#,
         ),
         (r#"{"b":2,"c":3}"#, OPEN),
-        (r#"{"a":1,"b":2,"c":3}"#, r#"{"equal":[1,2,3],"lower":null,"upper":null}"#),
-        (r#"{"a":1,"c":3}"#, r#"{"equal":[1],"lower":null,"upper":null}"#),
+        (
+            r#"{"a":1,"b":2,"c":3}"#,
+            r#"{"equal":[1,2,3],"lower":null,"upper":null}"#,
+        ),
+        (
+            r#"{"a":1,"c":3}"#,
+            r#"{"equal":[1],"lower":null,"upper":null}"#,
+        ),
         // a bound on a column that is not bounded empties no range
         (r#"{"c":{"$gt":3,"$lt":3}}"#, OPEN),
         (r#"{"a":1,"b":{"$gt":3,"$lt":3}}"#, EMPTY),

@@ -6,12 +6,12 @@ pub returns : goal.returns
 returns g c =
     let held = c.serve.ensures.talk (empty_world c.args.settings.db.now) c.in-Ok.ensures.stands in
     inl (record {
-        bytes = held.0;
-        written = held.1;
-        left = held.2;
-        end = c.serve.result;
-        input = held.3;
-        output = held.4;
-        talk = held.5;
-        ends = c.after.ensures;
+      bytes = held.0;
+      written = held.1;
+      left = held.2;
+      end = c.serve.result;
+      input = held.3;
+      output = held.4;
+      talk = held.5;
+      ends = c.after.ensures;
     })

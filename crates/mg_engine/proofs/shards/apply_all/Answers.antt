@@ -19,7 +19,9 @@ loop-edit-init g c =
       number = refl;
       some = c.requires;
       goes_on = λ hs st. (
-        hs, st, ap (after_edits hs) all,
+        hs,
+        st,
+        ap (after_edits hs) all,
         ap (λ (es : List Edit). entries_of c.args.new_edits (outcomes hs es)) all
             ∙ ap (λ xs. items_before xs (entries_of c.args.new_edits (outcomes hs (into_iter_items c.into_iter-edit-iterator.result)))) (sym c.new-entries.ensures.items),
       );
