@@ -10,6 +10,7 @@ use crate::ends::{NO_MEMORY, WRONG_WORDS};
 use crate::program::run;
 use mg_http::Device;
 use std::env;
+use std::io::ErrorKind;
 use std::process::ExitCode;
 
 fn main(rt: HostRuntime) -> ExitCode {
@@ -23,7 +24,10 @@ fn main(rt: HostRuntime) -> ExitCode {
             ),
             Err(_) => NO_MEMORY,
         },
-        Err(_) => WRONG_WORDS,
+        Err(error) => match error.kind() {
+            ErrorKind::OutOfMemory => NO_MEMORY,
+            _ => WRONG_WORDS,
+        },
     };
     if !ending.line.is_empty() {
         let _ = eprintln!(rt; "{}", ending.line);
