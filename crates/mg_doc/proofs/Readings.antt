@@ -15,9 +15,9 @@ gives_err said BadRev h = h
 gives_err said NoMemory h = tt
 
 -- a part, or its fault
-pub gives_ok_or : {A : Type 0} (o : Option A) (e : DocError) (said r : Result A DocError) → said ≡ or_fault e o → r ≡ ok_or o e → Gives said r
-gives_ok_or {A} (Some a) e said r h q = let P : Result A DocError → Type 0 = Gives said in subst P (sym q) h
-gives_ok_or {A} None e said r h q = let P : Result A DocError → Type 0 = Gives said in subst P (sym q) (gives_err said e h)
+pub is_or_fault : {A : Type 0} (o : Option A) (e : DocError) → ok_or o e ≡ or_fault e o
+is_or_fault (Some a) e = refl
+is_or_fault None e = refl
 
 fault_of_none : {A B : Type 0} (fault : DocError) (o : Option A) (p : Option B) (e : DocError) → (o ≡ None → p ≡ None) → or_fault fault o ≡ Err e → or_fault fault p ≡ Err e
 fault_of_none fault None p e none h = let same : fault ≡ e = cc in rw (none refl) (ap Err same)

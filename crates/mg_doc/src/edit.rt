@@ -1,4 +1,4 @@
-ghost use Rattle.std.specs.Prelude.{◌≡◌, None, OnErr, Some, option_map, string_bytes, true};
+ghost use Rattle.std.specs.Prelude.{◌≡◌, Err, None, OnErr, Some, option_map, string_bytes, true};
 ghost use Rattle.mg_value.specs.View.{view, members_view};
 ghost use Rattle.mg_revtree.specs.History.{History as Paths};
 ghost use Rattle.mg_revtree.specs.Tree.{StandsFor};
@@ -55,11 +55,16 @@ impl Edit {
     ///
     /// Errors, the first fault in this order: `BadMember` for another member that begins with an
     /// underscore or for a bad `_deleted`, `BadId` for a bad `_id`, `BadRev` for a bad `_rev` or
-    /// `_revisions`, or for neither of them from a replica; `NoMemory` where a growth is refused.
+    /// `_revisions`, or for neither of them from a replica; `NoMemory` where a growth is refused, never in the place
+    /// of `BadMember` or `BadId`.
     /// Cost: the number of the members and the length of the path. Source: CouchDB's `_bulk_docs`.
     pub fn read(alloc: Global, document: Json, new_edit: bool) -> Result<Edit, DocError>
         requires { is_object (view document) ≡ true }
-        ensures { Gives (edit_of new_edit (view document)) result }
+        ensures edit { Gives (edit_of new_edit (view document)) result }
+
+        // These two are found before memory is taken.
+        ensures bad_member { edit_of new_edit (view document) ≡ Err DocError.BadMember → result ≡ Err DocError.BadMember }
+        ensures bad_id { edit_of new_edit (view document) ≡ Err DocError.BadId → result ≡ Err DocError.BadId }
     {
         match document {
             Json::Object(members) => edit_in(alloc, members, new_edit),
@@ -156,7 +161,9 @@ fn edit_in(
     mut members: BTreeMap<String, Json>,
     new_edit: bool,
 ) -> Result<Edit, DocError>
-    ensures { Gives (members_read new_edit (members_view members.entries)) result }
+    ensures edit { Gives (members_read new_edit (members_view members.entries)) result }
+    ensures bad_member { members_read new_edit (members_view members.entries) ≡ Err DocError.BadMember → result ≡ Err DocError.BadMember }
+    ensures bad_id { members_read new_edit (members_view members.entries) ≡ Err DocError.BadId → result ≡ Err DocError.BadId }
 {
     let deleted = checked_mark(&members)?;
     let Some(id) = take_id(&mut members) else {

@@ -1,7 +1,7 @@
 ghost use Rattle.std.specs.Prelude.{◌≡◌, codes, option_map, string_bytes};
 ghost use Rattle.mg_value.specs.Value.{Value, get_member};
 ghost use Rattle.mg_value.specs.View.{view, members_view};
-ghost use Rattle.mg_doc.specs.Document.{Gives, has_known_names as are_known, id_of, is_document_id as is_id, is_reserved as reserved, is_special as special, mark_of, mark_read, own_members as own};
+ghost use Rattle.mg_doc.specs.Document.{has_known_names as are_known, id_of, is_document_id as is_id, is_reserved as reserved, is_special as special, mark_of, mark_read, own_members as own};
 
 use crate::error::DocError;
 use mg_value::Json;
@@ -9,7 +9,7 @@ use std::collections::BTreeMap;
 
 // The mark of a document, where its reserved names are those of a document.
 pub(crate) fn checked_mark(members: &BTreeMap<String, Json>) -> Result<bool, DocError>
-    ensures { Gives (mark_read (members_view members.now.entries)) result }
+    ensures { result ≡ mark_read (members_view members.now.entries) }
 {
     if !has_known_names(members) {
         return Err(DocError::BadMember);

@@ -3,7 +3,7 @@ use Rattle.mg_value.specs.View.{members_view}
 use Rattle.mg_doc.specs.Document.{mark_of, mark_read, or_fault}
 use Rattle.mg_doc.specs.declared.error.DocError.TheVariants.{BadMember}
 use Rattle.mg_doc.proofs.Entries.{member_lent}
-use Rattle.mg_doc.proofs.Readings.{gives_ok_or}
+use Rattle.mg_doc.proofs.Readings.{is_or_fault}
 use Rattle.mg_doc.proofs.members.checked_mark.Goals as goal
 
 pub returns : goal.returns
@@ -11,4 +11,4 @@ returns c =
     let es = c.args.members.now.entries in
     let known = sym c.has_known_names.ensures ∙ c.if-not-has_known_names.false in
     let seen = c.mark.ensures ∙ ap mark_of (member_lent (codes "_deleted") es c.get.result c.get.ensures.value) in
-    gives_ok_or c.mark.result BadMember (mark_read (members_view es)) c.ok_or.result (rw known (ap (or_fault BadMember) (sym seen))) c.ok_or.ensures.value
+    c.ok_or.ensures.value ∙ is_or_fault c.mark.result BadMember ∙ rw known (ap (or_fault BadMember) seen)
