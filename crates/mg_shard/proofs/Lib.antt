@@ -1,0 +1,4 @@
+pub mod Shown
+pub mod Standing
+pub mod Touched
+pub mod Dealing

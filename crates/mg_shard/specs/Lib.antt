@@ -1,1 +1,7 @@
 pub mod Placement
+pub mod Histories
+pub mod Edits
+pub mod Documents
+pub mod Shard
+pub mod Draft
+pub mod Dealt

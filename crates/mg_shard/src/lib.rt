@@ -1,6 +1,20 @@
-//! Shards: where documents are kept.
+//! Shards: documents in shared pages, by their ids, edits of them, and on which shard a document is kept.
 #![tactic(auto)]
 
+<<<<<<< HEAD
 mod placement;
+=======
+mod docs;
+mod document;
+pub mod draft;
+pub mod placement;
+pub mod reply;
+mod served;
+pub mod shard;
+>>>>>>> 41cac2b (Shards own their documents, in shared pages: what they stand for, look-ups, drafts of a bulk, and what it is to be dealt by a placement)
 
+pub use docs::Docs;
+pub use draft::Draft;
 pub use placement::{Md5Placement, Placement};
+pub use reply::EditReply;
+pub use shard::Shard;

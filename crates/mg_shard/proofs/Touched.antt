@@ -1,0 +1,197 @@
+-- Trees that a bulk has touched, and the histories for which they stand beside the documents.
+use lib.Dec.{T}
+use Rattle.std.proofs.Common.{◌≡◌, ℕ, zero, suc, ◌<◌, Bool, true, false, List, [], ◌∷◌, Ok, Err, Result, String, Global, Option, Some, None, option_map, unwrap_or, is_ok, map, length, cond, string_bytes, string_cmp, is_eq, refl, ap, sym, ◌∙◌, subst, arith}
+use Rattle.std.proofs.lemmas.Cmp.{nat_list_cmp_total, eq_by_cmp_equiv, tied_itself}
+use Rattle.std.proofs.lemmas.Map.Text.{btree_map_updates_text, is_eq-slice_cmp}
+use Rattle.std.specs.BTreeMap.{BTreeMap, UpdatesBy, get_by_text, is_at}
+use Rattle.std.specs.Map.{lookup}
+use Rattle.std.specs.Cmp.Lexicographic.{slice_cmp}
+use Rattle.std.specs.Ordering.{eq_by_cmp, nat_cmp}
+use Rattle.std.specs.Str.{bytes_eq}
+use Rattle.std.specs.FinMap.{empty, find, get, get-empty, get-from_entries, get-insert, insert, same_map}
+use Rattle.mg_revtree.specs.Revision.{Revision}
+use Rattle.mg_revtree.specs.History.{History}
+use Rattle.mg_revtree.specs.Tree.{StandsFor, Tree}
+use Rattle.mg_doc.specs.Document.{Edit}
+use Rattle.mg_doc.specs.Edit.{Accepted, accepted_by, edited, history_after, newest_accepted, outcome_of}
+use Rattle.mg_doc.specs.Served.{served_of}
+use Rattle.mg_doc.specs.declared.error.EditError.{EditError}
+use Rattle.mg_shard.specs.Documents.{Kept, KeptDocuments, StandFor, StandsAt}
+use Rattle.mg_shard.specs.Draft.{DraftAt, DraftStandsFor, DraftView, TouchedStandFor, Trees, touched_of}
+use Rattle.mg_shard.specs.Edits.{after_edit, history_put, id_in, outcome_in}
+use Rattle.mg_shard.specs.Histories.{Histories, history_at}
+use Rattle.mg_shard.specs.Shard.{ShardView}
+use Rattle.mg_shard.proofs.Shown.{bytes_cmp, bytes_exact}
+use Rattle.mg_shard.proofs.Standing.{same_id}
+
+abbrev pub TreeMap : Type 0
+TreeMap = BTreeMap (String Global) Tree
+
+-- ---- the map of the code
+
+find-trees : (q : List ℕ) (es : List (String Global × Tree)) → lookup (is_at (λ k. bytes_cmp q (string_bytes k))) es ≡ find bytes_cmp q (map (λ e. (string_bytes e.0, e.1)) es)
+find-trees q [] = refl
+find-trees q (e ∷ es) = ap (cond (is_eq (bytes_cmp q (string_bytes e.0))) (Some e.1)) (find-trees q es)
+
+-- a look-up in the map of the code
+pub get-touched : (m : TreeMap) (q : List ℕ) → get_by_text m q ≡ get (touched_of m.entries) q
+get-touched m q = find-trees q m.entries ∙ sym (get-from_entries nat_list_cmp_total _ q)
+
+same_test : (id q : List ℕ) → bytes_eq id q ≡ eq_by_cmp bytes_cmp q id
+same_test id q = sym (is_eq-slice_cmp id q) ∙ (eq_by_cmp_equiv nat_list_cmp_total).symm id q
+
+-- a look-up after a change at an id
+pub get-updated : (m n : TreeMap) (id : List ℕ) (w : Option Tree) → UpdatesBy string_cmp (λ k. slice_cmp nat_cmp id (string_bytes k)) m n w
+    → (q : List ℕ) → get (touched_of n.entries) q ≡ cond (eq_by_cmp bytes_cmp q id) w (get (touched_of m.entries) q)
+get-updated m n id w u q =
+    sym (get-touched n q) ∙ btree_map_updates_text id m n w u q
+    ∙ ap (λ b. cond b w (get_by_text m q)) (same_test id q) ∙ ap (cond (eq_by_cmp bytes_cmp q id) w) (get-touched m q)
+
+-- a tree that is put under an id is inserted
+pub touched-put : (m n : TreeMap) (id : List ℕ) (t : Tree) → UpdatesBy string_cmp (λ k. slice_cmp nat_cmp id (string_bytes k)) m n (Some t)
+    → touched_of n.entries ≡ insert (touched_of m.entries) id t
+touched-put m n id t u = same_map nat_list_cmp_total bytes_exact _ _ (λ q. get-updated m n id (Some t) u q ∙ sym (get-insert nat_list_cmp_total (touched_of m.entries) id t q))
+
+-- ---- histories
+
+-- a refused edit leaves the history
+kept_history : (h : History) (e : Edit) (a : Result Accepted EditError) (x : EditError) → newest_accepted a ≡ Err x → history_after h e a ≡ h
+kept_history h e (Ok a) x is = absurd cc
+kept_history h e (Err y) x is = refl
+
+pub refused_leaves : (h : History) (e : Edit) (x : EditError) → outcome_of h e ≡ Err x → edited h e ≡ h
+refused_leaves h e x is = kept_history h e (accepted_by h e) x is
+
+-- an edit that is done
+pub after_done : (hs : Histories) (e : Edit) (r : Revision) → outcome_in hs e ≡ Ok r → after_edit hs e ≡ insert hs (id_in e) (edited (history_at hs (id_in e)) e)
+after_done hs e r is = ap (history_put hs e) is
+
+-- an edit that is refused
+pub after_refused : (hs : Histories) (e : Edit) (x : EditError) → outcome_in hs e ≡ Err x → after_edit hs e ≡ hs
+after_refused hs e x is = ap (history_put hs e) is
+
+-- ---- drafts
+
+-- where nothing is touched, the documents stand
+pub untouched : (ds : KeptDocuments) (hs : Histories) → StandFor ds hs → TouchedStandFor ds empty hs
+untouched ds hs st q = subst (λ (t : Option Tree). DraftAt q t (get ds q) (get hs q)) (sym (get-empty bytes_cmp q)) (st q)
+
+pub all_kept : (ds : KeptDocuments) (ts : Trees) (hs : Histories) → ts ≡ empty → TouchedStandFor ds ts hs → StandFor ds hs
+all_kept ds ts hs none st q = subst (λ (t : Option Tree). DraftAt q t (get ds q) (get hs q)) (ap (λ m. get m q) none ∙ get-empty bytes_cmp q) (st q)
+
+-- the document of an id that is not touched
+pub document_at : (ds : KeptDocuments) (ts : Trees) (hs : Histories) (id : List ℕ) → get ts id ≡ None → TouchedStandFor ds ts hs → StandsAt id (get ds id) (get hs id)
+document_at ds ts hs id none st = subst (λ (t : Option Tree). DraftAt id t (get ds id) (get hs id)) none (st id)
+
+has : (id : List ℕ) (t : Tree) (kept : Option Kept) (o : Option History) → DraftAt id (Some t) kept o → (h : History) × (o ≡ Some h) × StandsFor t h
+has id t kept None st = absurd st
+has id t kept (Some h) st = (h, refl, st)
+
+-- a touched tree stands for the history of its id
+pub touched_at : (ds : KeptDocuments) (ts : Trees) (hs : Histories) (id : List ℕ) (t : Tree) → get ts id ≡ Some t → TouchedStandFor ds ts hs → (h : History) × (get hs id ≡ Some h) × StandsFor t h
+touched_at ds ts hs id t is st = has id t (get ds id) (get hs id) (subst (λ (o : Option Tree). DraftAt id o (get ds id) (get hs id)) is (st id))
+
+pub tree_touched : (ds : KeptDocuments) (ts : Trees) (hs : Histories) (id : List ℕ) (t : Tree) → get ts id ≡ Some t → TouchedStandFor ds ts hs → StandsFor t (history_at hs id)
+tree_touched ds ts hs id t is st = let at = touched_at ds ts hs id t is st in subst (λ (o : Option History). StandsFor t (unwrap_or o [])) (sym at.1) at.2
+
+done_at : (b : Bool) (q : List ℕ) (t : Tree) (h : History) (ot : Option Tree) (kept : Option Kept) (o : Option History) → StandsFor t h → DraftAt q ot kept o
+    → DraftAt q (cond b (Some t) ot) kept (cond b (Some h) o)
+done_at true q t h ot kept o s st = s
+done_at false q t h ot kept o s st = st
+
+refused_at : (b : Bool) (q : List ℕ) (t : Tree) (h : History) (ot : Option Tree) (kept : Option Kept) (o : Option History) → (b ≡ true → o ≡ Some h) → StandsFor t h → DraftAt q ot kept o
+    → DraftAt q (cond b (Some t) ot) kept o
+refused_at true q t h ot kept o is s st = subst (λ (p : Option History). DraftAt q (Some t) kept p) (sym (is refl)) s
+refused_at false q t h ot kept o is s st = st
+
+-- the tree that an edit leaves is kept among the touched ones. A refused edit left its history, if there was one
+pub edit_kept : (ds : KeptDocuments) (ts us : Trees) (hs : Histories) (e : Edit) (t : Tree) (r : Result Revision EditError) → outcome_in hs e ≡ r
+    → ((x : EditError) → r ≡ Err x → (h : History) × (get hs (id_in e) ≡ Some h))
+    → ((q : List ℕ) → get us q ≡ cond (eq_by_cmp bytes_cmp q (id_in e)) (Some t) (get ts q))
+    → StandsFor t (edited (history_at hs (id_in e)) e) → TouchedStandFor ds ts hs → TouchedStandFor ds us (after_edit hs e)
+edit_kept ds ts us hs e t (Ok r) is some at s st q =
+    let id = id_in e in
+    let h = edited (history_at hs id) e in
+    let now : get (after_edit hs e) q ≡ cond (eq_by_cmp bytes_cmp q id) (Some h) (get hs q) = ap (λ m. get m q) (after_done hs e r is) ∙ get-insert nat_list_cmp_total hs id h q in
+    subst (λ (o : Option History). DraftAt q (get us q) (get ds q) o) (sym now)
+    (subst (λ (o : Option Tree). DraftAt q o (get ds q) (cond (eq_by_cmp bytes_cmp q id) (Some h) (get hs q))) (sym (at q))
+    (done_at (eq_by_cmp bytes_cmp q id) q t h (get ts q) (get ds q) (get hs q) s (st q)))
+edit_kept ds ts us hs e t (Err x) is some at s st q =
+    let id = id_in e in
+    let had = some x refl in
+    let before : history_at hs id ≡ had.0 = ap (λ (o : Option History). unwrap_or o []) had.1 in
+    let left : StandsFor t had.0 = subst (λ (h : History). StandsFor t h) (refused_leaves (history_at hs id) e x is ∙ before) s in
+    let here : eq_by_cmp bytes_cmp q id ≡ true → get hs q ≡ Some had.0 = λ b. ap (get hs) (same_id q id b) ∙ had.1 in
+    subst (λ (o : Option History). DraftAt q (get us q) (get ds q) o) (sym (ap (λ m. get m q) (after_refused hs e x is)))
+    (subst (λ (o : Option Tree). DraftAt q o (get ds q) (get hs q)) (sym (at q))
+    (refused_at (eq_by_cmp bytes_cmp q id) q t had.0 (get ts q) (get ds q) (get hs q) here left (st q)))
+
+-- a look-up after a tree was taken out and another put in its place
+pub replaced : (b : Bool) (t : Tree) (o p : Option Tree) → p ≡ cond b None o → cond b (Some t) p ≡ cond b (Some t) o
+replaced true t o p e = refl
+replaced false t o p e = e
+
+kept_at : (b : Bool) (q id : List ℕ) (t : Tree) (d : Kept) (ot : Option Tree) (kept : Option Kept) (o : Option History) → (b ≡ true → q ≡ id) → (b ≡ true → ot ≡ Some t) → d.0 ≡ t
+    → ((h : History) → StandsFor t h → d.1 ≡ served_of id h) → DraftAt q ot kept o → DraftAt q (cond b None ot) (cond b (Some d) kept) o
+kept_at true q id t d ot kept o at is same served st =
+    let had = has q t kept o (subst (λ (p : Option Tree). DraftAt q p kept o) (is refl) st) in
+    subst (λ (p : Option History). StandsAt q (Some d) p) (sym had.1)
+    (subst (λ (x : Tree). StandsFor x had.0) (sym same) had.2, served had.0 had.2 ∙ ap (λ i. served_of i had.0) (sym (at refl)))
+kept_at false q id t d ot kept o at is same served st = st
+
+-- a touched tree is kept as its document
+pub tree_kept : (ds cs : KeptDocuments) (ts us : Trees) (hs : Histories) (id : List ℕ) (t : Tree) (d : Kept) → get ts id ≡ Some t → d.0 ≡ t
+    → ((h : History) → StandsFor t h → d.1 ≡ served_of id h) → cs ≡ insert ds id d
+    → ((q : List ℕ) → get us q ≡ cond (eq_by_cmp bytes_cmp q id) None (get ts q)) → TouchedStandFor ds ts hs → TouchedStandFor cs us hs
+tree_kept ds cs ts us hs id t d is same served put at st q =
+    let now : get cs q ≡ cond (eq_by_cmp bytes_cmp q id) (Some d) (get ds q) = ap (λ m. get m q) put ∙ get-insert nat_list_cmp_total ds id d q in
+    subst (λ (k : Option Kept). DraftAt q (get us q) k (get hs q)) (sym now)
+    (subst (λ (o : Option Tree). DraftAt q o (cond (eq_by_cmp bytes_cmp q id) (Some d) (get ds q)) (get hs q)) (sym (at q))
+    (kept_at (eq_by_cmp bytes_cmp q id) q id t d (get ts q) (get ds q) (get hs q) (same_id q id) (λ b. ap (get ts) (same_id q id b) ∙ is) same served (st q)))
+
+-- ---- for the steps of a bulk
+
+
+ 
+-- what was taken out is not there any more
+pub touched_out : (m n : TreeMap) (id : List ℕ) → UpdatesBy string_cmp (λ k. slice_cmp nat_cmp id (string_bytes k)) m n None → get (touched_of n.entries) id ≡ None
+touched_out m n id u = get-updated m n id None u id ∙ ap (λ r. cond (is_eq r) None (get (touched_of m.entries) id)) (tied_itself nat_list_cmp_total id)
+
+-- no trees
+pub touched_none : (es : List (String Global × Tree)) → length es ≡ 0 → touched_of es ≡ empty
+touched_none [] e = refl
+touched_none (x ∷ es) e = absurd (omega arith)
+
+-- a refused edit leaves all as it was
+pub refused_stands : (ds : KeptDocuments) (ts : Trees) (hs : Histories) (e : Edit) (r : Result Revision EditError) → r ≡ outcome_in hs e → is_ok r ≡ false → TouchedStandFor ds ts hs → TouchedStandFor ds ts (after_edit hs e)
+refused_stands ds ts hs e (Ok r) is not st = absurd cc
+refused_stands ds ts hs e (Err x) is not st = subst (λ m. TouchedStandFor ds ts m) (sym (after_refused hs e x (sym is))) st
+
+not_refused : (r : Result Revision EditError) (x : EditError) → is_ok r ≡ true → r ≡ Err x → ⊥
+not_refused (Ok r) x is e = absurd cc
+not_refused (Err y) x is e = absurd cc
+
+-- the first edit of a document that is done keeps the tree that it leaves
+pub first_kept : (ds : KeptDocuments) (ts us : Trees) (hs : Histories) (e : Edit) (t : Tree) (r : Result Revision EditError) → r ≡ outcome_in hs e → is_ok r ≡ true
+    → us ≡ insert ts (id_in e) t → StandsFor t (edited (history_at hs (id_in e)) e) → TouchedStandFor ds ts hs → TouchedStandFor ds us (after_edit hs e)
+first_kept ds ts us hs e t r is done put s st =
+    edit_kept ds ts us hs e t r (sym is) (λ x refused. absurd (not_refused r x done refused)) (λ q. ap (λ m. get m q) put ∙ get-insert nat_list_cmp_total ts (id_in e) t q) s st
+
+-- a further edit keeps the tree that it leaves
+pub next_kept : (ds : KeptDocuments) (ts out us : Trees) (hs : Histories) (e : Edit) (tree t : Tree) → get ts (id_in e) ≡ Some tree
+    → ((q : List ℕ) → get out q ≡ cond (eq_by_cmp bytes_cmp q (id_in e)) None (get ts q)) → us ≡ insert out (id_in e) t
+    → StandsFor t (edited (history_at hs (id_in e)) e) → TouchedStandFor ds ts hs → TouchedStandFor ds us (after_edit hs e)
+next_kept ds ts out us hs e tree t is without put s st =
+    edit_kept ds ts us hs e t (outcome_in hs e) refl
+    (λ x refused. let had = touched_at ds ts hs (id_in e) tree is st in (had.0, had.1))
+    (λ q. ap (λ m. get m q) put ∙ get-insert nat_list_cmp_total out (id_in e) t q ∙ replaced (eq_by_cmp bytes_cmp q (id_in e)) t (get ts q) (get out q) (without q)) s st
+
+-- a draft of a shard stands for what the shard stands for
+pub new_draft : (d : DraftView) (s : ShardView) (hs : Histories) → d.shard ≡ s → d.touched ≡ empty → StandFor s.documents hs → DraftStandsFor d hs
+new_draft d s hs same none st =
+    subst (λ (ts : Trees). TouchedStandFor d.shard.documents ts hs) (sym none) (subst (λ (v : ShardView). TouchedStandFor v.documents empty hs) (sym same) (untouched s.documents hs st))
+
+-- nothing is left
+pub none_left : (n : ℕ) → (0 < n → false ≡ true) → n ≡ 0
+none_left zero h = refl
+none_left (suc n) h = let wrong = h (omega arith) in absurd cc

@@ -1,0 +1,12 @@
+use Rattle.std.proofs.Common.{length}
+use Rattle.mg_shard.specs.Documents.{shown}
+use Rattle.mg_shard.specs.Draft.{TouchedStandFor, touched_of}
+use Rattle.mg_shard.specs.Histories.{Histories}
+use Rattle.mg_shard.proofs.draft.keep_all.Given as goal
+
+-- what is left to keep stands beside what is kept
+abbrev pub invariant-loop-id : goal.invariant-loop-id
+invariant-loop-id l = (hs : Histories) → TouchedStandFor (shown l.fn.documents) (touched_of l.fn.touched.entries) hs → TouchedStandFor (shown l.documents) (touched_of l.touched.entries) hs
+
+abbrev pub decreases-loop-id : goal.decreases-loop-id
+decreases-loop-id l = length l.touched.entries

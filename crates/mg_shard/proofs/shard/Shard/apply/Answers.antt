@@ -1,0 +1,19 @@
+use Rattle.std.proofs.Common.{◌≡◌, unwrap_or, sym, ap, ◌∙◌, subst}
+use Rattle.mg_shard.specs.Documents.{StandFor}
+use Rattle.mg_shard.specs.Edits.{after_edits}
+use Rattle.mg_shard.specs.Shard.{ShardView}
+use Rattle.mg_shard.proofs.Touched.{new_draft}
+use Rattle.mg_shard.proofs.shard.Shard.apply.Goals as goal
+
+pub returns-clause-replies : goal.returns-clause-replies
+returns-clause-replies c = λ hs st.
+    c.in_ok-replies.ensures.outcomes hs (new_draft c.new-draft.result c.args.self.now hs c.new-draft.ensures.shard c.new-draft.ensures.touched st)
+
+pub returns-clause-stands : goal.returns-clause-stands
+returns-clause-stands c = λ hs st.
+    let drafted = new_draft c.new-draft.result c.args.self.now hs c.new-draft.ensures.shard c.new-draft.ensures.touched st in
+    let after = after_edits hs c.args.edits.now in
+    let finished = c.in_ok-next.ensures after (c.in_ok-replies.ensures.stands hs drafted) in
+    let same : unwrap_or c.in_ok-next.next c.edit_all.new.self.shard ≡ c.in_ok-or_shared.field-0 =
+    ap (unwrap_or c.in_ok-next.next) (c.in_ok-replies.ensures.shard ∙ c.new-draft.ensures.shard) ∙ sym c.in_ok-or_shared.ensures in
+    subst (λ (s : ShardView). StandFor s.documents after) same finished

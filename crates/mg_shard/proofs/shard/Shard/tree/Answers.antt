@@ -1,0 +1,9 @@
+use Rattle.std.proofs.Common.{ap, option_map}
+use Rattle.mg_shard.specs.Documents.{Kept}
+use Rattle.mg_shard.proofs.shard.Shard.tree.Goals as goal
+
+pub returns-in-Some : goal.returns-in-Some
+returns-in-Some c = ap (option_map (λ (d : Kept). d.0)) c.in-Some.ensures
+
+pub returns-in-None : goal.returns-in-None
+returns-in-None c = ap (option_map (λ (d : Kept). d.0)) c.in-None.ensures

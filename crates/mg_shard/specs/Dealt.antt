@@ -1,0 +1,38 @@
+-- Documents that are dealt to shards by a placement of their ids, and the histories for which the shards stand together.
+use Rattle.std.specs.Prelude.{◌≡◌, ℕ, ◌<◌, ◌==◌, List, length, Option, Some, option_and_then, slice_get}
+use Rattle.std.specs.FinMap.{get, retain_keys}
+use Rattle.mg_revtree.specs.History.{History}
+use Rattle.mg_shard.specs.Documents.{Kept, StandFor}
+use Rattle.mg_shard.specs.Draft.{DraftView, DraftStandsFor}
+use Rattle.mg_shard.specs.Histories.{Histories}
+use Rattle.mg_shard.specs.Shard.{ShardView}
+
+-- which shard an id is placed on, of so many
+abbrev pub Placing : Type 0
+Placing = List ℕ → ℕ → ℕ
+
+-- the histories of the ids that are placed on shard i, of n
+abbrev pub histories_on : Placing → ℕ → ℕ → Histories → Histories
+histories_on place n i hs = retain_keys hs (λ id. place id n == i)
+
+-- Things, one for each shard, stand for histories together where each id that has a history is placed on one of them, and
+-- where each of them stands for the histories that are placed there. So a document stands in its own shard, and nowhere else.
+pub record AreDealt {X : Type 0} (Stands : X → Histories → Type 0) (place : Placing) (xs : List X) (hs : Histories) : Type 0 where
+  pub placed : (id : List ℕ) (h : History) → get hs id ≡ Some h → place id (length xs) < length xs
+  pub each : (i : ℕ) (x : X) → slice_get xs i ≡ Some x → Stands x (histories_on place (length xs) i hs)
+
+-- a shard stands for histories where its documents do
+abbrev pub ShardStandsFor : ShardView → Histories → Type 0
+ShardStandsFor s hs = StandFor s.documents hs
+
+-- shards stand for histories that are dealt to them
+abbrev pub ShardsStandFor : Placing → List ShardView → Histories → Type 0
+ShardsStandFor place shards hs = AreDealt ShardStandsFor place shards hs
+
+-- and so do drafts of them, while a bulk is applied
+abbrev pub DraftsStandFor : Placing → List DraftView → Histories → Type 0
+DraftsStandFor place drafts hs = AreDealt DraftStandsFor place drafts hs
+
+-- what is kept of an id, on the shard where it is placed
+abbrev pub kept_at : Placing → List ShardView → List ℕ → Option Kept
+kept_at place shards id = option_and_then (λ s. get s.documents id) (slice_get shards (place id (length shards)))

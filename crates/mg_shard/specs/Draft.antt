@@ -1,0 +1,46 @@
+-- What clauses see of a shard while a bulk is applied, and the histories that it stands for.
+use Rattle.std.specs.Prelude.{◌≡◌, ℕ, List, map, String, string_bytes, Option, Some, None, refl}
+use Rattle.std.specs.Cmp.Lexicographic.{slice_cmp}
+use Rattle.std.specs.Coded.{Coded, code_by, coded×, coded_ℕ, coded_list}
+use Rattle.std.specs.FinMap as finite
+use Rattle.std.specs.FinMap.{FinMap, from_entries, get}
+use Rattle.std.specs.Ordering.{nat_cmp}
+use Rattle.std.specs.declared.alloc.Global.{Global}
+use Rattle.mg_revtree.specs.History.{History}
+use Rattle.mg_revtree.specs.Tree.{Tree, StandsFor, tree_code}
+use Rattle.mg_shard.specs.Documents.{Kept, KeptDocuments, StandsAt}
+use Rattle.mg_shard.specs.Histories.{Histories}
+use Rattle.mg_shard.specs.Shard.{ShardView, shard_code}
+
+-- trees by the ids of their documents
+abbrev pub Trees : Type 0
+Trees = FinMap (slice_cmp nat_cmp) Tree
+
+-- what a draft holds: the shard before the bulk, and the trees that the bulk has touched, as they are now
+pub record DraftView : Type 0 where
+  pub shard : ShardView
+  pub touched : Trees
+
+-- how the logic stores it
+abbrev pub draft_code : Coded DraftView
+draft_code =
+    code_by (ShardView × Trees) (coded× shard_code (finite.code (coded_list coded_ℕ) tree_code))
+    (λ d. (d.shard, d.touched)) (λ p. record { shard = p.0; touched = p.1 }) (λ _. refl)
+
+-- the trees of the code by their ids
+abbrev pub touched_of : List (String Global × Tree) → Trees
+touched_of es = from_entries (map (λ e. (string_bytes e.0, e.1)) es)
+
+-- at an id: a tree that the bulk has touched stands for the history, and else the document does
+abbrev pub DraftAt : List ℕ → Option Tree → Option Kept → Option History → Type 0
+DraftAt id (Some t) kept None = ⊥
+DraftAt id (Some t) kept (Some h) = StandsFor t h
+DraftAt id None kept o = StandsAt id kept o
+
+-- documents and touched trees stand for histories where they do so at each id
+abbrev pub TouchedStandFor : KeptDocuments → Trees → Histories → Type 0
+TouchedStandFor ds ts hs = (id : List ℕ) → DraftAt id (get ts id) (get ds id) (get hs id)
+
+-- a draft stands for histories where its documents and trees do
+abbrev pub DraftStandsFor : DraftView → Histories → Type 0
+DraftStandsFor d hs = TouchedStandFor d.shard.documents d.touched hs

@@ -1,0 +1,30 @@
+-- The histories of documents by their ids: what a shard stands for, with no mention of how documents are kept.
+use Rattle.std.specs.Prelude.{ℕ, List, [], Option, option_map, unwrap_or}
+use Rattle.std.specs.Cmp.Lexicographic.{slice_cmp}
+use Rattle.std.specs.FinMap as finite
+use Rattle.std.specs.FinMap.{FinMap, entries}
+use Rattle.std.specs.List.{filter_map}
+use Rattle.std.specs.Ordering.{nat_cmp}
+use Rattle.mg_value.specs.Value.{Value}
+use Rattle.mg_revtree.specs.History.{History}
+use Rattle.mg_doc.specs.Served.{served_of}
+
+-- histories by the ids of their documents
+abbrev pub Histories : Type 0
+Histories = FinMap (slice_cmp nat_cmp) History
+
+-- the history of an id, which is empty where there is none
+abbrev pub history_at : Histories → List ℕ → History
+history_at hs id = unwrap_or (finite.get hs id) []
+
+-- an id with the form in which its document is served
+abbrev pub ServedDocument : Type 0
+ServedDocument = List ℕ × Value
+
+-- the id with its served form, if it is served
+abbrev pub served_entry : List ℕ × History → Option ServedDocument
+served_entry e = option_map (λ form. (e.0, form)) (served_of e.0 e.1)
+
+-- all served documents, in the order of their ids
+abbrev pub served_documents : Histories → List ServedDocument
+served_documents hs = filter_map served_entry (entries hs)

@@ -1,0 +1,178 @@
+//! A shard while a bulk is applied.
+ghost use Rattle.std.specs.Prelude.{◌≡◌, None, unwrap_or, IfOk, OnOk, map, string_bytes};
+ghost use Rattle.std.specs.FinMap as finite;
+ghost use Rattle.std.specs.FinMap.{get, insert};
+ghost use Rattle.mg_revtree.specs.History.{History};
+ghost use Rattle.mg_revtree.specs.Tree.{StandsFor, Tree};
+ghost use Rattle.mg_doc.specs.Edit.{edited, outcome_of};
+ghost use Rattle.mg_shard.specs.Documents.{shown, StandFor};
+ghost use Rattle.mg_shard.specs.Draft.{DraftStandsFor, TouchedStandFor, touched_of};
+ghost use Rattle.mg_shard.specs.Edits.{after_edit, after_edits, id_in, outcome_in, outcome_seen, outcomes};
+ghost use Rattle.mg_shard.specs.Histories.{Histories};
+
+use crate::document::Document;
+use crate::reply::EditReply;
+use crate::shard::Shard;
+use mg_doc::{Edit, EditError};
+use mg_pages::Pages;
+use mg_revtree::RevTree;
+use mg_value::NoMemory;
+use std::alloc::Global;
+use std::collections::BTreeMap;
+use std::marker::Model;
+use std::sync::Arc;
+
+/// A shard while a bulk is applied: the shard as it was, lent, and the trees of the documents that the bulk has touched.
+#[derive(Drop)]
+pub struct Draft<'a> {
+    shard: &'a Shard,
+    touched: BTreeMap<String, RevTree>,
+}
+
+impl<'a> Model for Draft<'a> {
+    ghost use Rattle.mg_shard.specs.Draft.{DraftView, draft_code, touched_of};
+
+    ghost Value = { DraftView };
+
+    ghost coded = { draft_code };
+
+    ghost view = { λ d. record { shard = d.shard.now; touched = touched_of d.touched.entries } };
+}
+
+/// The id of an edit that has one. Takes no memory.
+pub fn id_in(edit: &Edit) -> &str
+    ensures { result.now ≡ id_in edit.now }
+{
+    match edit.id() {
+        Some(id) => id,
+        None => "",
+    }
+}
+
+impl<'a> Draft<'a> {
+    /// A draft of a shard, of which no document is touched yet. Takes no memory.
+    pub fn new(alloc: Global, shard: &'a Shard) -> Draft<'a>
+        ensures shard { result.shard ≡ shard.now }
+        ensures touched { result.touched ≡ finite.empty }
+    {
+        Draft {
+            shard,
+            touched: BTreeMap::new(alloc),
+        }
+    }
+
+    /// Applies one edit that has an id. A refused edit touches nothing.
+    ///
+    /// Errors: `NoMemory` where a growth was refused; the draft is then of no more use.
+    /// Cost: the edit on its document's tree, and a copy of that tree where the draft has not touched it yet.
+    pub fn edit(&mut self, alloc: Global, edit: &Edit) -> Result<EditReply, NoMemory>
+        ensures outcome { IfOk result (λ r. (hs : Histories) → DraftStandsFor self.old hs → outcome_seen r ≡ outcome_in hs edit.now) }
+        ensures stands { OnOk result ((hs : Histories) → DraftStandsFor self.old hs → DraftStandsFor self.new (after_edit hs edit.now)) }
+        ensures shard { OnOk result (self.new.shard ≡ self.old.shard) }
+    {
+        let id = id_in(edit);
+        match self.touched.remove_entry(id) {
+            Some((key, tree)) => Ok(edit_touched(alloc, &mut self.touched, key, tree, edit)?),
+            None => Ok(edit_first(alloc, self.shard, &mut self.touched, edit)?),
+        }
+    }
+
+    /// Applies edits that have ids, in order, and says what became of each. Errors and cost are as of `edit`.
+    pub fn edit_all(&mut self, alloc: Global, edits: &[Edit]) -> Result<Vec<EditReply>, NoMemory>
+        ensures outcomes { IfOk result (λ rs. (hs : Histories) → DraftStandsFor self.old hs → map outcome_seen rs.items ≡ outcomes hs edits.now) }
+        ensures stands { OnOk result ((hs : Histories) → DraftStandsFor self.old hs → DraftStandsFor self.new (after_edits hs edits.now)) }
+        ensures shard { OnOk result (self.new.shard ≡ self.old.shard) }
+    {
+        let mut replies = Vec::with_capacity(alloc, edits.len())?;
+        for edit in edits {
+            let reply = self.edit(alloc, edit)?;
+            replies.push(reply)?;
+        }
+        Ok(replies)
+    }
+
+    /// The shard that the bulk leaves, and none where the bulk has touched no document: then the shard is as it was.
+    /// A document that was touched gets its served form and that form's text once.
+    ///
+    /// Errors: `NoMemory` where a growth was refused. Cost: for each touched document a copy of its body, its text, and
+    /// the pages on the way to it.
+    pub fn finish(self, alloc: Global) -> Result<Option<Shard>, NoMemory>
+        ensures { IfOk result (λ s. (hs : Histories) → DraftStandsFor self.entry hs → StandFor (unwrap_or s self.entry.shard).documents hs) }
+    {
+        if self.touched.is_empty() {
+            return Ok(None);
+        }
+        let shard = self.shard;
+        let documents = shard.documents.share(alloc)?;
+        let documents = keep_all(alloc, documents, self.touched)?;
+        Ok(Some(Shard { documents }))
+    }
+}
+
+// What becomes of an edit, and the tree that it leaves.
+fn applied(alloc: Global, edit: &Edit, mut tree: RevTree) -> Result<(EditReply, RevTree), NoMemory>
+    ensures { IfOk result (λ r. (h : History) → StandsFor tree h → (outcome_seen r.0 ≡ outcome_of h edit.now) × StandsFor r.1 (edited h edit.now)) }
+{
+    match edit.apply(alloc, &mut tree) {
+        Ok(rev) => Ok((EditReply::Done(rev), tree)),
+        Err(EditError::Conflict) => Ok((EditReply::Conflict, tree)),
+        Err(EditError::BadHistory) => Ok((EditReply::BadHistory, tree)),
+        Err(EditError::NoMemory) => Err(NoMemory),
+    }
+}
+
+// Applies an edit to the tree of its document, which was touched before and was taken out of the touched ones.
+fn edit_touched(
+    alloc: Global,
+    touched: &mut BTreeMap<String, RevTree>,
+    id: String,
+    tree: RevTree,
+    edit: &Edit,
+) -> Result<EditReply, NoMemory>
+    ensures outcome { IfOk result (λ r. (h : History) → StandsFor tree h → outcome_seen r ≡ outcome_of h edit.now) }
+    ensures touched { OnOk result ((h : History) → StandsFor tree h
+        → (t : Tree) × StandsFor t (edited h edit.now) × (touched_of touched.new.entries ≡ insert (touched_of touched.old.entries) (string_bytes id) t)) }
+{
+    let (reply, tree) = applied(alloc, edit, tree)?;
+    drop(touched.insert(id, tree)?);
+    Ok(reply)
+}
+
+// Applies an edit to a document that was not touched before. It is touched now, unless the edit is refused.
+fn edit_first(
+    alloc: Global,
+    shard: &Shard,
+    touched: &mut BTreeMap<String, RevTree>,
+    edit: &Edit,
+) -> Result<EditReply, NoMemory>
+    requires { get (touched_of touched.old.entries) (id_in edit.now) ≡ None }
+    ensures outcome { IfOk result (λ r. (hs : Histories) → TouchedStandFor shard.now.documents (touched_of touched.old.entries) hs
+        → outcome_seen r ≡ outcome_in hs edit.now) }
+    ensures stands { OnOk result ((hs : Histories) → TouchedStandFor shard.now.documents (touched_of touched.old.entries) hs
+        → TouchedStandFor shard.now.documents (touched_of touched.new.entries) (after_edit hs edit.now)) }
+{
+    let id = id_in(edit);
+    let tree = shard.copied_tree(alloc, id)?;
+    let (reply, tree) = applied(alloc, edit, tree)?;
+    if !reply.is_done() {
+        return Ok(reply);
+    }
+    let key = String::from_str(alloc, id)?;
+    drop(touched.insert(key, tree)?);
+    Ok(reply)
+}
+
+// Keeps each of these trees under its id, with the form in which it is served.
+fn keep_all(
+    alloc: Global,
+    mut documents: Pages<Document>,
+    mut touched: BTreeMap<String, RevTree>,
+) -> Result<Pages<Document>, NoMemory>
+    ensures { IfOk result (λ ds. (hs : Histories) → TouchedStandFor (shown documents) (touched_of touched.entries) hs → StandFor (shown ds) hs) }
+{
+    while let Some((id, tree)) = touched.pop_first() {
+        let document = Document::of(alloc, id, tree)?;
+        documents.insert(alloc, Arc::new(alloc, document)?)?;
+    }
+    Ok(documents)
+}

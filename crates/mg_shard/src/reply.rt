@@ -1,0 +1,25 @@
+ghost use Rattle.std.specs.Prelude.{◌≡◌, is_ok};
+ghost use Rattle.mg_shard.specs.Edits.{outcome_seen};
+
+use mg_revtree::Rev;
+
+/// What became of an edit of a bulk.
+#[derive(Debug, Drop)]
+pub enum EditReply {
+    /// The revision that the edit brought.
+    Done(Rev),
+    /// The edited revision is no leaf, or the document is there and none was named, or the revision that the edit makes
+    /// is known.
+    Conflict,
+    /// The path gives a known revision another parent, or no position is left.
+    BadHistory,
+}
+
+impl EditReply {
+    /// Whether the edit was done. Takes no memory.
+    pub fn is_done(&self) -> bool
+        ensures { result ≡ is_ok (outcome_seen self.now) }
+    {
+        matches!(self, EditReply::Done(_))
+    }
+}
