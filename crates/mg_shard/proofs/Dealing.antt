@@ -1,9 +1,9 @@
 -- Histories that are dealt to shards: look-ups, and what an edit changes.
 use lib.Dec.{T, eqb}
-use Rattle.std.proofs.Common.{◌≡◌, ℕ, zero, suc, ◌<◌, ◌≤◌, Bool, true, false, List, [], ◌∷◌, Ok, Err, Result, Option, Some, None, option_map, option_and_then, unwrap_or, length, slice_get, set, cond, refl, ap, sym, ◌∙◌, subst, arith, length-set}
+use Rattle.std.proofs.Common.{◌≡◌, ℕ, zero, suc, ◌<◌, Bool, true, false, List, [], ◌∷◌, Ok, Err, Result, Option, Some, None, option_and_then, unwrap_or, length, slice_get, set, cond, refl, ap, sym, ◌∙◌, subst, arith, length-set}
 use Rattle.std.proofs.lemmas.Bool.{eqb-true, eq-eqb}
 use Rattle.std.proofs.lemmas.Cmp.{nat_list_cmp_total}
-use Rattle.std.proofs.lemmas.Option.{slice_get_within, slice_get_past, slice_get-get_or}
+use Rattle.std.proofs.lemmas.Option.{slice_get_within}
 use Rattle.std.specs.Ordering.{eq_by_cmp}
 use Rattle.std.specs.FinMap.{FinMap, empty, get, get-empty, get-insert, get-retain_keys, insert, retain_keys, same_map}
 use Rattle.mg_doc.specs.Document.{Edit}
@@ -11,8 +11,8 @@ use Rattle.mg_doc.specs.Edit.{edited, outcome_of}
 use Rattle.mg_doc.specs.declared.error.EditError.{EditError}
 use Rattle.mg_revtree.specs.Revision.{Revision}
 use Rattle.mg_revtree.specs.History.{History}
-use Rattle.mg_shard.specs.Dealt.{AreDealt, Placing, ShardStandsFor, ShardsStandFor, histories_on, kept_at}
-use Rattle.mg_shard.specs.Documents.{Kept, KeptDocuments, StandFor, StandsAt}
+use Rattle.mg_shard.specs.Dealt.{AreDealt, Placing, ShardsStandFor, histories_on, kept_at}
+use Rattle.mg_shard.specs.Documents.{Kept, StandFor, StandsAt}
 use Rattle.mg_shard.specs.Edits.{after_edit, id_in, outcome_in}
 use Rattle.mg_shard.specs.Histories.{Histories, history_at}
 use Rattle.mg_shard.specs.Shard.{ShardView}

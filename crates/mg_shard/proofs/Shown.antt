@@ -1,6 +1,6 @@
 -- Documents in the order of their ids beside the finite map that they are seen as.
 use lib.Dec.{T}
-use Rattle.std.proofs.Common.{◌≡◌, ℕ, Bool, true, false, ◌&&◌, List, [], ◌∷◌, ◌++◌, Ordering, Less, Equal, Greater, Option, Some, None, option_map, map, cond, string_bytes, nat_cmp, is_eq, is_lt, is_gt, refl, ap, ap₂, sym, ◌∙◌}
+use Rattle.std.proofs.Common.{◌≡◌, ℕ, Bool, true, false, ◌&&◌, List, [], ◌∷◌, ◌++◌, Ordering, Less, Equal, Greater, Option, Some, None, option_map, map, cond, nat_cmp, is_eq, is_lt, is_gt, refl, ap, ap₂, sym, ◌∙◌}
 use Rattle.std.proofs.lemmas.Cmp.{nat_list_cmp_total}
 use Rattle.std.specs.Cmp.Lexicographic.{slice_cmp}
 use Rattle.std.specs.List.{AllByRecursion, filter, filter_map}
@@ -10,7 +10,7 @@ use Rattle.std.specs.FinMap.{IsAntisymmetric, entries, entries-from_sorted, find
 use denote.Ref.{Bor}
 use Rattle.mg_pages.specs.Identified.{id_against, id_order}
 use Rattle.mg_pages.specs.Order.{Ascends, above, below, first_of_list, found, inserted}
-use Rattle.mg_shard.specs.Documents.{Kept, doc_entry, docs_of, entry_of, kept_of, served_docs, shown}
+use Rattle.mg_shard.specs.Documents.{Kept, doc_entry, docs_of, entry_of, id_of, kept_of, served_docs, shown}
 use Rattle.mg_shard.specs.declared.document.Document.{Document}
 
 abbrev pub bytes_cmp : List ℕ → List ℕ → Ordering
@@ -18,9 +18,6 @@ bytes_cmp = slice_cmp nat_cmp
 
 pub bytes_exact : IsAntisymmetric bytes_cmp
 bytes_exact = slice_cmp-IsAntisymmetric nat_cmp-IsAntisymmetric
-
-abbrev pub id_of : Document → List ℕ
-id_of d = string_bytes d.id
 
 -- ---- look-ups
 

@@ -1,10 +1,10 @@
 -- Documents that stand for histories: look-ups, insertions, and what is served of all.
 use lib.Dec.{T}
-use Rattle.std.proofs.Common.{◌≡◌, ℕ, Bool, true, false, ◌&&◌, List, [], ◌∷◌, Ok, Err, Result, Ordering, Less, Equal, Greater, Option, Some, None, option_map, unwrap_or, map, cond, refl, ap, sym, ◌∙◌, subst, is_eq, is_lt}
+use Rattle.std.proofs.Common.{◌≡◌, ℕ, Bool, true, false, ◌&&◌, List, [], ◌∷◌, Ordering, Less, Equal, Greater, Option, Some, None, option_map, unwrap_or, map, cond, refl, ap, sym, ◌∙◌, subst, is_eq, is_lt}
 use Rattle.std.proofs.lemmas.Cmp.{nat_list_cmp_total}
 use Rattle.std.specs.List.{filter_map}
 use Rattle.std.specs.Ordering.{eq_by_cmp}
-use Rattle.std.specs.FinMap.{FinMap, empty, entries, entries-from_sorted, entries_sorted, find, from_sorted, get, get-empty, get-entries, get-from_sorted, get-insert, insert, is_sorted, same_map}
+use Rattle.std.specs.FinMap.{FinMap, empty, entries, entries-from_sorted, entries_sorted, find, from_sorted, get, get-empty, get-entries, get-from_sorted, is_sorted, same_map}
 use Rattle.std.specs.FinMap.Entries.{below_all}
 use Rattle.mg_value.specs.Value.{Value}
 use Rattle.mg_revtree.specs.History.{History}

@@ -1,6 +1,5 @@
 -- Trees that a bulk has touched, and the histories for which they stand beside the documents.
-use lib.Dec.{T}
-use Rattle.std.proofs.Common.{◌≡◌, ℕ, zero, suc, ◌<◌, Bool, true, false, List, [], ◌∷◌, Ok, Err, Result, String, Global, Option, Some, None, option_map, unwrap_or, is_ok, map, length, cond, string_bytes, string_cmp, is_eq, refl, ap, sym, ◌∙◌, subst, arith}
+use Rattle.std.proofs.Common.{◌≡◌, ℕ, zero, suc, ◌<◌, Bool, true, false, List, [], ◌∷◌, Ok, Err, Result, String, Global, Option, Some, None, unwrap_or, is_ok, map, length, cond, string_bytes, string_cmp, is_eq, refl, ap, sym, ◌∙◌, subst, arith}
 use Rattle.std.proofs.lemmas.Cmp.{nat_list_cmp_total, eq_by_cmp_equiv, tied_itself}
 use Rattle.std.proofs.lemmas.Map.Text.{btree_map_updates_text, is_eq-slice_cmp}
 use Rattle.std.specs.BTreeMap.{BTreeMap, UpdatesBy, get_by_text, is_at}
@@ -151,8 +150,6 @@ tree_kept ds cs ts us hs id t d is same served put at st q =
 
 -- ---- for the steps of a bulk
 
-
- 
 -- what was taken out is not there any more
 pub touched_out : (m n : TreeMap) (id : List ℕ) → UpdatesBy string_cmp (λ k. slice_cmp nat_cmp id (string_bytes k)) m n None → get (touched_of n.entries) id ≡ None
 touched_out m n id u = get-updated m n id None u id ∙ ap (λ r. cond (is_eq r) None (get (touched_of m.entries) id)) (tied_itself nat_list_cmp_total id)

@@ -9,10 +9,11 @@ ghost use Rattle.mg_shard.specs.Documents.{form_of};
 
 use crate::served::Served;
 use mg_doc::served;
-use mg_pages::Identified;
+use mg_pages::{Keyed, Probe};
 use mg_revtree::RevTree;
 use mg_value::{Json, NoMemory};
 use std::alloc::Global;
+use std::cmp::Ordering;
 
 /// A document: its id, its revision tree, and the form in which it is served, if it is not deleted.
 #[derive(Drop)]
@@ -22,11 +23,29 @@ pub(crate) struct Document {
     pub(crate) served: Option<Served>,
 }
 
-impl Identified for Document {
-    ghost id = { λ d. string_bytes d.id };
+impl Keyed for Document {
+    ghost use Rattle.mg_pages.specs.Identified.{id_order, id_order_total};
+    ghost use Rattle.mg_shard.specs.Documents.{id_of};
 
-    fn id(&self) -> &str {
-        &self.id
+    ghost order = { id_order id_of };
+
+    ghost total = { id_order_total id_of };
+
+    fn order(&self, other: &Document) -> Ordering {
+        self.id.as_str().cmp(other.id.as_str())
+    }
+}
+
+impl<'a> Probe<Document> for &'a str {
+    ghost use Rattle.mg_pages.specs.Identified.{id_against, id_probes};
+    ghost use Rattle.mg_shard.specs.Documents.{id_of};
+
+    ghost against = { λ key d. id_against id_of key.now d };
+
+    ghost probes = { λ key. id_probes id_of key.now };
+
+    fn against(&self, element: &Document) -> Ordering {
+        (*self).cmp(element.id.as_str())
     }
 }
 

@@ -7,10 +7,14 @@ ghost use Rattle.mg_revtree.specs.Tree.{StandsFor, Tree};
 ghost use Rattle.mg_doc.specs.Edit.{edited, outcome_of};
 ghost use Rattle.mg_shard.specs.Documents.{shown, StandFor};
 ghost use Rattle.mg_shard.specs.Draft.{DraftStandsFor, TouchedStandFor, touched_of};
+ghost use Rattle.std.specs.List.{AllByRecursion};
+ghost use Rattle.mg_shard.specs.Index.{HasRows, definitions_of, indexes_seen};
 ghost use Rattle.mg_shard.specs.Edits.{after_edit, after_edits, id_in, outcome_in, outcome_seen, outcomes};
 ghost use Rattle.mg_shard.specs.Histories.{Histories};
 
 use crate::document::Document;
+use crate::index::IndexRows;
+use crate::indexes::{mend_all, shared};
 use crate::reply::EditReply;
 use crate::shard::Shard;
 use mg_doc::{Edit, EditError};
@@ -92,20 +96,18 @@ impl<'a> Draft<'a> {
     }
 
     /// The shard that the bulk leaves, and none where the bulk has touched no document: then the shard is as it was.
-    /// A document that was touched gets its served form and that form's text once.
+    /// A document that was touched gets its served form and that form's text once, and each index its row.
     ///
     /// Errors: `NoMemory` where a growth was refused. Cost: for each touched document a copy of its body, its text, and
     /// the pages on the way to it.
     pub fn finish(self, alloc: Global) -> Result<Option<Shard>, NoMemory>
-        ensures { IfOk result (λ s. (hs : Histories) → DraftStandsFor self.entry hs → StandFor (unwrap_or s self.entry.shard).documents hs) }
+        ensures stands { IfOk result (λ s. (hs : Histories) → DraftStandsFor self.entry hs → StandFor (unwrap_or s self.entry.shard).documents hs) }
+        ensures indexes { IfOk result (λ s. (unwrap_or s self.entry.shard).definitions ≡ self.entry.shard.definitions) }
     {
         if self.touched.is_empty() {
             return Ok(None);
         }
-        let shard = self.shard;
-        let documents = shard.documents.share(alloc)?;
-        let documents = keep_all(alloc, documents, self.touched)?;
-        Ok(Some(Shard { documents }))
+        Ok(Some(kept(alloc, self.shard, self.touched)?))
     }
 }
 
@@ -162,17 +164,32 @@ fn edit_first(
     Ok(reply)
 }
 
-// Keeps each of these trees under its id, with the form in which it is served.
+// A shard with each of these trees under its id.
+fn kept(alloc: Global, shard: &Shard, touched: BTreeMap<String, RevTree>) -> Result<Shard, NoMemory>
+    ensures stands { IfOk result (λ s. (hs : Histories) → TouchedStandFor shard.now.documents (touched_of touched.entries) hs → StandFor s.documents hs) }
+    ensures indexes { IfOk result (λ s. s.definitions ≡ shard.now.definitions) }
+{
+    let documents = shard.documents.share(alloc)?;
+    let indexes = shared(alloc, &shard.indexes)?;
+    let (documents, indexes) = keep_all(alloc, documents, indexes, touched)?;
+    Ok(Shard { documents, indexes })
+}
+
+// Keeps each of these trees under its id, with the form in which it is served, and mends the rows of the indexes.
 fn keep_all(
     alloc: Global,
     mut documents: Pages<Document>,
+    mut indexes: Vec<IndexRows>,
     mut touched: BTreeMap<String, RevTree>,
-) -> Result<Pages<Document>, NoMemory>
-    ensures { IfOk result (λ ds. (hs : Histories) → TouchedStandFor (shown documents) (touched_of touched.entries) hs → StandFor (shown ds) hs) }
+) -> Result<(Pages<Document>, Vec<IndexRows>), NoMemory>
+    ensures stands { IfOk result (λ r. (hs : Histories) → TouchedStandFor (shown documents) (touched_of touched.entries) hs → StandFor (shown r.0) hs) }
+    ensures definitions { IfOk result (λ r. definitions_of (indexes_seen r.1.items) ≡ definitions_of (indexes_seen indexes.items)) }
+    ensures rows { IfOk result (λ r. AllByRecursion (HasRows (shown documents)) (indexes_seen indexes.items) → AllByRecursion (HasRows (shown r.0)) (indexes_seen r.1.items)) }
 {
     while let Some((id, tree)) = touched.pop_first() {
         let document = Document::of(alloc, id, tree)?;
+        mend_all(alloc, &mut indexes, &documents, &document)?;
         documents.insert(alloc, Arc::new(alloc, document)?)?;
     }
-    Ok(documents)
+    Ok((documents, indexes))
 }

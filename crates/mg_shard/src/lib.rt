@@ -1,4 +1,4 @@
-//! Shards: documents in shared pages, by their ids, edits of them, and on which shard a document is kept.
+//! Shards: documents by their ids and rows of indexes, in shared pages; edits of them; and on which shard a document is kept.
 #![tactic(auto)]
 
 <<<<<<< HEAD
@@ -7,6 +7,9 @@ mod placement;
 mod docs;
 mod document;
 pub mod draft;
+mod index;
+mod indexes;
+pub mod laws;
 pub mod placement;
 pub mod reply;
 mod served;

@@ -1,5 +1,5 @@
-//! A shard: documents by their ids.
-ghost use Rattle.std.specs.Prelude.{◌≡◌, map, option_map, unwrap_or, IfOk};
+//! A shard: documents by their ids, and the rows of indexes over them.
+ghost use Rattle.std.specs.Prelude.{◌≡◌, [], map, option_map, unwrap_or, IfOk};
 ghost use Rattle.std.specs.FinMap as finite;
 ghost use Rattle.std.specs.FinMap.{get};
 ghost use Rattle.mg_value.specs.View.{view};
@@ -8,23 +8,37 @@ ghost use Rattle.mg_revtree.specs.Tree.{StandsFor};
 ghost use Rattle.mg_shard.specs.Documents.{docs_of, form_at, kept_of, tree_at, StandFor, StandsAt};
 ghost use Rattle.mg_shard.specs.Edits.{after_edits, outcome_seen, outcomes};
 ghost use Rattle.mg_shard.specs.Histories.{Histories, history_at};
+ghost use Rattle.mg_shard.specs.Rows.{row_of, rows_of};
+ghost use Rattle.mg_shard.specs.Shard.{rows_at};
+ghost use Rattle.mg_collate.specs.Row.{rows_view};
+ghost use Rattle.mg_index.specs.Catalog.{with_definition, without_definition};
+ghost use Rattle.std.specs.List.{filter_map};
 
 use crate::docs::Docs;
 use crate::document::Document;
 use crate::draft::Draft;
+use crate::index::{IndexRows, pages_of, row_in};
+use crate::indexes::{index_at, shared, with, without};
 use crate::reply::EditReply;
+use mg_collate::Row;
 use mg_doc::Edit;
-use mg_pages::Pages;
+use mg_index::IndexDef;
+use mg_pages::{Iter, Pages};
+use mg_path::Path;
 use mg_revtree::RevTree;
 use mg_value::{Json, NoMemory};
 use std::alloc::Global;
 use std::marker::Model;
+use std::sync::Arc;
 
-/// Documents by their ids, in shared pages: a share of a shard costs its top alone, and an edit copies a document and the
-/// way to it.
+/// Documents by their ids and the rows of indexes, in shared pages: a share of a shard costs its tops alone, and an edit copies a
+/// document, a row or two for each index, and the ways to them.
+///
+/// The rows of each index are those of the served documents from scratch, by key and id, after any edits.
 #[derive(Drop)]
 pub struct Shard {
     pub(crate) documents: Pages<Document>,
+    pub(crate) indexes: Vec<IndexRows>,
 }
 
 impl Model for Shard {
@@ -35,29 +49,34 @@ impl Model for Shard {
     ghost coded = { shard_code };
 
     ghost use Rattle.mg_shard.specs.Documents.{shown};
+    ghost use Rattle.mg_shard.specs.Index.{AreIndexes, definitions_of, indexes_seen};
 
-    ghost view = { λ s. record { documents = shown s.documents } };
+    ghost view = { λ s. record { documents = shown s.documents; definitions = definitions_of (indexes_seen s.indexes.items) } };
+
+    ghost invariant = { λ s. AreIndexes (shown s.documents) (indexes_seen s.indexes.items) };
 }
 
 impl Shard {
-    /// No document. Takes no memory.
+    /// No document and no index. Takes no memory.
     pub fn new(alloc: Global) -> Shard
-        ensures { result.documents ≡ finite.empty }
+        ensures documents { result.documents ≡ finite.empty }
+        ensures indexes { result.definitions ≡ [] }
     {
         Shard {
             documents: Pages::new(alloc),
+            indexes: Vec::new(alloc),
         }
     }
 
-    /// The same documents, all of them shared.
+    /// The same documents and indexes, all of them shared.
     ///
-    /// Errors: `NoMemory` where a growth was refused. Cost: the top level alone, at most 65 parts.
+    /// Errors: `NoMemory` where a growth was refused. Cost: the top level of the documents and of each index, at most 65 parts.
     pub fn share(&self, alloc: Global) -> Result<Shard, NoMemory>
         ensures { IfOk result (λ s. s ≡ self.now) }
     {
-        Ok(Shard {
-            documents: self.documents.share(alloc)?,
-        })
+        let documents = self.documents.share(alloc)?;
+        let indexes = shared(alloc, &self.indexes)?;
+        Ok(Shard { documents, indexes })
     }
 
     // The document of an id.
@@ -132,17 +151,92 @@ impl Shard {
     /// Errors: `NoMemory` where a growth was refused. Cost: the edits, each on its document's tree, and for each document that
     /// they touch a copy of its tree and its body, its text, and the pages on the way to it. A bulk that touches none copies
     /// no page but the top.
-    pub fn apply(
-        &self,
-        alloc: Global,
-        edits: &[Edit],
-    ) -> Result<(Shard, Vec<EditReply>), NoMemory>
+    pub fn apply(&self, alloc: Global, edits: &[Edit]) -> Result<(Shard, Vec<EditReply>), NoMemory>
         ensures stands { IfOk result (λ r. (hs : Histories) → StandFor self.now.documents hs → StandFor r.0.documents (after_edits hs edits.now)) }
+        ensures indexes { IfOk result (λ r. r.0.definitions ≡ self.now.definitions) }
         ensures replies { IfOk result (λ r. (hs : Histories) → StandFor self.now.documents hs → map outcome_seen r.1.items ≡ outcomes hs edits.now) }
     {
         let mut draft = Draft::new(alloc, self);
         let replies = draft.edit_all(alloc, edits)?;
         let next = draft.finish(alloc)?;
         Ok((self.or_shared(alloc, next)?, replies))
+    }
+
+    /// The rows of the index of this design document and name, by key and id, and none where there is no such index. They are those
+    /// of the served documents from scratch. Takes no memory. Cost: each definition once, and then a step a row.
+    pub fn rows(&self, ddoc: &str, name: &str) -> Option<Iter<'_, Row>>
+        ensures { option_map (λ it. rows_view it) result ≡ rows_at ddoc.now name.now self.now }
+    {
+        match index_at(&self.indexes, ddoc, name) {
+            Some(index) => Some(index.rows.iter()),
+            None => None,
+        }
+    }
+
+    // The rows that an index with these columns has, in the order of the documents.
+    fn unsorted(&self, alloc: Global, columns: &[Path]) -> Result<Vec<Row>, NoMemory>
+        ensures { IfOk result (λ rows. rows_view rows.items ≡ filter_map (row_of columns.now) (docs_of self.now.documents)) }
+    {
+        let mut rows = Vec::new(alloc);
+        for (id, form) in self.docs() {
+            if let Some(row) = row_in(alloc, columns, id, form)? {
+                rows.push(row)?;
+            }
+        }
+        Ok(rows)
+    }
+
+    // The shard with an index of these rows, instead of one of its design document and name.
+    fn with(
+        &self,
+        alloc: Global,
+        definition: &IndexDef,
+        rows: Pages<Row>,
+    ) -> Result<Shard, NoMemory>
+        requires { rows_view rows ≡ rows_of definition.now.columns (docs_of self.now.documents) }
+        ensures { IfOk result (λ s. s ≡ record self.now { definitions = with_definition definition.now self.now.definitions }) }
+    {
+        let definition = Arc::new(alloc, definition.copy(alloc)?)?;
+        let indexes = with(alloc, &self.indexes, IndexRows { definition, rows })?;
+        let documents = self.documents.share(alloc)?;
+        Ok(Shard { documents, indexes })
+    }
+
+    /// The shard with an index of this definition, instead of one of its design document and name.
+    ///
+    /// Errors: `NoMemory` where a growth was refused. Cost: each document once, and its row to its place.
+    pub fn with_index(&self, alloc: Global, definition: &IndexDef) -> Result<Shard, NoMemory>
+        ensures { IfOk result (λ s. s ≡ record self.now { definitions = with_definition definition.now self.now.definitions }) }
+    {
+        let rows = self.unsorted(alloc, definition.columns())?;
+        let pages = pages_of(alloc, rows)?;
+        self.with(alloc, definition, pages)
+    }
+
+    /// The same, handed that index's rows of this shard.
+    ///
+    /// Errors: `NoMemory` where a growth was refused. Cost: each row to its place.
+    pub fn with_rows(
+        &self,
+        alloc: Global,
+        definition: &IndexDef,
+        rows: Vec<Row>,
+    ) -> Result<Shard, NoMemory>
+        requires { rows_view rows.items ≡ rows_of definition.now.columns (docs_of self.now.documents) }
+        ensures { IfOk result (λ s. s ≡ record self.now { definitions = with_definition definition.now self.now.definitions }) }
+    {
+        let pages = pages_of(alloc, rows)?;
+        self.with(alloc, definition, pages)
+    }
+
+    /// The shard without the index of this design document and name, if there is one.
+    ///
+    /// Errors: `NoMemory` where a growth was refused. Cost: as of `share`.
+    pub fn without_index(&self, alloc: Global, ddoc: &str, name: &str) -> Result<Shard, NoMemory>
+        ensures { IfOk result (λ s. s ≡ record self.now { definitions = without_definition ddoc.now name.now self.now.definitions }) }
+    {
+        let documents = self.documents.share(alloc)?;
+        let indexes = without(alloc, &self.indexes, ddoc, name)?;
+        Ok(Shard { documents, indexes })
     }
 }

@@ -1,29 +1,42 @@
-use Rattle.std.proofs.Common.{◌≡◌, Some, None, length, sym, ap, ◌∙◌, subst, string_bytes}
-use Rattle.std.specs.FinMap.{get, insert}
+use Rattle.std.proofs.Common.{◌≡◌, ◌++◌, List, None, arith, drop, length, take, sym, ap, ◌∙◌, subst, string_bytes}
+use Rattle.std.specs.FinMap.{insert}
+use Rattle.std.specs.List.{AllByRecursion}
 use Rattle.mg_pages.specs.Identified.{id_order}
 use Rattle.mg_pages.specs.Order.{inserted}
-use Rattle.mg_doc.specs.Served.{served_of}
-use Rattle.mg_shard.specs.Documents.{kept_of, shown}
+use Rattle.mg_shard.specs.Documents.{KeptDocuments, id_of, kept_of, shown}
 use Rattle.mg_shard.specs.Draft.{touched_of}
-use Rattle.mg_shard.proofs.Shown.{id_of, shown-inserted}
+use Rattle.mg_shard.specs.Index.{HasRows, definitions_of, indexes_seen}
+use Rattle.mg_shard.specs.declared.index.IndexRows.{IndexRows}
+use Rattle.mg_shard.proofs.Keys.{written}
+use Rattle.mg_shard.proofs.Shown.{shown-inserted}
 use Rattle.mg_shard.proofs.Touched.{all_kept, get-touched, get-updated, none_left, touched_none, tree_kept}
 use Rattle.mg_shard.proofs.draft.keep_all.Goals as goal
 
 pub loop-id-preserved : goal.loop-id-preserved
-loop-id-preserved c = λ hs st.
+loop-id-preserved c =
     let l = c.loop-id in
     let id = string_bytes c.in-Some.id in
     let tree = c.in-Some.tree in
     let d = c.in_ok-document.document in
-    let put : shown c.insert.new.self ≡ insert (shown l.documents) id (kept_of d) =
-    ap shown c.in_ok-insert.ensures.ok ∙ ap (λ x. shown (inserted (id_order id_of) x l.documents)) c.in_ok-new.ensures.ok ∙ shown-inserted d l.documents
-    ∙ ap (λ k. insert (shown l.documents) k (kept_of d)) c.in_ok-document.ensures.id in
-    tree_kept (shown l.documents) (shown c.insert.new.self) (touched_of l.touched.entries) (touched_of c.pop_first.new.self.entries) hs id tree (kept_of d)
-    (sym (get-touched l.touched id) ∙ c.in-Some.ensures.value) c.in_ok-document.ensures.tree c.in_ok-document.ensures.served put
-    (get-updated l.touched c.pop_first.new.self id None c.in-Some.ensures.updates) (l.invariant hs st)
+    let inserted_in : shown c.insert.new.self ≡ insert (shown l.documents) (id_of d) (kept_of d) =
+    ap shown c.in_ok-insert.ensures.ok ∙ ap (λ x. shown (inserted (id_order id_of) x l.documents)) c.in_ok-new.ensures.ok ∙ shown-inserted d l.documents in
+    let made = c.mend_all.new.indexes in
+    let number : length made ≡ length l.indexes.items = let a = c.mend_all.auto.indexes in let b = ap length c.deref_mut.ensures.value in omega (arith, a, b) in
+    let same : take l.indexes.len (made ++ drop (length made) l.indexes.items) ≡ made = written l.indexes.len made l.indexes.items number l.indexes.ok.0 in
+    record {
+      stands = λ hs st.
+          tree_kept (shown l.documents) (shown c.insert.new.self) (touched_of l.touched.entries) (touched_of c.pop_first.new.self.entries) hs id tree (kept_of d)
+          (sym (get-touched l.touched id) ∙ c.in-Some.ensures.value) c.in_ok-document.ensures.tree c.in_ok-document.ensures.served
+          (inserted_in ∙ ap (λ k. insert (shown l.documents) k (kept_of d)) c.in_ok-document.ensures.id)
+          (get-updated l.touched c.pop_first.new.self id None c.in-Some.ensures.updates) (l.invariant.stands hs st);
+      definitions = ap (λ (xs : List IndexRows). definitions_of (indexes_seen xs)) same ∙ c.in_ok-mend_all.ensures.definitions ∙ ap (λ (xs : List IndexRows). definitions_of (indexes_seen xs)) c.deref_mut.ensures.value ∙ l.invariant.definitions;
+      rows = λ h. subst (λ (xs : List IndexRows). AllByRecursion (HasRows (shown c.insert.new.self)) (indexes_seen xs)) (sym same)
+          (subst (λ (ds : KeptDocuments). AllByRecursion (HasRows ds) (indexes_seen made)) (sym inserted_in)
+          (c.in_ok-mend_all.ensures.rows (subst (λ (xs : List IndexRows). AllByRecursion (HasRows (shown l.documents)) (indexes_seen xs)) (sym c.deref_mut.ensures.value) (l.invariant.rows h))));
+    }
 
-pub returns : goal.returns
-returns c = λ hs st.
+pub returns-clause-stands : goal.returns-clause-stands
+returns-clause-stands c = λ hs st.
     let l = c.loop-id in
     let none : length l.touched.entries ≡ 0 = none_left (length l.touched.entries) c.in_default.ensures.variant.1 in
-    all_kept (shown l.documents) (touched_of l.touched.entries) hs (touched_none l.touched.entries none) (l.invariant hs st)
+    all_kept (shown l.documents) (touched_of l.touched.entries) hs (touched_none l.touched.entries none) (l.invariant.stands hs st)

@@ -1,7 +1,6 @@
 use Rattle.std.proofs.Common.{◌≡◌, Some, None, cond, sym, ap, ◌∙◌, subst, string_bytes}
 use Rattle.std.specs.FinMap.{get, insert}
 use Rattle.std.specs.Ordering.{eq_by_cmp}
-use Rattle.mg_revtree.specs.Tree.{StandsFor}
 use Rattle.mg_shard.specs.Draft.{DraftStandsFor, touched_of}
 use Rattle.mg_shard.specs.Edits.{id_in}
 use Rattle.mg_shard.specs.Histories.{history_at}

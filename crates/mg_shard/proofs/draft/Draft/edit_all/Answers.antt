@@ -1,4 +1,4 @@
-use Rattle.std.proofs.Common.{◌≡◌, ◌+◌, ◌<◌, ◌++◌, List, [], ◌∷◌, ℕ, drop, get_or, length, map, refl, ap, ap₂, sym, ◌∙◌, subst, drop-cons, add-one}
+use Rattle.std.proofs.Common.{◌≡◌, ◌+◌, ◌<◌, ◌++◌, List, [], ◌∷◌, ℕ, drop, get_or, length, map, refl, ap, sym, ◌∙◌, subst, drop-cons, add-one}
 use Rattle.std.proofs.Math.ListN.{drop_of_length-le}
 use Rattle.mg_shard.specs.Draft.{DraftStandsFor}
 use Rattle.mg_shard.specs.Edits.{after_edit, after_edits, outcome_seen, outcomes}

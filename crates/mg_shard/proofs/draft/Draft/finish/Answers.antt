@@ -4,8 +4,8 @@ use Rattle.mg_shard.specs.Draft.{DraftStandsFor, touched_of}
 use Rattle.mg_shard.proofs.Touched.{all_kept, touched_none}
 use Rattle.mg_shard.proofs.draft.Draft.finish.Goals as goal
 
-pub returns-then-is_empty : goal.returns-then-is_empty
-returns-then-is_empty c = λ hs st.
+pub returns-then-is_empty-clause-stands : goal.returns-then-is_empty-clause-stands
+returns-then-is_empty-clause-stands c = λ hs st.
     let es = c.self.inside.touched.entries in
     let none : length es ≡ 0 = search rules in
     let stood = subst (λ d. DraftStandsFor d hs) (sym c.self.view_is) st in

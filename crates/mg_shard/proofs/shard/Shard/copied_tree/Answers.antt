@@ -1,7 +1,6 @@
-use Rattle.std.proofs.Common.{◌≡◌, Some, None, sym, subst}
+use Rattle.std.proofs.Common.{sym, subst}
 use Rattle.mg_revtree.specs.History.{History}
-use Rattle.mg_revtree.specs.Tree.{StandsFor, Tree}
-use Rattle.mg_shard.specs.Documents.{tree_at}
+use Rattle.mg_revtree.specs.Tree.{StandsFor}
 use Rattle.mg_shard.proofs.Standing.{tree_absent, tree_there}
 use Rattle.mg_shard.proofs.shard.Shard.copied_tree.Goals as goal
 

@@ -1,0 +1,320 @@
+-- Rows of an index: a list in order without ties is known by the rows that stand in it, and which these are is known id by id.
+use lib.Dec.{T}
+use Rattle.std.proofs.Common.{◌≡◌, ℕ, ◌+◌, ◌≤◌, Bool, true, false, ◌&&◌, List, [], ◌∷◌, ◌++◌, Ordering, Less, Equal, Greater, Option, Some, None, option_map, option_and_then, cond, is_eq, is_lt, is_gt, refl, ap, ap₂, sym, ◌∙◌, arith}
+use Rattle.std.proofs.lemmas.Cmp.{nat_list_cmp_total, tied_itself}
+use Rattle.std.specs.List.{AllByRecursion, cons_option, filter, filter_map}
+use Rattle.std.specs.Ordering.{eq_by_cmp, ordering_reverse}
+use Rattle.std.specs.FinMap.Entries.{below_all}
+use Rattle.std.specs.FinMap.{entries, entries_sorted, find, get, get-entries, get-insert, insert, is_sorted}
+use Rattle.mg_value.specs.Value.{Items, Value}
+use Rattle.mg_collate.specs.Row.{RowValue, row_order, row_value_order, row_value_order_total, row_view, rows_view}
+use Rattle.mg_collate.specs.declared.row.Row.{Row}
+use Rattle.mg_collate.specs.Sorted.{sorted}
+use Rattle.mg_collate.proofs.Sorting.{NoneBelow, Rises, permutation_sorted, rises_sorted, same_list, times, times_permutation}
+use Rattle.mg_collate.proofs.Ties.{same_rows}
+use Rattle.mg_index.specs.Definition.{Steps}
+use Rattle.mg_pages.specs.Order.{Ascends, above, below, inserted, removed}
+use Rattle.mg_shard.specs.Documents.{Kept, KeptDocuments, doc_entry, docs_of}
+use Rattle.mg_shard.specs.Histories.{ServedDocument}
+use Rattle.mg_shard.specs.Mended.{own_row, with_row, without_row}
+use Rattle.mg_shard.specs.Rows.{key_of, row_of, rows_of}
+use Rattle.mg_shard.proofs.Shown.{bytes_cmp}
+use Rattle.mg_shard.proofs.Standing.{same_id, tied}
+
+abbrev pub count : RowValue → List RowValue → ℕ
+count z rows = times row_value_order z rows
+
+-- how often a row stands in what may be a row
+abbrev pub count_one : RowValue → Option RowValue → ℕ
+count_one z None = 0
+count_one z (Some r) = cond (is_eq (row_value_order z r)) 1 0
+
+-- ---- lists in order
+
+count_step : (b : Bool) (n : ℕ) → cond b (1 + n) n ≡ cond b 1 0 + n
+count_step true n = omega arith
+count_step false n = omega arith
+
+pub count-cons : (z r : RowValue) (rows : List RowValue) → count z (r ∷ rows) ≡ count_one z (Some r) + count z rows
+count-cons z r rows = count_step (is_eq (row_value_order z r)) (count z rows)
+
+pub count-append : (z : RowValue) (rows more : List RowValue) → count z (rows ++ more) ≡ count z rows + count z more
+count-append z [] more = omega arith
+count-append z (r ∷ rows) more = let e = count-append z rows more in let f = count-cons z r (rows ++ more) in let g = count-cons z r rows in omega (arith, e, f, g)
+
+-- a row that ties with itself alone
+same_where : (p : RowValue → Bool) (z r : RowValue) → is_eq (row_value_order z r) ≡ true → p r ≡ p z
+same_where p z r e = ap p (sym (same_rows z r (tied (row_value_order z r) e)))
+
+where_step : (b : Bool) (p q : Bool) (z r : RowValue) (rows : List RowValue) (n : ℕ) → is_eq (row_value_order z r) ≡ b → (b ≡ true → p ≡ q) → count z rows ≡ cond q n 0
+    → count z (cond p (r ∷ rows) rows) ≡ cond q (cond b (1 + n) n) 0
+where_step b true true z r rows n is same e = ap₂ (λ t m. cond t (1 + m) m) is e
+where_step true true false z r rows n is same e = let wrong = same refl in absurd cc
+where_step false true false z r rows n is same e = ap₂ (λ t m. cond t (1 + m) m) is e
+where_step true false true z r rows n is same e = let wrong = same refl in absurd cc
+where_step false false true z r rows n is same e = e
+where_step b false false z r rows n is same e = e
+
+nothing : (b : Bool) → ◌≡◌ {A = ℕ} 0 (cond b 0 0)
+nothing true = refl
+nothing false = refl
+
+-- how often a row stands among those that pass a test
+count-where : (p : RowValue → Bool) (z : RowValue) (rows : List RowValue) → count z (filter p rows) ≡ cond (p z) (count z rows) 0
+count-where p z [] = nothing (p z)
+count-where p z (r ∷ rows) = where_step (is_eq (row_value_order z r)) (p r) (p z) z r (filter p rows) (count z rows) refl (same_where p z r) (count-where p z rows)
+
+placed : (o : Ordering) (n : ℕ) → cond (is_gt o) n 0 + (cond (is_eq (ordering_reverse o)) 1 0 + cond (is_lt o) n 0) ≡ cond (is_eq (ordering_reverse o)) 1 n
+placed Less n = omega arith
+placed Equal n = refl
+placed Greater n = omega arith
+
+-- a row that is put among others stands there once
+pub count-inserted : (z r : RowValue) (rows : List RowValue) → count z (inserted row_value_order r rows) ≡ cond (is_eq (row_value_order z r)) 1 (count z rows)
+count-inserted z r rows =
+    let turned : row_value_order z r ≡ ordering_reverse (row_value_order r z) = row_value_order_total.antisymm z r in
+    count-append z (below (row_value_order r) rows) (r ∷ above (row_value_order r) rows)
+    ∙ ap₂ (λ m n. m + n) (count-where (λ x. is_gt (row_value_order r x)) z rows)
+    (count-cons z r (above (row_value_order r) rows) ∙ ap (λ n. cond (is_eq (row_value_order z r)) 1 0 + n) (count-where (λ x. is_lt (row_value_order r x)) z rows))
+    ∙ ap (λ o. cond (is_gt (row_value_order r z)) (count z rows) 0 + (cond (is_eq o) 1 0 + cond (is_lt (row_value_order r z)) (count z rows) 0)) turned
+    ∙ placed (row_value_order r z) (count z rows)
+    ∙ ap (λ o. cond (is_eq o) 1 (count z rows)) (sym turned)
+
+taken : (o : Ordering) (n : ℕ) → cond (is_gt o) n 0 + cond (is_lt o) n 0 ≡ cond (is_eq (ordering_reverse o)) 0 n
+taken Less n = omega arith
+taken Equal n = refl
+taken Greater n = omega arith
+
+-- a row that is taken out does not stand there any more
+pub count-removed : (z r : RowValue) (rows : List RowValue) → count z (removed (row_value_order r) rows) ≡ cond (is_eq (row_value_order z r)) 0 (count z rows)
+count-removed z r rows =
+    let turned : row_value_order z r ≡ ordering_reverse (row_value_order r z) = row_value_order_total.antisymm z r in
+    count-append z (below (row_value_order r) rows) (above (row_value_order r) rows)
+    ∙ ap₂ (λ m n. m + n) (count-where (λ x. is_gt (row_value_order r x)) z rows) (count-where (λ x. is_lt (row_value_order r x)) z rows)
+    ∙ taken (row_value_order r z) (count z rows)
+    ∙ ap (λ o. cond (is_eq o) 0 (count z rows)) (sym turned)
+
+-- ---- rows of the code
+
+view_step : (b : Bool) (r : Row) (rows : List Row) → rows_view (cond b (r ∷ rows) rows) ≡ cond b (row_view r ∷ rows_view rows) (rows_view rows)
+view_step true r rows = refl
+view_step false r rows = refl
+
+view-where : (p : RowValue → Bool) (rows : List Row) → rows_view (filter (λ r. p (row_view r)) rows) ≡ filter p (rows_view rows)
+view-where p [] = refl
+view-where p (r ∷ rows) = view_step (p (row_view r)) r (filter (λ x. p (row_view x)) rows) ∙ ap (λ rs. cond (p (row_view r)) (row_view r ∷ rs) rs) (view-where p rows)
+
+pub view-append : (rows more : List Row) → rows_view (rows ++ more) ≡ rows_view rows ++ rows_view more
+view-append [] more = refl
+view-append (r ∷ rows) more = ap (λ rs. row_view r ∷ rs) (view-append rows more)
+
+pub view-inserted : (r : Row) (rows : List Row) → rows_view (inserted row_order r rows) ≡ inserted row_value_order (row_view r) (rows_view rows)
+view-inserted r rows =
+    view-append (below (row_order r) rows) (r ∷ above (row_order r) rows)
+    ∙ ap₂ (λ a b. a ++ row_view r ∷ b) (view-where (λ x. is_gt (row_value_order (row_view r) x)) rows) (view-where (λ x. is_lt (row_value_order (row_view r) x)) rows)
+
+-- rows without one that ties with a place
+pub view-taken : (place : RowValue) (rows : List Row) → rows_view (removed (λ x. row_value_order place (row_view x)) rows) ≡ removed (row_value_order place) (rows_view rows)
+view-taken place rows =
+    view-append (below (λ x. row_value_order place (row_view x)) rows) (above (λ x. row_value_order place (row_view x)) rows)
+    ∙ ap₂ (λ a b. a ++ b) (view-where (λ x. is_gt (row_value_order place x)) rows) (view-where (λ x. is_lt (row_value_order place x)) rows)
+
+none_below : (r : Row) (rows : List Row) → AllByRecursion (λ x. row_order r x ≡ Less) rows → NoneBelow row_value_order (row_view r) (rows_view rows)
+none_below r [] h = tt
+none_below r (x ∷ rows) h = (ap is_gt h.0, none_below r rows h.1)
+
+pub view_rises : (rows : List Row) → Ascends row_order rows → Rises row_value_order (rows_view rows)
+view_rises [] h = tt
+view_rises (r ∷ rows) h = (none_below r rows h.0, view_rises rows h.1)
+
+-- ---- the rows of documents
+
+-- the row of what is kept of an id, if it has one
+abbrev pub row_at : List Steps → List ℕ → Option Kept → Option RowValue
+row_at columns id None = None
+row_at columns id (Some d) = option_and_then (row_of columns) (doc_entry (id, d))
+
+-- the rows of documents, in the order of the ids
+abbrev entry_rows : List Steps → List (List ℕ × Kept) → List RowValue
+entry_rows columns es = filter_map (row_of columns) (filter_map doc_entry es)
+
+count-option : (z : RowValue) (o : Option RowValue) (rows : List RowValue) → count z (cons_option o rows) ≡ count_one z o + count z rows
+count-option z None rows = omega arith
+count-option z (Some r) rows = count-cons z r rows
+
+count-entry : (columns : List Steps) (z : RowValue) (o : Option ServedDocument) (ds : List ServedDocument)
+    → count z (filter_map (row_of columns) (cons_option o ds)) ≡ count_one z (option_and_then (row_of columns) o) + count z (filter_map (row_of columns) ds)
+count-entry columns z None ds = omega arith
+count-entry columns z (Some d) ds = count-option z (row_of columns d) (filter_map (row_of columns) ds)
+
+find_step : (r : Ordering) (b : Bool) (v : Kept) (o : Option Kept) → T (is_lt r && b) → (T b → o ≡ None) → cond (is_eq r) (Some v) o ≡ None
+find_step Less b v o h rest = rest h
+find_step Equal b v o h rest = absurd h
+find_step Greater b v o h rest = absurd h
+
+-- an id below all others is none of them
+find_below : (id : List ℕ) (es : List (List ℕ × Kept)) → T (below_all bytes_cmp id es) → find bytes_cmp id es ≡ None
+find_below id [] h = refl
+find_below id (e ∷ es) h = find_step (bytes_cmp id e.0) (below_all bytes_cmp id es) e.1 (find bytes_cmp id es) h (find_below id es)
+
+not_tied : (z r : RowValue) (b : Bool) → eq_by_cmp bytes_cmp z.1 r.1 ≡ false → is_eq (row_value_order z r) ≡ b → ◌≡◌ {A = ℕ} (cond b 1 0) 0
+not_tied z r true apart e =
+    let same : z ≡ r = same_rows z r (tied (row_value_order z r) e) in
+    let one : eq_by_cmp bytes_cmp z.1 r.1 ≡ true = ap (λ x. eq_by_cmp bytes_cmp z.1 x.1) (sym same) ∙ ap is_eq (tied_itself nat_list_cmp_total z.1) in
+    let wrong : true ≡ false = sym one ∙ apart in absurd cc
+not_tied z r false apart e = refl
+
+other_key : (z : RowValue) (id : List ℕ) (o : Option Items) → eq_by_cmp bytes_cmp z.1 id ≡ false → count_one z (option_map (λ key. (key, id)) o) ≡ 0
+other_key z id None apart = refl
+other_key z id (Some key) apart = not_tied z (key, id) (is_eq (row_value_order z (key, id))) apart refl
+
+other_form : (columns : List Steps) (z : RowValue) (id : List ℕ) (o : Option Value) → eq_by_cmp bytes_cmp z.1 id ≡ false
+    → count_one z (option_and_then (row_of columns) (option_map (λ form. (id, form)) o)) ≡ 0
+other_form columns z id None apart = refl
+other_form columns z id (Some form) apart = other_key z id (key_of columns form) apart
+
+-- a row of another id is not there
+other_id : (columns : List Steps) (z : RowValue) (id : List ℕ) (o : Option Kept) → eq_by_cmp bytes_cmp z.1 id ≡ false → count_one z (row_at columns id o) ≡ 0
+other_id columns z id None apart = refl
+other_id columns z id (Some d) apart = other_form columns z id d.1 apart
+
+one_entry : (columns : List Steps) (z : RowValue) (e : List ℕ × Kept) (es : List (List ℕ × Kept)) (b : Bool) → eq_by_cmp bytes_cmp z.1 e.0 ≡ b → T (below_all bytes_cmp e.0 es)
+    → count z (entry_rows columns es) ≡ count_one z (row_at columns z.1 (find bytes_cmp z.1 es))
+    → count_one z (row_at columns e.0 (Some e.1)) + count z (entry_rows columns es) ≡ count_one z (row_at columns z.1 (cond b (Some e.1) (find bytes_cmp z.1 es)))
+one_entry columns z e es true is below rest =
+    let same : z.1 ≡ e.0 = same_id z.1 e.0 is in
+    let none : count z (entry_rows columns es) ≡ 0 =
+    rest ∙ ap (λ o. count_one z (row_at columns z.1 o)) (ap (λ i. find bytes_cmp i es) same ∙ find_below e.0 es below) in
+    let here : count_one z (row_at columns e.0 (Some e.1)) ≡ count_one z (row_at columns z.1 (Some e.1)) = ap (λ i. count_one z (row_at columns i (Some e.1))) (sym same) in
+    omega (arith, none, here)
+one_entry columns z e es false is below rest = let none = other_id columns z e.0 (Some e.1) is in omega (arith, none, rest)
+
+first : (a b : Bool) → T (a && b) → T a
+first true b p = tt
+first false b p = p
+
+second : (a b : Bool) → T (a && b) → T b
+second true b p = p
+second false b p = absurd p
+
+count-entries : (columns : List Steps) (z : RowValue) (es : List (List ℕ × Kept)) → T (is_sorted bytes_cmp es) → count z (entry_rows columns es) ≡ count_one z (row_at columns z.1 (find bytes_cmp z.1 es))
+count-entries columns z [] h = refl
+count-entries columns z (e ∷ es) h =
+    count-entry columns z (doc_entry e) (filter_map doc_entry es)
+    ∙ one_entry columns z e es (eq_by_cmp bytes_cmp z.1 e.0) refl (first (below_all bytes_cmp e.0 es) (is_sorted bytes_cmp es) h)
+    (count-entries columns z es (second (below_all bytes_cmp e.0 es) (is_sorted bytes_cmp es) h))
+
+pub count-unsorted : (columns : List Steps) (z : RowValue) (ds : KeptDocuments) → count z (filter_map (row_of columns) (docs_of ds)) ≡ count_one z (row_at columns z.1 (get ds z.1))
+count-unsorted columns z ds =
+    count-entries columns z (entries ds) (entries_sorted ds) ∙ ap (λ o. count_one z (row_at columns z.1 o)) (sym (get-entries ds z.1))
+
+-- which rows stand in an index is known id by id
+pub count-rows : (columns : List Steps) (z : RowValue) (ds : KeptDocuments) → count z (rows_of columns (docs_of ds)) ≡ count_one z (row_at columns z.1 (get ds z.1))
+count-rows columns z ds =
+    let unsorted = filter_map (row_of columns) (docs_of ds) in
+    times_permutation row_value_order z unsorted (rows_of columns (docs_of ds)) (permutation_sorted row_value_order unsorted) ∙ count-unsorted columns z ds
+
+-- ---- a document that changes
+
+abbrev is_row : RowValue → Option RowValue → Bool
+is_row z None = false
+is_row z (Some r) = is_eq (row_value_order z r)
+
+count-without : (z : RowValue) (o : Option RowValue) (rows : List RowValue) → count z (without_row o rows) ≡ cond (is_row z o) 0 (count z rows)
+count-without z None rows = refl
+count-without z (Some r) rows = count-removed z r rows
+
+count-with : (z : RowValue) (o : Option RowValue) (rows : List RowValue) → count z (with_row o rows) ≡ cond (is_row z o) 1 (count z rows)
+count-with z None rows = refl
+count-with z (Some r) rows = count-inserted z r rows
+
+count_one-is : (z : RowValue) (o : Option RowValue) → count_one z o ≡ cond (is_row z o) 1 0
+count_one-is z None = refl
+count_one-is z (Some r) = refl
+
+changed : (b c : Bool) (n : ℕ) → n ≡ cond c 1 0 → cond b 1 (cond c 0 n) ≡ cond b 1 0
+changed true c n e = refl
+changed false true n e = refl
+changed false false n e = e
+
+unchanged : (b c : Bool) (n : ℕ) → ◌≡◌ {A = ℕ} (cond b 1 0) 0 → ◌≡◌ {A = ℕ} (cond c 1 0) 0 → cond b 1 (cond c 0 n) ≡ n
+unchanged true c n e f = absurd (omega (arith, e))
+unchanged false true n e f = absurd (omega (arith, f))
+unchanged false false n e f = refl
+
+mended_at : (columns : List Steps) (z : RowValue) (id : List ℕ) (k : Kept) (d o : Option Kept) (b : Bool) → eq_by_cmp bytes_cmp z.1 id ≡ b → (b ≡ true → o ≡ d)
+    → cond (is_row z (row_at columns id (Some k))) 1 (cond (is_row z (row_at columns id d)) 0 (count_one z (row_at columns z.1 o)))
+    ≡ count_one z (row_at columns z.1 (cond b (Some k) o))
+mended_at columns z id k d o true is same =
+    let here : z.1 ≡ id = same_id z.1 id is in
+    let had : count_one z (row_at columns z.1 o) ≡ cond (is_row z (row_at columns id d)) 1 0 =
+    ap₂ (λ i p. count_one z (row_at columns i p)) here (same refl) ∙ count_one-is z (row_at columns id d) in
+    changed (is_row z (row_at columns id (Some k))) (is_row z (row_at columns id d)) (count_one z (row_at columns z.1 o)) had
+    ∙ sym (ap (λ i. count_one z (row_at columns i (Some k))) here ∙ count_one-is z (row_at columns id (Some k)))
+mended_at columns z id k d o false is same =
+    unchanged (is_row z (row_at columns id (Some k))) (is_row z (row_at columns id d)) (count_one z (row_at columns z.1 o))
+    (sym (count_one-is z (row_at columns id (Some k))) ∙ other_id columns z id (Some k) is) (sym (count_one-is z (row_at columns id d)) ∙ other_id columns z id d is)
+
+-- where a document changes, the row that it had gives way to the one that it has
+pub rows_mended : (columns : List Steps) (ds : KeptDocuments) (id : List ℕ) (k : Kept) (rows new : List RowValue) → rows ≡ rows_of columns (docs_of ds) → Rises row_value_order new
+    → new ≡ with_row (row_at columns id (Some k)) (without_row (row_at columns id (get ds id)) rows) → new ≡ rows_of columns (docs_of (insert ds id k))
+rows_mended columns ds id k rows new were rises is =
+    same_list row_value_order row_value_order_total same_rows new (rows_of columns (docs_of (insert ds id k))) rises
+    (rises_sorted row_value_order row_value_order_total (filter_map (row_of columns) (docs_of (insert ds id k)))) (λ z.
+    let old = row_at columns id (get ds id) in
+    let now = row_at columns id (Some k) in
+    ap (count z) is ∙ count-with z now (without_row old rows) ∙ ap (cond (is_row z now) 1) (count-without z old rows)
+    ∙ ap (λ n. cond (is_row z now) 1 (cond (is_row z old) 0 n)) (ap (count z) were ∙ count-rows columns z ds)
+    ∙ mended_at columns z id k (get ds id) (get ds z.1) (eq_by_cmp bytes_cmp z.1 id) refl (λ b. ap (get ds) (same_id z.1 id b))
+    ∙ ap (λ o. count_one z (row_at columns z.1 o)) (sym (get-insert nat_list_cmp_total ds id k z.1))
+    ∙ sym (count-rows columns z (insert ds id k)))
+
+-- ---- rows that are put in one after another
+
+few_at : (b : Bool) → cond b 1 0 ≤ 1
+few_at true = omega arith
+few_at false = omega arith
+
+few : (z : RowValue) (o : Option RowValue) (n : ℕ) → n ≡ count_one z o → n ≤ 1
+few z None n e = omega (arith, e)
+few z (Some r) n e = let at = few_at (is_eq (row_value_order z r)) in omega (arith, e, at)
+
+pub at_most_once : (columns : List Steps) (z : RowValue) (ds : KeptDocuments) → count z (filter_map (row_of columns) (docs_of ds)) ≤ 1
+at_most_once columns z ds = few z (row_at columns z.1 (get ds z.1)) (count z (filter_map (row_of columns) (docs_of ds))) (count-unsorted columns z ds)
+
+one_put : (b : Bool) (n m t : ℕ) → n + (cond b 1 0 + m) ≡ t → t ≤ 1 → cond b 1 n + m ≡ t
+one_put true n m t e f = omega arith
+one_put false n m t e f = omega arith
+
+swapped : (n b m k t : ℕ) → k ≡ m + (b + 0) → n + k ≡ t → n + (b + m) ≡ t
+swapped n b m k t e f = omega (arith, e, f)
+
+-- a row of some that stand at most once each is put among the others
+pub put_row : (z r : RowValue) (rows rest all : List RowValue) → count z rows + count z (rest ++ r ∷ []) ≡ count z all → count z all ≤ 1
+    → count z (inserted row_value_order r rows) + count z rest ≡ count z all
+put_row z r rows rest all e few =
+    let put = count-inserted z r rows in
+    let step = count-append z rest (r ∷ []) ∙ ap (λ n. count z rest + n) (count-cons z r []) in
+    let before : count z rows + (cond (is_eq (row_value_order z r)) 1 0 + count z rest) ≡ count z all = swapped (count z rows) (cond (is_eq (row_value_order z r)) 1 0) (count z rest) (count z (rest ++ r ∷ [])) (count z all) step e in
+    ap (λ n. n + count z rest) put ∙ one_put (is_eq (row_value_order z r)) (count z rows) (count z rest) (count z all) before few
+
+-- rows in order among which each stands as often as among others are those, sorted
+pub sorted_is : (rows all : List RowValue) → Rises row_value_order rows → ((z : RowValue) → count z rows ≡ count z all) → rows ≡ sorted row_value_order all
+sorted_is rows all rises same =
+    same_list row_value_order row_value_order_total same_rows rows (sorted row_value_order all) rises (rises_sorted row_value_order row_value_order_total all)
+    (λ z. same z ∙ sym (times_permutation row_value_order z all (sorted row_value_order all) (permutation_sorted row_value_order all)))
+
+-- to sort what is sorted changes nothing
+pub sorted_again : (rows : List RowValue) → sorted row_value_order (sorted row_value_order rows) ≡ sorted row_value_order rows
+sorted_again rows = sym (sorted_is (sorted row_value_order rows) (sorted row_value_order rows) (rises_sorted row_value_order row_value_order_total rows) (λ z. refl))
+
+pub rows_once : (columns : List Steps) (z : RowValue) (ds : KeptDocuments) → count z (rows_of columns (docs_of ds)) ≤ 1
+rows_once columns z ds =
+    let unsorted = filter_map (row_of columns) (docs_of ds) in
+    let same : count z (rows_of columns (docs_of ds)) ≡ count z unsorted = times_permutation row_value_order z unsorted (rows_of columns (docs_of ds)) (permutation_sorted row_value_order unsorted) in
+    let few = at_most_once columns z ds in omega (arith, same, few)
+
+-- the row of the form that is kept
+pub own_at : (columns : List Steps) (id : List ℕ) (o : Option Kept) → own_row columns id (option_and_then (λ d. d.1) o) ≡ row_at columns id o
+own_at columns id None = refl
+own_at columns id (Some d) = refl

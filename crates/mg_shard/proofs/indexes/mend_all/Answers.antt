@@ -1,0 +1,45 @@
+use Rattle.std.proofs.Common.{◌≡◌, ◌<◌, ◌≤◌, Global, Some, get_or, length, slice_get, string_bytes, arith, refl, sym, ap, ◌∙◌}
+use Rattle.std.proofs.lemmas.Option.{slice_get-get_or}
+use Rattle.std.specs.Arc.{arc_value}
+use Rattle.std.specs.declared.sync.Arc.{Arc}
+use Rattle.mg_index.specs.declared.definition.IndexDef.{IndexDef}
+use Rattle.std.specs.FinMap.{insert}
+use Rattle.mg_shard.specs.Documents.{docs_of, form_at, kept_of, shown}
+use Rattle.mg_shard.specs.Rows.{rows_of}
+use Rattle.mg_shard.proofs.Catalogued.{mended_first, mended_last, mended_more, same_definitions}
+use Rattle.mg_shard.proofs.indexes.mend_all.Goals as goal
+
+pub loop-i-init : goal.loop-i-init
+loop-i-init c = record {
+  definitions = refl;
+  mended = λ h. mended_first (shown c.args.documents.now) (insert (shown c.args.documents.now) (string_bytes c.args.document.now.id) (kept_of c.args.document.now)) c.args.indexes.now h;
+}
+
+pub loop-i-preserved : goal.loop-i-preserved
+loop-i-preserved c =
+    let l = c.loop-i in
+    let xs = l.indexes in
+    let x = get_or xs l.i c.index-indexes-i.result in
+    let y = c.mend.new.self in
+    let old = shown c.args.documents.now in
+    let d = kept_of c.args.document.now in
+    let id = string_bytes c.args.document.now.id in
+    let new = insert old id d in
+    let within : l.i < length xs = omega arith in
+    let at : slice_get xs l.i ≡ Some x = slice_get-get_or xs l.i c.index-indexes-i.result within in
+    record {
+      definitions = same_definitions xs l.i x y at c.in_ok-mend.ensures.definition ∙ l.invariant.definitions;
+      mended = λ h. mended_more old new xs l.i x y at within
+          (λ were.
+          c.in_ok-mend.ensures.rows old d (c.form_in-before.ensures ∙ ap (form_at old) (c.deref.ensures ∙ sym c.deref-in-loop-i.ensures)) c.form-after.ensures were
+          ∙ ap (λ i. rows_of (arc_value x.definition).columns (docs_of (insert old i d))) c.deref-in-loop-i.ensures
+          ∙ ap (λ (a : Arc IndexDef Global). rows_of (arc_value a).columns (docs_of new)) (sym c.in_ok-mend.ensures.definition))
+          (l.invariant.mended h);
+    }
+
+pub returns-clause-rows : goal.returns-clause-rows
+returns-clause-rows c = λ h.
+    let l = c.loop-i in
+    let old = shown c.args.documents.now in
+    let over : length l.indexes ≤ l.i = omega arith in
+    mended_last old (insert old (string_bytes c.args.document.now.id) (kept_of c.args.document.now)) l.indexes l.i over (l.invariant.mended h)

@@ -1,0 +1,16 @@
+use Rattle.std.proofs.Common.{◌≤◌, List, sym, ap, ◌∙◌, subst}
+use Rattle.std.specs.List.{filter_map}
+use Rattle.mg_collate.specs.Row.{RowValue, row_value_order}
+use Rattle.mg_collate.specs.Sorted.{sorted}
+use Rattle.mg_shard.specs.Documents.{docs_of}
+use Rattle.mg_shard.specs.Rows.{row_of}
+use Rattle.mg_shard.proofs.Rows.{count, rows_once, sorted_again}
+use Rattle.mg_shard.proofs.shard.Shard.with_rows.Goals as goal
+
+pub pages_of-requires : goal.pages_of-requires
+pages_of-requires c = λ z.
+    subst (λ (rows : List RowValue). count z rows ≤ 1) (sym c.requires) (rows_once c.args.definition.now.columns z c.args.self.now.documents)
+
+pub with-requires : goal.with-requires
+with-requires c =
+    c.in_ok-pages.ensures ∙ ap (sorted row_value_order) c.requires ∙ sorted_again (filter_map (row_of c.args.definition.now.columns) (docs_of c.args.self.now.documents))

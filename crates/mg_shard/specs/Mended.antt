@@ -1,0 +1,21 @@
+-- For private clauses: how the rows of an index are mended where a document changes.
+use Rattle.std.specs.Prelude.{ℕ, List, Option, Some, None, option_and_then, option_map}
+use Rattle.mg_value.specs.Value.{Value}
+use Rattle.mg_collate.specs.Row.{RowValue, row_value_order}
+use Rattle.mg_index.specs.Definition.{Steps}
+use Rattle.mg_pages.specs.Order.{inserted, removed}
+use Rattle.mg_shard.specs.Rows.{row_of}
+
+-- the row of an id and the form in which its document is served, if it is and has every column
+abbrev pub own_row : List Steps → List ℕ → Option Value → Option RowValue
+own_row columns id form = option_and_then (row_of columns) (option_map (λ v. (id, v)) form)
+
+-- rows without one of them, if one is to be taken
+abbrev pub without_row : Option RowValue → List RowValue → List RowValue
+without_row None rows = rows
+without_row (Some r) rows = removed (row_value_order r) rows
+
+-- rows with one more, if one is to be put
+abbrev pub with_row : Option RowValue → List RowValue → List RowValue
+with_row None rows = rows
+with_row (Some r) rows = inserted row_value_order r rows

@@ -1,0 +1,152 @@
+//! The rows of an index in a shard.
+ghost use Rattle.std.specs.Prelude.{◌≡◌, ◌≤◌, IfOk, OnOk, option_map};
+ghost use Rattle.std.specs.Arc.{arc_value};
+ghost use Rattle.std.specs.FinMap.{insert};
+ghost use Rattle.mg_value.specs.View.{view, items_view};
+ghost use Rattle.mg_collate.specs.Row.{RowValue, row_value_order, row_view, rows_view};
+ghost use Rattle.mg_collate.specs.Sorted.{sorted};
+ghost use Rattle.mg_collate.proofs.Sorting.{times};
+ghost use Rattle.mg_shard.specs.Documents.{Kept, KeptDocuments, docs_of, form_at};
+ghost use Rattle.mg_shard.specs.Mended.{own_row, with_row, without_row};
+ghost use Rattle.mg_shard.specs.Rows.{key_of, row_of, rows_of};
+
+use mg_collate::Row;
+use mg_index::IndexDef;
+use mg_pages::{Pages, RowPlace};
+use mg_path::Path;
+use mg_value::{Json, NoMemory};
+use std::alloc::Global;
+use std::sync::Arc;
+
+/// An index of a shard: its definition, and its rows by key and id.
+#[derive(Drop)]
+pub(crate) struct IndexRows {
+    pub(crate) definition: Arc<IndexDef>,
+    pub(crate) rows: Pages<Row>,
+}
+
+// Copies of the parts of a document at the columns, if each is there.
+fn key_in(alloc: Global, columns: &[Path], form: &Json) -> Result<Option<Vec<Json>>, NoMemory>
+    ensures { IfOk result (λ key. option_map (λ k. items_view k.items) key ≡ key_of columns.now (view form.now)) }
+{
+    let mut key = Vec::with_capacity(alloc, columns.len())?;
+    for column in columns {
+        match column.get(form) {
+            Some(part) => key.push(part.copy(alloc)?)?,
+            None => return Ok(None),
+        }
+    }
+    Ok(Some(key))
+}
+
+/// The row of a document in an index with these columns, if the document has them all.
+///
+/// Errors: `NoMemory` where a growth was refused. Cost: a copy of the key.
+pub(crate) fn row_in(
+    alloc: Global,
+    columns: &[Path],
+    id: &str,
+    form: &Json,
+) -> Result<Option<Row>, NoMemory>
+    ensures { IfOk result (λ row. option_map row_view row ≡ row_of columns.now (id.now, view form.now)) }
+{
+    match key_in(alloc, columns, form)? {
+        Some(key) => {
+            let id = String::from_str(alloc, id)?;
+            Ok(Some(Row { key, id }))
+        }
+        None => Ok(None),
+    }
+}
+
+// The row of a document that may be deleted.
+fn row_if(
+    alloc: Global,
+    columns: &[Path],
+    id: &str,
+    form: Option<&Json>,
+) -> Result<Option<Row>, NoMemory>
+    ensures { IfOk result (λ row. option_map row_view row ≡ own_row columns.now id.now (option_map (λ v. view v.now) form.entry)) }
+{
+    match form {
+        Some(form) => Ok(row_in(alloc, columns, id, form)?),
+        None => Ok(None),
+    }
+}
+
+// Takes a row out, if there is one to be taken.
+fn take_row(alloc: Global, rows: &mut Pages<Row>, row: Option<Row>) -> Result<(), NoMemory>
+    ensures { OnOk result (rows_view rows.new ≡ without_row (option_map row_view row) (rows_view rows.old)) }
+{
+    if let Some(row) = row {
+        let place = RowPlace {
+            key: &row.key,
+            id: &row.id,
+        };
+        rows.remove(alloc, &place)?;
+    }
+    Ok(())
+}
+
+// Puts a row in, if there is one to be put.
+fn put_row(alloc: Global, rows: &mut Pages<Row>, row: Option<Row>) -> Result<(), NoMemory>
+    ensures { OnOk result (rows_view rows.new ≡ with_row (option_map row_view row) (rows_view rows.old)) }
+{
+    if let Some(row) = row {
+        rows.insert(alloc, Arc::new(alloc, row)?)?;
+    }
+    Ok(())
+}
+
+impl IndexRows {
+    /// The same index, its rows shared. Errors: `NoMemory` where a growth was refused. Cost: the top of its pages.
+    pub(crate) fn share(&self, alloc: Global) -> Result<IndexRows, NoMemory>
+        ensures definition { IfOk result (λ x. arc_value x.definition ≡ arc_value self.now.definition) }
+        ensures rows { IfOk result (λ x. x.rows ≡ self.now.rows) }
+    {
+        Ok(IndexRows {
+            definition: self.definition.clone()?,
+            rows: self.rows.share(alloc)?,
+        })
+    }
+
+    /// Mends the rows where the document of an id changes, which had a form before and has another after.
+    ///
+    /// Errors: `NoMemory` where a growth was refused; the index is then of no more use.
+    /// Cost: copies of both keys, and the way to both rows.
+    pub(crate) fn mend(
+        &mut self,
+        alloc: Global,
+        id: &str,
+        before: Option<&Json>,
+        after: Option<&Json>,
+    ) -> Result<(), NoMemory>
+        ensures definition { OnOk result (self.new.definition ≡ self.old.definition) }
+        ensures rows { OnOk result ((ds : KeptDocuments) (d : Kept) → option_map (λ v. view v.now) before.entry ≡ form_at ds id.now → option_map (λ v. view v.now) after.entry ≡ d.1
+            → rows_view self.old.rows ≡ rows_of (arc_value self.old.definition).columns (docs_of ds)
+            → rows_view self.new.rows ≡ rows_of (arc_value self.old.definition).columns (docs_of (insert ds id.now d))) }
+    {
+        let definition: &IndexDef = &self.definition;
+        let gone = row_if(alloc, definition.columns(), id, before)?;
+        let come = row_if(alloc, definition.columns(), id, after)?;
+        take_row(alloc, &mut self.rows, gone)?;
+        put_row(alloc, &mut self.rows, come)?;
+        self.rows.ascends();
+        Ok(())
+    }
+}
+
+/// Pages of rows, each of which stands once among them.
+///
+/// Errors: `NoMemory` where a growth was refused. Cost: the number of the rows times its logarithm.
+pub(crate) fn pages_of(alloc: Global, mut rows: Vec<Row>) -> Result<Pages<Row>, NoMemory>
+    requires { (z : RowValue) → times row_value_order z (rows_view rows.items) ≤ 1 }
+    ensures { IfOk result (λ pages. rows_view pages ≡ sorted row_value_order (rows_view rows.items)) }
+{
+    let mut pages = Pages::new(alloc);
+    while let Some(row) = rows.pop() {
+        pages.insert(alloc, Arc::new(alloc, row)?)?;
+    }
+    pages.ascends();
+    Ok(pages)
+}

@@ -1,0 +1,37 @@
+//! Laws of what shards stand for, each the contract of a function that does nothing.
+ghost use Rattle.mg_shard.specs.Laws.{DraftsBecomeShards, EachEditIsDecidedThere, EachEditIsMadeThere, EachIdHasItsShard, NothingIsDealt, ShardsBecomeDrafts, TheServedAreKept};
+
+/// The documents that are kept to be served are those that the histories serve.
+pub fn the_served_are_kept()
+    ensures { TheServedAreKept }
+{}
+
+/// Shards without documents stand for no histories.
+pub fn nothing_is_dealt()
+    ensures { NothingIsDealt }
+{}
+
+/// What is kept of an id, on the shard where it is placed, stands for its history.
+pub fn each_id_has_its_shard()
+    ensures { EachIdHasItsShard }
+{}
+
+/// What becomes of an edit is decided by the draft of its shard.
+pub fn each_edit_is_decided_there()
+    ensures { EachEditIsDecidedThere }
+{}
+
+/// Drafts stand for the histories after an edit where the one of its shard has taken it and the others are as they were.
+pub fn each_edit_is_made_there()
+    ensures { EachEditIsMadeThere }
+{}
+
+/// Where each draft stands for what the shard in its place stands for, all drafts stand for what all shards do.
+pub fn shards_become_drafts()
+    ensures { ShardsBecomeDrafts }
+{}
+
+/// Where each shard stands for what the draft in its place stands for, all shards stand for what all drafts do.
+pub fn drafts_become_shards()
+    ensures { DraftsBecomeShards }
+{}
