@@ -1,4 +1,5 @@
 -- Indexes in the order of their definitions: one that is put among them or left out, and one after another that is mended.
+use Rattle.std.proofs.Common.{IfSome, None}
 use Rattle.std.proofs.Common.{◌≡◌, ℕ, zero, suc, ◌+◌, ◌<◌, ◌≤◌, Bool, true, false, cond, not, ◌&&◌, List, [], ◌∷◌, ◌++◌, Option, Some, option_map, Ordering, Less, Equal, Greater, is_gt, is_lt, length, slice_get, set, unwrap_or, refl, sym, ap, ap₂, ◌∙◌, subst, arith}
 use Rattle.std.proofs.lemmas.Cmp.{nat_list_cmp_total, on_total, then_total, tied_itself}
 use Rattle.std.proofs.lemmas.Map.Text.{is_eq-slice_cmp}
@@ -253,3 +254,24 @@ pub rows_seen : (ddoc name : List ℕ) (xs : List IndexRows)
     → option_map (λ x. rows_view x.rows) (find (λ x. is_at ddoc name (arc_value x.definition)) xs) ≡ option_map (λ x. rows_view x.1) (find (λ x. is_at ddoc name x.0) (indexes_seen xs))
 rows_seen ddoc name [] = refl
 rows_seen ddoc name (x ∷ xs) = found_seen (is_at ddoc name (arc_value x.definition)) x _ _ (rows_seen ddoc name xs)
+
+-- ---- put together
+
+seen-push : (xs : List IndexRows) (x : IndexRows) (ys : List Index) → indexes_seen (xs ++ x ∷ []) ++ ys ≡ indexes_seen xs ++ index_seen x ∷ ys
+seen-push [] x ys = refl
+seen-push (z ∷ xs) x ys = ap (λ zs. index_seen z ∷ zs) (seen-push xs x ys)
+
+-- those before an index, the index, and those after it
+pub put_between : (xs : List Index) (x : IndexRows) (front made : List IndexRows) (new : List Index) (d e : IndexDefinition) → d ≡ arc_value x.definition → e ≡ arc_value x.definition
+    → indexes_seen front ≡ filter (λ y. is_gt (definition_order d y.0)) xs → made ≡ front ++ x ∷ [] → new ≡ indexes_seen made ++ filter (λ y. is_lt (definition_order e y.0)) xs
+    → new ≡ inserted index_order (index_seen x) xs
+put_between xs x front made new d e same also first then last =
+    last ∙ ap (λ (zs : List IndexRows). indexes_seen zs ++ filter (λ y. is_lt (definition_order e y.0)) xs) then
+    ∙ seen-push front x (filter (λ y. is_lt (definition_order e y.0)) xs)
+    ∙ ap (λ zs. zs ++ index_seen x ∷ filter (λ y. is_lt (definition_order e y.0)) xs) first
+    ∙ ap₂ (λ a b. filter (λ y. is_gt (definition_order a y.0)) xs ++ index_seen x ∷ filter (λ y. is_lt (definition_order b y.0)) xs) same also
+
+-- what is said of what may be there
+pub if_some_map : {A : Type 0} (o : Option A) (P Q : A → Type 0) → ((x : A) → P x → Q x) → IfSome o P → IfSome o Q
+if_some_map None P Q f h = h
+if_some_map (Some x) P Q f h = f x h

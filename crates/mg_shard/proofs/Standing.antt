@@ -1,15 +1,16 @@
 -- Documents that stand for histories: look-ups, insertions, and what is served of all.
 use lib.Dec.{T}
-use Rattle.std.proofs.Common.{◌≡◌, ℕ, Bool, true, false, ◌&&◌, List, [], ◌∷◌, Ordering, Less, Equal, Greater, Option, Some, None, option_map, unwrap_or, map, cond, refl, ap, sym, ◌∙◌, subst, is_eq, is_lt}
+use Rattle.std.proofs.Common.{◌≡◌, ℕ, Bool, true, false, ◌&&◌, List, [], ◌∷◌, Ordering, Less, Equal, Greater, Option, Some, None, option_and_then, option_map, unwrap_or, map, cond, arith, refl, ap, sym, ◌∙◌, subst, is_eq, is_lt}
 use Rattle.std.proofs.lemmas.Cmp.{nat_list_cmp_total}
 use Rattle.std.specs.List.{filter_map}
 use Rattle.std.specs.Ordering.{eq_by_cmp}
 use Rattle.std.specs.FinMap.{FinMap, empty, entries, entries-from_sorted, entries_sorted, find, from_sorted, get, get-empty, get-entries, get-from_sorted, is_sorted, same_map}
 use Rattle.std.specs.FinMap.Entries.{below_all}
 use Rattle.mg_value.specs.Value.{Value}
-use Rattle.mg_revtree.specs.History.{History}
-use Rattle.mg_revtree.specs.Tree.{StandsFor, Tree}
-use Rattle.mg_doc.specs.Served.{served_of}
+use Rattle.mg_revtree.specs.History.{History, Leaf, winner_of}
+use Rattle.mg_revtree.proofs.Winners.{front_wins, none_wins}
+use Rattle.mg_revtree.specs.Tree.{AreLeaves, StandsFor, Tree}
+use Rattle.mg_doc.specs.Served.{served_of, shown_leaf}
 use Rattle.mg_shard.specs.Documents.{Kept, KeptDocuments, StandFor, StandsAt, doc_entry, docs_of, tree_at}
 use Rattle.mg_shard.specs.Histories.{Histories, ServedDocument, history_at, served_documents, served_entry}
 use Rattle.mg_shard.proofs.Shown.{bytes_cmp, bytes_exact}
@@ -124,3 +125,21 @@ docs_served (e ∷ es) = rw (docs_served es)
 -- the documents that are kept to be served are those that are served
 pub same_docs : (ds : KeptDocuments) (hs : Histories) → StandFor ds hs → docs_of ds ≡ served_documents hs
 same_docs ds hs st = docs_kept (entries ds) ∙ ap (filter_map formed) (same_forms ds hs st) ∙ sym (docs_served (entries hs))
+
+-- ---- histories for which one tree stands
+
+winner_same : (h g : History) (ls : List Leaf) → AreLeaves h ls → AreLeaves g ls → winner_of h ≡ winner_of g
+winner_same h g [] p q = none_wins h [] refl p ∙ sym (none_wins g [] refl q)
+winner_same h g (l ∷ ls) p q = front_wins h l (l ∷ ls) (omega arith) refl p ∙ sym (front_wins g l (l ∷ ls) (omega arith) refl q)
+
+served_same : (id : List ℕ) (t : Tree) (h g : History) → StandsFor t h → StandsFor t g → served_of id h ≡ served_of id g
+served_same id t h g p q = ap (option_and_then (shown_leaf id)) (winner_same h g t.leaves p.leaves q.leaves)
+
+-- a document stands for each history for which its tree does
+pub still_stands : (id : List ℕ) (t : Tree) (k : Option Kept) (o : Option History) (g : History) → option_map (λ d. d.0) k ≡ Some t → StandsAt id k o → StandsFor t g → StandsAt id k (Some g)
+still_stands id t None o g e st s = absurd cc
+still_stands id t (Some d) None g e st s = absurd st
+still_stands id t (Some d) (Some h) g e st s =
+    let same : d.0 ≡ t = cc in
+    let stands : StandsFor d.0 g = subst (λ (x : Tree). StandsFor x g) (sym same) s in
+    (stands, st.1 ∙ served_same id d.0 h g st.0 stands)

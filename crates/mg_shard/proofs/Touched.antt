@@ -14,7 +14,7 @@ use Rattle.mg_revtree.specs.Tree.{StandsFor, Tree}
 use Rattle.mg_doc.specs.Document.{Edit}
 use Rattle.mg_doc.specs.Edit.{Accepted, accepted_by, edited, history_after, newest_accepted, outcome_of}
 use Rattle.mg_doc.specs.Served.{served_of}
-use Rattle.mg_doc.specs.declared.error.EditError.{EditError}
+use Rattle.mg_doc.specs.declared.error.Refused.{Refused}
 use Rattle.mg_shard.specs.Documents.{Kept, KeptDocuments, StandFor, StandsAt}
 use Rattle.mg_shard.specs.Draft.{DraftAt, DraftStandsFor, DraftView, TouchedStandFor, Trees, touched_of}
 use Rattle.mg_shard.specs.Edits.{after_edit, history_put, id_in, outcome_in}
@@ -54,11 +54,11 @@ touched-put m n id t u = same_map nat_list_cmp_total bytes_exact _ _ (λ q. get-
 -- ---- histories
 
 -- a refused edit leaves the history
-kept_history : (h : History) (e : Edit) (a : Result Accepted EditError) (x : EditError) → newest_accepted a ≡ Err x → history_after h e a ≡ h
+kept_history : (h : History) (e : Edit) (a : Result Accepted Refused) (x : Refused) → newest_accepted a ≡ Err x → history_after h e a ≡ h
 kept_history h e (Ok a) x is = absurd cc
 kept_history h e (Err y) x is = refl
 
-pub refused_leaves : (h : History) (e : Edit) (x : EditError) → outcome_of h e ≡ Err x → edited h e ≡ h
+pub refused_leaves : (h : History) (e : Edit) (x : Refused) → outcome_of h e ≡ Err x → edited h e ≡ h
 refused_leaves h e x is = kept_history h e (accepted_by h e) x is
 
 -- an edit that is done
@@ -66,7 +66,7 @@ pub after_done : (hs : Histories) (e : Edit) (r : Revision) → outcome_in hs e 
 after_done hs e r is = ap (history_put hs e) is
 
 -- an edit that is refused
-pub after_refused : (hs : Histories) (e : Edit) (x : EditError) → outcome_in hs e ≡ Err x → after_edit hs e ≡ hs
+pub after_refused : (hs : Histories) (e : Edit) (x : Refused) → outcome_in hs e ≡ Err x → after_edit hs e ≡ hs
 after_refused hs e x is = ap (history_put hs e) is
 
 -- ---- drafts
@@ -104,8 +104,8 @@ refused_at true q t h ot kept o is s st = subst (λ (p : Option History). DraftA
 refused_at false q t h ot kept o is s st = st
 
 -- the tree that an edit leaves is kept among the touched ones. A refused edit left its history, if there was one
-pub edit_kept : (ds : KeptDocuments) (ts us : Trees) (hs : Histories) (e : Edit) (t : Tree) (r : Result Revision EditError) → outcome_in hs e ≡ r
-    → ((x : EditError) → r ≡ Err x → (h : History) × (get hs (id_in e) ≡ Some h))
+pub edit_kept : (ds : KeptDocuments) (ts us : Trees) (hs : Histories) (e : Edit) (t : Tree) (r : Result Revision Refused) → outcome_in hs e ≡ r
+    → ((x : Refused) → r ≡ Err x → (h : History) × (get hs (id_in e) ≡ Some h))
     → ((q : List ℕ) → get us q ≡ cond (eq_by_cmp bytes_cmp q (id_in e)) (Some t) (get ts q))
     → StandsFor t (edited (history_at hs (id_in e)) e) → TouchedStandFor ds ts hs → TouchedStandFor ds us (after_edit hs e)
 edit_kept ds ts us hs e t (Ok r) is some at s st q =
@@ -160,16 +160,16 @@ touched_none [] e = refl
 touched_none (x ∷ es) e = absurd (omega arith)
 
 -- a refused edit leaves all as it was
-pub refused_stands : (ds : KeptDocuments) (ts : Trees) (hs : Histories) (e : Edit) (r : Result Revision EditError) → r ≡ outcome_in hs e → is_ok r ≡ false → TouchedStandFor ds ts hs → TouchedStandFor ds ts (after_edit hs e)
+pub refused_stands : (ds : KeptDocuments) (ts : Trees) (hs : Histories) (e : Edit) (r : Result Revision Refused) → r ≡ outcome_in hs e → is_ok r ≡ false → TouchedStandFor ds ts hs → TouchedStandFor ds ts (after_edit hs e)
 refused_stands ds ts hs e (Ok r) is not st = absurd cc
 refused_stands ds ts hs e (Err x) is not st = subst (λ m. TouchedStandFor ds ts m) (sym (after_refused hs e x (sym is))) st
 
-not_refused : (r : Result Revision EditError) (x : EditError) → is_ok r ≡ true → r ≡ Err x → ⊥
+not_refused : (r : Result Revision Refused) (x : Refused) → is_ok r ≡ true → r ≡ Err x → ⊥
 not_refused (Ok r) x is e = absurd cc
 not_refused (Err y) x is e = absurd cc
 
 -- the first edit of a document that is done keeps the tree that it leaves
-pub first_kept : (ds : KeptDocuments) (ts us : Trees) (hs : Histories) (e : Edit) (t : Tree) (r : Result Revision EditError) → r ≡ outcome_in hs e → is_ok r ≡ true
+pub first_kept : (ds : KeptDocuments) (ts us : Trees) (hs : Histories) (e : Edit) (t : Tree) (r : Result Revision Refused) → r ≡ outcome_in hs e → is_ok r ≡ true
     → us ≡ insert ts (id_in e) t → StandsFor t (edited (history_at hs (id_in e)) e) → TouchedStandFor ds ts hs → TouchedStandFor ds us (after_edit hs e)
 first_kept ds ts us hs e t r is done put s st =
     edit_kept ds ts us hs e t r (sym is) (λ x refused. absurd (not_refused r x done refused)) (λ q. ap (λ m. get m q) put ∙ get-insert nat_list_cmp_total ts (id_in e) t q) s st
@@ -192,3 +192,20 @@ new_draft d s hs same none st =
 pub none_left : (n : ℕ) → (0 < n → false ≡ true) → n ≡ 0
 none_left zero h = refl
 none_left (suc n) h = let wrong = h (omega arith) in absurd cc
+
+known_at : (b : Bool) (q : List ℕ) (h : History) (ot : Option Tree) (kept : Option Kept) (o : Option History) → (b ≡ true → ot ≡ None) → (b ≡ true → StandsAt q kept (Some h)) → DraftAt q ot kept o
+    → DraftAt q ot kept (cond b (Some h) o)
+known_at true q h ot kept o none s st = subst (λ (t : Option Tree). DraftAt q t kept (Some h)) (sym (none refl)) (s refl)
+known_at false q h ot kept o none s st = st
+
+-- an edit that touches nothing, since it is refused or its revision is known
+pub looked_stands : (ds : KeptDocuments) (ts : Trees) (hs : Histories) (e : Edit) (r : Result Revision Refused) → r ≡ outcome_in hs e → get ts (id_in e) ≡ None
+    → StandsAt (id_in e) (get ds (id_in e)) (Some (edited (history_at hs (id_in e)) e)) → TouchedStandFor ds ts hs → TouchedStandFor ds ts (after_edit hs e)
+looked_stands ds ts hs e (Ok r) is none s st q =
+    let id = id_in e in
+    let h = edited (history_at hs id) e in
+    let now : get (after_edit hs e) q ≡ cond (eq_by_cmp bytes_cmp q id) (Some h) (get hs q) = ap (λ m. get m q) (after_done hs e r (sym is)) ∙ get-insert nat_list_cmp_total hs id h q in
+    subst (λ (o : Option History). DraftAt q (get ts q) (get ds q) o) (sym now)
+    (known_at (eq_by_cmp bytes_cmp q id) q h (get ts q) (get ds q) (get hs q) (λ b. ap (get ts) (same_id q id b) ∙ none)
+    (λ b. subst (λ i. StandsAt i (get ds i) (Some h)) (sym (same_id q id b)) s) (st q))
+looked_stands ds ts hs e (Err x) is none s st q = subst (λ (m : Histories). DraftAt q (get ts q) (get ds q) (get m q)) (sym (after_refused hs e x (sym is))) (st q)

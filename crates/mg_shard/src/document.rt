@@ -9,7 +9,7 @@ ghost use Rattle.mg_shard.specs.Documents.{form_of};
 
 use crate::served::Served;
 use mg_doc::served;
-use mg_pages::{Keyed, Probe};
+use mg_pages::{Keyed, Probe, text_hint};
 use mg_revtree::RevTree;
 use mg_value::{Json, NoMemory};
 use std::alloc::Global;
@@ -31,6 +31,10 @@ impl Keyed for Document {
 
     ghost total = { id_order_total id_of };
 
+    fn hint(&self) -> u64 {
+        text_hint(self.id.as_str())
+    }
+
     fn order(&self, other: &Document) -> Ordering {
         self.id.as_str().cmp(other.id.as_str())
     }
@@ -43,6 +47,10 @@ impl<'a> Probe<Document> for &'a str {
     ghost against = { λ key d. id_against id_of key.now d };
 
     ghost probes = { λ key. id_probes id_of key.now };
+
+    fn hint(&self) -> u64 {
+        text_hint(self)
+    }
 
     fn against(&self, element: &Document) -> Ordering {
         (*self).cmp(element.id.as_str())

@@ -1,5 +1,5 @@
 //! A shard while a bulk is applied.
-ghost use Rattle.std.specs.Prelude.{◌≡◌, None, unwrap_or, IfOk, OnOk, map, string_bytes};
+ghost use Rattle.std.specs.Prelude.{◌≡◌, None, unwrap_or, IfOk, IfSome, OnOk, map, string_bytes};
 ghost use Rattle.std.specs.FinMap as finite;
 ghost use Rattle.std.specs.FinMap.{get, insert};
 ghost use Rattle.mg_revtree.specs.History.{History};
@@ -65,7 +65,7 @@ impl<'a> Draft<'a> {
         }
     }
 
-    /// Applies one edit that has an id. A refused edit touches nothing.
+    /// Applies one edit that has an id. A refused edit, and one whose revision is known, touch nothing.
     ///
     /// Errors: `NoMemory` where a growth was refused; the draft is then of no more use.
     /// Cost: the edit on its document's tree, and a copy of that tree where the draft has not touched it yet.
@@ -111,6 +111,20 @@ impl<'a> Draft<'a> {
     }
 }
 
+// What becomes of an edit that needs no copy of the tree: it is refused, or its path is known whole. None for another.
+pub(crate) fn looked(edit: &Edit, tree: &RevTree) -> Result<Option<EditReply>, NoMemory>
+    ensures { IfOk result (λ o. (h : History) → StandsFor tree.now h
+        → IfSome o (λ r. (outcome_seen r ≡ outcome_of h edit.now) × StandsFor tree.now (edited h edit.now))) }
+{
+    match edit.look(tree) {
+        Ok(Some(rev)) => Ok(Some(EditReply::Done(rev))),
+        Ok(None) => Ok(None),
+        Err(EditError::Conflict) => Ok(Some(EditReply::Conflict)),
+        Err(EditError::BadHistory) => Ok(Some(EditReply::BadHistory)),
+        Err(EditError::NoMemory) => Err(NoMemory),
+    }
+}
+
 // What becomes of an edit, and the tree that it leaves.
 fn applied(alloc: Global, edit: &Edit, mut tree: RevTree) -> Result<(EditReply, RevTree), NoMemory>
     ensures { IfOk result (λ r. (h : History) → StandsFor tree h → (outcome_seen r.0 ≡ outcome_of h edit.now) × StandsFor r.1 (edited h edit.now)) }
@@ -140,7 +154,7 @@ fn edit_touched(
     Ok(reply)
 }
 
-// Applies an edit to a document that was not touched before. It is touched now, unless the edit is refused.
+// Applies an edit to a document that was not touched before. It is touched now, unless the edit is refused or its revision is known.
 fn edit_first(
     alloc: Global,
     shard: &Shard,
@@ -154,6 +168,10 @@ fn edit_first(
         → TouchedStandFor shard.now.documents (touched_of touched.new.entries) (after_edit hs edit.now)) }
 {
     let id = id_in(edit);
+    let look = shard.looked(id, edit)?;
+    if let Some(known) = look {
+        return Ok(known);
+    }
     let tree = shard.copied_tree(alloc, id)?;
     let (reply, tree) = applied(alloc, edit, tree)?;
     if !reply.is_done() {

@@ -1,9 +1,10 @@
 //! A shard: documents by their ids, and the rows of indexes over them.
-ghost use Rattle.std.specs.Prelude.{◌≡◌, [], map, option_map, unwrap_or, IfOk};
+ghost use Rattle.std.specs.Prelude.{◌≡◌, [], map, option_map, unwrap_or, IfOk, IfSome};
 ghost use Rattle.std.specs.FinMap as finite;
 ghost use Rattle.std.specs.FinMap.{get};
 ghost use Rattle.mg_value.specs.View.{view};
 ghost use Rattle.mg_value.specs.Text.{compact};
+ghost use Rattle.mg_doc.specs.Edit.{edited, outcome_of};
 ghost use Rattle.mg_revtree.specs.Tree.{StandsFor};
 ghost use Rattle.mg_shard.specs.Documents.{docs_of, form_at, kept_of, tree_at, StandFor, StandsAt};
 ghost use Rattle.mg_shard.specs.Edits.{after_edits, outcome_seen, outcomes};
@@ -16,7 +17,7 @@ ghost use Rattle.std.specs.List.{filter_map};
 
 use crate::docs::Docs;
 use crate::document::Document;
-use crate::draft::Draft;
+use crate::draft::{Draft, looked};
 use crate::index::{IndexRows, pages_of, row_in};
 use crate::indexes::{index_at, shared, with, without};
 use crate::reply::EditReply;
@@ -133,6 +134,18 @@ impl Shard {
         match next {
             Some(shard) => Ok(shard),
             None => Ok(self.share(alloc)?),
+        }
+    }
+
+    // What becomes of an edit of an id that needs no copy of its tree, where there is one.
+    pub(crate) fn looked(&self, id: &str, edit: &Edit) -> Result<Option<EditReply>, NoMemory>
+        ensures { IfOk result (λ o. (hs : Histories) → StandsAt id.now (get self.now.documents id.now) (get hs id.now)
+            → IfSome o (λ r. (outcome_seen r ≡ outcome_of (history_at hs id.now) edit.now)
+                × StandsAt id.now (get self.now.documents id.now) (Some (edited (history_at hs id.now) edit.now)))) }
+    {
+        match self.tree(id) {
+            Some(tree) => Ok(looked(edit, tree)?),
+            None => Ok(None),
         }
     }
 

@@ -2,7 +2,7 @@ use Rattle.std.proofs.Common.{◌≡◌, Err, sym, subst}
 use Rattle.mg_revtree.specs.History.{History}
 use Rattle.mg_revtree.specs.Tree.{StandsFor, Tree}
 use Rattle.mg_doc.specs.Edit.{outcome_of}
-use Rattle.mg_doc.specs.declared.error.EditError.TheVariants.{BadHistory, Conflict}
+use Rattle.mg_doc.specs.declared.error.Refused.TheVariants.{BadHistory, Conflict}
 use Rattle.mg_shard.proofs.Touched.{refused_leaves}
 use Rattle.mg_shard.proofs.draft.applied.Goals as goal
 
