@@ -275,3 +275,15 @@ put_between xs x front made new d e same also first then last =
 pub if_some_map : {A : Type 0} (o : Option A) (P Q : A → Type 0) → ((x : A) → P x → Q x) → IfSome o P → IfSome o Q
 if_some_map None P Q f h = h
 if_some_map (Some x) P Q f h = f x h
+
+-- what is made of what may be there
+pub twice_mapped : {A B C : Type 0} (f : A → B) (g : B → C) (o : Option A) → option_map (λ x. g (f x)) o ≡ option_map g (option_map f o)
+twice_mapped f g None = refl
+twice_mapped f g (Some x) = refl
+
+-- the rows of the index of a name that is found among those of the code
+pub rows_named : (ds : KeptDocuments) (ddoc name : List ℕ) (xs ys : List IndexRows) → ys ≡ xs → AllByRecursion (HasRows ds) (indexes_seen xs)
+    → option_map (λ x. rows_view x.rows) (find (λ x. is_at ddoc name (arc_value x.definition)) ys) ≡ option_map (λ d. rows_of d.columns (docs_of ds)) (definition_at ddoc name (definitions_of (indexes_seen xs)))
+rows_named ds ddoc name xs ys same has =
+    ap (λ (zs : List IndexRows). option_map (λ (x : IndexRows). rows_view x.rows) (find (λ x. is_at ddoc name (arc_value x.definition)) zs)) same
+    ∙ rows_seen ddoc name xs ∙ rows_found ds ddoc name (indexes_seen xs) has

@@ -1,5 +1,7 @@
 -- Rows of an index: a list in order without ties is known by the rows that stand in it, and which these are is known id by id.
 use lib.Dec.{T}
+use Rattle.std.proofs.Common.{reverse}
+use Rattle.std.proofs.lemmas.List.{reverse-append}
 use Rattle.std.proofs.Common.{◌≡◌, ℕ, ◌+◌, ◌≤◌, Bool, true, false, ◌&&◌, List, [], ◌∷◌, ◌++◌, Ordering, Less, Equal, Greater, Option, Some, None, option_map, option_and_then, cond, is_eq, is_lt, is_gt, refl, ap, ap₂, sym, ◌∙◌, arith}
 use Rattle.std.proofs.lemmas.Cmp.{nat_list_cmp_total, tied_itself}
 use Rattle.std.specs.List.{AllByRecursion, cons_option, filter, filter_map}
@@ -100,7 +102,7 @@ view_step : (b : Bool) (r : Row) (rows : List Row) → rows_view (cond b (r ∷ 
 view_step true r rows = refl
 view_step false r rows = refl
 
-view-where : (p : RowValue → Bool) (rows : List Row) → rows_view (filter (λ r. p (row_view r)) rows) ≡ filter p (rows_view rows)
+pub view-where : (p : RowValue → Bool) (rows : List Row) → rows_view (filter (λ r. p (row_view r)) rows) ≡ filter p (rows_view rows)
 view-where p [] = refl
 view-where p (r ∷ rows) = view_step (p (row_view r)) r (filter (λ x. p (row_view x)) rows) ∙ ap (λ rs. cond (p (row_view r)) (row_view r ∷ rs) rs) (view-where p rows)
 
@@ -318,3 +320,9 @@ rows_once columns z ds =
 pub own_at : (columns : List Steps) (id : List ℕ) (o : Option Kept) → own_row columns id (option_and_then (λ d. d.1) o) ≡ row_at columns id o
 own_at columns id None = refl
 own_at columns id (Some d) = refl
+
+-- rows from the last to the first
+pub view-reverse : (rows : List Row) → rows_view (reverse rows) ≡ reverse (rows_view rows)
+view-reverse [] = refl
+view-reverse (r ∷ rows) =
+    ap rows_view (reverse-append (r ∷ []) rows) ∙ view-append (reverse rows) (r ∷ []) ∙ ap (λ xs. xs ++ row_view r ∷ []) (view-reverse rows) ∙ sym (reverse-append (row_view r ∷ []) (rows_view rows))

@@ -1,5 +1,5 @@
 //! A shard: documents by their ids, and the rows of indexes over them.
-ghost use Rattle.std.specs.Prelude.{◌≡◌, [], map, option_map, unwrap_or, IfOk, IfSome};
+ghost use Rattle.std.specs.Prelude.{◌≡◌, [], map, option_map, reverse, unwrap_or, IfOk, IfSome};
 ghost use Rattle.std.specs.FinMap as finite;
 ghost use Rattle.std.specs.FinMap.{get};
 ghost use Rattle.mg_value.specs.View.{view};
@@ -11,7 +11,9 @@ ghost use Rattle.mg_shard.specs.Edits.{after_edits, outcome_seen, outcomes};
 ghost use Rattle.mg_shard.specs.Histories.{Histories, history_at};
 ghost use Rattle.mg_shard.specs.Rows.{row_of, rows_of};
 ghost use Rattle.mg_shard.specs.Shard.{rows_at};
-ghost use Rattle.mg_collate.specs.Row.{rows_view};
+ghost use Rattle.mg_collate.specs.Row.{row_value_order, rows_view};
+ghost use Rattle.mg_pages.specs.Order.{above, below};
+ghost use Rattle.mg_value.specs.View.{items_view};
 ghost use Rattle.mg_index.specs.Catalog.{with_definition, without_definition};
 ghost use Rattle.std.specs.List.{filter_map};
 
@@ -24,7 +26,7 @@ use crate::reply::EditReply;
 use mg_collate::Row;
 use mg_doc::Edit;
 use mg_index::IndexDef;
-use mg_pages::{Iter, Pages};
+use mg_pages::{Back, Iter, Pages, RowPlace};
 use mg_path::Path;
 use mg_revtree::RevTree;
 use mg_value::{Json, NoMemory};
@@ -141,7 +143,7 @@ impl Shard {
     pub(crate) fn looked(&self, id: &str, edit: &Edit) -> Result<Option<EditReply>, NoMemory>
         ensures { IfOk result (λ o. (hs : Histories) → StandsAt id.now (get self.now.documents id.now) (get hs id.now)
             → IfSome o (λ r. (outcome_seen r ≡ outcome_of (history_at hs id.now) edit.now)
-                × StandsAt id.now (get self.now.documents id.now) (Some (edited (history_at hs id.now) edit.now)))) }
+            × StandsAt id.now (get self.now.documents id.now) (Some (edited (history_at hs id.now) edit.now)))) }
     {
         match self.tree(id) {
             Some(tree) => Ok(looked(edit, tree)?),
@@ -182,6 +184,41 @@ impl Shard {
     {
         match index_at(&self.indexes, ddoc, name) {
             Some(index) => Some(index.rows.iter()),
+            None => None,
+        }
+    }
+
+    /// The rows of the index of this design document and name from the last to the first, and none where there is no such index.
+    /// Takes no memory. Cost: as of `rows`.
+    pub fn rows_back(&self, ddoc: &str, name: &str) -> Option<Back<'_, Row>>
+        ensures { option_map (λ it. rows_view it) result ≡ option_map reverse (rows_at ddoc.now name.now self.now) }
+    {
+        match index_at(&self.indexes, ddoc, name) {
+            Some(index) => Some(index.rows.back()),
+            None => None,
+        }
+    }
+
+    /// The rows above a place in the index of this design document and name, by key and id, and none where there is no such index.
+    /// Takes no memory. Cost: each definition once, one look-up, and then a step a row.
+    pub fn rows_after(&self, ddoc: &str, name: &str, place: RowPlace<'_>) -> Option<Iter<'_, Row>>
+        ensures { option_map (λ it. rows_view it) result
+            ≡ option_map (above (row_value_order (items_view place.entry.key.now, place.entry.id.now))) (rows_at ddoc.now name.now self.now) }
+    {
+        match index_at(&self.indexes, ddoc, name) {
+            Some(index) => Some(index.rows.after(&place)),
+            None => None,
+        }
+    }
+
+    /// The rows below a place in the index of this design document and name, from the last to the first, and none where there is no
+    /// such index. Takes no memory. Cost: as of `rows_after`.
+    pub fn rows_before(&self, ddoc: &str, name: &str, place: RowPlace<'_>) -> Option<Back<'_, Row>>
+        ensures { option_map (λ it. rows_view it) result
+            ≡ option_map (λ rows. reverse (below (row_value_order (items_view place.entry.key.now, place.entry.id.now)) rows)) (rows_at ddoc.now name.now self.now) }
+    {
+        match index_at(&self.indexes, ddoc, name) {
+            Some(index) => Some(index.rows.before(&place)),
             None => None,
         }
     }

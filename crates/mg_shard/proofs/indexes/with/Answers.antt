@@ -1,4 +1,4 @@
-use Rattle.std.proofs.Common.{sym, ◌∙◌}
+use Rattle.std.proofs.Common.{◌∙◌}
 use Rattle.mg_shard.specs.Index.{indexes_seen}
 use Rattle.mg_shard.proofs.Catalogued.{put_between}
 use Rattle.mg_shard.proofs.indexes.with.Goals as goal
