@@ -1,9 +1,6 @@
 //! Shards: documents by their ids and rows of indexes, in shared pages; edits of them; and on which shard a document is kept.
 #![tactic(auto)]
 
-<<<<<<< HEAD
-mod placement;
-=======
 mod docs;
 mod document;
 pub mod draft;
@@ -14,7 +11,6 @@ pub mod placement;
 pub mod reply;
 mod served;
 pub mod shard;
->>>>>>> 41cac2b (Shards own their documents, in shared pages: what they stand for, look-ups, drafts of a bulk, and what it is to be dealt by a placement)
 
 pub use docs::Docs;
 pub use draft::Draft;

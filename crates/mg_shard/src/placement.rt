@@ -15,8 +15,8 @@ pub trait Placement {
         ensures below { result < shards };
 }
 
-/// The placement by MD5: of the id's digest, the upper half read as one number (its first byte the
-/// highest), modulo the number of shards.
+/// The placement by MD5: the first eight bytes of the digest of the id's UTF-8 bytes, as a big-endian
+/// number, and of it the remainder by the number of shards.
 ///
 /// Cost: the length of the id. Takes no memory. Source: RFC 1321.
 #[derive(Clone, Copy, Drop, Debug)]
