@@ -18,18 +18,9 @@ import subprocess
 import sys
 from pathlib import Path
 
+from conversations import PHRASES
+
 SECONDS = 120
-PHRASES = {
-    200: "OK",
-    201: "Created",
-    400: "Bad Request",
-    404: "Not Found",
-    405: "Method Not Allowed",
-    411: "Length Required",
-    413: "Payload Too Large",
-    431: "Request Header Fields Too Large",
-    503: "Service Unavailable",
-}
 ENDS = {"Eof": (0, b""), "Closed": (0, b""), "Refused": (1, b"mangod: refused\n")}
 
 
