@@ -6,3 +6,4 @@ pub mod Served
 pub mod Code
 pub mod Conversions
 pub mod Base
+pub mod Conflicts

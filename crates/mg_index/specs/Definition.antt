@@ -1,11 +1,11 @@
 -- Index definitions, after `_index` of the CouchDB 3.x API reference: JSON indexes, all of whose columns have one direction.
 -- A missing name is an MD5 digest (RFC 1321) in lower hexadecimal.
-use Rattle.std.specs.Prelude.{ℕ, List, ◌++◌, codes, map, nat_eq, refl, if◌then◌else◌}
+use Rattle.std.specs.Prelude.{ℕ, List, [], ◌∷◌, ◌++◌, codes, map, nat_eq, refl, if◌then◌else◌}
 use Rattle.std.specs.Coded.{Coded, code_by, coded×, coded_ℕ, coded_list}
 use Rattle.std.specs.List.{starts_with}
 use Rattle.md5.specs.Md5.{md5}
 use Rattle.hex.specs.Hex.{encode_lower}
-use Rattle.mg_value.specs.Value.{Value, text, list, object, no_members, member}
+use Rattle.mg_value.specs.Value.{Value, null, text, list, object, no_members, member}
 use Rattle.mg_value.specs.View.{items_of}
 use Rattle.mg_value.specs.Text.{compact}
 use Rattle.mg_collate.specs.contracts.direction.Direction as direction
@@ -63,3 +63,9 @@ abbrev pub listed_of : IndexDefinition → Value
 listed_of d =
     object (member (codes "ddoc") (text d.ddoc) (member (codes "def") (fields_value d.direction d.texts)
     (member (codes "name") (text d.name) (member (codes "type") (text (codes "json")) no_members))))
+
+-- the index of all documents as it is listed: `{"ddoc":null,"def":{"fields":[{"_id":"asc"}]},"name":"_all_docs","type":"special"}`
+abbrev pub listed_all_docs : Value
+listed_all_docs =
+    object (member (codes "ddoc") null (member (codes "def") (fields_value Asc (codes "_id" ∷ []))
+    (member (codes "name") (text (codes "_all_docs")) (member (codes "type") (text (codes "special")) no_members))))

@@ -1,3 +1,4 @@
 pub mod Query
 pub mod Page
 pub mod Seen
+pub mod Explain

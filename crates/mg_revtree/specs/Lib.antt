@@ -6,3 +6,4 @@ pub mod Nodes
 pub mod Steps
 pub mod Laws
 pub mod Room
+pub mod Losers
