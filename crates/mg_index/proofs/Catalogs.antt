@@ -1,5 +1,5 @@
 -- Lists of definitions in the order of a catalog: where one goes, and that the order stays.
-use Rattle.std.proofs.Common.{◌≡◌, ℕ, zero, suc, ◌<◌, ◌≤◌, Bool, true, false, cond, ◌&&◌, List, [], ◌∷◌, length, get_or, set, Option, Some, None, is_some, Ordering, Less, Equal, Greater, refl, sym, ap, ap₂, ◌∙◌, arith}
+use Rattle.std.proofs.Common.{◌≡◌, ℕ, zero, suc, ◌<◌, ◌≤◌, Bool, true, false, cond, ◌&&◌, List, [], ◌∷◌, length, get_or, set, Option, Some, None, is_some, unwrap_or, Ordering, Less, Equal, Greater, refl, sym, ap, ap₂, ◌∙◌, arith}
 use Rattle.std.proofs.lemmas.Bool.Decides.{nat_tests}
 use Rattle.std.proofs.lemmas.Bool.{and_parts, false≢true}
 use Rattle.std.proofs.lemmas.Cmp.{then_total, on_total, nat_list_cmp_total, same_from_slice_cmp}
@@ -205,3 +205,20 @@ pub found_other : (d found : IndexDefinition) (o : Option IndexDefinition) → o
 found_other d found o h other e =
     let equal : found ≡ d = cc (h, e) in
     false≢true (sym other ∙ ap (is_same_definition d) equal ∙ finds_same d)
+
+-- ---- a definition that stands there, in its own place
+
+some_same : (d e : IndexDefinition) → Some e ≡ Some d → d ≡ e
+some_same d e h = sym (ap (λ o. unwrap_or o e) h)
+
+kept_at : (d e : IndexDefinition) (es : List IndexDefinition) → IsCatalog (e ∷ es) → definition_at d.ddoc d.name (e ∷ es) ≡ Some d
+    → (definition_at d.ddoc d.name es ≡ Some d → with_definition d es ≡ es) → (o : Ordering) → definition_order d e ≡ o → with_at d e es o ≡ e ∷ es
+kept_at d e es c at more Less is = let none = sym (none_below d (e ∷ es) (is, below_all d e es is c.0)) ∙ at in absurd cc
+kept_at d e es c at more Equal is =
+    ap (λ x. x ∷ es) (some_same d e (sym (ap (λ b. cond b (Some e) (definition_at d.ddoc d.name es)) (is_at-is d e ∙ ap is_eq is)) ∙ at))
+kept_at d e es c at more Greater is =
+    ap (λ xs. e ∷ xs) (more (sym (ap (λ b. cond b (Some e) (definition_at d.ddoc d.name es)) (is_at-is d e ∙ ap is_eq is)) ∙ at))
+
+pub kept : (d : IndexDefinition) (ds : List IndexDefinition) → IsCatalog ds → definition_at d.ddoc d.name ds ≡ Some d → with_definition d ds ≡ ds
+kept d [] c at = absurd cc
+kept d (e ∷ es) c at = kept_at d e es c at (kept d es c.1) (definition_order d e) refl

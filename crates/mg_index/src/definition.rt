@@ -137,8 +137,8 @@ impl IndexDef {
         by_ddoc.then(self.name.as_str().cmp(other.name.as_str()))
     }
 
-    // Whether the definitions are the same.
-    pub(crate) fn is_same(&self, other: &IndexDef) -> bool
+    /// Whether the definitions are the same: of one design document and name, with the same paths and direction. Takes no memory.
+    pub fn is_same(&self, other: &IndexDef) -> bool
         ensures { result ≡ is_same_definition self.now other.now }
     {
         self.is_at(other.ddoc.as_str(), other.name.as_str())

@@ -1,4 +1,3 @@
 pub mod Query
 pub mod Page
-pub mod Seen
 pub mod Explain

@@ -15,6 +15,26 @@ pub enum QueryError {
     /// An operator with an argument that it does not take.
     #[error("bad argument for an operator")]
     BadArg,
+    /// A bookmark that is none.
+    #[error("invalid bookmark")]
+    BadBookmark,
+    /// A sort in both directions.
+    #[error("mixed sort")]
+    MixedSort,
+    /// A growth was refused.
+    #[error("out of memory")]
+    NoMemory,
+}
+
+/// Why a query that was read is not answered.
+#[derive(Clone, Copy, PartialEq, Eq, Debug, Drop, Error)]
+pub enum PageError {
+    /// No index serves the sort.
+    #[error("no usable index")]
+    NoUsableIndex,
+    /// The bookmark is one of another index or direction.
+    #[error("invalid bookmark")]
+    BadBookmark,
     /// A growth was refused.
     #[error("out of memory")]
     NoMemory,

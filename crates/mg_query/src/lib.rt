@@ -2,7 +2,5 @@
 #![tactic(auto)]
 
 mod error;
-mod query;
 
-pub use error::QueryError;
-pub use query::Query;
+pub use error::{PageError, QueryError};

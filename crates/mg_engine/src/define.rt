@@ -1,0 +1,201 @@
+//! The commands on indexes.
+ghost use Rattle.std.specs.Prelude.{◌≡◌, ◌≤◌, ◌∷◌, codes, IfOk, Ok, Some, true, length, map, unwrap_or, if◌then◌else◌};
+ghost use Rattle.mg_value.specs.View.{view};
+ghost use Rattle.mg_index.specs.Definition.{listed_all_docs, listed_of};
+ghost use Rattle.mg_index.specs.Same.{is_there};
+ghost use Rattle.mg_engine.specs.Bodies.{index_value, line_of, indexes_value};
+ghost use Rattle.mg_engine.specs.Commands.{create_index, created, drop_index, list_indexes, next, reply_of, world_defined};
+ghost use Rattle.mg_engine.specs.Settled.{IsSettled, accepts, shard_with, shard_without, state_with, state_without};
+ghost use Rattle.mg_engine.specs.Stands.{Holds};
+ghost use Rattle.mg_engine.specs.StateView.{shards_seen};
+ghost use Rattle.mg_engine.specs.View.{said};
+ghost use Rattle.mg_engine.specs.World.{World};
+ghost use Rattle.mg_shard.specs.Dealt.{Placing};
+
+use crate::body::line;
+use crate::fault::Fault;
+use crate::refusal::Refusal;
+use crate::reply::Reply;
+use crate::state::State;
+use mg_index::laws::the_same_definition_changes_nothing;
+use mg_index::{Catalog, IndexDef, design_document};
+use mg_shard::Shard;
+use mg_value::{Json, NoMemory};
+use std::alloc::Global;
+use std::sync::{Arc, Wait};
+
+impl State {
+    /// The reply to an index that is to be created, and the next state, if the body defines one.
+    /// Cost: nothing more where the same definition stands; else each document, and its row to its place.
+    pub(crate) fn create_index<R: Wait>(
+        &self,
+        rt: &R,
+        alloc: Global,
+        body: &Json,
+        workers: usize,
+    ) -> Result<(Reply, Option<State>), NoMemory>
+        requires some { 1 ≤ workers }
+        requires most { workers ≤ 32 }
+        ensures does { IfOk result (λ r. (place : Placing) (w : World) → Holds place self.now w
+            → (said r.0 ≡ Some (reply_of w (create_index (view body.now))))
+            × Holds place (unwrap_or r.1 self.now) (next w (create_index (view body.now)))) }
+        ensures settled { IfOk result (λ r. IsSettled r.0 r.1) }
+        ensures number { IfOk result (λ r. length (unwrap_or r.1 self.now).shards ≡ length self.now.shards) }
+    {
+        match IndexDef::read(alloc, body) {
+            Ok(definition) => {
+                let (reply, next) = self.define(rt, alloc, definition, workers)?;
+                Ok((reply, Some(next)))
+            }
+            Err(fault) => match Fault::from(fault) {
+                Fault::Refused(refusal) => Ok((Reply::refusing(alloc, refusal)?, None)),
+                Fault::NoMemory => Err(NoMemory),
+            },
+        }
+    }
+
+    // The reply to a definition, and the state with it.
+    fn define<R: Wait>(
+        &self,
+        rt: &R,
+        alloc: Global,
+        definition: IndexDef,
+        workers: usize,
+    ) -> Result<(Reply, State), NoMemory>
+        requires some { 1 ≤ workers }
+        requires most { workers ≤ 32 }
+        ensures does { IfOk result (λ r. (place : Placing) (w : World) → Holds place self.now w
+            → (said r.0 ≡ Some (created w (Ok definition)))
+            × Holds place r.1 (world_defined w (Ok definition))) }
+        ensures accepted { IfOk result (λ r. accepts r.0 ≡ true) }
+        ensures number { IfOk result (λ r. length r.1.shards ≡ length self.now.shards) }
+    {
+        let there = is_there(&self.catalog, &definition);
+        let body = created_line(alloc, &definition, there)?;
+        let next = if there {
+            self.share()?
+        } else {
+            self.with_index(rt, alloc, definition, workers)?
+        };
+        Ok((Reply::Full { status: 200, body }, next))
+    }
+
+    // The state with an index, over all shards.
+    fn with_index<R: Wait>(
+        &self,
+        rt: &R,
+        alloc: Global,
+        definition: IndexDef,
+        workers: usize,
+    ) -> Result<State, NoMemory>
+        requires some { 1 ≤ workers }
+        requires most { workers ≤ 32 }
+        ensures { IfOk result (λ s. s ≡ state_with definition self.now) }
+    {
+        let shards = all_with(rt, alloc, &self.shards, &definition, workers)?;
+        let mut catalog = self.catalog.copy(alloc)?;
+        catalog.add(definition)?;
+        self.with_catalog(alloc, catalog, shards)
+    }
+
+    /// The reply to an index that is to be dropped, and the next state, if there is such an index. Cost: the number of the shards
+    /// and of the indexes.
+    pub(crate) fn drop_index(
+        &self,
+        alloc: Global,
+        ddoc: &str,
+        name: &str,
+    ) -> Result<(Reply, Option<State>), NoMemory>
+        ensures does { IfOk result (λ r. (place : Placing) (w : World) → Holds place self.now w
+            → (said r.0 ≡ Some (reply_of w (drop_index ddoc.now name.now)))
+            × Holds place (unwrap_or r.1 self.now) (next w (drop_index ddoc.now name.now))) }
+        ensures settled { IfOk result (λ r. IsSettled r.0 r.1) }
+        ensures number { IfOk result (λ r. length (unwrap_or r.1 self.now).shards ≡ length self.now.shards) }
+    {
+        let ddoc = design_document(alloc, ddoc)?;
+        if self.catalog.find(&ddoc, name).is_none() {
+            return Ok((Reply::refusing(alloc, Refusal::Missing)?, None));
+        }
+        let mut done = Json::empty_object(alloc);
+        done.insert(alloc, "ok", Json::Flag(true))?;
+        let body = line(alloc, &done)?;
+        let next = self.without_index(alloc, &ddoc, name)?;
+        Ok((Reply::Full { status: 200, body }, Some(next)))
+    }
+
+    // The state without an index, over all shards.
+    fn without_index(&self, alloc: Global, ddoc: &str, name: &str) -> Result<State, NoMemory>
+        ensures { IfOk result (λ s. s ≡ state_without ddoc.now name.now self.now) }
+    {
+        let shards = all_without(alloc, &self.shards, ddoc, name)?;
+        let mut catalog = self.catalog.copy(alloc)?;
+        catalog.remove(ddoc, name);
+        self.with_catalog(alloc, catalog, shards)
+    }
+}
+
+// Whether the same definition is in the catalog.
+fn is_there(catalog: &Catalog, definition: &IndexDef) -> bool
+    ensures { result ≡ is_there definition.now catalog.now }
+{
+    match catalog.find(definition.ddoc(), definition.name()) {
+        Some(found) => definition.is_same(found),
+        None => false,
+    }
+}
+
+// The body of the reply to an index that was created, or was there.
+fn created_line(alloc: Global, definition: &IndexDef, there: bool) -> Result<Vec<u8>, NoMemory>
+    ensures { IfOk result (λ b. b.items ≡ line_of (index_value definition.now (if there then codes "exists" else codes "created"))) }
+{
+    let word = if there { "exists" } else { "created" };
+    let mut created = Json::empty_object(alloc);
+    created.insert(
+        alloc,
+        "id",
+        Json::Text(String::from_str(alloc, definition.ddoc())?),
+    )?;
+    created.insert(
+        alloc,
+        "name",
+        Json::Text(String::from_str(alloc, definition.name())?),
+    )?;
+    created.insert(alloc, "result", Json::Text(String::from_str(alloc, word)?))?;
+    line(alloc, &created)
+}
+
+// All shards with an index.
+fn all_with<R: Wait>(
+    rt: &R,
+    alloc: Global,
+    shards: &[Arc<Shard>],
+    definition: &IndexDef,
+    workers: usize,
+) -> Result<Vec<Arc<Shard>>, NoMemory>
+    requires some { 1 ≤ workers }
+    requires most { workers ≤ 32 }
+    ensures { IfOk result (λ v. shards_seen v.items ≡ map (shard_with definition.now) (shards_seen shards.now)) }
+{
+    let _ = (rt, workers);
+    let mut all = Vec::with_capacity(alloc, shards.len())?;
+    for shard in shards {
+        all.push(Arc::new(alloc, shard.with_index(alloc, definition)?)?)?;
+    }
+    Ok(all)
+}
+
+// All shards without an index.
+fn all_without(
+    alloc: Global,
+    shards: &[Arc<Shard>],
+    ddoc: &str,
+    name: &str,
+) -> Result<Vec<Arc<Shard>>, NoMemory>
+    ensures { IfOk result (λ v. shards_seen v.items ≡ map (shard_without ddoc.now name.now) (shards_seen shards.now)) }
+{
+    let mut all = Vec::with_capacity(alloc, shards.len())?;
+    for shard in shards {
+        all.push(Arc::new(alloc, shard.without_index(alloc, ddoc, name)?)?)?;
+    }
+    Ok(all)
+}

@@ -1,0 +1,67 @@
+//! One command on a state.
+ghost use Rattle.std.specs.Prelude.{◌≡◌, ◌≤◌, None, false, length, true, unwrap_or};
+ghost use Rattle.mg_engine.specs.Commands.{is_write};
+ghost use Rattle.mg_engine.specs.Run.{Answers};
+ghost use Rattle.mg_engine.specs.Settled.{IsSettled, reply_made, settled_of};
+ghost use Rattle.mg_engine.specs.Stands.{Holds};
+ghost use Rattle.mg_engine.specs.View.{asked, said};
+ghost use Rattle.mg_engine.specs.World.{World};
+
+use crate::command::Command;
+use crate::reply::Reply;
+use crate::state::State;
+use mg_shard::Placement;
+use mg_value::NoMemory;
+use std::alloc::Global;
+use std::sync::Wait;
+
+impl State {
+    /// The reply to a command, made whole, and the next state, if the command is a write that is accepted. Where memory is refused,
+    /// there is none.
+    pub(crate) fn take<P: Placement, R: Wait>(
+        &self,
+        rt: &R,
+        alloc: Global,
+        placement: &P,
+        command: &Command,
+        workers: usize,
+    ) -> (Reply, Option<State>)
+        requires some { 1 ≤ workers }
+        requires most { workers ≤ 32 }
+        ensures answers { (w : World) → Holds (P.place placement.now) self.now w
+            → Answers w (asked command.now) (said result.0) (Holds (P.place placement.now) (unwrap_or result.1 self.now)) }
+        ensures write { is_write (asked command.now) ≡ true → IsSettled result.0 result.1 }
+        ensures read { is_write (asked command.now) ≡ false → result.1 ≡ None }
+        ensures number { length (unwrap_or result.1 self.now).shards ≡ length self.now.shards }
+    {
+        match command {
+            Command::Bulk(body) => settled(self.bulk(alloc, placement, body)),
+            Command::CreateIndex(body) => settled(self.create_index(rt, alloc, body, workers)),
+            Command::DropIndex { ddoc, name } => settled(self.drop_index(alloc, ddoc, name)),
+            Command::ListIndexes => told(Err(NoMemory)),
+            Command::Find(body) => told(Err(NoMemory)),
+            Command::Explain(body) => told(Err(NoMemory)),
+            Command::Get { id, conflicts } => told(self.get(alloc, placement, id, *conflicts)),
+        }
+    }
+}
+
+// The reply of a write and what it leaves, or that memory was refused.
+fn settled(made: Result<(Reply, Option<State>), NoMemory>) -> (Reply, Option<State>)
+    ensures { result ≡ settled_of made }
+{
+    match made {
+        Ok(settled) => settled,
+        Err(NoMemory) => (Reply::NoMemory, None),
+    }
+}
+
+// A reply that leaves nothing, or that memory was refused.
+fn told(made: Result<Reply, NoMemory>) -> (Reply, Option<State>)
+    ensures { result ≡ (reply_made made, None) }
+{
+    match made {
+        Ok(reply) => (reply, None),
+        Err(NoMemory) => (Reply::NoMemory, None),
+    }
+}
