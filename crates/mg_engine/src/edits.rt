@@ -91,7 +91,8 @@ fn edit_one<P: Placement>(
     each_edit_is_made_there();
     let place = placement.shard_of(id_in(edit), drafts.len());
     let draft = &mut drafts[place];
-    draft.edit(alloc, edit)
+    let reply = draft.edit(alloc, edit)?;
+    Ok(reply)
 }
 
 // The shards that drafts leave: of a draft that touched nothing the shard as it was.

@@ -1,20 +1,29 @@
-use Rattle.std.proofs.Common.{rules, ◌≡◌, ◌<◌, IfOk, OnOk, map, length, ℕ, ◌+◌, ◌-◌, ◌*◌, ◌≤◌, ◌/◌, ◌%◌, Bool, true, false, nat_eq, nat_lt, List, [], ◌∷◌, ◌++◌, slice_index_or, slice_set, bit_and, bit_or, Fits, w8, w32, w64, Bor, MutBor}
-use Rattle.mg_shard.specs.Dealt.{DraftsStandFor, ShardsStandFor}
-use Rattle.mg_shard.specs.Edits.{after_edit, after_edits, outcome_in, outcome_seen, outcomes}
-use Rattle.mg_shard.specs.Histories.{Histories}
-use Rattle.mg_engine.specs.Stands.{definitions_of}
-use Rattle.mg_engine.specs.StateView.{AllLeave, Leaves, before, fresh, shards_seen}
-use Rattle.std.specs.Arc.{arc_value}
+use Rattle.std.proofs.Common.{◌≡◌, Some, length, slice_get, slice_set, sym, ap, ◌∙◌, subst}
+use Rattle.mg_shard.specs.Dealt.{DraftsStandFor}
+use Rattle.mg_shard.specs.Edits.{after_edit, id_in}
+use Rattle.mg_engine.proofs.Editing.{before-set, got_at}
 use Rattle.mg_engine.proofs.edits.edit_one.Goals as goal
 
--- src/edits.rt:77:1
 pub returns-clause-reply : goal.returns-clause-reply
-returns-clause-reply g c = ?
+returns-clause-reply g c = λ hs st.
+    let place = g.P.Placement.place c.args.placement.now in
+    let drafts = c.args.drafts.now in
+    let here : place (id_in c.args.edit.now) (length drafts) ≡ c.shard_of-place.result = ap (λ id. place id (length drafts)) (sym c.id_in.ensures) ∙ sym c.shard_of-place.ensures.place in
+    let at = ap (slice_get drafts) here ∙ got_at drafts c.shard_of-place.result c.index-drafts-place.result c.shard_of-place.ensures.below c.index-drafts-place.is in
+    let there = c.each_edit_is_decided_there.ensures place drafts hs c.args.edit.now c.index-drafts-place.result at st in
+    c.in_ok-reply.ensures.outcome there.0 there.1 ∙ there.2
 
--- src/edits.rt:77:1
 pub returns-clause-stands : goal.returns-clause-stands
-returns-clause-stands g c = ?
+returns-clause-stands g c = λ hs st.
+    let place = g.P.Placement.place c.args.placement.now in
+    let drafts = c.args.drafts.now in
+    let here : place (id_in c.args.edit.now) (length drafts) ≡ c.shard_of-place.result = ap (λ id. place id (length drafts)) (sym c.id_in.ensures) ∙ sym c.shard_of-place.ensures.place in
+    let at = ap (slice_get drafts) here ∙ got_at drafts c.shard_of-place.result c.index-drafts-place.result c.shard_of-place.ensures.below c.index-drafts-place.is in
+    subst (λ i. DraftsStandFor place (slice_set drafts i c.edit.new.self) (after_edit hs c.args.edit.now)) here
+    (c.each_edit_is_made_there.ensures place drafts hs c.args.edit.now c.index-drafts-place.result c.edit.new.self at (λ gs h. c.in_ok-reply.ensures.stands gs h) st)
 
--- src/edits.rt:77:1
 pub returns-clause-before : goal.returns-clause-before
-returns-clause-before g c = ?
+returns-clause-before g c =
+    let drafts = c.args.drafts.now in
+    let d = c.index-drafts-place.result in
+    before-set drafts c.shard_of-place.result d c.edit.new.self (c.in_ok-reply.ensures.shard ∙ ap (λ d. d.shard) c.index-drafts-place.is) c.shard_of-place.ensures.below
