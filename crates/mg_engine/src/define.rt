@@ -18,7 +18,7 @@ use crate::refusal::Refusal;
 use crate::reply::Reply;
 use crate::state::State;
 use mg_index::laws::the_same_definition_changes_nothing;
-use mg_index::{Catalog, IndexDef, design_document};
+use mg_index::{Catalog, IndexDef, all_docs_listed, design_document};
 use mg_shard::Shard;
 use mg_value::{Json, NoMemory};
 use std::alloc::Global;
@@ -132,6 +132,19 @@ impl State {
         catalog.remove(ddoc, name);
         self.with_catalog(alloc, catalog, shards)
     }
+
+    /// The reply that lists the indexes, that of all documents first. Cost: their number.
+    pub(crate) fn list_indexes(&self, alloc: Global) -> Result<Reply, NoMemory>
+        ensures { IfOk result (λ r. (place : Placing) (w : World) → Holds place self.now w → said r ≡ Some (reply_of w list_indexes)) }
+    {
+        let listed = all_listed(alloc, self.catalog.list())?;
+        let rows = listed.len() as i64;
+        let mut indexes = Json::empty_object(alloc);
+        indexes.insert(alloc, "indexes", Json::List(listed))?;
+        indexes.insert(alloc, "total_rows", Json::Whole(rows))?;
+        let body = line(alloc, &indexes)?;
+        Ok(Reply::Full { status: 200, body })
+    }
 }
 
 // Whether the same definition is in the catalog.
@@ -198,4 +211,16 @@ fn all_without(
         all.push(Arc::new(alloc, shard.without_index(alloc, ddoc, name)?)?)?;
     }
     Ok(all)
+}
+
+// The definitions as they are listed, the index of all documents first.
+fn all_listed(alloc: Global, definitions: &[IndexDef]) -> Result<Vec<Json>, NoMemory>
+    ensures { IfOk result (λ v. map view v.items ≡ listed_all_docs ∷ map listed_of definitions.now) }
+{
+    let mut listed = Vec::new(alloc);
+    listed.push(all_docs_listed(alloc)?)?;
+    for definition in definitions {
+        listed.push(definition.listed(alloc)?)?;
+    }
+    Ok(listed)
 }

@@ -38,7 +38,7 @@ impl State {
             Command::Bulk(body) => settled(self.bulk(alloc, placement, body)),
             Command::CreateIndex(body) => settled(self.create_index(rt, alloc, body, workers)),
             Command::DropIndex { ddoc, name } => settled(self.drop_index(alloc, ddoc, name)),
-            Command::ListIndexes => told(Err(NoMemory)),
+            Command::ListIndexes => told(self.list_indexes(alloc)),
             Command::Find(body) => told(Err(NoMemory)),
             Command::Explain(body) => told(Err(NoMemory)),
             Command::Get { id, conflicts } => told(self.get(alloc, placement, id, *conflicts)),
