@@ -1,6 +1,7 @@
 -- Shards while a bulk is applied: what is said of each draft in its place.
-use Rattle.std.proofs.Common.{◌≡◌, ℕ, zero, suc, ◌<◌, List, [], ◌∷◌, ◌++◌, Option, Some, None, option_map, unwrap_or, length, get_or, map, set, slice_get, refl, sym, ap, ◌∙◌, subst, arith, length-map}
-use Rattle.core.proofs.iter.runs.Lists.{slice_get-map}
+use Rattle.std.proofs.Common.{◌≡◌, ℕ, zero, suc, ◌<◌, List, [], ◌∷◌, ◌++◌, Option, Some, None, option_map, unwrap_or, length, get_or, map, set, slice_get, take, refl, sym, ap, ◌∙◌, subst, arith}
+use Rattle.std.proofs.lemmas.List.{length-map}
+use Rattle.std.proofs.lemmas.Option.{slice_get-map}
 use Rattle.mg_index.specs.Definition.{IndexDefinition}
 use Rattle.mg_shard.specs.Dealt.{Placing, DraftsStandFor, ShardStandsFor, ShardsStandFor}
 use Rattle.mg_shard.specs.Draft.{DraftStandsFor, DraftView}
@@ -9,7 +10,10 @@ use Rattle.mg_shard.specs.Laws.{DraftsBecomeShards, ShardsBecomeDrafts}
 use Rattle.mg_shard.specs.Shard.{ShardView}
 use Rattle.mg_shard.proofs.Touched.{untouched}
 use Rattle.mg_engine.specs.Stands.{definitions_of}
-use Rattle.mg_engine.specs.StateView.{AllLeave, Leaves, before, fresh}
+use Rattle.std.specs.Arc.{arc_value}
+use Rattle.std.specs.declared.alloc.Global.{Global}
+use Rattle.std.specs.declared.sync.Arc.{Arc}
+use Rattle.mg_engine.specs.StateView.{AllLeave, Leaves, before, fresh, shards_seen}
 
 -- ---- one place of a list
 
@@ -25,6 +29,21 @@ before-set (x ∷ ds) (suc i) d e h l = ap (λ ss. x.shard ∷ ss) (before-set d
 
 pub same_number : (ds es : List DraftView) → before ds ≡ before es → length ds ≡ length es
 same_number ds es h = sym (length-map ds (λ d. d.shard)) ∙ ap length h ∙ length-map es (λ d. d.shard)
+
+pub nothing : {X : Type 0} (xs : List X) → length xs ≡ 0 → xs ≡ []
+nothing [] h = refl
+nothing (x ∷ xs) h = absurd (omega arith)
+
+-- the shard in its place
+pub shard_at : (xs : List (Arc ShardView Global)) (i : ℕ) (x : Arc ShardView Global) → i < length xs → x ≡ get_or xs i x → slice_get (shards_seen xs) i ≡ Some (arc_value x)
+shard_at xs i x l e = slice_get-map (λ (a : Arc ShardView Global). arc_value a) xs i ∙ ap (option_map (λ (a : Arc ShardView Global). arc_value a)) (got_at xs i x l e)
+
+-- what a slice of a vector was written to, in the vector
+pub written : {X : Type 0} (xs ys : List X) (n : ℕ) → n ≡ length xs → take n (xs ++ ys) ≡ xs
+written [] ys zero h = refl
+written [] ys (suc n) h = absurd (omega (arith, h))
+written (x ∷ xs) ys zero h = absurd (omega (arith, h))
+written (x ∷ xs) ys (suc n) h = ap (λ zs. x ∷ zs) (written xs ys n (omega (arith, h)))
 
 -- ---- drafts of shards, at first
 

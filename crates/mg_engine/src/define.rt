@@ -1,9 +1,9 @@
 //! The commands on indexes.
-ghost use Rattle.std.specs.Prelude.{◌≡◌, ◌≤◌, ◌∷◌, codes, IfOk, Ok, Some, true, length, map, unwrap_or, if◌then◌else◌};
+ghost use Rattle.std.specs.Prelude.{◌≡◌, ◌≤◌, ◌∷◌, codes, IfOk, Ok, Some, true, is_some, length, map, unwrap_or, if◌then◌else◌};
 ghost use Rattle.mg_value.specs.View.{view};
 ghost use Rattle.mg_index.specs.Definition.{listed_all_docs, listed_of};
-ghost use Rattle.mg_index.specs.Same.{is_there};
-ghost use Rattle.mg_engine.specs.Bodies.{index_value, line_of, indexes_value};
+ghost use Rattle.mg_index.specs.Catalog.{definition_at, with_definition};
+ghost use Rattle.mg_engine.specs.Bodies.{done_value, index_value, line_of, indexes_value};
 ghost use Rattle.mg_engine.specs.Commands.{create_index, created, drop_index, list_indexes, next, reply_of, world_defined};
 ghost use Rattle.mg_engine.specs.Settled.{IsSettled, accepts, shard_with, shard_without, state_with, state_without};
 ghost use Rattle.mg_engine.specs.Stands.{Holds};
@@ -17,7 +17,6 @@ use crate::fault::Fault;
 use crate::refusal::Refusal;
 use crate::reply::Reply;
 use crate::state::State;
-use mg_index::laws::the_same_definition_changes_nothing;
 use mg_index::{Catalog, IndexDef, all_docs_listed, design_document};
 use mg_shard::Shard;
 use mg_value::{Json, NoMemory};
@@ -70,14 +69,34 @@ impl State {
         ensures accepted { IfOk result (λ r. accepts r.0 ≡ true) }
         ensures number { IfOk result (λ r. length r.1.shards ≡ length self.now.shards) }
     {
-        let there = is_there(&self.catalog, &definition);
+        let there = self.catalog.has(&definition);
         let body = created_line(alloc, &definition, there)?;
-        let next = if there {
-            self.share()?
-        } else {
-            self.with_index(rt, alloc, definition, workers)?
-        };
+        let next = self.defined(rt, alloc, definition, there, workers)?;
         Ok((Reply::Full { status: 200, body }, next))
+    }
+
+    // The state with a definition, which is as it was where the same one is there.
+    fn defined<R: Wait>(
+        &self,
+        rt: &R,
+        alloc: Global,
+        definition: IndexDef,
+        there: bool,
+        workers: usize,
+    ) -> Result<State, NoMemory>
+        requires some { 1 ≤ workers }
+        requires most { workers ≤ 32 }
+        requires same { there ≡ true → with_definition definition self.now.catalog ≡ self.now.catalog }
+        ensures stands { IfOk result (λ s. (place : Placing) (w : World) → Holds place self.now w → Holds place s (world_defined w (Ok definition))) }
+        ensures number { IfOk result (λ s. length s.shards ≡ length self.now.shards) }
+    {
+        if there {
+            let state = self.share(alloc)?;
+            Ok(state)
+        } else {
+            let state = self.with_index(rt, alloc, definition, workers)?;
+            Ok(state)
+        }
     }
 
     // The state with an index, over all shards.
@@ -113,12 +132,10 @@ impl State {
         ensures number { IfOk result (λ r. length (unwrap_or r.1 self.now).shards ≡ length self.now.shards) }
     {
         let ddoc = design_document(alloc, ddoc)?;
-        if self.catalog.find(&ddoc, name).is_none() {
+        if !has_index(&self.catalog, &ddoc, name) {
             return Ok((Reply::refusing(alloc, Refusal::Missing)?, None));
         }
-        let mut done = Json::empty_object(alloc);
-        done.insert(alloc, "ok", Json::Flag(true))?;
-        let body = line(alloc, &done)?;
+        let body = done_line(alloc)?;
         let next = self.without_index(alloc, &ddoc, name)?;
         Ok((Reply::Full { status: 200, body }, Some(next)))
     }
@@ -137,24 +154,38 @@ impl State {
     pub(crate) fn list_indexes(&self, alloc: Global) -> Result<Reply, NoMemory>
         ensures { IfOk result (λ r. (place : Placing) (w : World) → Holds place self.now w → said r ≡ Some (reply_of w list_indexes)) }
     {
-        let listed = all_listed(alloc, self.catalog.list())?;
-        let rows = listed.len() as i64;
-        let mut indexes = Json::empty_object(alloc);
-        indexes.insert(alloc, "indexes", Json::List(listed))?;
-        indexes.insert(alloc, "total_rows", Json::Whole(rows))?;
+        let indexes = indexes_json(alloc, self.catalog.list())?;
         let body = line(alloc, &indexes)?;
         Ok(Reply::Full { status: 200, body })
     }
 }
 
-// Whether the same definition is in the catalog.
-fn is_there(catalog: &Catalog, definition: &IndexDef) -> bool
-    ensures { result ≡ is_there definition.now catalog.now }
+// Whether an index of this design document and name is in the catalog.
+fn has_index(catalog: &Catalog, ddoc: &str, name: &str) -> bool
+    ensures { result ≡ is_some (definition_at ddoc.now name.now catalog.now) }
 {
-    match catalog.find(definition.ddoc(), definition.name()) {
-        Some(found) => definition.is_same(found),
-        None => false,
-    }
+    catalog.find(ddoc, name).is_some()
+}
+
+// The body of the reply to an index that was dropped.
+fn done_line(alloc: Global) -> Result<Vec<u8>, NoMemory>
+    ensures { IfOk result (λ b. b.items ≡ line_of done_value) }
+{
+    let mut done = Json::empty_object(alloc);
+    done.insert(alloc, "ok", Json::Flag(true))?;
+    line(alloc, &done)
+}
+
+// The body of the reply that lists the indexes.
+fn indexes_json(alloc: Global, definitions: &[IndexDef]) -> Result<Json, NoMemory>
+    ensures { IfOk result (λ v. view v ≡ indexes_value definitions.now) }
+{
+    let listed = all_listed(alloc, definitions)?;
+    let rows = listed.len() as i64;
+    let mut indexes = Json::empty_object(alloc);
+    indexes.insert(alloc, "total_rows", Json::Whole(rows))?;
+    indexes.insert(alloc, "indexes", Json::List(listed))?;
+    Ok(indexes)
 }
 
 // The body of the reply to an index that was created, or was there.
@@ -189,7 +220,8 @@ fn all_with<R: Wait>(
     requires most { workers ≤ 32 }
     ensures { IfOk result (λ v. shards_seen v.items ≡ map (shard_with definition.now) (shards_seen shards.now)) }
 {
-    let _ = (rt, workers);
+    let _ = rt;
+    let _ = workers;
     let mut all = Vec::with_capacity(alloc, shards.len())?;
     for shard in shards {
         all.push(Arc::new(alloc, shard.with_index(alloc, definition)?)?)?;

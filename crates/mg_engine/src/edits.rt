@@ -32,6 +32,7 @@ pub(crate) fn edited<P: Placement>(
     ensures stands { IfOk result (λ r. (hs : Histories) → ShardsStandFor (P.place placement.now) (shards_seen shards.now) hs
         → ShardsStandFor (P.place placement.now) (shards_seen r.1.items) (after_edits hs edits.now)) }
     ensures definitions { IfOk result (λ r. definitions_of (shards_seen r.1.items) ≡ definitions_of (shards_seen shards.now)) }
+    ensures number { IfOk result (λ r. length r.0.items ≡ length edits.now) }
 {
     shards_become_drafts();
     drafts_become_shards();
@@ -61,6 +62,7 @@ fn edit_all<P: Placement>(
     requires { 0 < length drafts.old }
     ensures replies { IfOk result (λ rs. (hs : Histories) → DraftsStandFor (P.place placement.now) drafts.old hs
         → map outcome_seen rs.items ≡ outcomes hs edits.now) }
+    ensures number { IfOk result (λ rs. length rs.items ≡ length edits.now) }
     ensures stands { OnOk result ((hs : Histories) → DraftsStandFor (P.place placement.now) drafts.old hs
         → DraftsStandFor (P.place placement.now) drafts.new (after_edits hs edits.now)) }
     ensures before { OnOk result (before drafts.new ≡ before drafts.old) }
@@ -101,7 +103,7 @@ fn finished(
     drafts: Vec<Draft<'_>>,
     shards: &[Arc<Shard>],
 ) -> Result<Vec<Arc<Shard>>, NoMemory>
-    requires { before drafts.entry.items ≡ shards_seen shards.now }
+    requires { before drafts.items ≡ shards_seen shards.now }
     ensures { IfOk result (λ v. AllLeave drafts.entry.items (shards_seen v.items)) }
 {
     let mut left = Vec::with_capacity(alloc, shards.len())?;
@@ -115,7 +117,7 @@ fn finished(
 // The shard that a draft of it leaves.
 fn left_by(alloc: Global, draft: Draft<'_>, shard: &Arc<Shard>) -> Result<Arc<Shard>, NoMemory>
     requires { draft.shard ≡ arc_value shard.now }
-    ensures { IfOk result (λ s. Leaves draft (arc_value s)) }
+    ensures { IfOk result (λ s. Leaves draft.entry (arc_value s)) }
 {
     match draft.finish(alloc)? {
         Some(next) => Ok(Arc::new(alloc, next)?),

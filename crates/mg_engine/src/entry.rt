@@ -1,5 +1,5 @@
 //! The entries of the reply to a bulk.
-ghost use Rattle.std.specs.Prelude.{◌≡◌, IfOk, OnOk, map, option_map};
+ghost use Rattle.std.specs.Prelude.{◌≡◌, IfOk, OnOk, length, map, option_map};
 ghost use Rattle.mg_value.specs.Value.{Items};
 ghost use Rattle.mg_value.specs.View.{items_view, view};
 ghost use Rattle.mg_shard.specs.Edits.{outcome_seen};
@@ -21,11 +21,13 @@ pub(crate) fn entries(
     edits: &[Edit],
     replies: &[EditReply],
 ) -> Result<Vec<Json>, NoMemory>
+    requires { length replies.now ≡ length edits.now }
     ensures { IfOk result (λ v. items_view v.items ≡ entries_of new_edits edits.now (map outcome_seen replies.now)) }
 {
     let mut entries = Vec::new(alloc);
-    for (edit, reply) in edits.iter().zip(replies.iter()) {
-        let entry = entry(alloc, new_edits, id_in(edit), reply)?;
+    for place in 0..edits.len() {
+        let id = id_in(&edits[place]);
+        let entry = entry(alloc, new_edits, id, &replies[place])?;
         push_entry(&mut entries, entry)?;
     }
     Ok(entries)

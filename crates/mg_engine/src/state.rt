@@ -8,6 +8,7 @@ ghost use Rattle.mg_shard.specs.Dealt.{Placing};
 
 use mg_index::Catalog;
 use mg_shard::Shard;
+use mg_shard::laws::nothing_is_dealt;
 use mg_value::NoMemory;
 use std::alloc::Global;
 use std::marker::Model;
@@ -47,6 +48,7 @@ impl State {
         let name = Arc::new(alloc, String::from_str(alloc, name)?)?;
         let catalog = Arc::new(alloc, Catalog::new(alloc))?;
         let shards = empty_shards(alloc, shards)?;
+        nothing_is_dealt();
         Ok(State {
             name,
             catalog,
@@ -93,15 +95,12 @@ impl State {
     }
 
     /// The same state, all of it shared. Cost: the number of the shards.
-    pub(crate) fn share(&self) -> Result<State, NoMemory>
+    pub(crate) fn share(&self, alloc: Global) -> Result<State, NoMemory>
         ensures { IfOk result (λ s. s ≡ self.now) }
     {
-        Ok(State {
-            name: self.name.clone()?,
-            catalog: self.catalog.clone()?,
-            shards: self.shards.clone()?,
-            counter: self.counter,
-        })
+        let shards = shares(alloc, &self.shards)?;
+        let state = self.with_shards(shards, self.counter)?;
+        Ok(state)
     }
 }
 
@@ -114,4 +113,15 @@ fn empty_shards(alloc: Global, shards: usize) -> Result<Vec<Arc<Shard>>, NoMemor
         made.push(Arc::new(alloc, Shard::new(alloc))?)?;
     }
     Ok(made)
+}
+
+// The same shards, all of them shared.
+fn shares(alloc: Global, shards: &[Arc<Shard>]) -> Result<Vec<Arc<Shard>>, NoMemory>
+    ensures { IfOk result (λ v. shards_seen v.items ≡ shards_seen shards.now) }
+{
+    let mut all = Vec::with_capacity(alloc, shards.len())?;
+    for shard in shards {
+        all.push(shard.clone()?)?;
+    }
+    Ok(all)
 }

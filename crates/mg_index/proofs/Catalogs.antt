@@ -7,6 +7,7 @@ use Rattle.std.proofs.lemmas.Slice.Eq.{bytes_eq-Decides}
 use Rattle.std.specs.Cmp.{IsTotalOrder}
 use Rattle.std.specs.Cmp.Lexicographic.{slice_cmp, pointwise}
 use Rattle.std.specs.List.{AllByRecursion, remove, insert}
+use Rattle.std.specs.Option.{option_map_or}
 use Rattle.std.specs.Ordering.{is_eq, nat_cmp, ordering_then, ordering_reverse, match_ordering}
 use Rattle.std.specs.Str.{bytes_eq}
 use Rattle.mg_collate.specs.declared.direction.Direction.{Direction}
@@ -15,7 +16,7 @@ use Rattle.mg_path.specs.Equal.{path_eq}
 use Rattle.mg_index.specs.Catalog.{definition_order, is_at, definition_at, with_definition, without_definition, IsCatalog}
 use Rattle.mg_index.specs.Definition.{Steps, IndexDefinition}
 use Rattle.mg_index.specs.Reading.{is_same}
-use Rattle.mg_index.specs.Same.{is_same_definition}
+use Rattle.mg_index.specs.Same.{is_same_definition, is_there}
 use Rattle.mg_index.proofs.Paths.{path_eq-Decides, paths_eq-Decides}
 
 total : IsTotalOrder definition_order
@@ -222,3 +223,11 @@ kept_at d e es c at more Greater is =
 pub kept : (d : IndexDefinition) (ds : List IndexDefinition) → IsCatalog ds → definition_at d.ddoc d.name ds ≡ Some d → with_definition d ds ≡ ds
 kept d [] c at = absurd cc
 kept d (e ∷ es) c at = kept_at d e es c at (kept d es c.1) (definition_order d e) refl
+
+-- the one that is found is the same
+the_same : (d : IndexDefinition) (o : Option IndexDefinition) → option_map_or (is_same_definition d) o false ≡ true → o ≡ Some d
+the_same d None h = absurd cc
+the_same d (Some e) h = found_same d e (Some e) refl h
+
+pub kept_there : (d : IndexDefinition) (ds : List IndexDefinition) → IsCatalog ds → is_there d ds ≡ true → with_definition d ds ≡ ds
+kept_there d ds c h = kept d ds c (the_same d (definition_at d.ddoc d.name ds) h)

@@ -1,15 +1,13 @@
--- Laws of catalogs, and of the choice among usable indexes: the least of them in a total order in which no two of a catalog tie.
-use Rattle.std.specs.Prelude.{◌≡◌, List, true, false, Some}
+-- What the choice among usable indexes is: the least of them in a total order in which no two of a catalog tie.
+use Rattle.std.specs.Prelude.{◌≡◌, List, false, Some}
 use Rattle.std.specs.List.{All, Contains}
 use Rattle.std.specs.Cmp.{IsTotalOrder}
 use Rattle.std.specs.Ordering.{is_gt}
 use Rattle.std.specs.declared.cmp.Ordering.{Ordering}
 use Rattle.std.specs.declared.cmp.Ordering.TheVariants.{Equal}
 use Rattle.mg_normal.specs.Atoms.{Atom}
-use Rattle.mg_index.specs.Catalog.{IsCatalog, with_definition}
 use Rattle.mg_index.specs.Choice.{Hint, least, preference}
 use Rattle.mg_index.specs.Definition.{IndexDefinition}
-use Rattle.mg_index.specs.Same.{is_there}
 
 -- it is one of the list, and stands above none of it
 abbrev pub IsLeast : {X : Type 0} → (X → X → Ordering) → List X → X → Type 0
@@ -26,7 +24,3 @@ PreferenceDecides = (atoms : List Atom) (hint : Hint) (a b : IndexDefinition) �
 -- the least of definitions is one of them, and none of them is preferred to it
 abbrev pub LeastIsLeast : Type 0
 LeastIsLeast = (atoms : List Atom) (hint : Hint) (ds : List IndexDefinition) (d : IndexDefinition) → least (preference atoms hint) ds ≡ Some d → IsLeast (preference atoms hint) ds d
-
--- a definition that is in a catalog leaves it as it is
-abbrev pub TheSameChangesNothing : Type 0
-TheSameChangesNothing = (ds : List IndexDefinition) (d : IndexDefinition) → IsCatalog ds → is_there d ds ≡ true → with_definition d ds ≡ ds

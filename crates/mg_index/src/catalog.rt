@@ -1,6 +1,7 @@
-ghost use Rattle.std.specs.Prelude.{◌≡◌, ◌≢◌, List, [], ◌∷◌, IfOk, OnOk, OnErr, Ok, Some, option_map, is_some};
+ghost use Rattle.std.specs.Prelude.{◌≡◌, ◌≢◌, List, [], ◌∷◌, IfOk, OnOk, OnErr, Ok, Some, true, option_map, is_some};
 ghost use Rattle.mg_index.specs.Catalog.{IsCatalog, definition_at, with_definition, without_definition};
 ghost use Rattle.mg_index.specs.Places.{IsPlaceAt, IsPlaceOf};
+ghost use Rattle.mg_index.specs.Same.{is_there};
 
 use crate::definition::IndexDef;
 use mg_value::NoMemory;
@@ -61,7 +62,19 @@ impl Catalog {
     pub fn find(&self, ddoc: &str, name: &str) -> Option<&IndexDef>
         ensures { option_map (λ d. d.now) result ≡ definition_at ddoc.now name.now self.now }
     {
-        self.definitions.iter().find(|d| d.is_at(ddoc, name))
+        found_at(&self.definitions, ddoc, name)
+    }
+
+    /// Whether the same definition is there; then adding it changes nothing. Takes no memory. Cost: each definition once.
+    pub fn has(&self, definition: &IndexDef) -> bool
+        ensures there { result ≡ is_there definition.now self.now }
+        ensures same { result ≡ true → with_definition definition.now self.now ≡ self.now }
+    {
+        let found = found_at(&self.definitions, definition.ddoc(), definition.name());
+        match found {
+            Some(found) => definition.is_same(found),
+            None => false,
+        }
     }
 
     /// The definitions by design document, then name. Takes no memory.
@@ -127,6 +140,13 @@ impl Catalog {
             definitions: copied(alloc, &self.definitions)?,
         })
     }
+}
+
+// The definition of this design document and name.
+fn found_at<'a>(definitions: &'a [IndexDef], ddoc: &str, name: &str) -> Option<&'a IndexDef>
+    ensures { option_map (λ d. d.now) result ≡ definition_at ddoc.now name.now definitions.now }
+{
+    definitions.iter().find(|d| d.is_at(ddoc, name))
 }
 
 // The place of the definition of this design document and name.

@@ -1,5 +1,5 @@
-//! What the choice of an index is, and of catalogs, each law the contract of a function that does nothing.
-ghost use Rattle.mg_index.specs.Laws.{PreferenceIsTotal, PreferenceDecides, LeastIsLeast, TheSameChangesNothing};
+//! What the choice of an index is, each law the contract of a function that does nothing.
+ghost use Rattle.mg_index.specs.Laws.{PreferenceIsTotal, PreferenceDecides, LeastIsLeast};
 
 /// The order in which usable indexes are preferred is total, and only definitions of one design document
 /// and name tie in it: so a catalog's order plays no part in the choice.
@@ -11,9 +11,4 @@ pub fn preference_is_a_total_order()
 /// The index that is chosen is one of the usable ones, and none of them is preferred to it.
 pub fn the_least_is_preferred_to_all()
     ensures { LeastIsLeast }
-{}
-
-/// A definition that is in a catalog leaves it as it is where it is added.
-pub fn the_same_definition_changes_nothing()
-    ensures { TheSameChangesNothing }
 {}

@@ -1,6 +1,6 @@
-use Rattle.std.proofs.Common.{◌≡◌, ◌<◌, List, [], ◌∷◌, ◌++◌, drop, length, map, refl, sym, ap, ◌∙◌, subst, append_assoc, append-nil}
+use Rattle.std.proofs.Common.{◌≡◌, ◌<◌, ◌+◌, List, [], ◌∷◌, ◌++◌, drop, length, map, refl, sym, ap, ◌∙◌, subst, append_assoc, append-nil}
 use Rattle.std.proofs.Math.ListN.{drop_of_length-le}
-use Rattle.std.proofs.lemmas.List.{map-append}
+use Rattle.std.proofs.lemmas.List.{length-append, map-append}
 use Rattle.mg_doc.specs.Document.{Edit}
 use Rattle.mg_shard.specs.Dealt.{DraftsStandFor}
 use Rattle.mg_shard.specs.Edits.{after_edit, after_edits, outcome_in, outcome_seen, outcomes}
@@ -11,6 +11,7 @@ use Rattle.mg_engine.proofs.edits.edit_all.Goals as goal
 pub loop-edit-init : goal.loop-edit-init
 loop-edit-init g c = record {
   some = c.requires;
+  number = ap length c.in_ok-replies.ensures.items;
   before = refl;
   goes_on = λ hs st. (hs, st, refl, ap (λ rs. map outcome_seen rs ++ outcomes hs c.args.edits.now) (sym c.in_ok-replies.ensures.items));
 }
@@ -26,6 +27,7 @@ loop-edit-preserved g c =
     let same = c.in_ok-reply.ensures.before ∙ l.invariant.before in
     record {
       some = subst (λ n. 0 < n) (sym (same_number _ _ c.in_ok-reply.ensures.before)) l.invariant.some;
+      number = ap length c.in_ok-push.ensures.items ∙ length-append replies (reply ∷ []) ∙ ap (λ n. n + 1) l.invariant.number;
       before = same;
       goes_on = λ hs st.
           let inv = l.invariant.goes_on hs st in

@@ -9,6 +9,7 @@ use Rattle.mg_engine.proofs.edits.edit_all.Given as goal
 abbrev pub invariant-loop-edit : goal.invariant-loop-edit
 invariant-loop-edit g l = record {
   some : 0 < length l.drafts;
+  number : length l.replies.items ≡ l.edit-index;
   before : before l.drafts ≡ before l.fn.drafts;
   goes_on : (hs : Histories) → DraftsStandFor (g.P.Placement.place l.placement) l.fn.drafts hs
       → (now : Histories) × DraftsStandFor (g.P.Placement.place l.placement) l.drafts now
