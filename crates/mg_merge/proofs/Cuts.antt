@@ -165,4 +165,4 @@ cut_in_order direction count lists h =
 
 -- lists in order may be cut at the count before they are merged
 pub cut_lists : (direction : Direction) (count : ℕ) (lists : List (List RowValue)) → All (IsInOrder direction) lists → merged direction count (map (take count) lists) ≡ merged direction count lists
-cut_lists direction count lists h = cut_all (directed_order direction) (directed_total direction) (directed_ties direction) count [] lists (all_rise direction lists h)
+cut_lists direction count lists h = cut_all (directed_order direction) (directed_total direction) (directed_ties direction) count [] lists (all_rise (directed_order direction) (directed_total direction) lists h)

@@ -1,4 +1,5 @@
 pub mod Cuts
 pub mod Heads
 mod Orders
+pub mod Rows
 pub mod Shards

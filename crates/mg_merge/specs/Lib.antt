@@ -1,3 +1,4 @@
 pub mod Merged
 pub mod Rests
 pub mod Sharding
+pub mod Work

@@ -1,11 +1,17 @@
 -- The merge of lists of rows, as a coordinator merges what its shards list in CouchDB.
 use Rattle.std.specs.Prelude.{ℕ, List, Vec, map, take}
 use Rattle.std.specs.List.{flat_map}
+use Rattle.std.specs.List.Sorted.{IsSorted}
 use Rattle.std.specs.declared.alloc.Global.{Global}
+use Rattle.std.specs.declared.cmp.Ordering.{Ordering}
 use Rattle.mg_collate.specs.declared.direction.Direction.{Direction}
 use Rattle.mg_collate.specs.declared.row.Row.{Row}
-use Rattle.mg_collate.specs.Row.{RowValue, rows_view}
-use Rattle.mg_collate.specs.Sorted.{sorted_rows}
+use Rattle.mg_collate.specs.Row.{RowValue, directed_order, rows_view}
+use Rattle.mg_collate.specs.Sorted.{sorted, sorted_rows}
+
+-- the lists, each with what stands in it
+abbrev pub contents_of : {X : Type 0} → List (Vec X Global) → List (List X)
+contents_of lists = map (λ list. list.items) lists
 
 -- the lists, each with the rows that it stands for
 abbrev pub lists_view : List (Vec Row Global) → List (List RowValue)
@@ -18,3 +24,18 @@ joined lists = flat_map (λ list. list) lists
 -- the first `count` rows of all lists together in a direction's order, each as often as it stands
 abbrev pub merged : Direction → ℕ → List (List RowValue) → List RowValue
 merged direction count lists = take count (sorted_rows direction (joined lists))
+
+-- ---- the same of things that have rows: `row` says which row each has
+
+-- their order in a direction: that of their rows
+abbrev pub order_by : {X : Type 0} → (X → RowValue) → Direction → X → X → Ordering
+order_by row direction a b = directed_order direction (row a) (row b)
+
+-- none stands after one whose row the direction lists later
+abbrev pub IsInOrderBy : {X : Type 0} → (X → RowValue) → Direction → List X → Type 0
+IsInOrderBy row direction = IsSorted (order_by row direction)
+
+-- the first `count` of all lists together, in the order of their rows; of those whose rows are equal, what stands in an
+-- earlier list comes first, and of one list what stands earlier there
+abbrev pub merged_by : {X : Type 0} → (X → RowValue) → Direction → ℕ → List (List X) → List X
+merged_by row direction count lists = take count (sorted (order_by row direction) (joined lists))

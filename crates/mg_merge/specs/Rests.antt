@@ -1,19 +1,26 @@
 -- What is left of lists that are merged.
-use Rattle.std.specs.Prelude.{List, [], ◌∷◌, map}
+use Rattle.std.specs.Prelude.{◌≡◌, ℕ, ◌<◌, List, [], ◌∷◌, get_or, map, false}
 use Rattle.std.specs.declared.cmp.Ordering.{Ordering}
 use Rattle.std.specs.declared.cmp.Ordering.TheVariants.{Less, Equal, Greater}
 use Rattle.std.specs.Borrow.{Bor}
-use Rattle.mg_collate.specs.declared.direction.Direction.{Direction}
-use Rattle.mg_collate.specs.declared.row.Row.{Row}
-use Rattle.mg_collate.specs.Row.{RowValue, rows_view, directed_order}
+use Rattle.std.specs.Ordering.{is_gt}
 
--- the rests, each with the rows that it stands for
-abbrev pub rests_view : List (Bor (List Row)) → List (List RowValue)
-rests_view rests = map (λ rest. rows_view rest.now) rests
+-- the rests
+abbrev pub rests_of : {X : Type 0} → List (Bor (List X)) → List (List X)
+rests_of rests = map (λ rest. rest.now) rests
 
--- which of two lists begins with the earlier row; a list at its end begins after all others
-abbrev pub begin_order : Direction → List RowValue → List RowValue → Ordering
-begin_order direction [] [] = Equal
-begin_order direction [] (y ∷ ys) = Greater
-begin_order direction (x ∷ xs) [] = Less
-begin_order direction (x ∷ xs) (y ∷ ys) = directed_order direction x y
+-- what is lent
+abbrev pub lent_of : {X : Type 0} → List (Bor X) → List X
+lent_of lent = map (λ x. x.now) lent
+
+-- which of two lists begins earlier in an order; a list at its end begins after all others
+abbrev pub begin_order : {X : Type 0} → (X → X → Ordering) → List X → List X → Ordering
+begin_order order [] [] = Equal
+begin_order order [] (y ∷ ys) = Greater
+begin_order order (x ∷ xs) [] = Less
+begin_order order (x ∷ xs) (y ∷ ys) = order x y
+
+-- of the first `size` lists none begins before the one at `first`, and those before that one begin later
+pub record BeginsFirst {X : Type 0} (order : X → X → Ordering) (lists : List (List X)) (size first : ℕ) : Type 0 where
+  pub least : (k : ℕ) → k < size → is_gt (begin_order order (get_or lists first []) (get_or lists k [])) ≡ false
+  pub before : (k : ℕ) → k < first → begin_order order (get_or lists first []) (get_or lists k []) ≡ Less

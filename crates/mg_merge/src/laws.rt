@@ -3,9 +3,10 @@ ghost use Rattle.std.specs.Prelude.{◌≡◌, ℕ, List, All, map, take};
 ghost use Rattle.std.specs.List.Sorted.{IsPermutation};
 ghost use Rattle.mg_collate.specs.Row.{RowValue};
 ghost use Rattle.mg_collate.specs.Sorted.{IsInOrder, sorted_rows};
-ghost use Rattle.mg_merge.specs.Merged.{joined, merged};
+ghost use Rattle.mg_merge.specs.Merged.{joined, merged, merged_by};
 ghost use Rattle.mg_merge.specs.Sharding.{Document, rows_of, lists_of};
 
+use crate::ranked::Ranked;
 use mg_collate::Direction;
 
 /// It does not matter on which shard a document is, nor how many rows it has: to sort what all
@@ -33,4 +34,11 @@ pub fn cut_lists()
     ensures same_rows { (direction : Direction) (count : ℕ) (lists : List (List RowValue))
         → All (IsInOrder direction) lists
         → merged direction count (map (take count) lists) ≡ merged direction count lists }
+{}
+
+/// The rows of what `merge_all` gives are the merge of the rows of its lists.
+pub fn rows_of_a_merge<T: Ranked>()
+    ensures { (direction : Direction) (count : ℕ) (lists : List (List T))
+        → map T.row_of (merged_by T.row_of direction count lists)
+        ≡ merged direction count (map (map T.row_of) lists) }
 {}

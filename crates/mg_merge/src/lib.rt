@@ -4,7 +4,11 @@
 pub mod laws;
 mod merging;
 mod order;
+mod ranked;
 mod rests;
+mod work;
 
-pub use merging::merge;
-pub use order::are_in_order;
+pub use merging::{merge, merge_all};
+pub use order::{all_are_in_order, are_in_order};
+pub use ranked::Ranked;
+pub use work::Work;

@@ -1,16 +1,20 @@
-ghost use Rattle.std.specs.Prelude.{◌≡◌, All, IfOk};
+ghost use Rattle.std.specs.Prelude.{◌≡◌, All, IfOk, length, map};
 ghost use Rattle.mg_collate.specs.Row.{rows_view};
 ghost use Rattle.mg_collate.specs.Sorted.{IsInOrder};
-ghost use Rattle.mg_merge.specs.Merged.{lists_view, merged};
+ghost use Rattle.mg_merge.specs.Merged.{IsInOrderBy, contents_of, lists_view, merged, merged_by};
+ghost use Rattle.mg_merge.specs.Rests.{lent_of};
 
-use crate::rests::take_first;
+use crate::ranked::Ranked;
+use crate::rests::{take_first, whole_lists};
+use crate::work::Work;
 use mg_collate::{Direction, Row};
 use mg_value::NoMemory;
 use std::alloc::Global;
 
 /// The first `take` rows of all lists together, in the direction's order: fewer only where the lists
-/// hold fewer, and each row as often as it stands in the lists. Each list has to be in that order,
-/// which `are_in_order` tests; it may be empty.
+/// hold fewer, and each row as often as it stands in the lists. Beside them stand the lengths of the
+/// lists and of the result. Each list has to be in that order, which `are_in_order` tests; it may be
+/// empty.
 ///
 /// Errors: `NoMemory` where a growth was refused.
 /// Cost: for each row handed out a copy of it and a comparison of the first rows left of each list.
@@ -20,21 +24,83 @@ pub fn merge(
     lists: &[Vec<Row>],
     direction: Direction,
     take: usize,
-) -> Result<Vec<Row>, NoMemory>
+) -> Result<(Vec<Row>, Work), NoMemory>
     requires { All (IsInOrder direction) (lists_view lists.now) }
-    ensures { IfOk result
-        (λ rows. rows_view rows.items ≡ merged direction take (lists_view lists.now)) }
+    ensures rows { IfOk result
+        (λ made. rows_view made.0.items ≡ merged direction take (lists_view lists.now)) }
+    ensures handed { IfOk result (λ made. made.1.handed ≡ map (λ l. length l.items) lists.now) }
+    ensures taken { IfOk result (λ made. made.1.taken ≡ length made.0.items) }
 {
-    let mut rests = Vec::with_capacity(alloc, lists.len())?;
-    for list in lists {
-        rests.push(list.as_slice())?;
-    }
-    let mut rows = Vec::new(alloc);
-    while rows.len() < take {
+    let lent = first_lent(alloc, lists, direction, take)?;
+    let rows = copied_rows(alloc, &lent)?;
+    let work = Work::of(alloc, lists, rows.len())?;
+    Ok((rows, work))
+}
+
+/// The first `take` of all lists together, in the direction's order of their rows: fewer only where
+/// the lists hold fewer, and each as often as it stands in the lists. Of those whose rows are equal,
+/// what stands in an earlier list comes first. Beside them stand the lengths of the lists and of the
+/// result. Each list has to be in that order, which `all_are_in_order` tests; it may be empty.
+///
+/// Errors: `NoMemory` where a growth was refused.
+/// Cost: for each one handed out a comparison of what comes first in the rest of each list. No row is
+/// copied. Takes room for what is found, however large `take` is.
+pub fn merge_all<T: Ranked + Copy>(
+    alloc: Global,
+    lists: &[Vec<T>],
+    direction: Direction,
+    take: usize,
+) -> Result<(Vec<T>, Work), NoMemory>
+    requires { All (IsInOrderBy T.row_of direction) (contents_of lists.now) }
+    ensures items { IfOk result
+        (λ made. made.0.items ≡ merged_by T.row_of direction take (contents_of lists.now)) }
+    ensures handed { IfOk result (λ made. made.1.handed ≡ map (λ l. length l.items) lists.now) }
+    ensures taken { IfOk result (λ made. made.1.taken ≡ length made.0.items) }
+{
+    let lent = first_lent(alloc, lists, direction, take)?;
+    let items = copied(alloc, &lent)?;
+    let work = Work::of(alloc, lists, items.len())?;
+    Ok((items, work))
+}
+
+// What comes first, lent from the lists.
+fn first_lent<'a, T: Ranked>(
+    alloc: Global,
+    lists: &'a [Vec<T>],
+    direction: Direction,
+    take: usize,
+) -> Result<Vec<&'a T>, NoMemory>
+    requires { All (IsInOrderBy T.row_of direction) (contents_of lists.now) }
+    ensures { IfOk result
+        (λ lent. lent_of lent.items ≡ merged_by T.row_of direction take (contents_of lists.now)) }
+{
+    let mut rests = whole_lists(alloc, lists)?;
+    let mut lent = Vec::new(alloc);
+    while lent.len() < take {
         match take_first(&mut rests, direction) {
-            Some(row) => rows.push(row.copy(alloc)?)?,
-            None => return Ok(rows),
+            Some(item) => lent.push(item)?,
+            None => return Ok(lent),
         }
+    }
+    Ok(lent)
+}
+
+fn copied<T: Copy>(alloc: Global, lent: &[&T]) -> Result<Vec<T>, NoMemory>
+    ensures { IfOk result (λ items. items.items ≡ lent_of lent.now) }
+{
+    let mut items = Vec::with_capacity(alloc, lent.len())?;
+    for item in lent {
+        items.push(**item)?;
+    }
+    Ok(items)
+}
+
+fn copied_rows(alloc: Global, lent: &[&Row]) -> Result<Vec<Row>, NoMemory>
+    ensures { IfOk result (λ rows. rows_view rows.items ≡ rows_view (lent_of lent.now)) }
+{
+    let mut rows = Vec::with_capacity(alloc, lent.len())?;
+    for row in lent {
+        rows.push(row.copy(alloc)?)?;
     }
     Ok(rows)
 }

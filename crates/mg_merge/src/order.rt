@@ -1,8 +1,8 @@
 ghost use Rattle.std.specs.Prelude.{◌≡◌, ◌↔◌, All, IsTrue};
-ghost use Rattle.mg_collate.specs.Row.{row_view, rows_view, directed_order};
 ghost use Rattle.mg_collate.specs.Sorted.{IsInOrder};
-ghost use Rattle.mg_merge.specs.Merged.{lists_view};
+ghost use Rattle.mg_merge.specs.Merged.{IsInOrderBy, contents_of, lists_view, order_by};
 
+use crate::ranked::Ranked;
 use mg_collate::{Direction, Row};
 use std::cmp::Ordering;
 
@@ -12,6 +12,15 @@ use std::cmp::Ordering;
 pub fn are_in_order(lists: &[Vec<Row>], direction: Direction) -> bool
     ensures { IsTrue result ↔ All (IsInOrder direction) (lists_view lists.now) }
 {
+    all_are_in_order(lists, direction)
+}
+
+/// Whether each list is in the direction's order, as `merge_all` asks of its caller.
+///
+/// Cost: a comparison for each thing. Takes no memory.
+pub fn all_are_in_order<T: Ranked>(lists: &[Vec<T>], direction: Direction) -> bool
+    ensures { IsTrue result ↔ All (IsInOrderBy T.row_of direction) (contents_of lists.now) }
+{
     for list in lists {
         if !is_in_order(list, direction) {
             return false;
@@ -20,21 +29,20 @@ pub fn are_in_order(lists: &[Vec<Row>], direction: Direction) -> bool
     true
 }
 
-fn is_in_order(rows: &[Row], direction: Direction) -> bool
-    ensures { IsTrue result ↔ IsInOrder direction (rows_view rows.now) }
+fn is_in_order<T: Ranked>(items: &[T], direction: Direction) -> bool
+    ensures { IsTrue result ↔ IsInOrderBy T.row_of direction items.now }
 {
-    for place in 1..rows.len() {
-        if comes_before(&rows[place], &rows[place - 1], direction) {
+    for place in 1..items.len() {
+        if comes_before(&items[place], &items[place - 1], direction) {
             return false;
         }
     }
     true
 }
 
-// Whether the direction lists the row before the other.
-pub(crate) fn comes_before(row: &Row, other: &Row, direction: Direction) -> bool
-    ensures { IsTrue result
-        ↔ (directed_order direction (row_view row.now) (row_view other.now) ≡ Ordering.Less) }
+// Whether the direction lists the row of the one before that of the other.
+pub(crate) fn comes_before<T: Ranked>(item: &T, other: &T, direction: Direction) -> bool
+    ensures { IsTrue result ↔ (order_by T.row_of direction item.now other.now ≡ Ordering.Less) }
 {
-    direction.apply(row.cmp(other)) == Ordering::Less
+    direction.apply(item.order(other)) == Ordering::Less
 }

@@ -32,7 +32,8 @@ fn merges(
     if !are_in_order(&lists, direction) {
         return Ok(false);
     }
-    Ok(merge(alloc, &lists, direction, take)? == rows(alloc, wanted)?)
+    let (found, work) = merge(alloc, &lists, direction, take)?;
+    Ok(found == rows(alloc, wanted)? && work.taken() == wanted.len() as u64)
 }
 
 // Rows that tie by their keys and stand in several lists; a row that stands twice comes twice.

@@ -1,27 +1,8 @@
-use Rattle.std.proofs.Common.{◌≡◌, [], Vec, Global, get_or, ap, sym, ◌∙◌, subst, arith}
-use Rattle.std.proofs.lemmas.Bool.{iff_false}
-use Rattle.std.proofs.lemmas.List.{length-map}
-use Rattle.mg_collate.specs.declared.row.Row.{Row}
-use Rattle.mg_collate.specs.Row.{rows_view}
-use Rattle.mg_collate.specs.Sorted.{IsInOrder}
-use Rattle.mg_merge.specs.Merged.{lists_view}
-use Rattle.mg_merge.proofs.Orders.{list_at, one_more_list}
+use Rattle.mg_merge.proofs.Rows.{all_by_rows, all_rows_by}
 use Rattle.mg_merge.proofs.order.are_in_order.Goals as goal
 
-pub returns-then-not-is_in_order : goal.returns-then-not-is_in_order
-returns-then-not-is_in_order c = (
-  λ h. absurd cc,
-  λ ordered. let lists = lists_view c.args.lists.now in
-      let place = c.loop-list.list-index in
-      let size = length-map c.args.lists.now (λ (l : Vec Row Global). rows_view l.items) in
-      let here : rows_view c.deref.result.now ≡ get_or lists place [] = ap rows_view c.deref.ensures.value ∙ list_at c.args.lists.now place c.list-item.result [] (omega arith) c.list-item.is in
-      absurd (iff_false c.is_in_order.ensures c.if-not-is_in_order.true (subst (IsInOrder c.args.direction) (sym here) (ordered place [] (omega (arith, size))))),
+pub returns : goal.returns
+returns c = (
+  λ h. all_rows_by c.args.direction c.args.lists.now (c.all_are_in_order.ensures.0 h),
+  λ ordered. c.all_are_in_order.ensures.1 (all_by_rows c.args.direction c.args.lists.now ordered),
 )
-
-pub loop-list-preserved : goal.loop-list-preserved
-loop-list-preserved c =
-    let lists = lists_view c.args.lists.now in
-    let place = c.loop-list.list-index in
-    one_more_list c.args.direction lists place c.loop-list.invariant
-    (λ d. let here : rows_view c.deref.result.now ≡ get_or lists place d = ap rows_view c.deref.ensures.value ∙ list_at c.args.lists.now place c.list-item.result d (omega arith) c.list-item.is in
-    subst (IsInOrder c.args.direction) here (c.is_in_order.ensures.0 c.if-not-is_in_order.false))

@@ -1,0 +1,33 @@
+ghost use Rattle.std.specs.Prelude.{◌≡◌};
+ghost use Rattle.mg_collate.specs.Row.{RowValue, row_view, row_value_order};
+
+use mg_collate::Row;
+use std::cmp::Ordering;
+
+/// A thing that has a row of an index: a row, or one that is lent with what it was found by.
+pub trait Ranked {
+    // its row
+    ghost row_of: { Self → RowValue };
+
+    /// The order of the rows of two of them. Takes no memory.
+    fn order(&self, other: &Self) -> Ordering
+        ensures { result ≡ row_value_order (row_of self.now) (row_of other.now) };
+}
+
+impl Ranked for Row {
+    ghost row_of = { row_view };
+
+    fn order(&self, other: &Row) -> Ordering {
+        self.cmp(other)
+    }
+}
+
+impl<'a> Ranked for &'a Row {
+    ghost row_of = { λ lent. row_view lent.now };
+
+    fn order(&self, other: &&'a Row) -> Ordering {
+        let row: &Row = *self;
+        let than: &Row = *other;
+        row.cmp(than)
+    }
+}

@@ -1,0 +1,53 @@
+ghost use Rattle.std.specs.Prelude.{◌≡◌, IfOk, length, map};
+
+use mg_value::NoMemory;
+use std::alloc::Global;
+use std::marker::Model;
+
+/// What a merge was handed, and what it gave: only a merge makes one.
+#[derive(Debug, Drop)]
+pub struct Work {
+    handed: Vec<u64>,
+    taken: u64,
+}
+
+impl Model for Work {
+    ghost use Rattle.mg_merge.specs.Work.{Hand, hand_code};
+
+    ghost Value = { Hand };
+
+    ghost coded = { hand_code };
+
+    ghost view = { λ w. record { handed = w.handed.items; taken = w.taken } };
+}
+
+impl Work {
+    /// The lengths of the lists, in their order. Takes no memory.
+    pub fn handed(&self) -> &[u64]
+        ensures { result.now ≡ self.now.handed }
+    {
+        &self.handed
+    }
+
+    /// The length of the result. Takes no memory.
+    pub fn taken(&self) -> u64
+        ensures { result ≡ self.now.taken }
+    {
+        self.taken
+    }
+
+    // The work of a merge of these lists that gave so many.
+    pub(crate) fn of<T>(alloc: Global, lists: &[Vec<T>], taken: usize) -> Result<Work, NoMemory>
+        ensures handed { IfOk result (λ w. w.handed ≡ map (λ l. length l.items) lists.now) }
+        ensures taken { IfOk result (λ w. w.taken ≡ taken) }
+    {
+        let mut handed = Vec::with_capacity(alloc, lists.len())?;
+        for list in lists {
+            handed.push(list.len() as u64)?;
+        }
+        Ok(Work {
+            handed,
+            taken: taken as u64,
+        })
+    }
+}
