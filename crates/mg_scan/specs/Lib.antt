@@ -1,1 +1,5 @@
 pub mod Scan
+pub mod Found
+pub mod Hit
+pub mod Built
+pub mod Search

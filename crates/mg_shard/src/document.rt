@@ -1,11 +1,6 @@
 //! Documents as they are kept.
-ghost use Rattle.std.specs.Prelude.{◌≡◌, string_bytes, option_map, IfOk};
-ghost use Rattle.mg_value.specs.View.{view};
-ghost use Rattle.mg_value.specs.Text.{compact};
-ghost use Rattle.mg_revtree.specs.History.{History};
-ghost use Rattle.mg_revtree.specs.Tree.{StandsFor};
-ghost use Rattle.mg_doc.specs.Served.{served_of};
-ghost use Rattle.mg_shard.specs.Documents.{form_of};
+ghost use Rattle.std.specs.Prelude.{string_bytes};
+ghost use Rattle.mg_shard.specs.Own.{IsServedOwn, IsServedOwn-prop};
 
 use crate::served::Served;
 use mg_doc::served;
@@ -14,13 +9,15 @@ use mg_revtree::RevTree;
 use mg_value::{Json, NoMemory};
 use std::alloc::Global;
 use std::cmp::Ordering;
+use std::slice;
 
 /// A document: its id, its revision tree, and the form in which it is served, if it is not deleted.
 #[derive(Drop)]
-pub(crate) struct Document {
+pub struct Document {
     pub(crate) id: String,
     pub(crate) tree: RevTree,
     pub(crate) served: Option<Served>,
+    ghost own_id: { IsServedOwn (string_bytes id) served } by { IsServedOwn-prop (string_bytes id) served },
 }
 
 impl Keyed for Document {
@@ -58,6 +55,16 @@ impl<'a> Probe<Document> for &'a str {
 }
 
 impl Document {
+    ghost use Rattle.std.specs.Prelude.{◌≡◌, string_bytes, option_and_then, option_map, IfOk};
+    ghost use Rattle.mg_value.specs.View.{items_view, view};
+    ghost use Rattle.mg_value.specs.Text.{compact};
+    ghost use Rattle.mg_revtree.specs.History.{History};
+    ghost use Rattle.mg_revtree.specs.Tree.{StandsFor};
+    ghost use Rattle.mg_doc.specs.Served.{served_of};
+    ghost use Rattle.mg_shard.specs.Documents.{form_of, id_of, kept_of};
+    ghost use Rattle.mg_shard.specs.Rows.{key_of};
+    ghost use Rattle.mg_shard.specs.Own.{all_columns};
+
     /// The document of an id whose revision tree this is.
     ///
     /// Errors: `NoMemory` where a growth was refused. Cost: a copy of the winner's body, and its text.
@@ -73,8 +80,22 @@ impl Document {
         Ok(Document { id, tree, served })
     }
 
-    /// The form in which it is served, if it is not deleted.
-    pub(crate) fn form(&self) -> Option<&Json>
+    /// Its id. Takes no memory.
+    pub fn id(&self) -> &str
+        ensures { result.now ≡ id_of self.now }
+    {
+        &self.id
+    }
+
+    /// Its revision tree. Takes no memory.
+    pub fn tree(&self) -> &RevTree
+        ensures { result.now ≡ (kept_of self.now).0 }
+    {
+        &self.tree
+    }
+
+    /// The form in which it is served, if it is not deleted. Takes no memory.
+    pub fn form(&self) -> Option<&Json>
         ensures { option_map (λ v. view v.now) result ≡ form_of self.now }
     {
         match &self.served {
@@ -83,13 +104,22 @@ impl Document {
         }
     }
 
-    /// The compact text of that form.
-    pub(crate) fn text(&self) -> Option<&[u8]>
+    /// The compact text of that form, as it was made when the document was last edited. Takes no memory.
+    pub fn text(&self) -> Option<&[u8]>
         ensures { option_map (λ t. t.now) result ≡ option_map compact (form_of self.now) }
     {
         match &self.served {
             Some(served) => Some(&served.text),
             None => None,
         }
+    }
+
+    /// The key of its row among all documents, by id: the `_id` of that form alone, which is lent. Takes no memory.
+    /// Cost: one look-up of a member.
+    pub fn id_key(&self) -> Option<&[Json]>
+        ensures { option_map (λ key. items_view key.now) result ≡ option_and_then (key_of all_columns) (form_of self.now) }
+    {
+        let id = self.form()?.member("_id")?;
+        Some(slice::from_ref(id))
     }
 }

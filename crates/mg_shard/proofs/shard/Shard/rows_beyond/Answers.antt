@@ -7,7 +7,7 @@ use Rattle.mg_shard.specs.declared.index.IndexRows.{IndexRows}
 use Rattle.mg_shard.proofs.Catalogued.{rows_named}
 use Rattle.mg_shard.proofs.Rows.{view-where}
 use Rattle.mg_value.specs.View.{items_view}
-use Rattle.mg_shard.proofs.shard.Shard.rows_after.Goals as goal
+use Rattle.mg_shard.proofs.shard.Shard.rows_beyond.Goals as goal
 
 pub returns-in-Some : goal.returns-in-Some
 returns-in-Some c =
