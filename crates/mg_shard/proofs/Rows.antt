@@ -326,3 +326,28 @@ pub view-reverse : (rows : List Row) → rows_view (reverse rows) ≡ reverse (r
 view-reverse [] = refl
 view-reverse (r ∷ rows) =
     ap rows_view (reverse-append (r ∷ []) rows) ∙ view-append (reverse rows) (r ∷ []) ∙ ap (λ xs. xs ++ row_view r ∷ []) (view-reverse rows) ∙ sym (reverse-append (row_view r ∷ []) (rows_view rows))
+
+-- ---- rows of which some are left out
+
+all_where : {X : Type 0} (P : X → Type 0) (p : X → Bool) (xs : List X) → AllByRecursion P xs → AllByRecursion P (filter p xs)
+all_where P p [] h = tt
+all_where {X} P p (x ∷ xs) h = step (p x) (all_where P p xs h.1)
+  where
+    step : (b : Bool) → AllByRecursion P (filter p xs) → AllByRecursion P (cond b (x ∷ filter p xs) (filter p xs))
+    step true k = (h.0, k)
+    step false k = k
+
+pub rises_where : {X : Type 0} (order : X → X → Ordering) (p : X → Bool) (xs : List X) → Rises order xs → Rises order (filter p xs)
+rises_where order p [] h = tt
+rises_where {X} order p (x ∷ xs) h = step (p x) (rises_where order p xs h.1)
+  where
+    step : (b : Bool) → Rises order (filter p xs) → Rises order (cond b (x ∷ filter p xs) (filter p xs))
+    step true k = (all_where (λ y. is_gt (order x y) ≡ false) p xs h.0, k)
+    step false k = k
+
+-- to sort some of the rows is to leave out the others of the sorted ones
+pub sorted-where : (p : RowValue → Bool) (rows : List RowValue) → sorted row_value_order (filter p rows) ≡ filter p (sorted row_value_order rows)
+sorted-where p rows =
+    sym (sorted_is (filter p (sorted row_value_order rows)) (filter p rows) (rises_where row_value_order p (sorted row_value_order rows) (rises_sorted row_value_order row_value_order_total rows))
+    (λ z. count-where p z (sorted row_value_order rows)
+    ∙ ap (λ n. cond (p z) n 0) (times_permutation row_value_order z rows (sorted row_value_order rows) (permutation_sorted row_value_order rows)) ∙ sym (count-where p z rows)))

@@ -1,5 +1,9 @@
 //! Documents as they are kept.
-ghost use Rattle.std.specs.Prelude.{string_bytes};
+ghost use Rattle.std.specs.Prelude.{◌≡◌, string_bytes, option_map, IfOk};
+ghost use Rattle.mg_value.specs.View.{view};
+ghost use Rattle.mg_revtree.specs.History.{History};
+ghost use Rattle.mg_revtree.specs.Tree.{StandsFor};
+ghost use Rattle.mg_doc.specs.Served.{served_of};
 ghost use Rattle.mg_shard.specs.Own.{IsServedOwn, IsServedOwn-prop};
 
 use crate::served::Served;
@@ -54,6 +58,17 @@ impl<'a> Probe<Document> for &'a str {
     }
 }
 
+// The form in which the document of an id is served, with its text, if it is not deleted.
+fn served_in(alloc: Global, id: &str, tree: &RevTree) -> Result<Option<Served>, NoMemory>
+    ensures own { IfOk result (λ served. IsServedOwn id.now served) }
+    ensures served { IfOk result (λ served. (h : History) → StandsFor tree.now h → option_map (λ s. view s.form) served ≡ served_of id.now h) }
+{
+    match served(alloc, id, tree)? {
+        Some(form) => Ok(Some(Served::of(alloc, form)?)),
+        None => Ok(None),
+    }
+}
+
 impl Document {
     ghost use Rattle.std.specs.Prelude.{◌≡◌, string_bytes, option_and_then, option_map, IfOk};
     ghost use Rattle.mg_value.specs.View.{items_view, view};
@@ -73,10 +88,7 @@ impl Document {
         ensures tree { IfOk result (λ d. d.tree ≡ tree) }
         ensures served { IfOk result (λ d. (h : History) → StandsFor tree h → form_of d ≡ served_of (string_bytes id) h) }
     {
-        let served = match served(alloc, &id, &tree)? {
-            Some(form) => Some(Served::of(alloc, form)?),
-            None => None,
-        };
+        let served = served_in(alloc, &id, &tree)?;
         Ok(Document { id, tree, served })
     }
 

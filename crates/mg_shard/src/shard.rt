@@ -134,7 +134,8 @@ impl Shard {
         ensures { result ≡ docs_of self.now.documents }
     {
         self.documents.ascends();
-        Docs::over(Walk::over(&self.documents, Direction::Asc))
+        let documents = Walk::over(&self.documents, Direction::Asc);
+        Docs::over(documents)
     }
 
     /// The served documents from the last id to the first. Takes no memory. Cost: as of `docs`.
@@ -142,7 +143,8 @@ impl Shard {
         ensures { result ≡ reverse (docs_of self.now.documents) }
     {
         self.documents.ascends();
-        Docs::over(Walk::over(&self.documents, Direction::Desc))
+        let documents = Walk::over(&self.documents, Direction::Desc);
+        Docs::over(documents)
     }
 
     /// The documents that come after a place in a direction, deleted ones too: ascending those above it, descending those below it from

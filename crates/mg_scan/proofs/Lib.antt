@@ -1,0 +1,4 @@
+pub mod Begins
+pub mod Walking
+pub mod Entries
+pub mod Maps
