@@ -8,6 +8,7 @@ ghost use Rattle.mg_range.specs.View.{limit_seen};
 use crate::place::Place;
 use crate::span::{Limit, Span, place_at_limits};
 use mg_collate::{Direction, compare_text};
+use mg_value::Json;
 use std::cmp::Ordering;
 
 // Where the key of one text stands to the span.
@@ -20,12 +21,18 @@ pub(crate) fn place_in(span: &Span, text: &str) -> Place
     };
     match compare_text(text, fixed) {
         Ordering::Less => Place::Before,
-        Ordering::Equal => if others.is_empty() {
-            place_at_limits(&span.lower, &span.upper, &[])
-        } else {
-            Place::Before
-        },
+        Ordering::Equal => place_of_ended(others, &span.lower, &span.upper),
         Ordering::Greater => Place::Past,
+    }
+}
+
+// Where a key that has ended stands to the values that are left, and to the limits.
+fn place_of_ended(equal: &[Json], lower: &Option<Limit>, upper: &Option<Limit>) -> Place
+    ensures { result ≡ place_from (map view equal.now) (option_map limit_seen lower.now) (option_map limit_seen upper.now) [] }
+{
+    match equal.split_first() {
+        Some(_) => Place::Before,
+        None => place_at_limits(lower, upper, &[]),
     }
 }
 

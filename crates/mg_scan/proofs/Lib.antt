@@ -2,3 +2,6 @@ pub mod Begins
 pub mod Walking
 pub mod Entries
 pub mod Maps
+pub mod Found
+pub mod Steps
+pub mod Builds

@@ -14,12 +14,12 @@ use Rattle.mg_scan.specs.declared.hit.Hit.{Hit}
 use Rattle.mg_scan.specs.declared.search.Search.{Search}
 use Rattle.mg_shard.specs.Shard.{ShardView}
 
-get-map : {A B : Type 0} (f : A → B) (xs : List A) (i : ℕ) (x : A) → i < length xs → x ≡ get_or xs i x → slice_get (map f xs) i ≡ Some (f x)
+pub get-map : {A B : Type 0} (f : A → B) (xs : List A) (i : ℕ) (x : A) → i < length xs → x ≡ get_or xs i x → slice_get (map f xs) i ≡ Some (f x)
 get-map f [] i x less is = absurd (omega arith)
 get-map f (y ∷ ys) zero x less is = ap (λ z. Some (f z)) (sym is)
 get-map f (y ∷ ys) (suc i) x less is = get-map f ys i x (omega arith) is
 
-some_is : {A : Type 0} (x y : A) → Some x ≡ Some y → x ≡ y
+pub some_is : {A : Type 0} (x y : A) → Some x ≡ Some y → x ≡ y
 some_is x y e = cc
 
 -- the hits of a shard are those of its place
@@ -29,7 +29,7 @@ answers search shards i a s hits less is same given =
     λ t e. subst (λ (x : ShardView). Gives search x hits) (same ∙ some_is (arc_value a) t (sym (get-map arc_value shards i a less is) ∙ e)) given
 
 -- what stands in a list after one place was set: the new value there, else what stood there
-get-set : {A : Type 0} (P : ℕ → A → Type 0) (xs : List A) (at : ℕ) (a : A) → P at a → ((i : ℕ) (x : A) → slice_get xs i ≡ Some x → P i x) → (i : ℕ) (x : A) → slice_get (set xs at a) i ≡ Some x → P i x
+pub get-set : {A : Type 0} (P : ℕ → A → Type 0) (xs : List A) (at : ℕ) (a : A) → P at a → ((i : ℕ) (x : A) → slice_get xs i ≡ Some x → P i x) → (i : ℕ) (x : A) → slice_get (set xs at a) i ≡ Some x → P i x
 get-set P [] at a here all i x e = absurd cc
 get-set P (y ∷ ys) zero a here all zero x e = subst (P zero) (cc (e)) here
 get-set P (y ∷ ys) zero a here all (suc i) x e = all (suc i) x e

@@ -60,3 +60,8 @@ walked late holds (suc n) (r ∷ rows) = if late r then [] else if holds r then 
 -- the row of an id among all documents
 abbrev pub id_row : List ℕ → RowValue
 id_row id = (item (text id) no_items, id)
+
+-- what may be there, as a list
+abbrev pub listed : {X : Type 0} → Option X → List X
+listed None = []
+listed (Some x) = x ∷ []

@@ -1,5 +1,5 @@
 //! The search of one shard.
-ghost use Rattle.std.specs.Prelude.{◌≡◌, ◌||◌, [], nat_le, false, Some, None, map, option_map, string_bytes, IfOk, IfSome, if◌then◌else◌};
+ghost use Rattle.std.specs.Prelude.{◌≡◌, ◌||◌, ◌++◌, [], nat_le, false, Some, None, map, option_map, string_bytes, IfOk, IfSome, OnOk, if◌then◌else◌};
 ghost use Rattle.std.specs.FinMap.{get};
 ghost use Rattle.std.specs.List.{AllByRecursion};
 ghost use Rattle.std.specs.Option.{option_map_or};
@@ -13,7 +13,7 @@ ghost use Rattle.mg_shard.specs.Own.{all_columns};
 ghost use Rattle.mg_scan.specs.Hit.{AreHitsOf, IsHitOf, hit_row, hit_rows};
 ghost use Rattle.mg_scan.specs.Scan.{scanned};
 ghost use Rattle.mg_scan.specs.Search.{asked_by, entry_rows, walked_by};
-ghost use Rattle.mg_scan.specs.Walked.{holds_at, is_late as stands_late};
+ghost use Rattle.mg_scan.specs.Walked.{holds_at, is_late as stands_late, listed};
 ghost use Rattle.mg_scan.specs.Worked.{Gives};
 
 use crate::begin::Begin;
@@ -61,6 +61,16 @@ fn is_over(search: Search<'_>, found: usize, key: &[Json]) -> bool
     found >= search.take || is_late(search.direction, search.range.place(key))
 }
 
+// Puts a hit behind the others, if there is one.
+fn push_if<'a>(hits: &mut Vec<Hit<'a>>, hit: Option<Hit<'a>>) -> Result<(), NoMemory>
+    ensures { OnOk result (hits.new.items ≡ hits.old.items ++ listed hit) }
+{
+    if let Some(hit) = hit {
+        hits.push(hit)?;
+    }
+    Ok(())
+}
+
 // The hits among rows of an index that begin where the search does.
 fn hits_of_rows<'a>(
     alloc: Global,
@@ -76,9 +86,7 @@ fn hits_of_rows<'a>(
         if is_over(search, hits.len(), &row.key) {
             return Ok(hits);
         }
-        if let Some(hit) = hit_at(shard, row, search.normal) {
-            hits.push(hit)?;
-        }
+        push_if(&mut hits, hit_at(shard, row, search.normal))?;
     }
     Ok(hits)
 }
@@ -103,9 +111,7 @@ fn hits_of_documents<'a>(
         if is_over(search, hits.len(), key) {
             return Ok(hits);
         }
-        if let Some(hit) = hit_of(key, document, search.normal) {
-            hits.push(hit)?;
-        }
+        push_if(&mut hits, hit_of(key, document, search.normal))?;
     }
     Ok(hits)
 }

@@ -14,6 +14,7 @@ use Rattle.mg_revtree.specs.History.{Leaf}
 use Rattle.mg_revtree.specs.Revision.{revision_text}
 use Rattle.mg_value.specs.Value.{Value, null, flag, whole, text, list, object, Members, no_members, member, Items, no_items, item, get_member, member_of, put, with_member}
 use Rattle.mg_value.specs.View.{view}
+use Rattle.mg_value.specs.declared.value.Json.{Json}
 use Rattle.mg_shard.specs.Documents.{Kept, entry_of, form_at, form_of, id_of, kept_of, shown}
 use Rattle.mg_shard.specs.Own.{HasOwnId, IsServedOwn, all_columns}
 use Rattle.mg_shard.specs.Rows.{key_of}
@@ -53,8 +54,10 @@ some_is : {X : Type 0} (x y : X) → Some x ≡ Some y → x ≡ y
 some_is x y e = cc
 
 -- so is what is made of it
-pub own_made : (id : List ℕ) (l : Leaf) (form : Value) (made : Served) → form ≡ served_form id l → view made.form ≡ form → IsServedOwn id (Some made)
-own_made id l form made e same = λ s is. subst (λ (x : Served). HasOwnId id (view x.form)) (some_is made s is) (own_leaf id l (view made.form) (same ∙ e))
+pub own_made : (id : List ℕ) (o : Option Json) (form : Json) (made : Served) → IfSome o (λ f. (l : Leaf) × (view f ≡ served_form id l)) → o ≡ Some form → view made.form ≡ view form → IsServedOwn id (Some made)
+own_made id None form made h is same = absurd cc
+own_made id (Some f) form made h is same =
+    λ s e. subst (λ (x : Served). HasOwnId id (view x.form)) (some_is made s e) (own_leaf id h.0 (view made.form) (same ∙ ap view (sym (some_is f form is)) ∙ h.1))
 
 pub none_made : (id : List ℕ) → IsServedOwn id None
 none_made id = λ s is. absurd cc

@@ -25,7 +25,7 @@ ghost use Rattle.std.specs.List.{filter_map};
 use crate::docs::Docs;
 use crate::document::Document;
 use crate::draft::{Draft, looked};
-use crate::index::{IndexRows, pages_of, row_in};
+use crate::index::{IndexRows, pages_of, row_in, sorted_rows};
 use crate::indexes::{index_at, shared, with, without};
 use crate::reply::EditReply;
 use crate::walk::{Documents, Rows, Walk};
@@ -283,6 +283,16 @@ impl Shard {
             }
         }
         Ok(rows)
+    }
+
+    /// The rows that an index of this definition has in this shard, by key and id: what `with_rows` asks for.
+    ///
+    /// Errors: `NoMemory` where a growth was refused. Cost: each document once, a copy of its key, and the rows sorted.
+    pub fn rows_for(&self, alloc: Global, definition: &IndexDef) -> Result<Vec<Row>, NoMemory>
+        ensures { IfOk result (λ rows. rows_view rows.items ≡ rows_of definition.now.columns (docs_of self.now.documents)) }
+    {
+        let rows = self.unsorted(alloc, definition.columns())?;
+        Ok(sorted_rows(rows)?)
     }
 
     // The shard with an index of these rows, instead of one of its design document and name.
