@@ -1,6 +1,7 @@
 ghost use Rattle.std.specs.Prelude.{◌≡◌};
 ghost use Rattle.std.specs.Cmp.Lexicographic.{slice_cmp};
 ghost use Rattle.std.specs.Ordering.{nat_cmp, ordering_then};
+ghost use Rattle.mg_value.specs.Value.{text as string, item, no_items};
 ghost use Rattle.mg_value.specs.View.{view, items_view, members_view};
 ghost use Rattle.mg_collate.specs.Order.{value_order, items_order};
 ghost use Rattle.mg_collate.specs.Compared.{members_order, rank};
@@ -85,5 +86,31 @@ fn rank_of(value: &Json) -> u8
         Json::Text(_) => 5,
         Json::List(_) => 6,
         Json::Object(_) => 7,
+    }
+}
+
+/// The order of a text, as a string, and a value. Takes no memory. Cost: the text, up to the first difference.
+pub fn compare_text(text: &str, value: &Json) -> Ordering
+    ensures { result ≡ value_order (string text.now) (view value.now) }
+{
+    match value {
+        Json::Null => Ordering::Greater,
+        Json::Flag(false) => Ordering::Greater,
+        Json::Flag(true) => Ordering::Greater,
+        Json::Whole(_) => Ordering::Greater,
+        Json::Text(other) => text.cmp(other.as_str()),
+        Json::List(_) => Ordering::Less,
+        Json::Object(_) => Ordering::Less,
+    }
+}
+
+/// The order of the key that is one text alone, as a string, and a key. Takes no memory. Cost: as of `compare_text`.
+pub fn compare_text_key(text: &str, key: &[Json]) -> Ordering
+    ensures { result ≡ items_order (item (string text.now) no_items) (items_view key.now) }
+{
+    match key {
+        [] => Ordering::Greater,
+        [value] => compare_text(text, value),
+        [value, ..] => compare_text(text, value).then(Ordering::Less),
     }
 }

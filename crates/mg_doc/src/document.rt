@@ -1,6 +1,6 @@
-ghost use Rattle.std.specs.Prelude.{◌≡◌, IfOk, IsOk, None, option_map};
+ghost use Rattle.std.specs.Prelude.{◌≡◌, IfOk, IfSome, IsOk, None, option_map};
 ghost use Rattle.mg_value.specs.View.{view};
-ghost use Rattle.mg_revtree.specs.History.{History as Paths};
+ghost use Rattle.mg_revtree.specs.History.{History as Paths, Leaf as Winner};
 ghost use Rattle.mg_revtree.specs.Tree.{StandsFor};
 ghost use Rattle.mg_doc.specs.Served.{served_form as form_of, served_of};
 
@@ -15,6 +15,7 @@ use std::alloc::Global;
 pub fn served(alloc: Global, id: &str, tree: &RevTree) -> Result<Option<Json>, NoMemory>
     ensures served { IfOk result
         (λ o. (h : Paths) → StandsFor tree.now h → option_map view o ≡ served_of id.now h) }
+    ensures form { IfOk result (λ o. IfSome o (λ form. (l : Winner) × (view form ≡ form_of id.now l))) }
     ensures none { (h : Paths) → StandsFor tree.now h → served_of id.now h ≡ None → IsOk result }
 {
     match tree.winner() {

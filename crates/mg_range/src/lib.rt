@@ -7,6 +7,7 @@ mod listed;
 pub mod place;
 pub mod range;
 mod span;
+mod text;
 
 pub use place::Place;
 pub use range::KeyRange;

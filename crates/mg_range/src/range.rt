@@ -1,5 +1,5 @@
-ghost use Rattle.std.specs.Prelude.{◌≡◌, ℕ, List, IfOk, is_none, length, map};
-ghost use Rattle.mg_value.specs.Value.{Value};
+ghost use Rattle.std.specs.Prelude.{◌≡◌, ℕ, List, [], ◌∷◌, IfOk, is_none, length, map};
+ghost use Rattle.mg_value.specs.Value.{Value, text as string};
 ghost use Rattle.mg_value.specs.View.{view as json_view};
 ghost use Rattle.mg_normal.specs.Normal.{normal_atoms};
 ghost use Rattle.mg_range.specs.Listed.{range_value};
@@ -9,6 +9,7 @@ ghost use Rattle.mg_range.specs.Range.{in_range, range_of};
 use crate::listed::{empty_json, span_json};
 use crate::place::Place;
 use crate::span::{Span, place_in, span_of};
+use crate::text;
 use mg_normal::Normal;
 use mg_path::Path;
 use mg_value::{Json, NoMemory};
@@ -73,6 +74,17 @@ impl KeyRange {
     {
         match &self.span {
             Some(span) => place_in(span, key),
+            None => Place::Past,
+        }
+    }
+
+    /// Where the key that is one text alone, as a string, stands to the range. Takes no memory. Cost: the
+    /// text, once for each limit at most.
+    pub fn place_of_text(&self, text: &str) -> Place
+        ensures { result ≡ place_of self.now (string text.now ∷ []) }
+    {
+        match &self.span {
+            Some(span) => text::place_in(span, text),
             None => Place::Past,
         }
     }

@@ -131,7 +131,7 @@ pub(crate) fn place_in(span: &Span, key: &[Json]) -> Place
 }
 
 // Where the rest of a key stands to the limits.
-fn place_at_limits(lower: &Option<Limit>, upper: &Option<Limit>, rest: &[Json]) -> Place
+pub(crate) fn place_at_limits(lower: &Option<Limit>, upper: &Option<Limit>, rest: &[Json]) -> Place
     ensures { result ≡ stands_between (option_map limit_seen lower.now) (option_map limit_seen upper.now)
         (map view rest.now) }
 {

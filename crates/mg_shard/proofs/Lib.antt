@@ -5,3 +5,5 @@ pub mod Dealing
 pub mod Rows
 pub mod Catalogued
 pub mod Keys
+pub mod Walks
+pub mod Owned

@@ -9,10 +9,13 @@ use Rattle.std.specs.Ordering.{eq_by_cmp, ordering_reverse}
 use Rattle.std.specs.FinMap.Entries.{below_all}
 use Rattle.std.specs.FinMap.{entries, entries_sorted, find, get, get-entries, get-insert, insert, is_sorted}
 use Rattle.mg_value.specs.Value.{Items, Value}
-use Rattle.mg_collate.specs.Row.{RowValue, row_order, row_value_order, row_value_order_total, row_view, rows_view}
+use Rattle.std.specs.List.Sorted.{IsPermutation, IsSorted}
+use Rattle.std.proofs.lemmas.List.Recursion.{is_count_by}
+use Rattle.std.proofs.lemmas.List.Sorted.{sum_by-IsPermutation}
+use Rattle.mg_collate.specs.Row.{RowValue, row_order, row_order_total, row_value_order, row_value_order_total, row_view, rows_view}
 use Rattle.mg_collate.specs.declared.row.Row.{Row}
 use Rattle.mg_collate.specs.Sorted.{sorted}
-use Rattle.mg_collate.proofs.Sorting.{NoneBelow, Rises, permutation_sorted, rises_sorted, same_list, times, times_permutation}
+use Rattle.mg_collate.proofs.Sorting.{NoneBelow, Rises, permutation_sorted, rises, rises_sorted, same_list, times, times_permutation}
 use Rattle.mg_collate.proofs.Ties.{same_rows}
 use Rattle.mg_index.specs.Definition.{Steps}
 use Rattle.mg_pages.specs.Order.{Ascends, above, below, inserted, removed}
@@ -326,3 +329,44 @@ pub view-reverse : (rows : List Row) → rows_view (reverse rows) ≡ reverse (r
 view-reverse [] = refl
 view-reverse (r ∷ rows) =
     ap rows_view (reverse-append (r ∷ []) rows) ∙ view-append (reverse rows) (r ∷ []) ∙ ap (λ xs. xs ++ row_view r ∷ []) (view-reverse rows) ∙ sym (reverse-append (row_view r ∷ []) (rows_view rows))
+
+-- ---- rows of which some are left out
+
+all_where : {X : Type 0} (P : X → Type 0) (p : X → Bool) (xs : List X) → AllByRecursion P xs → AllByRecursion P (filter p xs)
+all_where P p [] h = tt
+all_where {X} P p (x ∷ xs) h = step (p x) (all_where P p xs h.1)
+  where
+    step : (b : Bool) → AllByRecursion P (filter p xs) → AllByRecursion P (cond b (x ∷ filter p xs) (filter p xs))
+    step true k = (h.0, k)
+    step false k = k
+
+pub rises_where : {X : Type 0} (order : X → X → Ordering) (p : X → Bool) (xs : List X) → Rises order xs → Rises order (filter p xs)
+rises_where order p [] h = tt
+rises_where {X} order p (x ∷ xs) h = step (p x) (rises_where order p xs h.1)
+  where
+    step : (b : Bool) → Rises order (filter p xs) → Rises order (cond b (x ∷ filter p xs) (filter p xs))
+    step true k = (all_where (λ y. is_gt (order x y) ≡ false) p xs h.0, k)
+    step false k = k
+
+-- to sort some of the rows is to leave out the others of the sorted ones
+pub sorted-where : (p : RowValue → Bool) (rows : List RowValue) → sorted row_value_order (filter p rows) ≡ filter p (sorted row_value_order rows)
+sorted-where p rows =
+    sym (sorted_is (filter p (sorted row_value_order rows)) (filter p rows) (rises_where row_value_order p (sorted row_value_order rows) (rises_sorted row_value_order row_value_order_total rows))
+    (λ z. count-where p z (sorted row_value_order rows)
+    ∙ ap (λ n. cond (p z) n 0) (times_permutation row_value_order z rows (sorted row_value_order rows) (permutation_sorted row_value_order rows)) ∙ sym (count-where p z rows)))
+
+-- ---- rows of the code that are sorted
+
+sorted_rises : (rows : List Row) → Rises row_order rows → Rises row_value_order (rows_view rows)
+sorted_rises [] h = tt
+sorted_rises (r ∷ rows) h = (none rows h.0, sorted_rises rows h.1)
+  where
+    none : (xs : List Row) → NoneBelow row_order r xs → NoneBelow row_value_order (row_view r) (rows_view xs)
+    none [] k = tt
+    none (x ∷ xs) k = (k.0, none xs k.1)
+
+pub sorted_code : (old new : List Row) → IsPermutation old new → IsSorted row_order new → rows_view new ≡ sorted row_value_order (rows_view old)
+sorted_code old new same order =
+    sorted_is (rows_view new) (rows_view old) (sorted_rises new (rises row_order row_order_total new order)) (λ z.
+    let counted = is_count_by (λ (rows : List Row). count z (rows_view rows)) (λ r. is_eq (row_value_order z (row_view r))) refl (λ _ _. refl) in
+    counted new ∙ sum_by-IsPermutation (λ r. cond (is_eq (row_value_order z (row_view r))) 1 0) old new same ∙ sym (counted old))

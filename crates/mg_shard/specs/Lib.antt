@@ -9,3 +9,6 @@ pub mod Rows
 pub mod Mended
 pub mod Index
 pub mod Laws
+pub mod Own
+pub mod Walk
+pub mod Left

@@ -4,16 +4,15 @@ ghost use Rattle.std.specs.Iterator.{at_most};
 ghost use Rattle.std.specs.Map.Iter.{TakesFirst};
 ghost use Rattle.mg_shard.specs.Documents.{lent, served_docs};
 
-use crate::document::Document;
-use mg_pages::Iter;
+use crate::walk::Documents;
 use mg_value::Json;
 use std::marker::Model;
 
-/// The documents that are left, each an id and the form in which it is served, in the order of the ids. Those that are
-/// deleted are passed over.
+/// The documents that are left, each an id and the form in which it is served, in the order of the ids or from the last.
+/// Those that are deleted are passed over.
 #[derive(Drop)]
 pub struct Docs<'a> {
-    documents: Iter<'a, Document>,
+    documents: Documents<'a>,
 }
 
 impl<'a> Model for Docs<'a> {
@@ -33,7 +32,7 @@ impl<'a> Model for Docs<'a> {
 }
 
 impl<'a> Docs<'a> {
-    pub(crate) fn over(documents: Iter<'a, Document>) -> Docs<'a>
+    pub(crate) fn over(documents: Documents<'a>) -> Docs<'a>
         ensures { result ≡ served_docs documents.entry }
     {
         Docs { documents }

@@ -1,11 +1,10 @@
 //! Documents as they are kept.
 ghost use Rattle.std.specs.Prelude.{◌≡◌, string_bytes, option_map, IfOk};
 ghost use Rattle.mg_value.specs.View.{view};
-ghost use Rattle.mg_value.specs.Text.{compact};
 ghost use Rattle.mg_revtree.specs.History.{History};
 ghost use Rattle.mg_revtree.specs.Tree.{StandsFor};
 ghost use Rattle.mg_doc.specs.Served.{served_of};
-ghost use Rattle.mg_shard.specs.Documents.{form_of};
+ghost use Rattle.mg_shard.specs.Own.{IsServedOwn, IsServedOwn-prop};
 
 use crate::served::Served;
 use mg_doc::served;
@@ -14,13 +13,15 @@ use mg_revtree::RevTree;
 use mg_value::{Json, NoMemory};
 use std::alloc::Global;
 use std::cmp::Ordering;
+use std::slice;
 
 /// A document: its id, its revision tree, and the form in which it is served, if it is not deleted.
 #[derive(Drop)]
-pub(crate) struct Document {
+pub struct Document {
     pub(crate) id: String,
     pub(crate) tree: RevTree,
     pub(crate) served: Option<Served>,
+    ghost own_id: { IsServedOwn (string_bytes id) served } by { IsServedOwn-prop (string_bytes id) served },
 }
 
 impl Keyed for Document {
@@ -57,7 +58,28 @@ impl<'a> Probe<Document> for &'a str {
     }
 }
 
+// The form in which the document of an id is served, with its text, if it is not deleted.
+fn served_in(alloc: Global, id: &str, tree: &RevTree) -> Result<Option<Served>, NoMemory>
+    ensures own { IfOk result (λ served. IsServedOwn id.now served) }
+    ensures served { IfOk result (λ served. (h : History) → StandsFor tree.now h → option_map (λ s. view s.form) served ≡ served_of id.now h) }
+{
+    match served(alloc, id, tree)? {
+        Some(form) => Ok(Some(Served::of(alloc, form)?)),
+        None => Ok(None),
+    }
+}
+
 impl Document {
+    ghost use Rattle.std.specs.Prelude.{◌≡◌, string_bytes, option_and_then, option_map, IfOk};
+    ghost use Rattle.mg_value.specs.View.{items_view, view};
+    ghost use Rattle.mg_value.specs.Text.{compact};
+    ghost use Rattle.mg_revtree.specs.History.{History};
+    ghost use Rattle.mg_revtree.specs.Tree.{StandsFor};
+    ghost use Rattle.mg_doc.specs.Served.{served_of};
+    ghost use Rattle.mg_shard.specs.Documents.{form_of, id_of, kept_of};
+    ghost use Rattle.mg_shard.specs.Rows.{key_of};
+    ghost use Rattle.mg_shard.specs.Own.{all_columns};
+
     /// The document of an id whose revision tree this is.
     ///
     /// Errors: `NoMemory` where a growth was refused. Cost: a copy of the winner's body, and its text.
@@ -66,15 +88,26 @@ impl Document {
         ensures tree { IfOk result (λ d. d.tree ≡ tree) }
         ensures served { IfOk result (λ d. (h : History) → StandsFor tree h → form_of d ≡ served_of (string_bytes id) h) }
     {
-        let served = match served(alloc, &id, &tree)? {
-            Some(form) => Some(Served::of(alloc, form)?),
-            None => None,
-        };
+        let served = served_in(alloc, &id, &tree)?;
         Ok(Document { id, tree, served })
     }
 
-    /// The form in which it is served, if it is not deleted.
-    pub(crate) fn form(&self) -> Option<&Json>
+    /// Its id. Takes no memory.
+    pub fn id(&self) -> &str
+        ensures { result.now ≡ id_of self.now }
+    {
+        &self.id
+    }
+
+    /// Its revision tree. Takes no memory.
+    pub fn tree(&self) -> &RevTree
+        ensures { result.now ≡ (kept_of self.now).0 }
+    {
+        &self.tree
+    }
+
+    /// The form in which it is served, if it is not deleted. Takes no memory.
+    pub fn form(&self) -> Option<&Json>
         ensures { option_map (λ v. view v.now) result ≡ form_of self.now }
     {
         match &self.served {
@@ -83,13 +116,22 @@ impl Document {
         }
     }
 
-    /// The compact text of that form.
-    pub(crate) fn text(&self) -> Option<&[u8]>
+    /// The compact text of that form, as it was made when the document was last edited. Takes no memory.
+    pub fn text(&self) -> Option<&[u8]>
         ensures { option_map (λ t. t.now) result ≡ option_map compact (form_of self.now) }
     {
         match &self.served {
             Some(served) => Some(&served.text),
             None => None,
         }
+    }
+
+    /// The key of its row among all documents, by id: the `_id` of that form alone, which is lent. Takes no memory.
+    /// Cost: one look-up of a member.
+    pub fn id_key(&self) -> Option<&[Json]>
+        ensures { option_map (λ key. items_view key.now) result ≡ option_and_then (key_of all_columns) (form_of self.now) }
+    {
+        let id = self.form()?.member("_id")?;
+        Some(slice::from_ref(id))
     }
 }

@@ -150,3 +150,11 @@ pub(crate) fn pages_of(alloc: Global, mut rows: Vec<Row>) -> Result<Pages<Row>, 
     pages.ascends();
     Ok(pages)
 }
+
+/// The rows sorted by key and id. Errors: `NoMemory` where a growth was refused. Cost: the number of the rows times its logarithm.
+pub(crate) fn sorted_rows(mut rows: Vec<Row>) -> Result<Vec<Row>, NoMemory>
+    ensures { IfOk result (λ v. rows_view v.items ≡ sorted row_value_order (rows_view rows.items)) }
+{
+    rows.sort()?;
+    Ok(rows)
+}

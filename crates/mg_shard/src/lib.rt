@@ -2,7 +2,7 @@
 #![tactic(auto)]
 
 mod docs;
-mod document;
+pub mod document;
 pub mod draft;
 mod index;
 mod indexes;
@@ -11,9 +11,12 @@ pub mod placement;
 pub mod reply;
 mod served;
 pub mod shard;
+mod walk;
 
 pub use docs::Docs;
+pub use document::Document;
 pub use draft::Draft;
 pub use placement::{Md5Placement, Placement};
 pub use reply::EditReply;
 pub use shard::Shard;
+pub use walk::{Documents, Rows, Walk};

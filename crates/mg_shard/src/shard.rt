@@ -1,18 +1,23 @@
 //! A shard: documents by their ids, and the rows of indexes over them.
-ghost use Rattle.std.specs.Prelude.{◌≡◌, [], map, option_map, reverse, unwrap_or, IfOk, IfSome};
+ghost use Rattle.std.specs.Prelude.{◌≡◌, ℕ, List, [], Some, map, option_map, reverse, unwrap_or, IfOk, IfSome};
 ghost use Rattle.std.specs.FinMap as finite;
-ghost use Rattle.std.specs.FinMap.{get};
+ghost use Rattle.std.specs.FinMap.{entries, get};
+ghost use Rattle.std.specs.declared.cmp.Ordering.{Ordering};
 ghost use Rattle.mg_value.specs.View.{view};
 ghost use Rattle.mg_value.specs.Text.{compact};
 ghost use Rattle.mg_doc.specs.Edit.{edited, outcome_of};
 ghost use Rattle.mg_revtree.specs.Tree.{StandsFor};
-ghost use Rattle.mg_shard.specs.Documents.{docs_of, form_at, kept_of, tree_at, StandFor, StandsAt};
+ghost use Rattle.mg_shard.specs.Documents.{Kept, docs_of, entry_of, form_at, id_of, kept_of, tree_at, StandFor, StandsAt};
+ghost use Rattle.mg_shard.specs.Own.{HasOwnId};
+ghost use Rattle.mg_shard.specs.Walk.{beyond};
+ghost use Rattle.mg_shard.specs.declared.document.Document.{Document};
+ghost use Rattle.mg_collate.specs.declared.row.Row.{Row};
+ghost use Rattle.mg_value.specs.Value.{Value};
 ghost use Rattle.mg_shard.specs.Edits.{after_edits, outcome_seen, outcomes};
 ghost use Rattle.mg_shard.specs.Histories.{Histories, history_at};
 ghost use Rattle.mg_shard.specs.Rows.{row_of, rows_of};
 ghost use Rattle.mg_shard.specs.Shard.{rows_at};
-ghost use Rattle.mg_collate.specs.Row.{row_value_order, rows_view};
-ghost use Rattle.mg_pages.specs.Order.{above, below};
+ghost use Rattle.mg_collate.specs.Row.{RowValue, row_value_order, row_view, rows_view};
 ghost use Rattle.mg_value.specs.View.{items_view};
 ghost use Rattle.mg_index.specs.Catalog.{with_definition, without_definition};
 ghost use Rattle.std.specs.List.{filter_map};
@@ -20,17 +25,19 @@ ghost use Rattle.std.specs.List.{filter_map};
 use crate::docs::Docs;
 use crate::document::Document;
 use crate::draft::{Draft, looked};
-use crate::index::{IndexRows, pages_of, row_in};
+use crate::index::{IndexRows, pages_of, row_in, sorted_rows};
 use crate::indexes::{index_at, shared, with, without};
 use crate::reply::EditReply;
-use mg_collate::Row;
+use crate::walk::{Documents, Rows, Walk};
+use mg_collate::{Direction, Row};
 use mg_doc::Edit;
 use mg_index::IndexDef;
-use mg_pages::{Back, Iter, Pages, RowPlace};
+use mg_pages::{Pages, Probe, RowPlace};
 use mg_path::Path;
 use mg_revtree::RevTree;
 use mg_value::{Json, NoMemory};
 use std::alloc::Global;
+use std::cmp::Ordering;
 use std::marker::Model;
 use std::sync::Arc;
 
@@ -82,9 +89,10 @@ impl Shard {
         Ok(Shard { documents, indexes })
     }
 
-    // The document of an id.
-    fn document(&self, id: &str) -> Option<&Document>
-        ensures { option_map (λ d. kept_of d.now) result ≡ get self.now.documents id.now }
+    /// The document of an id, if there is one, deleted or not. Takes no memory. Cost: one look-up.
+    pub fn document(&self, id: &str) -> Option<&Document>
+        ensures kept { option_map (λ d. kept_of d.now) result ≡ get self.now.documents id.now }
+        ensures id { IfSome result (λ d. id_of d.now ≡ id.now) }
     {
         self.documents.get(&id)
     }
@@ -126,7 +134,38 @@ impl Shard {
         ensures { result ≡ docs_of self.now.documents }
     {
         self.documents.ascends();
-        Docs::over(self.documents.iter())
+        let documents = Walk::over(&self.documents, Direction::Asc);
+        Docs::over(documents)
+    }
+
+    /// The served documents from the last id to the first. Takes no memory. Cost: as of `docs`.
+    pub fn docs_back(&self) -> Docs<'_>
+        ensures { result ≡ reverse (docs_of self.now.documents) }
+    {
+        self.documents.ascends();
+        let documents = Walk::over(&self.documents, Direction::Desc);
+        Docs::over(documents)
+    }
+
+    /// The documents that come after a place in a direction, deleted ones too: ascending those above it, descending those below it from
+    /// the last to the first. A place need be no document. Takes no memory. Cost: one look-up, and then a step a document.
+    pub fn documents_beyond<Q: Probe<Document>>(
+        &self,
+        place: &Q,
+        direction: Direction,
+    ) -> Documents<'_>
+        ensures { (order : List ℕ × Kept → Ordering) → ((d : Document) → Q.against place.now d ≡ order (entry_of d))
+            → map entry_of result ≡ beyond direction order (entries self.now.documents) }
+    {
+        self.documents.ascends();
+        Walk::beyond(&self.documents, place, direction)
+    }
+
+    /// A document that is served with an `_id` is served with its own: for proofs of callers. Does nothing.
+    pub fn ids_are_own(&self)
+        ensures { (id : List ℕ) (form : Value) → form_at self.now.documents id ≡ Some form → HasOwnId id form }
+    {
+        let _ = &self.documents;
     }
 
     // The next shard, or a share of this one where there is none.
@@ -179,48 +218,58 @@ impl Shard {
 
     /// The rows of the index of this design document and name, by key and id, and none where there is no such index. They are those
     /// of the served documents from scratch. Takes no memory. Cost: each definition once, and then a step a row.
-    pub fn rows(&self, ddoc: &str, name: &str) -> Option<Iter<'_, Row>>
+    pub fn rows(&self, ddoc: &str, name: &str) -> Option<Rows<'_>>
         ensures { option_map (λ it. rows_view it) result ≡ rows_at ddoc.now name.now self.now }
     {
         match index_at(&self.indexes, ddoc, name) {
-            Some(index) => Some(index.rows.iter()),
+            Some(index) => Some(Walk::over(&index.rows, Direction::Asc)),
             None => None,
         }
     }
 
     /// The rows of the index of this design document and name from the last to the first, and none where there is no such index.
     /// Takes no memory. Cost: as of `rows`.
-    pub fn rows_back(&self, ddoc: &str, name: &str) -> Option<Back<'_, Row>>
+    pub fn rows_back(&self, ddoc: &str, name: &str) -> Option<Rows<'_>>
         ensures { option_map (λ it. rows_view it) result ≡ option_map reverse (rows_at ddoc.now name.now self.now) }
     {
         match index_at(&self.indexes, ddoc, name) {
-            Some(index) => Some(index.rows.back()),
+            Some(index) => Some(Walk::over(&index.rows, Direction::Desc)),
             None => None,
         }
     }
 
-    /// The rows above a place in the index of this design document and name, by key and id, and none where there is no such index.
-    /// Takes no memory. Cost: each definition once, one look-up, and then a step a row.
-    pub fn rows_after(&self, ddoc: &str, name: &str, place: RowPlace<'_>) -> Option<Iter<'_, Row>>
-        ensures { option_map (λ it. rows_view it) result
-            ≡ option_map (above (row_value_order (items_view place.entry.key.now, place.entry.id.now))) (rows_at ddoc.now name.now self.now) }
+    /// The rows that come after a place in a direction, in the index of this design document and name, and none where there is no such
+    /// index: ascending those above it, descending those below it from the last to the first. A place need be no row: the begin of a
+    /// range of keys is one. Takes no memory. Cost: each definition once, one look-up, and then a step a row.
+    pub fn rows_beyond<Q: Probe<Row>>(
+        &self,
+        ddoc: &str,
+        name: &str,
+        place: &Q,
+        direction: Direction,
+    ) -> Option<Rows<'_>>
+        ensures { (order : RowValue → Ordering) → ((r : Row) → Q.against place.now r ≡ order (row_view r))
+            → option_map (λ it. rows_view it) result ≡ option_map (beyond direction order) (rows_at ddoc.now name.now self.now) }
     {
         match index_at(&self.indexes, ddoc, name) {
-            Some(index) => Some(index.rows.after(&place)),
+            Some(index) => Some(Walk::beyond(&index.rows, place, direction)),
             None => None,
         }
     }
 
-    /// The rows below a place in the index of this design document and name, from the last to the first, and none where there is no
-    /// such index. Takes no memory. Cost: as of `rows_after`.
-    pub fn rows_before(&self, ddoc: &str, name: &str, place: RowPlace<'_>) -> Option<Back<'_, Row>>
+    /// The rows strictly after a row in a direction, in the index of this design document and name, and none where there is no such
+    /// index. The row need not stand there. Takes no memory. Cost: as of `rows_beyond`.
+    pub fn rows_after(
+        &self,
+        ddoc: &str,
+        name: &str,
+        place: RowPlace<'_>,
+        direction: Direction,
+    ) -> Option<Rows<'_>>
         ensures { option_map (λ it. rows_view it) result
-            ≡ option_map (λ rows. reverse (below (row_value_order (items_view place.entry.key.now, place.entry.id.now)) rows)) (rows_at ddoc.now name.now self.now) }
+            ≡ option_map (beyond direction (row_value_order (items_view place.entry.key.now, place.entry.id.now))) (rows_at ddoc.now name.now self.now) }
     {
-        match index_at(&self.indexes, ddoc, name) {
-            Some(index) => Some(index.rows.before(&place)),
-            None => None,
-        }
+        self.rows_beyond(ddoc, name, &place, direction)
     }
 
     // The rows that an index with these columns has, in the order of the documents.
@@ -234,6 +283,16 @@ impl Shard {
             }
         }
         Ok(rows)
+    }
+
+    /// The rows that an index of this definition has in this shard, by key and id: what `with_rows` asks for.
+    ///
+    /// Errors: `NoMemory` where a growth was refused. Cost: each document once, a copy of its key, and the rows sorted.
+    pub fn rows_for(&self, alloc: Global, definition: &IndexDef) -> Result<Vec<Row>, NoMemory>
+        ensures { IfOk result (λ rows. rows_view rows.items ≡ rows_of definition.now.columns (docs_of self.now.documents)) }
+    {
+        let rows = self.unsorted(alloc, definition.columns())?;
+        Ok(sorted_rows(rows)?)
     }
 
     // The shard with an index of these rows, instead of one of its design document and name.

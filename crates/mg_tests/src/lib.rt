@@ -29,6 +29,8 @@ mod range_tests;
 #[cfg(test)]
 mod revtree_tests;
 #[cfg(test)]
+mod scan_tests;
+#[cfg(test)]
 mod selector_tests;
 #[cfg(test)]
 mod shard_tests;

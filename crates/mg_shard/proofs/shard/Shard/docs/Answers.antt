@@ -5,4 +5,4 @@ use Rattle.mg_shard.proofs.shard.Shard.docs.Goals as goal
 
 pub returns : goal.returns
 returns c =
-    c.over.ensures ∙ ap served_docs c.iter.ensures ∙ docs-shown c.self.inside.documents c.ascends.ensures ∙ ap (λ v. docs_of v.documents) c.self.view_is
+    c.over.ensures ∙ ap served_docs c.over-documents.ensures ∙ docs-shown c.self.inside.documents c.ascends.ensures ∙ ap (λ v. docs_of v.documents) c.self.view_is

@@ -15,7 +15,7 @@ returns-in-Some c =
     let ddoc = c.args.ddoc.now in
     let name = c.args.name.now in
     let xs = c.self.inside.indexes.items in
-    ap (λ rs. Some (rows_view rs)) c.iter.ensures ∙ ap (option_map (λ (x : IndexRows). rows_view x.rows)) c.in-Some.ensures
+    ap (λ rs. Some (rows_view rs)) c.over.ensures ∙ ap (option_map (λ (x : IndexRows). rows_view x.rows)) c.in-Some.ensures
     ∙ ap (λ (ys : List IndexRows). option_map (λ (x : IndexRows). rows_view x.rows) (find (λ x. is_at ddoc name (arc_value x.definition)) ys)) c.deref.ensures.value
     ∙ rows_seen ddoc name xs ∙ rows_found (shown c.self.inside.documents) ddoc name (indexes_seen xs) c.self.invariant.rows ∙ ap (rows_at ddoc name) c.self.view_is
 

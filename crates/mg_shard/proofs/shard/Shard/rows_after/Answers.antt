@@ -1,32 +1,7 @@
-use Rattle.std.proofs.Common.{◌≡◌, ◌∙◌, Some, None, List, ap, option_map, is_lt}
-use Rattle.mg_collate.specs.Row.{RowValue, row_value_order, rows_view}
-use Rattle.mg_pages.specs.Order.{above}
-use Rattle.mg_shard.specs.Documents.{shown}
-use Rattle.mg_shard.specs.Shard.{rows_at}
-use Rattle.mg_shard.specs.declared.index.IndexRows.{IndexRows}
-use Rattle.mg_shard.proofs.Catalogued.{rows_named}
-use Rattle.mg_shard.proofs.Rows.{view-where}
+use Rattle.std.proofs.Common.{refl}
+use Rattle.mg_collate.specs.Row.{row_value_order}
 use Rattle.mg_value.specs.View.{items_view}
 use Rattle.mg_shard.proofs.shard.Shard.rows_after.Goals as goal
 
-pub returns-in-Some : goal.returns-in-Some
-returns-in-Some c =
-    let ddoc = c.args.ddoc.now in
-    let name = c.args.name.now in
-    let p : RowValue = (items_view c.args.place.key.now, c.args.place.id.now) in
-    let f : List RowValue → List RowValue = above (row_value_order p) in
-    let named : option_map (λ (x : IndexRows). rows_view x.rows) (Some c.in-Some.index.now) ≡ rows_at ddoc name c.args.self.now =
-    ap (option_map (λ (x : IndexRows). rows_view x.rows)) c.in-Some.ensures
-    ∙ rows_named (shown c.self.inside.documents) ddoc name c.self.inside.indexes.items c.deref.result.now c.deref.ensures.value c.self.invariant.rows ∙ ap (rows_at ddoc name) c.self.view_is in
-    ap (λ rs. Some (rows_view rs)) c.after.ensures ∙ ap Some (view-where (λ x. is_lt (row_value_order p x)) c.in-Some.index.now.rows) ∙ ap (option_map f) named
-
-pub returns-in-None : goal.returns-in-None
-returns-in-None c =
-    let ddoc = c.args.ddoc.now in
-    let name = c.args.name.now in
-    let p : RowValue = (items_view c.args.place.key.now, c.args.place.id.now) in
-    let f : List RowValue → List RowValue = above (row_value_order p) in
-    let named : option_map (λ (x : IndexRows). rows_view x.rows) None ≡ rows_at ddoc name c.args.self.now =
-    ap (option_map (λ (x : IndexRows). rows_view x.rows)) c.in-None.ensures
-    ∙ rows_named (shown c.self.inside.documents) ddoc name c.self.inside.indexes.items c.deref.result.now c.deref.ensures.value c.self.invariant.rows ∙ ap (rows_at ddoc name) c.self.view_is in
-    ap (option_map f) named
+pub returns : goal.returns
+returns c = c.rows_beyond.ensures (row_value_order (items_view c.args.place.key.now, c.args.place.id.now)) (λ r. refl)

@@ -15,7 +15,7 @@ returns-in-Some c =
     let named : option_map (λ (x : IndexRows). rows_view x.rows) (Some c.in-Some.index.now) ≡ rows_at ddoc name c.args.self.now =
     ap (option_map (λ (x : IndexRows). rows_view x.rows)) c.in-Some.ensures
     ∙ rows_named (shown c.self.inside.documents) ddoc name c.self.inside.indexes.items c.deref.result.now c.deref.ensures.value c.self.invariant.rows ∙ ap (rows_at ddoc name) c.self.view_is in
-    ap (λ rs. Some (rows_view rs)) c.back.ensures ∙ ap Some (view-reverse c.in-Some.index.now.rows) ∙ ap (option_map f) named
+    ap (λ rs. Some (rows_view rs)) c.over.ensures ∙ ap Some (view-reverse c.in-Some.index.now.rows) ∙ ap (option_map f) named
 
 pub returns-in-None : goal.returns-in-None
 returns-in-None c =

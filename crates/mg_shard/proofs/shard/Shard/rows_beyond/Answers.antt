@@ -1,31 +1,28 @@
-use Rattle.std.proofs.Common.{◌≡◌, ◌∙◌, Some, None, List, ap, option_map, reverse, is_gt}
-use Rattle.mg_collate.specs.Row.{RowValue, row_value_order, row_view, rows_view}
-use Rattle.mg_pages.specs.Order.{below}
+use Rattle.std.proofs.Common.{◌≡◌, ◌∙◌, Some, None, ap, option_map}
+use Rattle.mg_collate.specs.Row.{row_view, rows_view}
 use Rattle.mg_shard.specs.Documents.{shown}
 use Rattle.mg_shard.specs.Shard.{rows_at}
+use Rattle.mg_shard.specs.Walk.{beyond}
 use Rattle.mg_shard.specs.declared.index.IndexRows.{IndexRows}
 use Rattle.mg_shard.proofs.Catalogued.{rows_named}
-use Rattle.mg_shard.proofs.Rows.{view-reverse, view-where}
-use Rattle.mg_value.specs.View.{items_view}
-use Rattle.mg_shard.proofs.shard.Shard.rows_before.Goals as goal
+use Rattle.mg_shard.proofs.Walks.{beyond-map}
+use Rattle.mg_shard.proofs.shard.Shard.rows_beyond.Goals as goal
 
 pub returns-in-Some : goal.returns-in-Some
-returns-in-Some c =
+returns-in-Some g c = λ order same.
     let ddoc = c.args.ddoc.now in
     let name = c.args.name.now in
-    let p : RowValue = (items_view c.args.place.key.now, c.args.place.id.now) in
-    let f : List RowValue → List RowValue = λ rows. reverse (below (row_value_order p) rows) in
+    let f = beyond c.args.direction order in
     let named : option_map (λ (x : IndexRows). rows_view x.rows) (Some c.in-Some.index.now) ≡ rows_at ddoc name c.args.self.now =
     ap (option_map (λ (x : IndexRows). rows_view x.rows)) c.in-Some.ensures
     ∙ rows_named (shown c.self.inside.documents) ddoc name c.self.inside.indexes.items c.deref.result.now c.deref.ensures.value c.self.invariant.rows ∙ ap (rows_at ddoc name) c.self.view_is in
-    ap (λ rs. Some (rows_view rs)) c.before-in-Some.ensures ∙ ap Some (view-reverse (below (λ x. row_value_order p (row_view x)) c.in-Some.index.now.rows) ∙ ap reverse (view-where (λ x. is_gt (row_value_order p x)) c.in-Some.index.now.rows)) ∙ ap (option_map f) named
+    ap (λ rs. Some (rows_view rs)) c.beyond.ensures ∙ ap Some (beyond-map row_view _ order same c.args.direction c.in-Some.index.now.rows) ∙ ap (option_map f) named
 
 pub returns-in-None : goal.returns-in-None
-returns-in-None c =
+returns-in-None g c = λ order same.
     let ddoc = c.args.ddoc.now in
     let name = c.args.name.now in
-    let p : RowValue = (items_view c.args.place.key.now, c.args.place.id.now) in
-    let f : List RowValue → List RowValue = λ rows. reverse (below (row_value_order p) rows) in
+    let f = beyond c.args.direction order in
     let named : option_map (λ (x : IndexRows). rows_view x.rows) None ≡ rows_at ddoc name c.args.self.now =
     ap (option_map (λ (x : IndexRows). rows_view x.rows)) c.in-None.ensures
     ∙ rows_named (shown c.self.inside.documents) ddoc name c.self.inside.indexes.items c.deref.result.now c.deref.ensures.value c.self.invariant.rows ∙ ap (rows_at ddoc name) c.self.view_is in

@@ -1,0 +1,80 @@
+// Where the key that is one text alone stands to a span.
+ghost use Rattle.std.specs.Prelude.{◌≡◌, [], ◌∷◌, map, option_map};
+ghost use Rattle.mg_value.specs.Value.{text as string};
+ghost use Rattle.mg_value.specs.View.{view};
+ghost use Rattle.mg_range.specs.Place.{place_from, place_between as stands_between, is_before as stands_before, is_past as stands_past, is_within as stands_within};
+ghost use Rattle.mg_range.specs.View.{limit_seen};
+
+use crate::place::Place;
+use crate::span::{Limit, Span, place_at_limits};
+use mg_collate::{Direction, compare_text};
+use mg_value::Json;
+use std::cmp::Ordering;
+
+// Where the key of one text stands to the span.
+pub(crate) fn place_in(span: &Span, text: &str) -> Place
+    ensures { result ≡ place_from (map view span.now.equal.items) (option_map limit_seen span.now.lower)
+        (option_map limit_seen span.now.upper) (string text.now ∷ []) }
+{
+    let Some((fixed, others)) = span.equal.split_first() else {
+        return place_of_text(&span.lower, &span.upper, text);
+    };
+    match compare_text(text, fixed) {
+        Ordering::Less => Place::Before,
+        Ordering::Equal => place_of_ended(others, &span.lower, &span.upper),
+        Ordering::Greater => Place::Past,
+    }
+}
+
+// Where a key that has ended stands to the values that are left, and to the limits.
+fn place_of_ended(equal: &[Json], lower: &Option<Limit>, upper: &Option<Limit>) -> Place
+    ensures { result ≡ place_from (map view equal.now) (option_map limit_seen lower.now) (option_map limit_seen upper.now) [] }
+{
+    match equal.split_first() {
+        Some(_) => Place::Before,
+        None => place_at_limits(lower, upper, &[]),
+    }
+}
+
+// Where it stands to the limits.
+fn place_of_text(lower: &Option<Limit>, upper: &Option<Limit>, text: &str) -> Place
+    ensures { result ≡ stands_between (option_map limit_seen lower.now) (option_map limit_seen upper.now) (string text.now ∷ []) }
+{
+    if is_before(lower, text) {
+        Place::Before
+    } else if is_past(upper, text) {
+        Place::Past
+    } else {
+        Place::Within
+    }
+}
+
+fn is_before(lower: &Option<Limit>, text: &str) -> bool
+    ensures { result ≡ stands_before (option_map limit_seen lower.now) (string text.now ∷ []) }
+{
+    match lower {
+        Some(lower) => !is_within(Direction::Asc, lower, text),
+        None => false,
+    }
+}
+
+fn is_past(upper: &Option<Limit>, text: &str) -> bool
+    ensures { result ≡ stands_past (option_map limit_seen upper.now) (string text.now ∷ []) }
+{
+    match upper {
+        Some(upper) => !is_within(Direction::Desc, upper, text),
+        None => false,
+    }
+}
+
+// Whether the text is within the limit.
+fn is_within(direction: Direction, limit: &Limit, text: &str) -> bool
+    ensures { result ≡ stands_within direction (limit_seen limit.now) (string text.now) }
+{
+    let order = direction.apply(compare_text(text, &limit.value));
+    if limit.inclusive {
+        order.is_ge()
+    } else {
+        order.is_gt()
+    }
+}

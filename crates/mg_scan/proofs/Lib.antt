@@ -1,0 +1,7 @@
+pub mod Begins
+pub mod Walking
+pub mod Entries
+pub mod Maps
+pub mod Found
+pub mod Steps
+pub mod Builds

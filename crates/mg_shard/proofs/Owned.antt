@@ -1,0 +1,115 @@
+-- Documents are served with their own ids.
+use denote.Ref.{Bor}
+use Rattle.std.proofs.Common.{◌≡◌, ℕ, Bool, true, false, List, [], ◌∷◌, Ordering, Less, Equal, Greater, Option, Some, None, IfSome, codes, cond, is_eq, map, nat_cmp, option_and_then, option_map, string_bytes, refl, ap, sym, ◌∙◌, subst}
+use Rattle.std.proofs.lemmas.Cmp.{nat_list_cmp_total, tied_itself}
+use Rattle.std.specs.Cmp.Lexicographic.{slice_cmp}
+use Rattle.std.specs.FinMap.{find, get, get-from_entries}
+use Rattle.std.specs.List.{filter}
+use Rattle.std.specs.Ordering.{match_ordering}
+use Rattle.mg_doc.specs.Served.{served_form}
+use Rattle.mg_pages.specs.Identified.{id_against}
+use Rattle.mg_pages.specs.Order.{first_of_list, found}
+use Rattle.mg_path.specs.Part.{part_of}
+use Rattle.mg_revtree.specs.History.{Leaf}
+use Rattle.mg_revtree.specs.Revision.{revision_text}
+use Rattle.mg_value.specs.Value.{Value, null, flag, whole, text, list, object, Members, no_members, member, Items, no_items, item, get_member, member_of, put, with_member}
+use Rattle.mg_value.specs.View.{view}
+use Rattle.mg_value.specs.declared.value.Json.{Json}
+use Rattle.mg_shard.specs.Documents.{Kept, entry_of, form_at, form_of, id_of, kept_of, shown}
+use Rattle.mg_shard.specs.Own.{HasOwnId, IsServedOwn, all_columns}
+use Rattle.mg_shard.specs.Rows.{key_of}
+use Rattle.mg_shard.specs.declared.document.Document.{Document}
+use Rattle.mg_shard.specs.declared.served.Served.{Served}
+use Rattle.mg_shard.proofs.Shown.{bytes_cmp, bytes_exact}
+use Rattle.mg_shard.proofs.Standing.{tied}
+
+-- ---- the form of a leaf
+
+put_step : (k l : List ℕ) (v w : Value) (ms : Members) (o : Ordering) → slice_cmp nat_cmp k l ≡ o → get_member k (put k v ms) ≡ Some v
+    → get_member k (match_ordering o (member k v (member l w ms)) (member l v ms) (member l w (put k v ms))) ≡ Some v
+put_step k l v w ms Less e rest = ap (λ r. match_ordering r (get_member k (member l w ms)) (Some v) (get_member k (member l w ms))) (tied_itself nat_list_cmp_total k)
+put_step k l v w ms Equal e rest = ap (λ r. match_ordering r (get_member k ms) (Some v) (get_member k ms)) e
+put_step k l v w ms Greater e rest = ap (λ r. match_ordering r (get_member k (put k v ms)) (Some w) (get_member k (put k v ms))) e ∙ rest
+
+get-put : (k : List ℕ) (v : Value) (ms : Members) → get_member k (put k v ms) ≡ Some v
+get-put k v no_members = ap (λ r. match_ordering r (get_member k no_members) (Some v) (get_member k no_members)) (tied_itself nat_list_cmp_total k)
+get-put k v (member l w ms) = put_step k l v w ms (slice_cmp nat_cmp k l) refl (get-put k v ms)
+
+same_part : (p q : Value) (o : Option Value) → o ≡ Some p → option_and_then (part_of []) o ≡ Some q → q ≡ p
+same_part p q None e f = absurd cc
+same_part p q (Some r) e f = cc
+
+own_with : (id : List ℕ) (v : Value) → HasOwnId id (with_member (codes "_id") (text id) v)
+own_with id null = λ part h. absurd cc
+own_with id (flag b) = λ part h. absurd cc
+own_with id (whole z) = λ part h. absurd cc
+own_with id (text s) = λ part h. absurd cc
+own_with id (list vs) = λ part h. absurd cc
+own_with id (object ms) = λ part h. same_part (text id) part (get_member (codes "_id") (put (codes "_id") (text id) ms)) (get-put (codes "_id") (text id) ms) h
+
+pub own_leaf : (id : List ℕ) (l : Leaf) (form : Value) → form ≡ served_form id l → HasOwnId id form
+own_leaf id l form e = subst (λ (v : Value). HasOwnId id v) (sym e) (own_with id (with_member (codes "_rev") (text (revision_text l.rev)) l.body))
+
+some_is : {X : Type 0} (x y : X) → Some x ≡ Some y → x ≡ y
+some_is x y e = cc
+
+-- so is what is made of it
+pub own_made : (id : List ℕ) (o : Option Json) (form : Json) (made : Served) → IfSome o (λ f. (l : Leaf) × (view f ≡ served_form id l)) → o ≡ Some form → view made.form ≡ view form → IsServedOwn id (Some made)
+own_made id None form made h is same = absurd cc
+own_made id (Some f) form made h is same =
+    λ s e. subst (λ (x : Served). HasOwnId id (view x.form)) (some_is made s e) (own_leaf id h.0 (view made.form) (same ∙ ap view (sym (some_is f form is)) ∙ h.1))
+
+pub none_made : (id : List ℕ) → IsServedOwn id None
+none_made id = λ s is. absurd cc
+
+-- ---- its `_id`
+
+one_part : (o : Option Value) → option_and_then (λ part. option_map (item part) (Some no_items)) (option_and_then (part_of []) o) ≡ option_map (λ part. item part no_items) o
+one_part None = refl
+one_part (Some v) = refl
+
+pub key-member : (form : Value) → key_of all_columns form ≡ option_map (λ part. item part no_items) (member_of (codes "_id") form)
+key-member null = refl
+key-member (flag b) = refl
+key-member (whole z) = refl
+key-member (text s) = refl
+key-member (list vs) = refl
+key-member (object ms) = one_part (get_member (codes "_id") ms)
+
+-- ---- the documents of a shard
+
+own_served : (id : List ℕ) (served : Option Served) (form : Value) → IsServedOwn id served → option_map (λ s. view s.form) served ≡ Some form → HasOwnId id form
+own_served id None form own e = absurd cc
+own_served id (Some s) form own e = let same : view s.form ≡ form = cc in subst (λ (v : Value). HasOwnId id v) same (own s refl)
+
+own_document : (d : Document) (form : Value) → form_of d ≡ Some form → HasOwnId (id_of d) form
+own_document d form e = own_served (id_of d) d.served form d.own_id e
+
+own_step : (q : List ℕ) (d : Document) (form : Value) (o : Option Kept) (b : Bool) → is_eq (bytes_cmp q (id_of d)) ≡ b → (option_and_then (λ k. k.1) o ≡ Some form → HasOwnId q form)
+    → option_and_then (λ k. k.1) (cond b (Some (kept_of d)) o) ≡ Some form → HasOwnId q form
+own_step q d form o true is rest e = subst (λ (i : List ℕ). HasOwnId i form) (sym (bytes_exact q (id_of d) (tied (bytes_cmp q (id_of d)) is))) (own_document d form e)
+own_step q d form o false is rest e = rest e
+
+own_found : (q : List ℕ) (ds : List Document) (form : Value) → option_and_then (λ k. k.1) (find bytes_cmp q (map entry_of ds)) ≡ Some form → HasOwnId q form
+own_found q [] form e = absurd cc
+own_found q (d ∷ ds) form e = own_step q d form (find bytes_cmp q (map entry_of ds)) (is_eq (bytes_cmp q (id_of d))) refl (own_found q ds form) e
+
+-- a document that is served with an `_id` is served with its own
+pub own_shown : (q : List ℕ) (ds : List Document) (form : Value) → form_at (shown ds) q ≡ Some form → HasOwnId q form
+own_shown q ds form e = own_found q ds form (ap (option_and_then (λ (k : Kept). k.1)) (sym (get-from_entries nat_list_cmp_total (map entry_of ds) q)) ∙ e)
+
+-- ---- what is found under an id has it
+
+first_is : (q : List ℕ) (d x : Document) (ds : List Document) (b : Bool) → is_eq (bytes_cmp q (id_of d)) ≡ b → (first_of_list ds ≡ Some x → id_of x ≡ q)
+    → first_of_list (cond b (d ∷ ds) ds) ≡ Some x → id_of x ≡ q
+first_is q d x ds true is rest e = let same : d ≡ x = cc in ap id_of (sym same) ∙ sym (bytes_exact q (id_of d) (tied (bytes_cmp q (id_of d)) is))
+first_is q d x ds false is rest e = rest e
+
+pub found_id : (q : List ℕ) (ds : List Document) (x : Document) → found (id_against id_of q) ds ≡ Some x → id_of x ≡ q
+found_id q [] x e = absurd cc
+found_id q (d ∷ ds) x e = first_is q d x (filter (λ y. is_eq (bytes_cmp q (id_of y))) ds) (is_eq (bytes_cmp q (id_of d))) refl (found_id q ds x) e
+
+-- so it is with what is lent of it
+pub found_through : (q : List ℕ) (ds : List Document) (r : Option (Bor Document)) → option_map (λ d. d.now) r ≡ found (id_against id_of q) ds → IfSome r (λ d. id_of d.now ≡ q)
+found_through q ds None e = tt
+found_through q ds (Some d) e = found_id q ds d.now (sym e)

@@ -1,0 +1,54 @@
+-- What comes after a place, seen through a map, and what is served of documents from the last to the first.
+use Rattle.std.proofs.Common.{◌≡◌, List, [], ◌∷◌, ◌++◌, Bool, true, false, Ordering, Option, Some, None, cond, is_gt, is_lt, map, reverse, refl, ap, sym, ◌∙◌}
+use Rattle.std.proofs.lemmas.List.{reverse-append}
+use Rattle.std.specs.List.{cons_option, filter, filter_map}
+use Rattle.mg_collate.specs.declared.direction.Direction.{Direction}
+use Rattle.mg_collate.specs.declared.direction.Direction.TheVariants.{Asc, Desc}
+use Rattle.mg_shard.specs.Walk.{beyond, in_direction}
+
+map-append : {A B : Type 0} (f : A → B) (xs ys : List A) → map f (xs ++ ys) ≡ map f xs ++ map f ys
+map-append f [] ys = refl
+map-append f (x ∷ xs) ys = ap (λ zs. f x ∷ zs) (map-append f xs ys)
+
+pub reverse-map : {A B : Type 0} (f : A → B) (xs : List A) → map f (reverse xs) ≡ reverse (map f xs)
+reverse-map f [] = refl
+reverse-map f (x ∷ xs) =
+    ap (map f) (reverse-append (x ∷ []) xs) ∙ map-append f (reverse xs) (x ∷ []) ∙ ap (λ ys. ys ++ f x ∷ []) (reverse-map f xs) ∙ sym (reverse-append (f x ∷ []) (map f xs))
+
+where_step : {A B : Type 0} (f : A → B) (b c : Bool) (x : A) (xs : List A) → b ≡ c → map f (cond b (x ∷ xs) xs) ≡ cond c (f x ∷ map f xs) (map f xs)
+where_step f true true x xs e = refl
+where_step f false false x xs e = refl
+where_step f true false x xs e = absurd cc
+where_step f false true x xs e = absurd cc
+
+module _ {A B : Type 0} (f : A → B) (against : A → Ordering) (order : B → Ordering) (same : (x : A) → against x ≡ order (f x)) where
+  where-map : (p : Ordering → Bool) (xs : List A) → map f (filter (λ x. p (against x)) xs) ≡ filter (λ y. p (order y)) (map f xs)
+  where-map p [] = refl
+  where-map p (x ∷ xs) =
+      where_step f (p (against x)) (p (order (f x))) x (filter (λ y. p (against y)) xs) (ap p (same x)) ∙ ap (λ ys. cond (p (order (f x))) (f x ∷ ys) ys) (where-map p xs)
+
+  -- what comes after a place, seen through a map
+  pub beyond-map : (direction : Direction) (xs : List A) → map f (beyond direction against xs) ≡ beyond direction order (map f xs)
+  beyond-map Asc xs = where-map is_lt xs
+  beyond-map Desc xs = reverse-map f (filter (λ x. is_gt (against x)) xs) ∙ ap reverse (where-map is_gt xs)
+
+filter_map-append : {A B : Type 0} (f : A → Option B) (xs ys : List A) → filter_map f (xs ++ ys) ≡ filter_map f xs ++ filter_map f ys
+filter_map-append f [] ys = refl
+filter_map-append {A} {B} f (x ∷ xs) ys = ap (cons_option (f x)) (filter_map-append f xs ys) ∙ step (f x) (filter_map f xs) (filter_map f ys)
+  where
+    step : (o : Option B) (us vs : List B) → cons_option o (us ++ vs) ≡ cons_option o us ++ vs
+    step None us vs = refl
+    step (Some y) us vs = refl
+
+pub filter_map-reverse : {A B : Type 0} (f : A → Option B) (xs : List A) → filter_map f (reverse xs) ≡ reverse (filter_map f xs)
+filter_map-reverse f [] = refl
+filter_map-reverse {A} {B} f (x ∷ xs) =
+    ap (filter_map f) (reverse-append (x ∷ []) xs) ∙ filter_map-append f (reverse xs) (x ∷ []) ∙ ap (λ ys. ys ++ filter_map f (x ∷ [])) (filter_map-reverse f xs) ∙ step (f x) (filter_map f xs)
+  where
+    no_more : (us : List B) → us ++ [] ≡ us
+    no_more [] = refl
+    no_more (u ∷ us) = ap (λ vs. u ∷ vs) (no_more us)
+
+    step : (o : Option B) (us : List B) → reverse us ++ cons_option o [] ≡ reverse (cons_option o us)
+    step None us = no_more (reverse us)
+    step (Some y) us = sym (reverse-append (y ∷ []) us)

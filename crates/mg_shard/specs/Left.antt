@@ -1,0 +1,8 @@
+-- For private clauses: what is left on a way.
+use Rattle.std.specs.Prelude.{List}
+use Rattle.mg_shard.specs.declared.walk.Way.{Way}
+use Rattle.mg_shard.specs.declared.walk.Way.TheVariants.{Up, Down}
+
+abbrev pub left_on : {T : Type 0} → Way T → List T
+left_on (Up things) = things
+left_on (Down things) = things

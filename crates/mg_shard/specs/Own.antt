@@ -1,0 +1,26 @@
+-- Documents are served with their own ids: the rows of all documents by id are those of the one column `_id`.
+use Rattle.std.specs.Prelude.{◌≡◌, ℕ, List, [], ◌∷◌, Option, Some, codes}
+use Rattle.std.specs.Coded.{Coded-set, Π_prop, →_prop}
+use Rattle.mg_value.specs.Value.{Value, text}
+use Rattle.mg_value.specs.Code.{value_code}
+use Rattle.mg_value.specs.View.{view}
+use Rattle.mg_index.specs.Definition.{Steps}
+use Rattle.mg_path.specs.Part.{part_of}
+use Rattle.mg_shard.specs.declared.served.Served.{Served}
+
+-- the columns of the list of all documents: `_id` alone
+abbrev pub all_columns : List Steps
+all_columns = (codes "_id" ∷ []) ∷ []
+
+-- where a form has an `_id`, it is this id
+abbrev pub HasOwnId : List ℕ → Value → Type 0
+HasOwnId id form = (part : Value) → part_of (codes "_id" ∷ []) form ≡ Some part → part ≡ text id
+
+-- ---- of the code's documents
+
+-- so it is where there is a form
+abbrev pub IsServedOwn : List ℕ → Option Served → Type 0
+IsServedOwn id served = (s : Served) → served ≡ Some s → HasOwnId id (view s.form)
+
+pub IsServedOwn-prop : (id : List ℕ) (served : Option Served) → IsProp (IsServedOwn id served)
+IsServedOwn-prop id served = Π_prop (λ s. →_prop (Π_prop (λ part. →_prop (Coded-set value_code part (text id)))))

@@ -1,0 +1,16 @@
+-- Reading in a direction: what is left of a walk, and what comes after a place.
+use Rattle.std.specs.Prelude.{List, reverse}
+use Rattle.std.specs.declared.cmp.Ordering.{Ordering}
+use Rattle.mg_collate.specs.declared.direction.Direction.{Direction}
+use Rattle.mg_collate.specs.declared.direction.Direction.TheVariants.{Asc, Desc}
+use Rattle.mg_pages.specs.Order.{above, below}
+
+-- a list in a direction
+abbrev pub in_direction : {T : Type 0} → Direction → List T → List T
+in_direction Asc xs = xs
+in_direction Desc xs = reverse xs
+
+-- what comes after a place in a direction: ascending what is above it, descending what is below it from the last to the first
+abbrev pub beyond : {T : Type 0} → Direction → (T → Ordering) → List T → List T
+beyond Asc against xs = above against xs
+beyond Desc against xs = reverse (below against xs)

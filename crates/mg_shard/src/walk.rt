@@ -1,0 +1,83 @@
+//! Things in order that are read in either direction.
+ghost use Rattle.std.specs.Prelude.{◌≡◌, length};
+ghost use Rattle.std.specs.Iterator.{at_most};
+ghost use Rattle.std.specs.Map.Iter.{TakesFirst, deref};
+ghost use Rattle.mg_shard.specs.Left.{left_on};
+ghost use Rattle.mg_shard.specs.Walk.{beyond, in_direction};
+
+use crate::document::Document;
+use mg_collate::{Direction, Row};
+use mg_pages::{Back, Iter, Keyed, Pages, Probe};
+use std::marker::Model;
+
+// A way through things in order: up from the first that is left, or down from the last.
+#[derive(Drop)]
+pub(crate) enum Way<'a, T: Keyed> {
+    Up(Iter<'a, T>),
+    Down(Back<'a, T>),
+}
+
+/// The things that are left of a collection, in the direction in which they are read.
+#[derive(Drop)]
+pub struct Walk<'a, T: Keyed> {
+    way: Way<'a, T>,
+}
+
+/// Rows of an index that are left, in the direction in which they are read.
+pub type Rows<'a> = Walk<'a, Row>;
+
+/// Documents that are left, deleted ones too, in the direction in which they are read.
+pub type Documents<'a> = Walk<'a, Document>;
+
+impl<'a, T: Keyed> Model for Walk<'a, T> {
+    ghost use Rattle.std.specs.Prelude.{List};
+
+    ghost Value = { List T };
+
+    ghost use Rattle.mg_shard.specs.Left.{left_on};
+
+    ghost view = { λ w. left_on w.way };
+}
+
+impl<'a, T: Keyed> Walk<'a, T> {
+    // All things of a collection.
+    pub(crate) fn over(pages: &'a Pages<T>, direction: Direction) -> Walk<'a, T>
+        ensures { result ≡ in_direction direction pages.now }
+    {
+        let way = match direction {
+            Direction::Asc => Way::Up(pages.iter()),
+            Direction::Desc => Way::Down(pages.back()),
+        };
+        Walk { way }
+    }
+
+    // Those that come after a key in the direction.
+    pub(crate) fn beyond<Q: Probe<T>>(
+        pages: &'a Pages<T>,
+        key: &Q,
+        direction: Direction,
+    ) -> Walk<'a, T>
+        ensures { result ≡ beyond direction (Q.against key.now) pages.now }
+    {
+        let way = match direction {
+            Direction::Asc => Way::Up(pages.after(key)),
+            Direction::Desc => Way::Down(pages.before(key)),
+        };
+        Walk { way }
+    }
+}
+
+impl<'a, T: Keyed> Iterator for Walk<'a, T> {
+    type Item = &'a T;
+
+    ghost next_gives = { TakesFirst deref };
+
+    ghost remaining = { λ s. at_most (length s) };
+
+    fn next(&mut self) -> Option<&'a T> {
+        match &mut self.way {
+            Way::Up(things) => things.next(),
+            Way::Down(things) => things.next(),
+        }
+    }
+}
