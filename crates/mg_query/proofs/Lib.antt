@@ -1,0 +1,4 @@
+pub mod Items
+pub mod Each
+pub mod Exits
+pub mod Shapes

@@ -1,4 +1,5 @@
 pub mod Query
-pub mod Page
+
 pub mod Seen
-pub mod Explain
+pub mod Given
+

@@ -2,7 +2,9 @@
 #![tactic(auto)]
 
 mod error;
+mod field;
+mod member;
 mod query;
 
-pub use error::QueryError;
+pub use error::{PageError, QueryError};
 pub use query::Query;
