@@ -1,1 +1,2 @@
 mod Spellings
+mod Readings

@@ -4,14 +4,12 @@ use Rattle.std.proofs.Math.Utf8.{encode, scalar, scalars}
 use Rattle.std.specs.List.{AllByRecursion}
 use Rattle.std.specs.Str.{IsUtf8, encode_utf8_all}
 use Rattle.std.proofs.lemmas.Bool.{and_parts, ltb-true}
-use Rattle.base64.specs.GeneralPurpose.{IsBytes, encode_of}
-use Rattle.base64.specs.Engines.{url_safe_no_pad}
-use Rattle.mg_value.specs.Text.{Reads, compact, whole_of}
+use Rattle.base64.specs.GeneralPurpose.{IsBytes}
+use Rattle.mg_value.specs.Text.{Reads, whole_of}
 use Rattle.mg_value.specs.Value.{Value, list}
 use Rattle.mg_value.specs.View.{items_view}
 use Rattle.mg_value.specs.declared.value.Json.{Json}
-use Rattle.mg_bookmark.specs.Bookmark.{Place, Spells, place_value}
-use Rattle.mg_bookmark.specs.Decoding.{IsDecoded}
+use Rattle.mg_bookmark.specs.Bookmark.{Place, place_value}
 
 -- each is a byte
 abbrev Low : List ℕ → Type 0
@@ -68,7 +66,7 @@ read-low (x ∷ xs) h zero = h.0
 read-low (x ∷ xs) h (suc i) = read-low xs h.1 i
 
 -- UTF-8 is bytes
-utf8-bytes : (bs : List ℕ) → IsUtf8 bs → IsBytes bs
+pub utf8-bytes : (bs : List ℕ) → IsUtf8 bs → IsBytes bs
 utf8-bytes bs u = subst IsBytes u.1.1 (read-low (encode_utf8_all u.0) (encodes-low u.0 u.1.0))
 
 -- a text has one value
@@ -78,33 +76,8 @@ one_data f r d e v w a b x y =
     let values : Some v ≡ Some w = sym x ∙ ap f same ∙ y in
     cc
 
-one_value : (bs : List ℕ) (v w : Value) → Reads bs v → Reads bs w → v ≡ w
+pub one_value : (bs : List ℕ) (v w : Value) → Reads bs v → Reads bs w → v ≡ w
 one_value bs v w a b = one_data whole_of _ a.0 b.0 v w a.1.1 b.1.1 a.2 b.2
-
--- no bookmark is spelled so: it is no base64
-pub not_decoded : (t : List ℕ) → ((b : List ℕ) → IsBytes b → t ≡ encode_of url_safe_no_pad b → ⊥) → (p : Place) → Spells t p → ⊥
-not_decoded t none p s = none (compact (place_value p)) (utf8-bytes (compact (place_value p)) s.1.1.0) s.0
-
--- of a spelling the bytes are the compact text
-pub decoded_compact : (t bytes : List ℕ) (p : Place) → IsDecoded t bytes → Spells t p → compact (place_value p) ≡ bytes
-decoded_compact t bytes p d s = d.1 (compact (place_value p)) (utf8-bytes (compact (place_value p)) s.1.1.0) s.0
-
--- it is no compact text
-pub not_compact : (t bytes : List ℕ) → IsDecoded t bytes → ((v : Value) → Reads bytes v → bytes ≡ compact v → ⊥) → (p : Place) → Spells t p → ⊥
-not_compact t bytes d none p s =
-    let same = decoded_compact t bytes p d s in
-    none (place_value p) (subst (λ bs. Reads bs (place_value p)) same s.1) (sym same)
-
--- it is no bookmark's array
-pub not_a_place : (t bytes : List ℕ) (v : Value) → IsDecoded t bytes → Reads bytes v → ((p : Place) → v ≡ place_value p → ⊥) → (p : Place) → Spells t p → ⊥
-not_a_place t bytes v d r none p s =
-    none p (one_value bytes v (place_value p) r (subst (λ bs. Reads bs (place_value p)) (decoded_compact t bytes p d s) s.1))
-
--- it is
-pub spells : (t bytes : List ℕ) (v : Value) (p : Place) → IsDecoded t bytes → Reads bytes v → bytes ≡ compact v → v ≡ place_value p → Spells t p
-spells t bytes v p d r c e =
-    let same : bytes ≡ compact (place_value p) = c ∙ ap compact e in
-    (d.0 ∙ ap (encode_of url_safe_no_pad) same, subst (λ w. Reads (compact w) w) e (subst (λ bs. Reads bs v) c r))
 
 -- an array of another length is no bookmark's
 pub not_five : (js : List Json) → length js ≢ 5 → (p : Place) → list (items_view js) ≡ place_value p → ⊥

@@ -5,8 +5,10 @@ use Rattle.base64.specs.Engines.{url_safe_no_pad}
 use Rattle.mg_value.specs.Value.{Value, list, item, no_items}
 
 -- the text is the base64 of these bytes, and of no others
-abbrev pub IsDecoded : List ℕ → List ℕ → Type 0
-IsDecoded t bytes = (t ≡ encode_of url_safe_no_pad bytes) × ((b : List ℕ) → IsBytes b → t ≡ encode_of url_safe_no_pad b → b ≡ bytes)
+pub record IsDecoded (t bytes : List ℕ) : Type 0 where
+  pub low : IsBytes bytes
+  pub encoded : t ≡ encode_of url_safe_no_pad bytes
+  pub only : (b : List ℕ) → IsBytes b → t ≡ encode_of url_safe_no_pad b → b ≡ bytes
 
 -- an array of five
 abbrev pub five : Value → Value → Value → Value → Value → Value

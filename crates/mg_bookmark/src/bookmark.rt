@@ -1,12 +1,10 @@
-ghost use Rattle.std.specs.Prelude.{◌≡◌, ◌↔◌, codes, None, Ok, Err, IfOk, IfSome, string_bytes};
-ghost use Rattle.mg_value.specs.View.{view};
-ghost use Rattle.mg_bookmark.specs.Bookmark.{ddoc_value, direction_text};
+ghost use Rattle.std.specs.Prelude.{◌≡◌, ◌↔◌, codes, None, Some, Ok, Err, IfOk, IfSome, option_map, string_bytes};
 
 use crate::error::BookmarkError;
+use crate::place::{RowKey, RowPlace};
 use crate::spelling::spelled_by;
-use base64::engine::general_purpose::URL_SAFE_NO_PAD;
 use mg_collate::Direction;
-use mg_value::{Json, NoMemory, write};
+use mg_value::{Json, NoMemory};
 use std::alloc::Global;
 
 /// The place of a row in an index, read in a direction: what a page ended with.
@@ -25,38 +23,31 @@ pub struct Bookmark {
 }
 
 impl Bookmark {
-    ghost use Rattle.mg_bookmark.specs.Bookmark.{Place, Spells, spelled};
-    ghost use Rattle.mg_bookmark.specs.Seen.{place_of};
+    ghost use Rattle.mg_bookmark.specs.Bookmark.{Place, Spells, bookmark_read, spelled};
+    ghost use Rattle.mg_bookmark.specs.Seen.{place_at, place_of};
 
     /// The text that a client gets: the five parts as a JSON array, written compactly, in the
     /// alphabet of base64 that URLs allow (RFC 4648), not padded. The design document of `_all_docs`
     /// is null, and the direction a word, `asc` or `desc`.
     ///
     /// Errors: `NoMemory` where a growth was refused. Cost: the size of the key.
-    pub fn encode(self, alloc: Global) -> Result<String, NoMemory>
-        ensures { IfOk result (λ t. string_bytes t ≡ spelled (place_of self)) }
+    pub fn encode(&self, alloc: Global) -> Result<String, NoMemory>
+        ensures { IfOk result (λ t. string_bytes t ≡ spelled (place_of self.now)) }
     {
-        let Bookmark {
-            ddoc,
-            name,
-            direction,
-            key,
-            id,
-        } = self;
-        let ddoc = match ddoc {
-            Some(ddoc) => Json::Text(ddoc),
-            None => Json::Null,
-        };
-        let direction = String::from_str(alloc, word_of(direction))?;
-        let place = vec![in alloc;
-            ddoc,
-            Json::Text(name),
-            Json::Text(direction),
-            Json::List(key),
-            Json::Text(id),
-        ]?;
-        let text = write(alloc, &Json::List(place))?;
-        Ok(URL_SAFE_NO_PAD.encode(alloc, &text)?)
+        self.lent().spell(alloc)
+    }
+
+    // The same place, its parts lent.
+    pub(crate) fn lent(&self) -> RowPlace<'_>
+        ensures { place_at result ≡ place_of self.now }
+    {
+        RowPlace {
+            ddoc: self.ddoc.as_deref(),
+            name: self.name.as_str(),
+            direction: self.direction,
+            key: RowKey::Columns(&self.key),
+            id: self.id.as_str(),
+        }
     }
 
     /// Reads the text that a client gives back, as `encode` wrote it: none for `nil`, which stands
@@ -70,20 +61,13 @@ impl Bookmark {
         ensures some { IfOk result (λ found. IfSome found (λ b. Spells text.now (place_of b))) }
         ensures invalid { result ≡ Err BookmarkError.Invalid
             → (¬ (text.now ≡ codes "nil")) × ((p : Place) → ¬ Spells text.now p) }
+        ensures read { IfOk result
+            (λ found. bookmark_read text.now ≡ Some (option_map place_of found)) }
+        ensures unread { result ≡ Err BookmarkError.Invalid → bookmark_read text.now ≡ None }
     {
         match text {
             "nil" => Ok(None),
             _ => Ok(Some(spelled_by(alloc, text)?)),
         }
-    }
-}
-
-// The word for a direction.
-fn word_of(direction: Direction) -> &'static str
-    ensures { result.now ≡ direction_text direction }
-{
-    match direction {
-        Direction::Asc => "asc",
-        Direction::Desc => "desc",
     }
 }

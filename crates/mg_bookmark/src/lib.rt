@@ -4,7 +4,10 @@
 mod bookmark;
 mod error;
 mod parts;
+mod place;
 mod spelling;
+mod text;
 
 pub use bookmark::Bookmark;
 pub use error::BookmarkError;
+pub use place::{RowKey, RowPlace};

@@ -1,6 +1,6 @@
 // For mg_tests (a module bookmark_tests): a text is read back exactly where it is a bookmark's one spelling.
 // The texts were made by Python's base64 and json, not by the program.
-use mg_bookmark::{Bookmark, BookmarkError};
+use mg_bookmark::{Bookmark, BookmarkError, RowKey, RowPlace};
 use mg_collate::Direction;
 use mg_value::Json;
 use std::test::Fail;
@@ -25,6 +25,28 @@ fn one_spelling_is_read(rt: HostRuntime) -> Result<(), Fail> {
     assert_eq!(rt; second.direction, Direction::Desc);
     assert_eq!(rt; second.key.len(), 3);
     assert_eq!(rt; second.encode(alloc)?.as_str(), text);
+    Ok(())
+}
+
+// A lent place of `_all_docs`, whose key is the id, and of an index without columns.
+#[test]
+fn lent_places_are_spelled(rt: HostRuntime) -> Result<(), Fail> {
+    let mut place = RowPlace {
+        ddoc: None,
+        name: "_all_docs",
+        direction: Direction::Asc,
+        key: RowKey::Id,
+        id: "a",
+    };
+    assert_eq!(rt;
+        place.spell(rt.alloc())?.as_str(),
+        "W251bGwsIl9hbGxfZG9jcyIsImFzYyIsWyJhIl0sImEiXQ"
+    );
+    place.key = RowKey::Columns(&[]);
+    assert_eq!(rt;
+        place.spell(rt.alloc())?.as_str(),
+        "W251bGwsIl9hbGxfZG9jcyIsImFzYyIsW10sImEiXQ"
+    );
     Ok(())
 }
 

@@ -1,0 +1,146 @@
+-- The reading of a spelling as a function gives what is spelled.
+use Rattle.std.proofs.Common.{◌≡◌, ℕ, List, Bool, true, false, cond, Option, Some, None, option_map, if◌then◌else◌, refl, sym, ap, ◌∙◌, subst, codes}
+use Rattle.std.specs.Option.{option_and_then}
+use Rattle.std.specs.Str.{bytes_eq, is_utf8}
+use Rattle.std.proofs.lemmas.Option.{option_and_then_some}
+use Rattle.std.proofs.lemmas.Slice.Eq.{bytes_eq-Decides}
+use Rattle.std.proofs.lemmas.Str.{IsUtf8-from_is_utf8, is_utf8-from_IsUtf8}
+use Rattle.base64.specs.GeneralPurpose.{IsBytes, encode_of, decoded_of}
+use Rattle.base64.specs.Engines.{url_safe_no_pad}
+use Rattle.base64.proofs.EngineFacts.{decode_of-encode_of}
+use Rattle.base64.proofs.Streams.{decoded_of-ok}
+use Rattle.serde_json.specs.Read.{read}
+use Rattle.mg_collate.specs.declared.direction.Direction.{Direction}
+use Rattle.mg_collate.specs.declared.direction.Direction.TheVariants.{Asc, Desc}
+use Rattle.mg_value.specs.Text.{Reads, compact, whole_of}
+use Rattle.mg_value.specs.Value.{Value, null, text, list, item, no_items}
+use Rattle.mg_bookmark.specs.Bookmark.{Place, Spells, ddoc_in, ddoc_value, direction_in, direction_text, place_in, place_value, spelled, value_in, if_spelled, place_read, bookmark_read}
+use Rattle.mg_bookmark.specs.Decoding.{IsDecoded}
+use Rattle.mg_bookmark.proofs.Spellings.{utf8-bytes}
+
+-- ---- what is spelled is read
+
+-- the bytes of an encoding
+pub decoded_again : (bytes : List ℕ) → IsBytes bytes → decoded_of url_safe_no_pad (encode_of url_safe_no_pad bytes) ≡ Some bytes
+decoded_again bytes low = decoded_of-ok url_safe_no_pad (encode_of url_safe_no_pad bytes) bytes (decode_of-encode_of url_safe_no_pad bytes refl low)
+
+-- the value of a text
+value_in_text : (bytes : List ℕ) (v : Value) → Reads bytes v → value_in bytes ≡ Some v
+value_in_text bytes v r = rw (is_utf8-from_IsUtf8 bytes r.1.0) (rw r.1.1 r.2)
+
+ddoc_again : (d : Option (List ℕ)) → ddoc_in (ddoc_value d) ≡ Some d
+ddoc_again None = refl
+ddoc_again (Some s) = refl
+
+direction_again : (d : Direction) → direction_in (direction_text d) ≡ Some d
+direction_again Asc = refl
+direction_again Desc = refl
+
+-- the place of its array
+place_again : (p : Place) → place_in (place_value p) ≡ Some p
+place_again p = rw (ddoc_again p.ddoc) (rw (direction_again p.direction) refl)
+
+if_same : (t : List ℕ) (p : Place) → t ≡ spelled p → if_spelled t p ≡ Some p
+if_same t p e = rw ((bytes_eq-Decides t (spelled p)).1 e) refl
+
+pub read_of_spelled : (t : List ℕ) (p : Place) → Spells t p → place_read t ≡ Some p
+read_of_spelled t p s =
+    let bytes = compact (place_value p) in
+    let decoded : decoded_of url_safe_no_pad t ≡ Some bytes = ap (decoded_of url_safe_no_pad) s.0 ∙ decoded_again bytes (utf8-bytes bytes s.1.1.0) in
+    ap (λ o. option_and_then (if_spelled t) (option_and_then place_in (option_and_then value_in o))) decoded
+    ∙ ap (λ o. option_and_then (if_spelled t) (option_and_then place_in o)) (value_in_text bytes (place_value p) s.1)
+    ∙ ap (option_and_then (if_spelled t)) (place_again p)
+    ∙ if_same t p s.0
+
+-- ---- what is read is spelled
+
+-- an option that gives nothing is none
+pub none_of : {A : Type 0} (o : Option A) → ((x : A) → o ≡ Some x → ⊥) → o ≡ None
+none_of None h = refl
+none_of (Some x) h = absurd (h x refl)
+
+-- the value that bytes are found to be
+text_of_value : (bytes : List ℕ) (v : Value) → value_in bytes ≡ Some v → Reads bytes v
+text_of_value bytes v = of_test (is_utf8 bytes) refl
+  where
+    of_test : (b : Bool) → is_utf8 bytes ≡ b → cond b (option_and_then whole_of (read bytes)) None ≡ Some v → Reads bytes v
+    of_test true utf8 e = option_and_then_some whole_of (read bytes) v e (λ d r w. (d, (IsUtf8-from_is_utf8 bytes utf8, r), w))
+    of_test false utf8 e = absurd cc
+
+-- bytes that are no text of a value
+pub no_value : (bytes : List ℕ) → ((v : Value) → Reads bytes v → ⊥) → value_in bytes ≡ None
+no_value bytes none = none_of (value_in bytes) (λ v e. none v (text_of_value bytes v e))
+
+ddoc_found : (v : Value) (d : Option (List ℕ)) → ddoc_in v ≡ Some d → v ≡ ddoc_value d
+ddoc_found null d e = let f : d ≡ None = cc in rw f refl
+ddoc_found (text s) d e = let f : d ≡ Some s = cc in rw f refl
+ddoc_found v d e = absurd cc
+
+direction_found : (word : List ℕ) (d : Direction) → direction_in word ≡ Some d → word ≡ direction_text d
+direction_found word d = asc (bytes_eq word (codes "asc")) refl
+  where
+    desc : (b : Bool) → bytes_eq word (codes "desc") ≡ b → cond b (Some Desc) None ≡ Some d → word ≡ direction_text d
+    desc true same e = let f : d ≡ Desc = cc in rw f ((bytes_eq-Decides word (codes "desc")).0 same)
+    desc false same e = absurd cc
+
+    asc : (b : Bool) → bytes_eq word (codes "asc") ≡ b → cond b (Some Asc) ((if bytes_eq word (codes "desc") then Some Desc else None)) ≡ Some d → word ≡ direction_text d
+    asc true same e = let f : d ≡ Asc = cc in rw f ((bytes_eq-Decides word (codes "asc")).0 same)
+    asc false same e = desc (bytes_eq word (codes "desc")) refl e
+
+option_mapped : {A B P : Type 0} (f : A → B) (o : Option A) (y : B) → option_map f o ≡ Some y → ((x : A) → o ≡ Some x → f x ≡ y → P) → P
+option_mapped f None y e k = absurd cc
+option_mapped f (Some x) y e k = k x refl cc
+
+-- a place is found in its own array alone
+place_found : (v : Value) (p : Place) → place_in v ≡ Some p → v ≡ place_value p
+place_found (list (item d (item (text name) (item (text word) (item (list key) (item (text id) no_items)))))) p e =
+    let Made : Option (List ℕ) → Direction → Place = λ ddoc direction. record { ddoc = ddoc; name = name; direction = direction; key = key; id = id } in
+    option_and_then_some (λ ddoc. option_map (Made ddoc) (direction_in word)) (ddoc_in d) p e
+    (λ ddoc de f. option_mapped (Made ddoc) (direction_in word) p f (λ direction we made.
+    subst (λ q. list (item d (item (text name) (item (text word) (item (list key) (item (text id) no_items))))) ≡ place_value q) made (rw (ddoc_found d ddoc de) (rw (direction_found word direction we) refl))))
+place_found v p e = absurd cc
+
+-- ---- where the reading stops
+
+decoded : (t bytes : List ℕ) → IsDecoded t bytes → decoded_of url_safe_no_pad t ≡ Some bytes
+decoded t bytes d = ap (decoded_of url_safe_no_pad) d.encoded ∙ decoded_again bytes d.low
+
+-- at bytes that are no value's text
+pub unread_bytes : (t bytes : List ℕ) → IsDecoded t bytes → value_in bytes ≡ None → place_read t ≡ None
+unread_bytes t bytes d none =
+    ap (λ o. option_and_then (if_spelled t) (option_and_then place_in (option_and_then value_in o))) (decoded t bytes d) ∙ ap (λ o. option_and_then (if_spelled t) (option_and_then place_in o)) none
+
+value_read : (t bytes : List ℕ) (v : Value) → IsDecoded t bytes → Reads bytes v → place_read t ≡ option_and_then (if_spelled t) (place_in v)
+value_read t bytes v d r =
+    ap (λ o. option_and_then (if_spelled t) (option_and_then place_in (option_and_then value_in o))) (decoded t bytes d)
+    ∙ ap (λ o. option_and_then (if_spelled t) (option_and_then place_in o)) (value_in_text bytes v r)
+
+-- at a value that is no place's array
+pub unread_value : (t bytes : List ℕ) (v : Value) → IsDecoded t bytes → Reads bytes v → ((p : Place) → v ≡ place_value p → ⊥) → place_read t ≡ None
+unread_value t bytes v d r none = value_read t bytes v d r ∙ ap (option_and_then (if_spelled t)) (none_of (place_in v) (λ p e. none p (place_found v p e)))
+
+if_other : (t : List ℕ) (p : Place) → (t ≡ spelled p → ⊥) → if_spelled t p ≡ None
+if_other t p other = of_test (bytes_eq t (spelled p)) refl
+  where
+    of_test : (b : Bool) → bytes_eq t (spelled p) ≡ b → cond b (Some p) None ≡ None
+    of_test true same = absurd (other ((bytes_eq-Decides t (spelled p)).0 same))
+    of_test false same = refl
+
+-- at another spelling of the array
+pub unread_spelling : (t bytes : List ℕ) (v : Value) (p : Place) → IsDecoded t bytes → Reads bytes v → v ≡ place_value p → IsBytes (compact (place_value p)) → (bytes ≡ compact (place_value p) → ⊥)
+    → place_read t ≡ None
+unread_spelling t bytes v p d r e low other =
+    value_read t bytes v d r ∙ ap (λ w. option_and_then (if_spelled t) (place_in w)) e ∙ ap (option_and_then (if_spelled t)) (place_again p)
+    ∙ if_other t p (λ same. other (sym (d.only (compact (place_value p)) low same)))
+
+-- ---- what a client gives back
+
+pub bookmark_of_place : (t : List ℕ) (r : Option Place) → (t ≡ codes "nil" → ⊥) → place_read t ≡ r → bookmark_read t ≡ option_map Some r
+bookmark_of_place t r other e = of_test (bytes_eq t (codes "nil")) refl
+  where
+    of_test : (b : Bool) → bytes_eq t (codes "nil") ≡ b → cond b (Some None) (option_map Some (place_read t)) ≡ option_map Some r
+    of_test true same = absurd (other ((bytes_eq-Decides t (codes "nil")).0 same))
+    of_test false same = ap (option_map Some) e
+
+pub unread_spells_none : (t : List ℕ) (p : Place) → place_read t ≡ None → Spells t p → ⊥
+unread_spells_none t p none s = let some = read_of_spelled t p s in cc

@@ -1,0 +1,69 @@
+ghost use Rattle.std.specs.Prelude.{◌≡◌, IfOk, string_bytes};
+ghost use Rattle.mg_value.specs.Text.{compact};
+ghost use Rattle.mg_bookmark.specs.Bookmark.{place_value, spelled};
+ghost use Rattle.mg_bookmark.specs.Seen.{place_at};
+
+use crate::text::{with_ddoc, with_direction, with_key, with_text};
+use base64::engine::general_purpose::URL_SAFE_NO_PAD;
+use mg_collate::Direction;
+use mg_value::{Json, NoMemory};
+use std::alloc::Global;
+
+// The bytes that are asked for at first: the array of most rows fits.
+const FIRST_ROOM: usize = 256;
+
+/// The key of a row, lent.
+#[derive(Clone, Copy)]
+pub enum RowKey<'a> {
+    /// The values of an index's columns.
+    Columns(&'a [Json]),
+    /// The one text of the document's id, as in `_all_docs`.
+    Id,
+}
+
+/// The place of a row in an index, read in a direction, with lent parts: what a `Bookmark` owns.
+#[derive(Clone, Copy)]
+pub struct RowPlace<'a> {
+    /// The design document of the index, none for `_all_docs`.
+    pub ddoc: Option<&'a str>,
+    /// The name of the index.
+    pub name: &'a str,
+    /// The direction in which the index is read.
+    pub direction: Direction,
+    /// The row's key.
+    pub key: RowKey<'a>,
+    /// The document's id.
+    pub id: &'a str,
+}
+
+impl RowPlace<'_> {
+    /// The text that a client gets for a page that ended with the row, as `Bookmark::encode` gives it
+    /// for a bookmark of these parts. No part is copied but into the text.
+    ///
+    /// Errors: `NoMemory` where a growth was refused. Cost: the size of the key.
+    pub fn spell(&self, alloc: Global) -> Result<String, NoMemory>
+        ensures { IfOk result (λ t. string_bytes t ≡ spelled (place_at self.now)) }
+    {
+        let text = self.array_text(alloc)?;
+        Ok(URL_SAFE_NO_PAD.encode(alloc, &text)?)
+    }
+
+    // The compact text of the array that is spelled.
+    pub(crate) fn array_text(&self, alloc: Global) -> Result<Vec<u8>, NoMemory>
+        ensures { IfOk result (λ b. b.items ≡ compact (place_value (place_at self.now))) }
+    {
+        let mut text = Vec::with_capacity(alloc, FIRST_ROOM)?;
+        text.push(b'[')?;
+        let mut text = with_ddoc(text, self.ddoc)?;
+        text.push(b',')?;
+        let mut text = with_text(text, self.name)?;
+        text.push(b',')?;
+        let mut text = with_direction(text, self.direction)?;
+        text.push(b',')?;
+        let mut text = with_key(alloc, text, self.key, self.id)?;
+        text.push(b',')?;
+        let mut text = with_text(text, self.id)?;
+        text.push(b']')?;
+        Ok(text)
+    }
+}
