@@ -1,10 +1,10 @@
 -- What an edit brings to a history, by the change that its tree takes.
-use Rattle.std.proofs.Common.{◌≡◌, ℕ, ◌+◌, List, [], ◌∷◌, Bool, true, false, not, ◌==◌, inl, inr, Option, Some, None, Result, Ok, Err, IsOkUnless, refl, sym, ap, ◌∙◌, subst}
+use Rattle.std.proofs.Common.{◌≡◌, ℕ, ◌+◌, List, [], ◌∷◌, Bool, true, false, ◌==◌, inl, inr, Option, Some, None, Result, Ok, Err, refl, sym, ap, ◌∙◌, subst}
 use Rattle.std.specs.Result.{IsErrAnd}
 use Rattle.mg_value.specs.Value.{Value}
 use Rattle.mg_revtree.specs.Revision.{Revision}
-use Rattle.mg_revtree.specs.History.{History, newest_of, fits, all_links, is_known, is_whole}
-use Rattle.mg_revtree.specs.Changes.{Decides, extension, may_extend, next_position, next_revision, path_of, position_below, refusal_at, refusal_of, run_over, with_path}
+use Rattle.mg_revtree.specs.History.{History, newest_of, fits, all_links}
+use Rattle.mg_revtree.specs.Changes.{Decides, extension, may_extend, next_position, path_of, position_below, refusal_at, refusal_of, run_over, with_path}
 use Rattle.mg_revtree.specs.Tree.{Tree, StandsFor}
 use Rattle.mg_revtree.specs.declared.error.MergeError.{MergeError}
 use Rattle.mg_revtree.specs.declared.error.MergeError.TheVariants.{BadHistory as misfit, NoMemory as merge_refused}
@@ -19,7 +19,6 @@ use Rattle.mg_doc.specs.Digest.{digest_of}
 use Rattle.mg_doc.specs.Document.{Edit}
 use Rattle.mg_doc.specs.Edit.{Accepted, accepted_by, base_of, extended, first_refusal, made, made_over, newest_accepted, history_after, older_of, over_base, refused_by, replicated, unbased, unless, unplaced}
 use Rattle.mg_doc.specs.Conversions.{error_of_merge, error_of_tree}
-use Rattle.mg_doc.specs.declared.change.Change.{Change}
 use Rattle.mg_doc.specs.declared.change.Change.TheVariants.{New, Replica}
 use Rattle.mg_doc.specs.declared.error.EditError.{EditError}
 use Rattle.mg_doc.specs.declared.error.EditError.TheVariants.{Conflict as conflict, BadHistory as bad_history, NoMemory as no_memory}

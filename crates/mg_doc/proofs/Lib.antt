@@ -1,3 +1,4 @@
 mod Edits
 mod Entries
 mod Readings
+mod Shown

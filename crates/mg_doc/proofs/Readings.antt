@@ -1,12 +1,9 @@
 -- What the parts of a reading give together.
-use Rattle.std.proofs.Common.{◌≡◌, ℕ, List, [], ◌∷◌, Bool, true, false, ◌&&◌, nat_lt, nat_le, length, ◌⊎◌, inl, inr, Option, Some, None, Result, Ok, Err, option_and_then, IfOk, IfSome, is_some, ok_or, refl, sym, ap, ◌∙◌, subst}
-use Rattle.std.specs.List.{list_all}
-use Rattle.std.specs.Option.{option_or}
+use Rattle.std.proofs.Common.{◌≡◌, List, Bool, Option, Some, None, Result, Ok, Err, option_and_then, ok_or, refl, ap}
 use Rattle.mg_revtree.specs.Revision.{Revision}
 use Rattle.mg_doc.specs.Document.{Gives, change_by, or_fault}
 use Rattle.mg_doc.specs.declared.error.DocError.{DocError}
 use Rattle.mg_doc.specs.declared.error.DocError.TheVariants.{BadMember, BadId, BadRev, NoMemory}
-use Rattle.mg_doc.proofs.Entries.{two}
 
 pub gives_err : {A : Type 0} (said : Result A DocError) (e : DocError) → said ≡ Err e → Gives said (Err e)
 gives_err said BadMember h = h

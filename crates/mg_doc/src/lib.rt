@@ -3,6 +3,7 @@
 
 mod apply;
 mod change;
+mod conflicts;
 mod digest;
 mod document;
 mod edit;
@@ -11,6 +12,7 @@ mod members;
 mod path;
 
 pub use change::Change;
+pub use conflicts::with_conflicts;
 pub use digest::rev_id;
 pub use document::served;
 pub use edit::Edit;

@@ -18,5 +18,5 @@ pub use catalog::{Added, Catalog};
 pub use choice::{Choice, choose};
 pub use definition::IndexDef;
 pub use error::{IndexError, NoUsableIndex};
-pub use listing::design_document;
+pub use listing::{all_docs_listed, design_document};
 pub use query::{Hint, Sort};

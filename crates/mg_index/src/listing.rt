@@ -1,7 +1,7 @@
 // How an index is listed and named.
 ghost use Rattle.std.specs.Prelude.{◌≡◌, IfOk, map, string_bytes};
 ghost use Rattle.mg_value.specs.View.{view};
-ghost use Rattle.mg_index.specs.Definition.{fields_value, fields_digest as digest_of, field_value, direction_word as word_for, design_document as design_of, design_front};
+ghost use Rattle.mg_index.specs.Definition.{fields_value, fields_digest as digest_of, field_value, direction_word as word_for, design_document as design_of, design_front, listed_all_docs};
 
 use md5::{Digest, Md5};
 use mg_collate::Direction;
@@ -21,6 +21,31 @@ pub fn design_document(alloc: Global, text: &str) -> Result<String, NoMemory>
     } else {
         Ok(format!(in alloc; "_design/{text}")?)
     }
+}
+
+/// The index of all documents as it is listed:
+/// `{"ddoc":null,"def":{"fields":[{"_id":"asc"}]},"name":"_all_docs","type":"special"}`.
+///
+/// Errors: `NoMemory` where a growth is refused. Source: `_index` of CouchDB's API reference.
+pub fn all_docs_listed(alloc: Global) -> Result<Json, NoMemory>
+    ensures { IfOk result (λ v. view v ≡ listed_all_docs) }
+{
+    let paths = vec![in alloc; String::from_str(alloc, "_id")?]?;
+    let fields = fields_json(alloc, Direction::Asc, &paths)?;
+    let mut listed = Json::empty_object(alloc);
+    listed.insert(
+        alloc,
+        "type",
+        Json::Text(String::from_str(alloc, "special")?),
+    )?;
+    listed.insert(
+        alloc,
+        "name",
+        Json::Text(String::from_str(alloc, "_all_docs")?),
+    )?;
+    listed.insert(alloc, "def", fields)?;
+    listed.insert(alloc, "ddoc", Json::Null)?;
+    Ok(listed)
 }
 
 // The fields of an index: `{"fields":[{path: direction},..]}`.

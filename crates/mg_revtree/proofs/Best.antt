@@ -17,7 +17,7 @@ at_most_trans w l m (inl e) h = subst (IsAtMost w) (sym e) h
 at_most_trans w l m (inr lt) (inl e) = inr (subst (λ (x : Leaf). leaf_order m x ≡ Less) e lt)
 at_most_trans w l m (inr lt) (inr h) = inr (leaf_total.trans m l w lt h)
 
-abbrev AreLeavesOf : History → List Leaf → Type 0
+abbrev pub AreLeavesOf : History → List Leaf → Type 0
 AreLeavesOf h [] = Unit {0}
 AreLeavesOf h (l ∷ ls) = IsLeaf h l × AreLeavesOf h ls
 
@@ -49,7 +49,7 @@ best_from_leaf h l (m ∷ ms) a rest = elim (two (is_lt (leaf_order l m))) [
     less_is Equal e = cc
     less_is Greater e = cc
 
-tips_are_leaves : (h g : History) → AreLeavesOf h (filter_map (tip_of h) g)
+pub tips_are_leaves : (h g : History) → AreLeavesOf h (filter_map (tip_of h) g)
 tips_are_leaves h [] = tt
 tips_are_leaves h (p ∷ g) = newest (newest_of p.revs) (tips_are_leaves h g)
   where
@@ -66,7 +66,7 @@ has_at_most w l [] all a = absurd a
 has_at_most w l (m ∷ ms) all (inl e) = subst (IsAtMost w) e all.0
 has_at_most w l (m ∷ ms) all (inr a) = has_at_most w l ms all.1 a
 
-tip_has : (h : History) (l : Leaf) → IsLeaf h l → Has l (filter_map (tip_of h) h)
+pub tip_has : (h : History) (l : Leaf) → IsLeaf h l → Has l (filter_map (tip_of h) h)
 tip_has h l leaf = tips_have h h l leaf (marked_of l.rev h (ap is_some leaf))
 
 -- a winner is a leaf, and each leaf is at most the winner

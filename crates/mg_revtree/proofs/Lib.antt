@@ -14,5 +14,6 @@ pub mod Step
 pub mod Extend
 pub mod Fits
 pub mod Best
+pub mod Lists
 pub mod Replicas
 pub mod Leafless

@@ -34,7 +34,7 @@ other l m f Less e h = cc
 other l m f Equal e h = absurd (let t : leaf_order l m ≡ Equal = leaf_total.antisymm l m ∙ ap ordering_reverse e in let g : true ≡ false = sym (tied_same l m t) ∙ f in cc)
 other l m f Greater e h = leaf_total.antisymm l m ∙ ap ordering_reverse e
 
-before_all_less : (l m : Leaf) (ls : List Leaf) → leaf_order m l ≡ Less → BeforeAll m ls → BeforeAll l ls
+pub before_all_less : (l m : Leaf) (ls : List Leaf) → leaf_order m l ≡ Less → BeforeAll m ls → BeforeAll l ls
 before_all_less l m [] lt h = tt
 before_all_less l m (x ∷ ls) lt h = (leaf_total.trans x m l h.0 lt, before_all_less l m ls lt h.1)
 

@@ -4,6 +4,8 @@ use Rattle.mg_value.specs.Value.{Value}
 use Rattle.mg_revtree.specs.Revision.{Revision, run_of}
 use Rattle.mg_revtree.specs.History.{Path, History, Link, Leaf, newest_of, is_at, all_links, is_known, parent_of, leaf_at, leaf_order, winner_of, fits, is_whole, IsLeaf}
 use Rattle.mg_revtree.specs.Changes.{with_path, extension}
+use Rattle.mg_revtree.specs.Tree.{AreLeaves, AreLosers}
+use Rattle.mg_revtree.specs.Losers.{leaves_of, losers_of}
 use Rattle.std.specs.declared.cmp.Ordering.TheVariants.{Less}
 
 -- ---- replicas agree
@@ -77,6 +79,15 @@ WinnerIsBest = (h : History) (w : Leaf) → winner_of h ≡ Some w → IsLeaf h 
 -- no deleted leaf wins while another is not deleted
 abbrev pub DeletedDoNotWin : Type 0
 DeletedDoNotWin = (h : History) (w l : Leaf) → winner_of h ≡ Some w → IsLeaf h l → l.deleted ≡ false → w.deleted ≡ false
+
+-- ---- leaves and losers as lists
+
+-- the lists are those of the leaves and of the losers, each once and best first, and there is no other such list
+pub record LeavesAreListed : Type 0 where
+  pub leaves : (h : History) → AreLeaves h (leaves_of h)
+  pub losers : (h : History) → AreLosers h (losers_of h)
+  pub leaves_decided : (h : History) (ls : List Leaf) → AreLeaves h ls → ls ≡ leaves_of h
+  pub losers_decided : (h : History) (ls : List Leaf) → AreLosers h ls → ls ≡ losers_of h
 
 -- ---- the first revision
 

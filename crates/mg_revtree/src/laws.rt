@@ -1,4 +1,4 @@
-ghost use Rattle.mg_revtree.specs.Laws.{AcceptedInEveryOrder, DeletedDoNotWin, KnownChangesNothing, NoWinnerNothingKnown, NothingIsLost, PathsFall, ReplicasAgree, WinnerIsBest};
+ghost use Rattle.mg_revtree.specs.Laws.{AcceptedInEveryOrder, DeletedDoNotWin, KnownChangesNothing, LeavesAreListed, NoWinnerNothingKnown, NothingIsLost, PathsFall, ReplicasAgree, WinnerIsBest};
 
 /// Replicas that exchanged all they have agree: histories with the same set of paths, in any order and with any
 /// repetition, have the same known revisions with the same parents, the same leaves and the same winner, where paths
@@ -30,6 +30,12 @@ pub fn winner_is_best()
 /// No deleted leaf wins while another leaf is not deleted.
 pub fn deleted_do_not_win()
     ensures { DeletedDoNotWin }
+{}
+
+/// The lists of the leaves and of the losers of a history have each of them once, the best first, and are the only
+/// such lists.
+pub fn leaves_are_listed()
+    ensures { LeavesAreListed }
 {}
 
 /// The positions of each path that a replica can give fall by one, and so do those of a new revision and its parent.

@@ -1,4 +1,4 @@
-ghost use Rattle.std.specs.Prelude.{◌≡◌, ◌<◌, ◌≤◌, IfErr, IfNone, IfOk, IfSome, None, filter, is_some, length, map, not, string_bytes, vec_capacity, vec_len};
+ghost use Rattle.std.specs.Prelude.{◌≡◌, ◌<◌, ◌≤◌, [], IfErr, IfNone, IfOk, IfSome, IsOk, None, filter, is_some, length, map, not, string_bytes, vec_capacity, vec_len};
 ghost use Rattle.std.specs.List.{insert};
 ghost use Rattle.mg_revtree.specs.Revision.{run_from, same_revision};
 ghost use Rattle.mg_revtree.specs.History.{has_child, links};
@@ -93,11 +93,12 @@ pub fn add_leaf(leaves: &mut Vec<Shared>, leaf: Shared)
     drop(leaves.insert(at, leaf));
 }
 
-/// Those leaves that are not deleted.
+/// Those leaves that are not deleted. Where there are none, no memory is needed.
 pub fn kept_among(alloc: Global, leaves: &[Shared]) -> Result<Vec<&Leaf>, NoMemory>
-    ensures { IfOk result (λ found. map (λ l. l.now) found.items ≡ filter (λ l. not l.deleted) leaves.now) }
+    ensures kept { IfOk result (λ found. map (λ l. l.now) found.items ≡ filter (λ l. not l.deleted) leaves.now) }
+    ensures none { filter (λ l. not l.deleted) leaves.now ≡ [] → IsOk result }
 {
-    let mut found = Vec::with_capacity(alloc, leaves.len())?;
+    let mut found = Vec::new(alloc);
     for shared in leaves {
         let leaf = shared.leaf();
         if !leaf.deleted {

@@ -1,8 +1,9 @@
-ghost use Rattle.std.specs.Prelude.{◌≡◌, ◌+◌, ◌<◌, ◌≤◌, [], Err, IfOk, IfSome, IsOkUnless, Ok, OnErr, OnOk, false, is_some, length, map, option_copied, string_bytes, true};
+ghost use Rattle.std.specs.Prelude.{◌≡◌, ◌+◌, ◌<◌, ◌≤◌, [], Err, IfOk, IfSome, IsOk, IsOkUnless, Ok, OnErr, OnOk, false, is_some, length, map, option_copied, string_bytes, true};
 ghost use Rattle.mg_value.specs.View.{view};
 ghost use Rattle.mg_revtree.specs.Revision.{run_from};
 ghost use Rattle.mg_revtree.specs.History.{History as Paths, fits, is_whole, winner_of};
 ghost use Rattle.mg_revtree.specs.Tree.{AreLeaves, AreLosers, AreRanked, StandsFor};
+ghost use Rattle.mg_revtree.specs.Losers.{leaves_of, losers_of};
 ghost use Rattle.mg_revtree.specs.Changes.{Decides, extension, found_of, next_position, path_of, position_below, refusal_of, with_path};
 ghost use Rattle.mg_revtree.specs.Steps.{base_in, ids_over};
 
@@ -85,7 +86,8 @@ impl RevTree {
 
     /// The leaves, best first. Cost: their number.
     pub fn leaves(&self) -> Result<Vec<&Leaf>, NoMemory>
-        ensures { IfOk result (λ found. (h : Paths) → StandsFor self.now h → AreLeaves h (map (λ l. l.now) found.items)) }
+        ensures each { IfOk result (λ found. (h : Paths) → StandsFor self.now h → AreLeaves h (map (λ l. l.now) found.items)) }
+        ensures list { IfOk result (λ found. (h : Paths) → StandsFor self.now h → map (λ l. l.now) found.items ≡ leaves_of h) }
     {
         let alloc = *self.leaves.allocator();
         let mut found = Vec::with_capacity(alloc, self.leaves.len())?;
@@ -95,9 +97,12 @@ impl RevTree {
         Ok(found)
     }
 
-    /// The other leaves that are not deleted, the best of them first. Cost: the number of the leaves.
+    /// The other leaves that are not deleted, the best of them first. Where there are none, no memory is needed. Cost: the
+    /// number of the leaves.
     pub fn losers(&self) -> Result<Vec<&Leaf>, NoMemory>
-        ensures { IfOk result (λ found. (h : Paths) → StandsFor self.now h → AreLosers h (map (λ l. l.now) found.items)) }
+        ensures each { IfOk result (λ found. (h : Paths) → StandsFor self.now h → AreLosers h (map (λ l. l.now) found.items)) }
+        ensures list { IfOk result (λ found. (h : Paths) → StandsFor self.now h → map (λ l. l.now) found.items ≡ losers_of h) }
+        ensures none { (h : Paths) → StandsFor self.now h → losers_of h ≡ [] → IsOk result }
     {
         let alloc = *self.leaves.allocator();
         if self.leaves.is_empty() {

@@ -1,8 +1,5 @@
-use Rattle.std.proofs.Common.{option_copied, string_bytes, subst}
-use Rattle.mg_value.specs.Value.{Value}
+use Rattle.std.proofs.Common.{option_copied, string_bytes}
 use Rattle.mg_value.specs.View.{view}
-use Rattle.mg_revtree.specs.Changes.{extension, with_path}
-use Rattle.mg_revtree.specs.Tree.{StandsFor}
 use Rattle.mg_doc.proofs.Edits.{made_over_base, no_refusal}
 use Rattle.mg_doc.proofs.apply.extend_over.Goals as goal
 

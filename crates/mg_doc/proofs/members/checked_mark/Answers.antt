@@ -1,6 +1,5 @@
 use Rattle.std.proofs.Common.{codes, sym, ap, ◌∙◌}
-use Rattle.mg_value.specs.View.{members_view}
-use Rattle.mg_doc.specs.Document.{mark_of, mark_read, or_fault}
+use Rattle.mg_doc.specs.Document.{mark_of, or_fault}
 use Rattle.mg_doc.specs.declared.error.DocError.TheVariants.{BadMember}
 use Rattle.mg_doc.proofs.Entries.{member_lent}
 use Rattle.mg_doc.proofs.Readings.{is_or_fault}

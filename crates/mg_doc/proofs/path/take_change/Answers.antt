@@ -1,9 +1,8 @@
-use Rattle.std.proofs.Common.{◌≡◌, codes, List, Option, Result, Err, option_map, refl, sym, ap, ◌∙◌, subst}
+use Rattle.std.proofs.Common.{◌≡◌, codes, Option, Result, Err, option_map, refl, sym, ap, ◌∙◌, subst}
 use Rattle.std.proofs.lemmas.Result.{err_from_is_err_and}
 use Rattle.mg_value.specs.Value.{Value, get_member}
 use Rattle.mg_value.specs.View.{view, members_view}
 use Rattle.mg_value.proofs.Lookup.{view-lookup}
-use Rattle.mg_revtree.specs.Revision.{Revision}
 use Rattle.mg_doc.specs.Document.{Gives, change_by, change_given, or_fault, own_members, rev_of, revisions_of}
 use Rattle.mg_doc.specs.declared.change.Change.{Change}
 use Rattle.mg_doc.specs.declared.error.DocError.{DocError}

@@ -1,0 +1,45 @@
+ghost use Rattle.std.specs.Prelude.{◌≡◌, IfOk, IsOk, [], map};
+ghost use Rattle.mg_value.specs.View.{view};
+ghost use Rattle.mg_revtree.specs.History.{History as Paths};
+ghost use Rattle.mg_revtree.specs.Losers.{losers_of};
+ghost use Rattle.mg_revtree.specs.Tree.{StandsFor};
+ghost use Rattle.mg_doc.specs.Conflicts.{leaf_text, with_conflicts_of};
+
+use mg_revtree::{Leaf, NoMemory, RevTree};
+use mg_value::Json;
+use std::alloc::Global;
+
+/// A document with its conflicts beside it: `_conflicts`, the texts of the revisions of the leaves that are neither the
+/// winner nor deleted, best first. A document without such leaves is handed back as it came, and so is a value that is
+/// no object.
+///
+/// Where there are none, no memory is needed. Cost: the number of the leaves, and the length of the texts. Source:
+/// `conflicts` of `GET` and `_find` in CouchDB's API reference.
+pub fn with_conflicts(alloc: Global, document: Json, tree: &RevTree) -> Result<Json, NoMemory>
+    ensures shown { IfOk result
+        (λ v. (h : Paths) → StandsFor tree.now h → view v ≡ with_conflicts_of h (view document)) }
+    ensures none { (h : Paths) → StandsFor tree.now h → losers_of h ≡ [] → IsOk result }
+{
+    let losers = tree.losers()?;
+    if losers.is_empty() {
+        return Ok(document);
+    }
+    let mut shown = document;
+    shown.insert(
+        alloc,
+        "_conflicts",
+        Json::List(revision_texts(alloc, &losers)?),
+    )?;
+    Ok(shown)
+}
+
+// The revisions of leaves as texts.
+fn revision_texts(alloc: Global, leaves: &[&Leaf]) -> Result<Vec<Json>, NoMemory>
+    ensures { IfOk result (λ texts. map view texts.items ≡ map (λ l. leaf_text l.now) leaves.now) }
+{
+    let mut texts = Vec::with_capacity(alloc, leaves.len())?;
+    for leaf in leaves {
+        texts.push(Json::Text(leaf.rev.text(alloc)?))?;
+    }
+    Ok(texts)
+}
