@@ -2,3 +2,10 @@ pub mod Items
 pub mod Each
 pub mod Exits
 pub mod Shapes
+pub mod Sorts
+pub mod Gathered
+pub mod Dealt
+pub mod Usable
+pub mod Candidates
+pub mod Answered
+pub mod Serving

@@ -1,5 +1,6 @@
 pub mod Query
-
+pub mod Page
 pub mod Seen
 pub mod Given
-
+pub mod Served
+pub mod Explain

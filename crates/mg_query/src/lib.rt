@@ -2,9 +2,12 @@
 #![tactic(auto)]
 
 mod error;
+mod explanation;
 mod field;
 mod member;
 mod query;
+mod source;
 
 pub use error::{PageError, QueryError};
+pub use explanation::explain;
 pub use query::Query;

@@ -94,9 +94,16 @@ fn items_in(value: &Json) -> Option<&[Json]>
     ensures { option_map (λ items. map view items.now) result ≡ sort_fields (Some (view value.now)) }
 {
     match value {
-        Json::List(items) => Some(items),
+        Json::List(items) => listed(items),
         _ => None,
     }
+}
+
+fn listed(items: &[Json]) -> Option<&[Json]>
+    ensures { option_map (λ items. map view items.now) result
+        ≡ sort_fields (Some (list (items_view items.now))) }
+{
+    Some(items)
 }
 
 // A whole number from 0 to the greatest count, and the one named here where it is absent.
