@@ -1,5 +1,5 @@
 -- The rows by which a document is found: the one that the page's order gives it, where the query asks for it.
-use Rattle.std.proofs.Common.{◌≡◌, ℕ, zero, suc, arith, ◌<◌, Bool, true, false, ◌&&◌, cond, List, [], ◌∷◌, Option, Some, None, option_to_list, option_map, option_and_then, is_some, map, take, length, refl, sym, ap, ap₂, ◌∙◌, subst}
+use Rattle.std.proofs.Common.{◌≡◌, ℕ, zero, suc, arith, ◌<◌, Bool, true, false, ◌&&◌, cond, List, [], ◌∷◌, ◌++◌, Option, Some, None, option_to_list, option_map, option_and_then, is_some, map, take, length, refl, sym, ap, ap₂, ◌∙◌, subst}
 use Rattle.std.proofs.lemmas.Bool.{and_parts}
 use Rattle.std.specs.List.{All, AllByRecursion, filter, filter_map, list_all, starts_with}
 use Rattle.std.specs.Prelude.{unwrap_or}
@@ -32,15 +32,22 @@ use Rattle.mg_query.proofs.Gathered.{rows_asked}
 abbrev pub document : Candidate → ServedDocument
 document c = (c.id, c.form)
 
-one_document : (e : List ℕ × History) (es : List (List ℕ × History)) (o : Option Value) → served_of e.0 e.1 ≡ o → map document (filter_map candidate_of es) ≡ filter_map served_entry es
-    → map document (filter_map candidate_of (e ∷ es)) ≡ filter_map served_entry (e ∷ es)
-one_document e es None h k = rw h k
-one_document e es (Some form) h k = rw h (ap (λ ds. (e.0, form) ∷ ds) k)
+pub shown_first : {E X : Type 0} (f : E → Option X) (e : E) (es : List E) (o : Option X) → f e ≡ o → filter_map f (e ∷ es) ≡ option_to_list o ++ filter_map f es
+shown_first f e es None h = rw h
+shown_first f e es (Some x) h = rw h
+
+one_document : (id : List ℕ) (h : History) (o : Option Value) (rest : List Candidate) (more : List ServedDocument) → map document rest ≡ more
+    → map document (option_to_list (option_map (λ form. record { id = id; form = form; history = h }) o) ++ rest) ≡ option_to_list (option_map (λ form. (id, form)) o) ++ more
+one_document id h None rest more k = k
+one_document id h (Some form) rest more k = ap (λ ds. (id, form) ∷ ds) k
 
 -- the candidates are the served documents
 pub documents_of : (es : List (List ℕ × History)) → map document (filter_map candidate_of es) ≡ filter_map served_entry es
 documents_of [] = refl
-documents_of (e ∷ es) = one_document e es (served_of e.0 e.1) refl (documents_of es)
+documents_of (e ∷ es) =
+    ap (map document) (shown_first candidate_of e es (candidate_of e) refl)
+    ∙ one_document e.0 e.1 (served_of e.0 e.1) (filter_map candidate_of es) (filter_map served_entry es) (documents_of es)
+    ∙ sym (shown_first served_entry e es (served_entry e) refl)
 
 -- ---- keys
 
@@ -85,7 +92,7 @@ values_are c (column ∷ columns) key e = values_at (part_of column c.form) (eac
 
 -- ---- a document that lacks a path of the sort has no row
 
-lacks_at : (part : Option Value) (b : Bool) (key : Option Items) → (b ≡ false → key ≡ None) → is_some part && b ≡ false → option_and_then (λ w. option_map (item w) key) part ≡ None
+lacks_at : (part : Option Value) (b : Bool) (key : Option Items) → (b ≡ false → key ≡ None) → (is_some part && b) ≡ false → option_and_then (λ w. option_map (item w) key) part ≡ None
 lacks_at None b key h e = refl
 lacks_at (Some w) b key h e = rw (h e)
 
@@ -105,14 +112,12 @@ all_there v (path ∷ sort) e (suc k) d h = all_there v sort (and_parts (is_some
 
 -- ---- the rows
 
-wanted_one : (b : Bool) (after : RowValue → Bool) (r : RowValue) → b ≡ true → filter (λ x. b && after x) (r ∷ []) ≡ filter after (r ∷ [])
-wanted_one b after r e = rw e
-
 plain : (after ranged : RowValue → Bool) (a s : Bool) (row : Option RowValue) (r : RowValue) → (a ≡ true → s ≡ true → (row ≡ Some r) × (ranged r ≡ true)) → (s ≡ false → row ≡ None)
     → filter (λ x. ranged x && after x) (cond a (option_to_list row) []) ≡ filter after (cond (a && s) (r ∷ []) [])
 plain after ranged false s row r h k = refl
-plain after ranged true false row r h k = rw (k refl)
-plain after ranged true true row r h k = let p = h refl refl in rw (p.0, p.1)
+plain after ranged true false row r h k = ap (λ o. filter (λ x. ranged x && after x) (option_to_list o)) (k refl)
+plain after ranged true true row r h k =
+    let p = h refl refl in ap (λ o. filter (λ x. ranged x && after x) (option_to_list o)) p.0 ∙ ap (λ b. cond (b && after r) (r ∷ []) []) p.1
 
 -- a document that a query finds by a usable index has one row there, in the range, and it has none that is asked for otherwise
 pub found_by : RangesAreComplete → (q : Query) (columns : List Steps) (after : RowValue → Bool) (holds : Option Value → Bool) → ((x : Option Value) → holds x ≡ holds_in q.selector Plain x)

@@ -1,9 +1,10 @@
 -- The documents of shards together are those that the histories serve, in some order.
 use lib.Dec.{T, eqb, leb}
-use Rattle.std.proofs.Common.{◌≡◌, ℕ, zero, suc, ◌+◌, ◌<◌, ◌≤◌, Bool, true, false, List, [], ◌∷◌, ◌++◌, Option, Some, None, is_some, is_eq, option_to_list, append_assoc, length, map, slice_get, cond, refl, sym, ap, ap₂, ◌∙◌, subst, arith}
+use Rattle.std.proofs.Common.{◌≡◌, ℕ, zero, suc, ◌+◌, ◌<◌, ◌≤◌, Bool, true, false, List, [], ◌∷◌, ◌++◌, Option, Some, None, is_some, is_eq, Equal, option_to_list, append_assoc, length, map, slice_get, cond, refl, sym, ap, ap₂, ◌∙◌, subst, arith}
 use Rattle.std.proofs.lemmas.Cmp.{tied_itself}
 use Rattle.std.specs.Ordering.{eq_by_cmp}
 use Rattle.mg_collate.proofs.Sorting.{all_weaker}
+use Rattle.std.proofs.lemmas.Bool.Decides.{nat_tests}
 use Rattle.std.proofs.lemmas.Cmp.{nat_list_cmp_total}
 use Rattle.std.proofs.lemmas.List.Sorted.{IsPermutation-refl, IsPermutation-sym, IsPermutation-cons, IsPermutation-middle, IsPermutation-trans, IsPermutation-append_right}
 use Rattle.std.specs.FinMap.{FinMap, entries, entries_sorted, find, get, get-entries, get-retain_keys, retain_keys}
@@ -55,10 +56,10 @@ module _ {E D : Type 0} (f : E → ℕ) (g : E → Option D) where
   split_step k e es true false true p q r h =
       let one = λ (xs : List E). shown_first e xs (g e) refl in
       rw (one (filter (λ x. leb k (f x)) es), one (filter (λ x. leb (suc k) (f x)) es)) (back (g e) (from_on k es) (at_one k es) (from_on (suc k) es) h)
-  split_step k e es true true true p q r h = absurd (grind (arith, p, q, r))
-  split_step k e es true false false p q r h = absurd (grind (arith, p, q, r))
-  split_step k e es false true c p q r h = absurd (grind (arith, p, q, r))
-  split_step k e es false false true p q r h = absurd (grind (arith, p, q, r))
+  split_step k e es true true true p q r h = absurd (grind (arith, nat_tests, p, q, r))
+  split_step k e es true false false p q r h = absurd (grind (arith, nat_tests, p, q, r))
+  split_step k e es false true c p q r h = absurd (grind (arith, nat_tests, p, q, r))
+  split_step k e es false false true p q r h = absurd (grind (arith, nat_tests, p, q, r))
 
   split_at : (k : ℕ) (es : List E) → IsPermutation (from_on k es) (at_one k es ++ from_on (suc k) es)
   split_at k [] = IsPermutation-refl []
@@ -66,11 +67,14 @@ module _ {E D : Type 0} (f : E → ℕ) (g : E → Option D) where
 
   none_from : (k : ℕ) (es : List E) → AllByRecursion (λ e. f e < k) es → from_on k es ≡ []
   none_from k [] h = refl
-  none_from k (e ∷ es) h = let below : leb k (f e) ≡ false = grind (arith, h.0) in ap (from_with e (filter (λ x. leb k (f x)) es)) below ∙ none_from k es h.1
+  none_from k (e ∷ es) h = let below : leb k (f e) ≡ false = grind (arith, nat_tests, h.0) in ap (from_with e (filter (λ x. leb k (f x)) es)) below ∙ none_from k es h.1
 
   all_from_zero : (es : List E) → from_on 0 es ≡ filter_map g es
   all_from_zero [] = refl
-  all_from_zero (e ∷ es) = shown_first e (filter (λ x. leb 0 (f x)) es) (g e) refl ∙ ap (λ ds. option_to_list (g e) ++ ds) (all_from_zero es) ∙ sym (shown_first e es (g e) refl)
+  all_from_zero (e ∷ es) =
+      let passes : leb 0 (f e) ≡ true = grind (arith, nat_tests) in
+      ap (from_with e (filter (λ x. leb 0 (f x)) es)) passes
+      ∙ shown_first e (filter (λ x. leb 0 (f x)) es) (g e) refl ∙ ap (λ ds. option_to_list (g e) ++ ds) (all_from_zero es) ∙ sym (shown_first e es (g e) refl)
 
   -- lists that have those at each number have all from the first number on
   gathered : {X : Type 0} (docs : X → List D) (k : ℕ) (xs : List X) (es : List E) → ((i : ℕ) (x : X) → slice_get xs i ≡ Some x → docs x ≡ at_one (k + i) es)
@@ -89,7 +93,7 @@ module _ {E D : Type 0} (f : E → ℕ) (g : E → Option D) where
 
 entries_kept : (hs : Histories) (p : List ℕ → Bool) → entries (retain_keys hs p) ≡ where_key bytes_cmp p (entries hs)
 entries_kept hs p =
-    let alike = λ (q : List ℕ) (x : List ℕ) (t : bytes_cmp q x ≡ _). ap p (sym (bytes_exact q x t)) in
+    let alike = λ (q : List ℕ) (x : List ℕ) (t : bytes_cmp q x ≡ Equal). ap p (sym (bytes_exact q x t)) in
     same_entries bytes_cmp nat_list_cmp_total bytes_exact (entries (retain_keys hs p)) (where_key bytes_cmp p (entries hs)) (entries_sorted (retain_keys hs p)) (is_sorted-where_key bytes_cmp p (entries hs) (entries_sorted hs))
     (λ q. sym (get-entries (retain_keys hs p) q) ∙ get-retain_keys hs p q (alike q) ∙ ap (λ o. cond (p q) o None) (get-entries hs q) ∙ sym (find-where_key bytes_cmp p q (alike q) (entries hs)))
 
@@ -123,7 +127,11 @@ all_within place n hs h =
 pub dealt : (place : Placing) (shards : List ShardView) (hs : Histories) → ShardsStandFor place shards hs → IsPermutation (served_documents hs) (joined (map (λ s. docs_of s.documents) shards))
 dealt place shards hs stands =
     let n = length shards in
+    let bound : n ≡ 0 + n = omega arith in
     subst (λ ds. IsPermutation ds (joined (map (λ s. docs_of s.documents) shards))) (all_from_zero (λ e. place e.0 n) served_entry (entries hs))
     (gathered (λ e. place e.0 n) served_entry (λ s. docs_of s.documents) 0 shards (entries hs)
-    (λ i s at. same_docs s.documents (histories_on place n i hs) (stands.each i s at) ∙ ap (filter_map served_entry) (entries_kept hs (λ id. eqb (place id n) i)))
-    (all_within place n hs stands.placed))
+    (λ i s at.
+      let here : i ≡ 0 + i = omega arith in
+      same_docs s.documents (histories_on place n i hs) (stands.each i s at) ∙ ap (filter_map served_entry) (entries_kept hs (λ id. eqb (place id n) i))
+      ∙ ap (λ k. at_one (λ e. place e.0 n) served_entry k (entries hs)) here)
+    (subst (λ m. AllByRecursion (λ e. place e.0 n < m) (entries hs)) bound (all_within place n hs stands.placed)))

@@ -9,3 +9,4 @@ pub mod Usable
 pub mod Candidates
 pub mod Answered
 pub mod Serving
+pub mod Chained

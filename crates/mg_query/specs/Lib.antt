@@ -4,3 +4,4 @@ pub mod Seen
 pub mod Given
 pub mod Served
 pub mod Explain
+pub mod Laws

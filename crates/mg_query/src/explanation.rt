@@ -97,7 +97,13 @@ fn copied_list(alloc: Global, paths: &[Json]) -> Result<Json, NoMemory>
     ensures { IfOk result (λ v. view v ≡ told_fields_of (Some (list (items_view paths.now)))) }
 {
     let copy = copy_items(alloc, paths)?;
-    Ok(Json::List(copy))
+    Ok(array_of(copy))
+}
+
+fn array_of(items: Vec<Json>) -> Json
+    ensures { view result ≡ list (items_view items.items) }
+{
+    Json::List(items)
 }
 
 fn all_fields(alloc: Global) -> Result<Json, NoMemory>

@@ -4,6 +4,7 @@
 mod error;
 mod explanation;
 mod field;
+pub mod laws;
 mod member;
 mod query;
 mod source;

@@ -4,4 +4,4 @@ use Rattle.mg_query.proofs.Items.{told_as_given}
 use Rattle.mg_query.proofs.explanation.copied_list.Goals as goal
 
 pub returns : goal.returns
-returns c = ap list c.in_ok-copy.ensures ∙ told_as_given c.args.paths.now c.requires
+returns c = c.array_of.ensures ∙ ap list c.in_ok-copy.ensures ∙ told_as_given c.args.paths.now c.requires
