@@ -131,9 +131,10 @@ found_by complete q columns after holds same usable c i r =
     ap (λ b. filter (λ x. ranged x && after x) (cond b (option_to_list (row_of columns (document c))) [])) (same (Some c.form))
     ∙ plain after ranged (holds_in q.selector Plain (Some c.form)) present (row_of columns (document c)) (row_by columns c)
     (λ holding there.
-      let found = complete q.selector q.sort columns c.form usable i r (all_there c.form q.sort there) holding in
-      let key = found.0 in
-      let values = values_are c columns key found.1 in
-      (ap (λ o. option_map (λ k. (k, c.id)) o) (key_each c.form columns ∙ ap (option_map items_of) found.1) ∙ ap (λ vs. Some (items_of vs, c.id)) (sym values),
-      ap (λ vs. has_key (range_of atoms columns) (item_list (items_of vs))) values ∙ ap (has_key (range_of atoms columns)) (items_listed key) ∙ contained atoms columns key (lengths c.form columns key found.1) ∙ found.2))
+    let found = complete q.selector q.sort columns c.form usable i r (all_there c.form q.sort there) holding in
+    let key = found.0 in
+    let values = values_are c columns key found.1 in (
+      ap (λ o. option_map (λ k. (k, c.id)) o) (key_each c.form columns ∙ ap (option_map items_of) found.1) ∙ ap (λ vs. Some (items_of vs, c.id)) (sym values),
+      ap (λ vs. has_key (range_of atoms columns) (item_list (items_of vs))) values ∙ ap (has_key (range_of atoms columns)) (items_listed key) ∙ contained atoms columns key (lengths c.form columns key found.1) ∙ found.2,
+    ))
     (λ absent. ap (option_map (λ k. (k, c.id))) (no_row c.form q.sort columns parts.1 absent))

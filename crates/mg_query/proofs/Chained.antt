@@ -198,13 +198,13 @@ module _ (s : Source) (q : Query) (cs : List Candidate) (none_skipped : q.skip �
       let page : c ∷ rest ≡ take q.limit left = chained.1 ∙ page_is place left here in
       let cut : left ≡ (c ∷ rest) ++ later = sym (take-append-drop q.limit left) ∙ ap (λ xs. xs ++ later) (sym page) in
       let whole_is : whole ≡ (done ++ l.front) ++ l.last ∷ later =
-          parts ∙ ap (λ xs. done ++ xs) (cut ∙ ap (λ xs. xs ++ later) l.is ∙ append_assoc l.front (l.last ∷ []) later) ∙ sym (append_assoc done l.front (l.last ∷ later)) in
+      parts ∙ ap (λ xs. done ++ xs) (cut ∙ ap (λ xs. xs ++ later) l.is ∙ append_assoc l.front (l.last ∷ []) later) ∙ sym (append_assoc done l.front (l.last ∷ later)) in
       let readable = all_middle (columns_of s) q (CanBeReadBack s q) (done ++ l.front) l.last later (subst (AllByRecursion (CanBeReadBack s q)) whole_is back) in
       let mark : bookmark_after s (beginning_after q place) (c ∷ rest) ≡ spelled (place_at s q l.last) = ap (λ (o : Option Candidate). option_map_or (λ d. spelled (place_at s q d)) o q.told_bookmark) l.at in
       let next : chained.2.0 ≡ Some (place_at s q l.last) =
-          ap (λ o. unwrap_or o chained.2.0) (sym chained.2.1 ∙ ap bookmark_read mark ∙ readable) in
+      ap (λ o. unwrap_or o chained.2.0) (sym chained.2.1 ∙ ap bookmark_read mark ∙ readable) in
       let left_over : filter (after (Some (place_at s q l.last))) whole ≡ later =
-          ap (filter (after (Some (place_at s q l.last)))) whole_is ∙ after_one (columns_of s) q (done ++ l.front) l.last later (subst (Climbs (columns_of s) q) whole_is climbing) in
+      ap (filter (after (Some (place_at s q l.last)))) whole_is ∙ after_one (columns_of s) q (done ++ l.front) l.last later (subst (Climbs (columns_of s) q) whole_is climbing) in
       let here_next : filter (after chained.2.0) whole ≡ later = ap (λ p. filter (after p) whole) next ∙ left_over in
       let parts_next : whole ≡ (done ++ (c ∷ rest)) ++ later = parts ∙ ap (λ xs. done ++ xs) cut ∙ sym (append_assoc done (c ∷ rest) later) in
       ap (λ xs. (c ∷ rest) ++ xs) (join climbing back pages (done ++ (c ∷ rest)) later chained.2.0 parts_next here_next chained.2.2) ∙ sym cut

@@ -131,7 +131,7 @@ dealt place shards hs stands =
     subst (λ ds. IsPermutation ds (joined (map (λ s. docs_of s.documents) shards))) (all_from_zero (λ e. place e.0 n) served_entry (entries hs))
     (gathered (λ e. place e.0 n) served_entry (λ s. docs_of s.documents) 0 shards (entries hs)
     (λ i s at.
-      let here : i ≡ 0 + i = omega arith in
-      same_docs s.documents (histories_on place n i hs) (stands.each i s at) ∙ ap (filter_map served_entry) (entries_kept hs (λ id. eqb (place id n) i))
-      ∙ ap (λ k. at_one (λ e. place e.0 n) served_entry k (entries hs)) here)
+    let here : i ≡ 0 + i = omega arith in
+    same_docs s.documents (histories_on place n i hs) (stands.each i s at) ∙ ap (filter_map served_entry) (entries_kept hs (λ id. eqb (place id n) i))
+    ∙ ap (λ k. at_one (λ e. place e.0 n) served_entry k (entries hs)) here)
     (subst (λ m. AllByRecursion (λ e. place e.0 n < m) (entries hs)) bound (all_within place n hs stands.placed)))

@@ -59,7 +59,6 @@ lists_in_order direction rows shards =
     All-map (IsInOrder direction) (rows_of direction rows) shards
     (λ k d l. in_order (directed_order direction) (directed_total direction) (rows_of direction rows (get_or shards k d)) (rises_sorted (directed_order direction) (directed_total direction) (flat_map rows (get_or shards k d))))
 
-
 -- the first rows of what the shards list, each cut at their number, are the first rows of all documents
 first_of_shards : (asked : Document → Bool) (row : Document → Option RowValue) (wanted : RowValue → Bool) (direction : Direction) (count : ℕ) (documents : List Document) (shards : List (List Document))
     → IsPermutation documents (joined shards)

@@ -40,7 +40,15 @@ given v =
 -- the members with these paths and directions
 abbrev pub with_parts : Given → List (List (List ℕ)) → List (List (List ℕ)) → List Direction → Shaped
 with_parts g fields sort directions = record {
-  selector = g.selector; fields = fields; limit = g.limit; skip = g.skip; sort = sort; directions = directions; hint = g.hint; bookmark = g.bookmark; conflicts = g.conflicts;
+  selector = g.selector;
+  fields = fields;
+  limit = g.limit;
+  skip = g.skip;
+  sort = sort;
+  directions = directions;
+  hint = g.hint;
+  bookmark = g.bookmark;
+  conflicts = g.conflicts;
 }
 
 -- the members with their paths and directions, where all of these can be read

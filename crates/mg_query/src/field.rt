@@ -59,10 +59,7 @@ fn read_sort_path(alloc: Global, field: &Json) -> Result<Path, QueryError>
 }
 
 // The directions of a sort's fields.
-pub(crate) fn read_directions(
-    alloc: Global,
-    fields: &[Json],
-) -> Result<Vec<Direction>, QueryError>
+pub(crate) fn read_directions(alloc: Global, fields: &[Json]) -> Result<Vec<Direction>, QueryError>
     ensures { Gives (λ v. v.items) result
         (or_fault QueryError.Shape (each_of direction_given (map view fields.now))) }
 {

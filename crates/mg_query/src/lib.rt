@@ -7,6 +7,7 @@ mod field;
 pub mod laws;
 mod member;
 mod query;
+mod shown;
 mod source;
 
 pub use error::{PageError, QueryError};

@@ -26,6 +26,7 @@ use std::alloc::Global;
 
 // The column of the index of all documents, and its name.
 const ID_COLUMN: &str = "_id";
+
 const ALL_DOCS: &str = "_all_docs";
 
 // The index that serves a query: that of all documents, or a defined one, lent by its catalog.
