@@ -1,0 +1,12 @@
+pub mod Items
+pub mod Each
+pub mod Exits
+pub mod Shapes
+pub mod Sorts
+pub mod Gathered
+pub mod Dealt
+pub mod Usable
+pub mod Candidates
+pub mod Answered
+pub mod Serving
+pub mod Chained

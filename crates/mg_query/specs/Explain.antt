@@ -15,12 +15,16 @@ abbrev pub listed_source : Source → Value
 listed_source all_docs = listed_all_docs
 listed_source (defined d) = listed_of d
 
--- `{"dbname":..,"fields":..,"index":..,"limit":..,"range":..,"selector":..,"skip":..}`
-abbrev pub explained : List ℕ → Query → Source → Value
-explained db q s =
-    object (member (codes "dbname") (text db) (member (codes "fields") q.told_fields (member (codes "index") (listed_source s)
-    (member (codes "limit") (whole (pos q.limit)) (member (codes "range") (range_value (range_of (atoms_of q.selector) (columns_of s)))
+-- `{"dbname":..,"fields":..,"index":..,"limit":..,"range":..,"selector":..,"skip":..}`, of an index and a range as they are told
+abbrev pub told_of : List ℕ → Query → Value → Value → Value
+told_of db q index range =
+    object (member (codes "dbname") (text db) (member (codes "fields") q.told_fields (member (codes "index") index
+    (member (codes "limit") (whole (pos q.limit)) (member (codes "range") range
     (member (codes "selector") q.told_selector (member (codes "skip") (whole (pos q.skip)) no_members)))))))
+
+-- the explanation of a query that this index serves
+abbrev pub explained : List ℕ → Query → Source → Value
+explained db q s = told_of db q (listed_source s) (range_value (range_of (atoms_of q.selector) (columns_of s)))
 
 -- the explanation of a query in a database of this name, or why it is not answered
 abbrev pub explanation_of : List ℕ → List IndexDefinition → Query → Result Value Unanswered

@@ -172,8 +172,20 @@ query_with fields m =
     selector_or_fault (reading m.selector) >>= (λ selector.
     or_fault BadBookmark (bookmark_read m.bookmark) >>= (λ bookmark.
     or_fault MixedSort (one_direction m.directions) >>= (λ direction.
-    Ok (record { selector = selector; fields = m.fields; limit = m.limit; skip = m.skip; sort = m.sort; direction = direction; hint = m.hint; bookmark = bookmark;
-    conflicts = m.conflicts; told_selector = m.selector; told_fields = told_fields_of fields; told_bookmark = m.bookmark }))))
+    Ok (record {
+      selector = selector;
+      fields = m.fields;
+      limit = m.limit;
+      skip = m.skip;
+      sort = m.sort;
+      direction = direction;
+      hint = m.hint;
+      bookmark = bookmark;
+      conflicts = m.conflicts;
+      told_selector = m.selector;
+      told_fields = told_fields_of fields;
+      told_bookmark = m.bookmark;
+    }))))
 
 -- the query that a body is, or its first fault
 abbrev pub query_of : Value → Result Query QueryError

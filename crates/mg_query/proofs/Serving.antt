@@ -1,0 +1,11 @@
+-- The index that serves a query, once one is chosen.
+use Rattle.std.proofs.Common.{◌≡◌, Bool, cond, List, Option, Some, Ok, Err, ap, ◌∙◌}
+use Rattle.std.specs.Option.{option_map_or}
+use Rattle.mg_normal.specs.Atoms.{atoms_of}
+use Rattle.mg_index.specs.Choice.{Source, choice_of}
+use Rattle.mg_index.specs.Definition.{IndexDefinition}
+use Rattle.mg_query.specs.Page.{bad_bookmark, no_usable_index, fits, served_by}
+use Rattle.mg_query.specs.Query.{Query}
+
+pub serves : (ds : List IndexDefinition) (q : Query) (s : Source) (b : Bool) → choice_of ds (atoms_of q.selector) q.sort q.hint ≡ Some s → fits s q ≡ b → served_by ds q ≡ cond b (Ok s) (Err bad_bookmark)
+serves ds q s b e f = ap (λ (o : Option Source). option_map_or (λ t. cond (fits t q) (Ok t) (Err bad_bookmark)) o (Err no_usable_index)) e ∙ ap (λ t. cond t (Ok s) (Err bad_bookmark)) f

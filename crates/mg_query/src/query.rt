@@ -1,0 +1,113 @@
+ghost use Rattle.std.specs.Prelude.{◌≡◌, None, Err, option_map};
+ghost use Rattle.mg_value.specs.View.{view};
+ghost use Rattle.mg_query.specs.Given.{given as given_of, given_seen, query_given};
+ghost use Rattle.mg_query.specs.Query.{or_fault, query_of};
+ghost use Rattle.mg_bookmark.specs.Bookmark.{bookmark_read};
+ghost use Rattle.mg_bookmark.specs.Seen.{place_of};
+ghost use Rattle.mg_query.specs.Seen.{Gives, lent, query_seen};
+
+use crate::error::QueryError;
+use crate::field::{one_direction, read_directions, read_paths, read_sort_paths};
+use crate::member::{Members, members_in};
+use mg_bookmark::{Bookmark, BookmarkError};
+use mg_index::{Hint, Sort};
+use mg_path::Path;
+use mg_selector::Sel;
+use mg_value::Json;
+use std::alloc::Global;
+
+/// A query: what the body of a `_find` or an `_explain` asks for. What is told again of the body is lent from it.
+#[derive(Debug, Drop)]
+pub struct Query<'a> {
+    /// Which documents are asked for.
+    pub selector: Sel,
+    /// The paths of the parts that a page shows of a document; none where it shows the whole.
+    pub fields: Vec<Path>,
+    /// How many documents a page has at most.
+    pub limit: u32,
+    /// How many documents are passed over.
+    pub skip: u32,
+    /// The order that is asked for.
+    pub sort: Sort,
+    /// Which indexes are preferred.
+    pub hint: Hint,
+    /// The place after which the page begins, none where it begins with the first document.
+    pub bookmark: Option<Bookmark>,
+    /// Whether documents are shown with their conflicts.
+    pub conflicts: bool,
+    /// The selector as it was given.
+    pub told_selector: &'a Json,
+    /// The fields as they were given.
+    pub told_fields: Option<&'a Json>,
+    /// The bookmark's text as it was given, `nil` where none was.
+    pub told_bookmark: &'a str,
+}
+
+impl<'a> Query<'a> {
+    /// Reads the body of a `_find` or an `_explain`, an object:
+    ///
+    /// - `selector`, an object, has to be there.
+    /// - `limit` (25) and `skip` (0), 0 to 2,147,483,647.
+    /// - `sort`, an array of path texts, which are ascending, and of `{path: "asc"}` or `{path: "desc"}`.
+    /// - `fields`, an array of path texts; absent or empty gives whole documents.
+    /// - `use_index`, a design document, or an array of none, of one, or of one and a name.
+    /// - `bookmark`, a text or null; `conflicts`, true or false. Other members are ignored.
+    ///
+    /// Errors, in this order: `Shape` for any other body, or a path of `sort` or `fields` with an empty step; the
+    /// selector's first fault; `BadBookmark` where the text spells no bookmark; `MixedSort` for a sort in both
+    /// directions. `NoMemory` where a growth was refused, and never in place of a wrong shape that needs no look
+    /// into a path or a field of the sort.
+    /// Cost: the size of the selector, the sort, the fields and the bookmark. Source: `_find` of CouchDB's API
+    /// reference.
+    pub fn read(alloc: Global, body: &'a Json) -> Result<Query<'a>, QueryError>
+        ensures query { Gives query_seen result (query_of (view body.now)) }
+        ensures shape { given_of (view body.now) ≡ None → result ≡ Err QueryError.Shape }
+    {
+        match members_in(body) {
+            Some(members) => query_with(alloc, members, body.member("fields")),
+            None => Err(QueryError::Shape),
+        }
+    }
+}
+
+// The query of these members, with the fields as they were given.
+fn query_with<'a>(
+    alloc: Global,
+    members: Members<'a>,
+    told_fields: Option<&'a Json>,
+) -> Result<Query<'a>, QueryError>
+    ensures { Gives query_seen result (query_given (lent told_fields.entry) (given_seen members.entry)) }
+{
+    let fields = read_paths(alloc, members.fields)?;
+    let paths = read_sort_paths(alloc, members.sort)?;
+    let directions = read_directions(alloc, members.sort)?;
+    let selector = Sel::read(alloc, members.selector)?;
+    let bookmark = read_bookmark(alloc, members.bookmark)?;
+    let direction = one_direction(&directions)?;
+    let hint = members.hint.named(alloc)?;
+    Ok(Query {
+        selector,
+        fields,
+        limit: members.limit,
+        skip: members.skip,
+        sort: Sort { paths, direction },
+        hint,
+        bookmark,
+        conflicts: members.conflicts,
+        told_selector: members.selector,
+        told_fields,
+        told_bookmark: members.bookmark,
+    })
+}
+
+// The place that a bookmark's text names, none for `nil`.
+fn read_bookmark(alloc: Global, text: &str) -> Result<Option<Bookmark>, QueryError>
+    ensures { Gives (option_map place_of) result
+        (or_fault QueryError.BadBookmark (bookmark_read text.now)) }
+{
+    match Bookmark::decode(alloc, text) {
+        Ok(found) => Ok(found),
+        Err(BookmarkError::Invalid) => Err(QueryError::BadBookmark),
+        Err(BookmarkError::NoMemory) => Err(QueryError::NoMemory),
+    }
+}
