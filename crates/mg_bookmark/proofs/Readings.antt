@@ -1,7 +1,7 @@
 -- The reading of a spelling as a function gives what is spelled.
 use Rattle.std.proofs.Common.{◌≡◌, ℕ, List, Bool, true, false, cond, Option, Some, None, option_map, if◌then◌else◌, refl, sym, ap, ◌∙◌, subst, codes}
 use Rattle.std.specs.Option.{option_and_then}
-use Rattle.std.specs.Str.{bytes_eq, is_utf8}
+use Rattle.std.specs.Str.{IsUtf8, bytes_eq, is_utf8}
 use Rattle.std.proofs.lemmas.Option.{option_and_then_some}
 use Rattle.std.proofs.lemmas.Slice.Eq.{bytes_eq-Decides}
 use Rattle.std.proofs.lemmas.Str.{IsUtf8-from_is_utf8, is_utf8-from_IsUtf8}
@@ -144,3 +144,27 @@ bookmark_of_place t r other e = of_test (bytes_eq t (codes "nil")) refl
 
 pub unread_spells_none : (t : List ℕ) (p : Place) → place_read t ≡ None → Spells t p → ⊥
 unread_spells_none t p none s = let some = read_of_spelled t p s in cc
+
+-- ---- what is read is spelled
+
+if_spelled_is : (t : List ℕ) (q p : Place) → if_spelled t q ≡ Some p → (q ≡ p) × (t ≡ spelled q)
+if_spelled_is t q p = of_test (bytes_eq t (spelled q)) refl
+  where
+    of_test : (b : Bool) → bytes_eq t (spelled q) ≡ b → cond b (Some q) None ≡ Some p → (q ≡ p) × (t ≡ spelled q)
+    of_test true same e = (cc, (bytes_eq-Decides t (spelled q)).0 same)
+    of_test false same e = absurd cc
+
+reads_again : (t bytes : List ℕ) (v : Value) (p : Place) → decoded_of url_safe_no_pad t ≡ Some bytes → Reads bytes v → v ≡ place_value p → t ≡ spelled p → IsUtf8 (compact (place_value p)) → Spells t p
+reads_again t bytes v p d r e s utf8 =
+    let text = compact (place_value p) in
+    let again : decoded_of url_safe_no_pad t ≡ Some text = ap (decoded_of url_safe_no_pad) s ∙ decoded_again text (utf8-bytes text utf8) in
+    let same : bytes ≡ text = cc in
+    (s, subst (λ w. Reads text w) e (subst (λ b. Reads b v) same r))
+
+pub spelled_of_read : (t : List ℕ) (p : Place) → place_read t ≡ Some p → IsUtf8 (compact (place_value p)) → Spells t p
+spelled_of_read t p e utf8 =
+    option_and_then_some (if_spelled t) (option_and_then place_in (option_and_then value_in (decoded_of url_safe_no_pad t))) p e (λ q qe is.
+    option_and_then_some place_in (option_and_then value_in (decoded_of url_safe_no_pad t)) q qe (λ v ve found.
+    option_and_then_some value_in (decoded_of url_safe_no_pad t) v ve (λ bytes de read.
+    let both = if_spelled_is t q p is in
+    subst (λ r. IsUtf8 (compact (place_value r)) → Spells t r) both.0 (reads_again t bytes v q de (text_of_value bytes v read) (place_found v q found) both.1) utf8)))

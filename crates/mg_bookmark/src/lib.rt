@@ -3,6 +3,7 @@
 
 mod bookmark;
 mod error;
+pub mod laws;
 mod parts;
 mod place;
 mod spelling;
