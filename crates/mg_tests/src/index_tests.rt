@@ -1,6 +1,7 @@
 use mg_collate::Direction;
 use mg_index::{
-    Added, Catalog, Choice, Hint, IndexDef, IndexError, Sort, all_docs_listed, choose, design_document,
+    Added, Catalog, Choice, Hint, IndexDef, IndexError, Sort, all_docs_listed, choose,
+    design_document,
 };
 use mg_normal::Normal;
 use mg_path::Path;
@@ -122,7 +123,8 @@ fn listed_in_the_order_of_ddoc_and_name(rt: HostRuntime) -> Result<(), Fail> {
 #[test]
 fn the_index_of_all_documents(rt: HostRuntime) -> Result<(), Fail> {
     let alloc = rt.alloc();
-    let expected = "{\"ddoc\":null,\"def\":{\"fields\":[{\"_id\":\"asc\"}]},\"name\":\"_all_docs\",\"type\":\"special\"}";
+    let expected =
+        "{\"ddoc\":null,\"def\":{\"fields\":[{\"_id\":\"asc\"}]},\"name\":\"_all_docs\",\"type\":\"special\"}";
     assert!(rt; is_text(alloc, &all_docs_listed(alloc)?, expected)?);
     Ok(())
 }
