@@ -1,0 +1,4 @@
+mod Beginnings
+mod Events
+mod Commits
+mod Sessions

@@ -1,4 +1,4 @@
-use mg_doc::{DocError, Edit, EditError, rev_id, served};
+use mg_doc::{DocError, Edit, EditError, rev_id, served, with_conflicts};
 use mg_revtree::{Rev, RevTree};
 use mg_value::{Json, read, write};
 use std::alloc::Global;
@@ -93,5 +93,37 @@ fn an_id_is_given(rt: HostRuntime) -> Result<(), Fail> {
             assert!(rt; edit.id() == Some("b"));
         }
     }
+    Ok(())
+}
+
+// The winner is 3-b. The leaf 4-d has a higher position and is deleted; the others stand beside the winner.
+#[test]
+fn conflicts_best_first(rt: HostRuntime) -> Result<(), Fail> {
+    let alloc = rt.alloc();
+    let mut tree = RevTree::new(alloc);
+    for text in ["{\"_rev\":\"1-a\"}", "{\"_rev\":\"3-b\"}"] {
+        assert!(rt; matches!(outcome(alloc, &mut tree, text, false)?, Some(Ok(_))));
+    }
+    for text in ["{\"_rev\":\"2-c\"}", "{\"_rev\":\"4-d\",\"_deleted\":true}"] {
+        assert!(rt; matches!(outcome(alloc, &mut tree, text, false)?, Some(Ok(_))));
+    }
+    let document = served(alloc, "w", &tree)?.unwrap_or(Json::Null);
+    let shown = with_conflicts(alloc, document, &tree)?;
+    assert_eq!(rt;
+        write(alloc, &shown)?.as_slice(),
+        "{\"_conflicts\":[\"2-c\",\"1-a\"],\"_id\":\"w\",\"_rev\":\"3-b\"}".as_bytes()
+    );
+    Ok(())
+}
+
+#[test]
+fn no_conflicts(rt: HostRuntime) -> Result<(), Fail> {
+    let alloc = rt.alloc();
+    let mut tree = RevTree::new(alloc);
+    for text in ["{\"_rev\":\"1-a\"}", "{\"_rev\":\"4-d\",\"_deleted\":true}"] {
+        assert!(rt; matches!(outcome(alloc, &mut tree, text, false)?, Some(Ok(_))));
+    }
+    let shown = with_conflicts(alloc, Json::empty_object(alloc), &tree)?;
+    assert_eq!(rt; write(alloc, &shown)?.as_slice(), "{}".as_bytes());
     Ok(())
 }

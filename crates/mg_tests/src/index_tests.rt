@@ -1,5 +1,8 @@
 use mg_collate::Direction;
-use mg_index::{Added, Catalog, Choice, Hint, IndexDef, IndexError, Sort, choose, design_document};
+use mg_index::{
+    Added, Catalog, Choice, Hint, IndexDef, IndexError, Sort, all_docs_listed, choose,
+    design_document,
+};
 use mg_normal::Normal;
 use mg_path::Path;
 use mg_selector::Sel;
@@ -114,6 +117,15 @@ fn listed_in_the_order_of_ddoc_and_name(rt: HostRuntime) -> Result<(), Fail> {
     assert!(rt; !catalog.remove("_design/x", "iab"));
     assert!(rt; catalog.find("_design/x", "iab").is_none());
     assert_eq!(rt; catalog.copy(alloc)?.list().len(), 3);
+    Ok(())
+}
+
+#[test]
+fn the_index_of_all_documents(rt: HostRuntime) -> Result<(), Fail> {
+    let alloc = rt.alloc();
+    let expected =
+        "{\"ddoc\":null,\"def\":{\"fields\":[{\"_id\":\"asc\"}]},\"name\":\"_all_docs\",\"type\":\"special\"}";
+    assert!(rt; is_text(alloc, &all_docs_listed(alloc)?, expected)?);
     Ok(())
 }
 
