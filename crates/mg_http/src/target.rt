@@ -62,7 +62,7 @@ fn names(db: &str, parameters: &[Vec<u8>]) -> bool
 }
 
 /// The bytes as the text that they are.
-fn text_of(bytes: &[u8]) -> &str
+fn as_text(bytes: &[u8]) -> &str
     requires { is_utf8 bytes.now ≡ true }
     ensures { result.now ≡ bytes.now }
 {
@@ -79,7 +79,7 @@ fn document(alloc: Global, parameters: &[Vec<u8>], conflicts: bool) -> Result<Ta
 {
     match parameters {
         [_, id] => {
-            let id = String::from_str(alloc, text_of(id))?;
+            let id = String::from_str(alloc, as_text(id))?;
             Ok(Target::Asks(Command::Get { id, conflicts }))
         }
         _ => Ok(Target::Refuses(Refusal::Missing)),
@@ -88,15 +88,15 @@ fn document(alloc: Global, parameters: &[Vec<u8>], conflicts: bool) -> Result<Ta
 
 /// What drops the index of these parameters, which are texts: the database's name, what the design document's name is
 /// behind the front, and the index's name.
-fn dropped(alloc: Global, front: &str, parameters: &[Vec<u8>]) -> Result<Target, AllocError>
+fn drop_index(alloc: Global, front: &str, parameters: &[Vec<u8>]) -> Result<Target, AllocError>
     requires { list_all is_utf8 (map (λ v. v.items) parameters.now) ≡ true }
     ensures { IfOk result (λ t. request_in t ≡ drop_asked front.now (map (λ v. v.items) parameters.now)) }
 {
     match parameters {
         [_, rest, name] => {
             let mut ddoc = String::from_str(alloc, front)?;
-            ddoc.push_str(text_of(rest))?;
-            let name = String::from_str(alloc, text_of(name))?;
+            ddoc.push_str(as_text(rest))?;
+            let name = String::from_str(alloc, as_text(name))?;
             Ok(Target::Asks(Command::DropIndex { ddoc, name }))
         }
         _ => Ok(Target::Refuses(Refusal::Missing)),
@@ -126,8 +126,8 @@ fn target_at(
             document(alloc, &place.parameters, asks_conflicts(alloc, query)?)
         }
         Some(Action::ListIndexes) => Ok(Target::Asks(Command::ListIndexes)),
-        Some(Action::DropIndex) => dropped(alloc, "", &place.parameters),
-        Some(Action::DropDesignIndex) => dropped(alloc, "_design/", &place.parameters),
+        Some(Action::DropIndex) => drop_index(alloc, "", &place.parameters),
+        Some(Action::DropDesignIndex) => drop_index(alloc, "_design/", &place.parameters),
     }
 }
 
