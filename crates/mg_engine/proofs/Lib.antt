@@ -3,3 +3,4 @@ mod Collecting
 mod Editing
 mod Indexes
 mod Reading
+pub mod Whole

@@ -11,3 +11,4 @@ pub mod StateView
 pub mod Run
 pub mod Faults
 pub mod Settled
+pub mod Objects
