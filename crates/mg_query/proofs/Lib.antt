@@ -10,3 +10,4 @@ pub mod Candidates
 pub mod Answered
 pub mod Serving
 pub mod Chained
+pub mod Kept
