@@ -33,7 +33,7 @@ fn one<'a, G: Gate>(
     ensures { IfOk result (λ v. Answers search.entry (shards_seen shards.now) i v.items) }
 {
     gate.at(Place::ShardBegun(i));
-    let shard: &'a Shard = &shards[i];
+    let shard: &Shard = &shards[i];
     let hits = hits_in(alloc, shard, search)?;
     gate.at(Place::ShardDone(i));
     Ok(hits)
