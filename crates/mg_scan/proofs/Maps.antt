@@ -1,7 +1,7 @@
 -- Slots that are filled and emptied, and lists that grow beside the shards.
 use Rattle.std.proofs.Common.{◌≡◌, ℕ, zero, suc, ◌+◌, ◌<◌, List, [], ◌∷◌, ◌++◌, map, length, take, get_or, set, Option, Some, None, slice_get, refl, sym, ap, ap₂, ◌∙◌, subst, add-one, arith}
 use Rattle.std.specs.Arc.{arc_value}
-use Rattle.std.specs.List.{AllZip}
+use Rattle.std.specs.List.{All, AllZip}
 use Rattle.std.specs.declared.sync.Arc.{Arc}
 use Rattle.std.specs.declared.vec.Vec.{Vec}
 use Rattle.std.specs.declared.alloc.Global.{Global}
@@ -102,3 +102,9 @@ zip_documents search [] [] h = tt
 zip_documents search [] (v ∷ all) h = absurd h
 zip_documents search (s ∷ shards) [] h = absurd h
 zip_documents search (s ∷ shards) (v ∷ all) h = (h.0.documents, zip_documents search shards all h.1)
+
+-- ---- one thing
+
+pub all_one : {A : Type 0} (P : A → Type 0) (x : A) → P x → All P (x ∷ [])
+all_one P x p zero d less = p
+all_one P x p (suc k) d less = absurd (omega arith)

@@ -65,7 +65,7 @@ fn extracted_by_threads<R: Threads + Sync, G: Gate + Sync>(
         .into_par_iter()
         .map(
             |i: usize| -> Result<Vec<Row>, NoMemory>
-                requires { i < length shards.entry.now }
+                requires { i < length shards.now }
                 ensures { HasRowsAt definition.entry.now (shards_seen shards.entry.now) i result }
             { rows_at(alloc, shards, definition, i, gate) },
         )
@@ -120,7 +120,7 @@ fn taken(
     ensures given { AreRowsAt definition.now (shards_seen shards.now) given.new.items }
     ensures len { vec_len given.new ≡ vec_len given.old }
 {
-    let _ = (shards.len(), definition);
+    let _ = (shards.len(), definition.columns().len());
     replace(&mut given[i], Err(NoMemory))
 }
 

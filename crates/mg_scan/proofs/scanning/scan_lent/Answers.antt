@@ -1,6 +1,6 @@
 use Rattle.mg_scan.specs.Found.{shards_seen}
 use Rattle.mg_scan.proofs.Maps.{zip_documents, zip_rows}
-use Rattle.mg_scan.proofs.scan.scan_lent.Goals as goal
+use Rattle.mg_scan.proofs.scanning.scan_lent.Goals as goal
 
 pub returns-clause-rows : goal.returns-clause-rows
 returns-clause-rows g c = zip_rows _ (shards_seen c.args.shards.now) _ c.finish.ensures

@@ -2,7 +2,7 @@ use Rattle.std.proofs.Common.{map, ◌∙◌}
 use Rattle.mg_scan.specs.Built.{with_index}
 use Rattle.mg_scan.specs.Found.{shards_seen}
 use Rattle.mg_scan.proofs.Builds.{built-more}
-use Rattle.mg_scan.proofs.build.with_all.Goals as goal
+use Rattle.mg_scan.proofs.building.with_all.Goals as goal
 
 pub loop-i-preserved : goal.loop-i-preserved
 loop-i-preserved c =
