@@ -146,6 +146,11 @@ pub holds_of : (normal : NormalForm) (ds : KeptDocuments) (d : Document) → get
     → option_map_or (λ form. normal_holds normal (Some form)) (form_of d) false ≡ holds_at normal ds (id_of d)
 holds_of normal ds d e = ap (λ o. option_map_or (λ form. normal_holds normal (Some form)) (option_and_then (λ (k : Kept). k.1) o) false) (sym e)
 
+-- the hit of a document, by the row that it has
+pub held : (normal : NormalForm) (ds : KeptDocuments) (d : Document) (r : RowValue) → get ds (id_of d) ≡ Some (kept_of d)
+    → ◌≡◌ {A = Option RowValue} (if option_map_or (λ form. normal_holds normal (Some form)) (form_of d) false then Some r else None) (if holds_at normal ds (id_of d) then Some r else None)
+held normal ds d r e = let shape : Bool → Option RowValue = λ b. if b then Some r else None in ap shape (holds_of normal ds d e)
+
 -- ---- the hit of a row
 
 pub at_none : (normal : NormalForm) (ds : KeptDocuments) (id : List ℕ) (x : RowValue) → None ≡ get ds id → None ≡ (if holds_at normal ds id then Some x else None)
