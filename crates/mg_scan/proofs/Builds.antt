@@ -44,16 +44,16 @@ range_at P zero start [] h i x e = absurd cc
 range_at P zero start (y ∷ xs) h i x e = absurd h
 range_at P (suc n) start [] h i x e = absurd h
 range_at P (suc n) start (y ∷ xs) h zero x e = let same : start ≡ start + 0 = omega arith in subst (λ k. P k x) same (subst (P start) (some_is y x e) h.0)
-range_at P (suc n) start (y ∷ xs) h (suc i) x e = let same : suc start + i ≡ start + suc i = omega arith in subst (λ k. P k x) same (range_at P n (suc start) xs h.1 i x e)
+range_at P (suc n) start (y ∷ xs) h (suc i) x e = let same : (start + 1) + i ≡ start + suc i = omega arith in subst (λ k. P k x) same (range_at P n (start + 1) xs h.1 i x e)
 
 pub rows-ranged : (d : IndexDefinition) (shards : List ShardView) (n : ℕ) (rs : List Extracted) → AllZip (HasRowsAt d shards) (range_with_len 0 n) rs → AreRowsAt d shards rs
-rows-ranged d shards n rs h i x e = range_at (HasRowsAt d shards) n 0 rs h i x e
+rows-ranged d shards n rs h i x e = let same : 0 + i ≡ i = omega arith in subst (λ k. HasRowsAt d shards k x) same (range_at (HasRowsAt d shards) n 0 rs h i x e)
 
 range_long : {A : Type 0} (P : ℕ → A → Type 0) (n start : ℕ) (xs : List A) → AllZip P (range_with_len start n) xs → length xs ≡ n
 range_long P zero start [] h = refl
 range_long P zero start (y ∷ xs) h = absurd h
 range_long P (suc n) start [] h = absurd h
-range_long P (suc n) start (y ∷ xs) h = ap (λ k. suc k) (range_long P n (suc start) xs h.1)
+range_long P (suc n) start (y ∷ xs) h = ap (λ k. suc k) (range_long P n (start + 1) xs h.1)
 
 pub rows-long : (d : IndexDefinition) (shards : List ShardView) (n : ℕ) (rs : List Extracted) → AllZip (HasRowsAt d shards) (range_with_len 0 n) rs → length rs ≡ n
 rows-long d shards n rs h = range_long (HasRowsAt d shards) n 0 rs h

@@ -16,7 +16,7 @@ use Rattle.mg_collate.proofs.Sorting.{NoneBelow, Rises, all_append}
 use Rattle.mg_path.specs.Part.{part_of}
 use Rattle.mg_scan.specs.Search.{entry_rows}
 use Rattle.mg_scan.specs.Walked.{id_row}
-use Rattle.mg_scan.proofs.Begins.{id_rows}
+use Rattle.mg_scan.specs.Begins.{id_rows}
 use Rattle.mg_shard.specs.Documents.{Kept, KeptDocuments, doc_entry, docs_of, form_at}
 use Rattle.mg_shard.specs.Histories.{ServedDocument}
 use Rattle.mg_shard.specs.Own.{HasOwnId, all_columns}

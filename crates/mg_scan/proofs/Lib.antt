@@ -1,4 +1,4 @@
-pub mod Begins
+pub mod Lists
 pub mod Walking
 pub mod Entries
 pub mod Maps

@@ -26,7 +26,7 @@ some_is x y e = cc
 pub answers : (search : Search) (shards : List (Arc ShardView Global)) (i : ℕ) (a : Arc ShardView Global) (s : ShardView) (hits : List Hit) → i < length shards → a ≡ get_or shards i a → s ≡ arc_value a
     → Gives search s hits → Answers search (shards_seen shards) i hits
 answers search shards i a s hits less is same given =
-    λ t e. subst (λ (x : ShardView). Gives search x hits) (same ∙ some_is (arc_value a) t (sym (get-map arc_value shards i a less is) ∙ e)) given
+    record { gives = λ t e. subst (λ (x : ShardView). Gives search x hits) (same ∙ some_is (arc_value a) t (sym (get-map arc_value shards i a less is) ∙ e)) given }
 
 -- what stands in a list after one place was set: the new value there, else what stood there
 pub get-set : {A : Type 0} (P : ℕ → A → Type 0) (xs : List A) (at : ℕ) (a : A) → P at a → ((i : ℕ) (x : A) → slice_get xs i ≡ Some x → P i x) → (i : ℕ) (x : A) → slice_get (set xs at a) i ≡ Some x → P i x
@@ -78,7 +78,7 @@ pub lists-more : (search : Search) (shards : List (Arc ShardView Global)) (all :
     → AllZip (λ s w. Gives search s w.items) (take i (shards_seen shards)) all → Answers search (shards_seen shards) i v.items
     → AllZip (λ s w. Gives search s w.items) (take (i + 1) (shards_seen shards)) (all ++ v ∷ [])
 lists-more search shards all i v less so here =
-    rw add-one (zip_more (λ s (w : Vec Hit Global). Gives search s w.items) (shards_seen shards) all i v (omega (arith, less, length-seen shards)) so here)
+    rw add-one (zip_more (λ s (w : Vec Hit Global). Gives search s w.items) (shards_seen shards) all i v (omega (arith, less, length-seen shards)) so here.gives)
 
 take_all : {A : Type 0} (xs : List A) (n : ℕ) → n ≡ length xs → take n xs ≡ xs
 take_all [] zero e = refl

@@ -1,5 +1,6 @@
 -- One step of a search: what is found so far, and what is left.
 use Rattle.std.proofs.Common.{◌≡◌, ℕ, zero, suc, ◌+◌, ◌-◌, ◌<◌, ◌≤◌, Bool, true, false, ◌||◌, nat_le, List, [], ◌∷◌, ◌++◌, Option, Some, None, IfSome, option_map, map, length, if◌then◌else◌, refl, ap, ap₂, sym, ◌∙◌, subst, arith, append_assoc, append-nil}
+use Rattle.std.proofs.lemmas.Bool.{leb-false, leb-true}
 use Rattle.std.specs.List.{AllByRecursion, cons_option}
 use Rattle.mg_collate.specs.Row.{RowValue, row_view}
 use Rattle.mg_collate.specs.declared.row.Row.{Row}
@@ -8,6 +9,7 @@ use Rattle.mg_scan.specs.Search.{entry_rows}
 use Rattle.mg_scan.specs.Walked.{holds_at, is_late, is_late_row, listed, walked}
 use Rattle.mg_scan.specs.declared.search.Search.{Search}
 use Rattle.mg_scan.proofs.Entries.{entry_row}
+use Rattle.mg_scan.proofs.Lists.{list-items}
 use Rattle.mg_normal.specs.Normal.{NormalForm, normal_holds}
 use Rattle.mg_range.specs.Place.{place_of}
 use Rattle.std.specs.FinMap.{get}
@@ -21,10 +23,6 @@ use Rattle.mg_value.specs.Value.{Value, Items, item_list}
 use Rattle.mg_value.specs.View.{items_of, items_view, view}
 use Rattle.mg_value.specs.declared.value.Json.{Json}
 
-pub list-items : (vs : List Value) → item_list (items_of vs) ≡ vs
-list-items [] = refl
-list-items (v ∷ vs) = ap (λ ws. v ∷ ws) (list-items vs)
-
 pub if_some : {X : Type 0} (b : Bool) (x y : X) → Some x ≡ (if b then Some y else None) → (b ≡ true) × (x ≡ y)
 if_some true x y e = (refl, cc)
 if_some false x y e = absurd cc
@@ -36,6 +34,10 @@ if_none false y e = refl
 pub neither : (a b : Bool) → (a || b) ≡ false → (a ≡ false) × (b ≡ false)
 neither true b e = absurd cc
 neither false b e = (refl, e)
+
+-- there is room for more
+pub room : (n k : ℕ) → nat_le n k ≡ false → k < n
+room n k e = leb-false n k e
 
 -- ---- what is left
 
@@ -66,7 +68,7 @@ module _ (late holds : RowValue → Bool) where
     where
       few : (b : Bool) → nat_le n k ≡ b → b ≡ false
       few false g = refl
-      few true g = absurd (omega (arith, e, g))
+      few true g = let less = leb-true n k g in absurd (omega (arith, e, less))
 
       late_is : (a b : Bool) → a ≡ false → (a || b) ≡ true → b ≡ true
       late_is false b g h = h
@@ -144,12 +146,18 @@ pub holds_of : (normal : NormalForm) (ds : KeptDocuments) (d : Document) → get
     → option_map_or (λ form. normal_holds normal (Some form)) (form_of d) false ≡ holds_at normal ds (id_of d)
 holds_of normal ds d e = ap (λ o. option_map_or (λ form. normal_holds normal (Some form)) (option_and_then (λ (k : Kept). k.1) o) false) (sym e)
 
+-- the hit of a document, by the row that it has
+pub held : (normal : NormalForm) (ds : KeptDocuments) (d : Document) (r : RowValue) → get ds (id_of d) ≡ Some (kept_of d)
+    → ◌≡◌ {A = Option RowValue} (if option_map_or (λ form. normal_holds normal (Some form)) (form_of d) false then Some r else None) (if holds_at normal ds (id_of d) then Some r else None)
+held normal ds d r e = let shape : Bool → Option RowValue = λ b. if b then Some r else None in ap shape (holds_of normal ds d e)
+
 -- ---- the hit of a row
 
 pub at_none : (normal : NormalForm) (ds : KeptDocuments) (id : List ℕ) (x : RowValue) → None ≡ get ds id → None ≡ (if holds_at normal ds id then Some x else None)
 at_none normal ds id x e = ap (λ o. if option_map_or (λ form. normal_holds normal (Some form)) (option_and_then (λ (k : Kept). k.1) o) false then Some x else None) e
 
 pub at_some : (normal : NormalForm) (ds : KeptDocuments) (d : Document) (id : List ℕ) (key : Items) → Some (kept_of d) ≡ get ds id → id_of d ≡ id
-    → (if option_map_or (λ form. normal_holds normal (Some form)) (form_of d) false then Some (key, id_of d) else None) ≡ (if holds_at normal ds id then Some (key, id) else None)
+    → ◌≡◌ {A = Option RowValue} (if option_map_or (λ form. normal_holds normal (Some form)) (form_of d) false then Some (key, id_of d) else None) (if holds_at normal ds id then Some (key, id) else None)
 at_some normal ds d id key e same =
-    ap₂ (λ o (i : List ℕ). if option_map_or (λ form. normal_holds normal (Some form)) (option_and_then (λ (k : Kept). k.1) o) false then Some (key, i) else None) e same
+    let shape : Option Kept → List ℕ → Option RowValue = λ o i. if option_map_or (λ form. normal_holds normal (Some form)) (option_and_then (λ (k : Kept). k.1) o) false then Some (key, i) else None in
+    ap₂ shape e same

@@ -5,3 +5,4 @@ pub mod Built
 pub mod Walked
 pub mod Search
 pub mod Worked
+pub mod Begins

@@ -1,6 +1,6 @@
 -- For private clauses: what workers hand over.
 use Rattle.std.specs.Prelude.{◌≡◌, ℕ, List, Option, Some, slice_get}
-use Rattle.std.specs.List.{All}
+use Rattle.std.specs.List.{AllByRecursion}
 use Rattle.std.specs.declared.alloc.Global.{Global}
 use Rattle.std.specs.declared.vec.Vec.{Vec}
 use Rattle.mg_scan.specs.Hit.{AreHitsOf, hit_rows}
@@ -16,12 +16,12 @@ pub record Gives (search : Search) (s : ShardView) (hits : List Hit) : Type 0 wh
   pub documents : AreHitsOf s.documents hits
 
 -- they are what it finds in the i-th shard
-abbrev pub Answers : Search → List ShardView → ℕ → List Hit → Type 0
-Answers search shards i hits = (s : ShardView) → slice_get shards i ≡ Some s → Gives search s hits
+pub record Answers (search : Search) (shards : List ShardView) (i : ℕ) (hits : List Hit) : Type 0 where
+  pub gives : (s : ShardView) → slice_get shards i ≡ Some s → Gives search s hits
 
 -- each piece of work has the hits of its shard
 abbrev pub AllDone : Search → List ShardView → List Done → Type 0
-AllDone search shards ds = All (λ d. Answers search shards d.shard d.hits.items) ds
+AllDone search shards ds = AllByRecursion (λ d. Answers search shards d.shard d.hits.items) ds
 
 -- a full slot has the hits of its shard
 abbrev pub AllSlots : Search → List ShardView → List (Option (Vec Hit Global)) → Type 0

@@ -14,7 +14,7 @@ pub(crate) struct Begin<'a> {
 
 impl<'a> Probe<Row> for Begin<'a> {
     ghost use Rattle.mg_collate.specs.Row.{row_view};
-    ghost use Rattle.mg_scan.proofs.Begins.{begin_probes_rows};
+    ghost use Rattle.mg_scan.specs.Begins.{begin_probes_rows};
     ghost use Rattle.mg_scan.specs.Search.{begin_at};
 
     ghost against = { λ b row. begin_at b.search (row_view row) };
@@ -35,7 +35,7 @@ impl<'a> Probe<Row> for Begin<'a> {
 
 impl<'a> Probe<Document> for Begin<'a> {
     ghost use Rattle.mg_shard.specs.Documents.{id_of};
-    ghost use Rattle.mg_scan.proofs.Begins.{begin_probes_documents};
+    ghost use Rattle.mg_scan.specs.Begins.{begin_probes_documents};
     ghost use Rattle.mg_scan.specs.Search.{begin_at};
     ghost use Rattle.mg_scan.specs.Walked.{id_row};
 

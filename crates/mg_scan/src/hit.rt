@@ -2,8 +2,7 @@
 ghost use Rattle.std.specs.Prelude.{◌≡◌, IfOk};
 ghost use Rattle.mg_collate.specs.Row.{row_view};
 ghost use Rattle.mg_value.specs.View.{items_view, view};
-ghost use Rattle.mg_shard.specs.Documents.{id_of};
-ghost use Rattle.mg_scan.specs.Hit.{hit_row};
+ghost use Rattle.mg_scan.specs.Hit.{hit_document, hit_form, hit_row, hit_text};
 
 use mg_collate::{Row, compare_keys};
 use mg_shard::Document;
@@ -37,21 +36,21 @@ impl<'a> Hit<'a> {
 
     /// Its document. Takes no memory.
     pub fn document(&self) -> &'a Document
-        ensures { result.now ≡ self.now.document.now }
+        ensures { result.now ≡ hit_document self.now }
     {
         self.document
     }
 
     /// The form in which the document is served. Takes no memory.
     pub fn form(&self) -> &'a Json
-        ensures { view result.now ≡ view self.now.form.now }
+        ensures { view result.now ≡ hit_form self.now }
     {
         self.form
     }
 
     /// The compact text of that form. Takes no memory.
     pub fn text(&self) -> &'a [u8]
-        ensures { result.now ≡ self.now.text.now }
+        ensures { result.now ≡ hit_text self.now }
     {
         self.text
     }

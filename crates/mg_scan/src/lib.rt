@@ -2,17 +2,17 @@
 #![tactic(auto)]
 
 mod begin;
-mod build;
+mod building;
 pub mod gate;
 mod hit;
-mod scan;
+mod scanning;
 mod search;
 mod shard;
 pub mod target;
 mod workers;
 
-pub use build::build;
+pub use building::build;
 pub use gate::{Gate, NoGate, Place};
 pub use hit::Hit;
-pub use scan::{scan, scan_lent};
+pub use scanning::{scan, scan_lent};
 pub use target::Target;

@@ -63,7 +63,7 @@ fn is_over(search: Search<'_>, found: usize, key: &[Json]) -> bool
 
 // Puts a hit behind the others, if there is one.
 fn push_if<'a>(hits: &mut Vec<Hit<'a>>, hit: Option<Hit<'a>>) -> Result<(), NoMemory>
-    ensures { OnOk result (hits.new.items ≡ hits.old.items ++ listed hit) }
+    ensures { OnOk result (hits.new.items ≡ hits.old.items ++ listed hit.entry) }
 {
     if let Some(hit) = hit {
         hits.push(hit)?;
@@ -98,7 +98,7 @@ fn hits_of_documents<'a>(
     documents: Documents<'a>,
     search: Search<'_>,
 ) -> Result<Vec<Hit<'a>>, NoMemory>
-    requires { AllByRecursion (λ d. get shard.now.documents (id_of d) ≡ Some (kept_of d)) documents.entry }
+    requires { AllByRecursion (λ d. get shard.now.documents (id_of d) ≡ Some (kept_of d)) documents }
     ensures rows { IfOk result (λ v. hit_rows v.items ≡ walked_by search.entry shard.now.documents search.entry.take (entry_rows (map entry_of documents.entry))) }
     ensures documents { IfOk result (λ v. AreHitsOf shard.now.documents v.items) }
 {

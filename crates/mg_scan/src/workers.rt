@@ -33,7 +33,7 @@ fn one<'a, G: Gate>(
     ensures { IfOk result (λ v. Answers search.entry (shards_seen shards.now) i v.items) }
 {
     gate.at(Place::ShardBegun(i));
-    let shard: &'a Shard = &shards[i];
+    let shard: &Shard = &shards[i];
     let hits = hits_in(alloc, shard, search)?;
     gate.at(Place::ShardDone(i));
     Ok(hits)
@@ -69,12 +69,12 @@ fn fill<'a>(
     shards: &[Arc<Shard>],
     search: Search<'_>,
 )
-    requires given { AllDone search.entry (shards_seen shards.now) given.items }
-    requires slots { AllSlots search.entry (shards_seen shards.now) slots.old.items }
+    requires given { AllDone search (shards_seen shards.now) given.items }
+    requires slots { AllSlots search (shards_seen shards.now) slots.old.items }
     ensures slots { AllSlots search.entry (shards_seen shards.now) slots.new.items }
     ensures len { vec_len slots.new ≡ vec_len slots.old }
 {
-    let _ = (shards.len(), search);
+    let _ = (shards.len(), search.take);
     let mut given = given;
     while let Some(Done { shard, hits }) = given.pop() {
         if shard < slots.len() {
@@ -92,7 +92,7 @@ fn empty_slots<'a>(
     ensures slots { IfOk result (λ v. AllSlots search.entry (shards_seen shards.now) v.items) }
     ensures len { IfOk result (λ v. vec_len v ≡ length shards.now) }
 {
-    let _ = search;
+    let _ = search.take;
     let mut slots = Vec::new(alloc);
     for _slot in 0..shards.len() {
         slots.push(None)?;
@@ -107,7 +107,7 @@ pub(crate) fn gather<'a>(
     shards: &[Arc<Shard>],
     search: Search<'_>,
 ) -> Result<Vec<Option<Vec<Hit<'a>>>>, NoMemory>
-    requires { All (λ r. IfOk r (λ v. AllDone search.entry (shards_seen shards.now) v.items)) given.items }
+    requires { All (λ r. IfOk r (λ v. AllDone search (shards_seen shards.now) v.items)) given.items }
     ensures slots { IfOk result (λ v. AllSlots search.entry (shards_seen shards.now) v.items) }
     ensures len { IfOk result (λ v. vec_len v ≡ length shards.now) }
 {
@@ -127,12 +127,12 @@ fn taken<'a>(
     search: Search<'_>,
 ) -> Option<Vec<Hit<'a>>>
     requires inside { i < vec_len slots.old }
-    requires slots { AllSlots search.entry (shards_seen shards.now) slots.old.items }
+    requires slots { AllSlots search (shards_seen shards.now) slots.old.items }
     ensures hits { IfSome result (λ v. Answers search.entry (shards_seen shards.now) i v.items) }
     ensures slots { AllSlots search.entry (shards_seen shards.now) slots.new.items }
     ensures len { vec_len slots.new ≡ vec_len slots.old }
 {
-    let _ = (shards.len(), search);
+    let _ = (shards.len(), search.take);
     slots[i].take()
 }
 
@@ -146,7 +146,7 @@ fn or_scan<'a, G: Gate>(
     gate: &G,
 ) -> Result<Vec<Hit<'a>>, NoMemory>
     requires inside { i < length shards.now }
-    requires found { IfSome found (λ v. Answers search.entry (shards_seen shards.now) i v.items) }
+    requires found { IfSome found (λ v. Answers search (shards_seen shards.now) i v.items) }
     ensures { IfOk result (λ v. Answers search.entry (shards_seen shards.now) i v.items) }
 {
     match found {
@@ -163,7 +163,7 @@ pub(crate) fn finish<'a, G: Gate>(
     search: Search<'_>,
     gate: &G,
 ) -> Result<Vec<Vec<Hit<'a>>>, NoMemory>
-    requires slots { AllSlots search.entry (shards_seen shards.now) slots.items }
+    requires slots { AllSlots search (shards_seen shards.now) slots.items }
     requires len { vec_len slots ≡ length shards.now }
     ensures { IfOk result (λ lists. AllZip (λ s v. Gives search.entry s v.items) (shards_seen shards.now) lists.items) }
 {

@@ -7,7 +7,7 @@ use mg_range::KeyRange;
 use mg_scan::{Gate, NoGate, Place, Target, build, scan};
 use mg_selector::Sel;
 use mg_shard::Shard;
-use mg_value::{NoMemory, read};
+use mg_value::{Json, read};
 use std::alloc::Global;
 use std::sync::Arc;
 use std::sync::atomic::{AtomicU64, Ordering};
@@ -76,8 +76,10 @@ impl Gate for BothBegin {
 fn shard_of(alloc: Global, documents: &[&str]) -> Result<Arc<Shard>, Fail> {
     let mut edits = Vec::new(alloc);
     for document in documents {
-        let body = read(alloc, document.as_bytes())?;
-        edits.push(Edit::read(alloc, body, true)?)?;
+        match read(alloc, document.as_bytes())? {
+            Json::Object(members) => edits.push(Edit::read(alloc, Json::Object(members), true)?)?,
+            _ => return Err(Fail::from("no document")),
+        }
     }
     let (shard, _replies) = Shard::new(alloc).apply(alloc, &edits)?;
     Ok(Arc::new(alloc, shard)?)
@@ -110,10 +112,8 @@ fn range_of(alloc: Global, column: &str, normal: &Normal) -> Result<KeyRange, Fa
 }
 
 fn definition_of(alloc: Global) -> Result<IndexDef, Fail> {
-    let body = read(
-        alloc,
-        br#"{"ddoc":"d","name":"n","index":{"fields":["n"]}}"#,
-    )?;
+    let text = r#"{"ddoc":"d","name":"n","index":{"fields":["n"]}}"#;
+    let body = read(alloc, text.as_bytes())?;
     Ok(IndexDef::read(alloc, &body)?)
 }
 

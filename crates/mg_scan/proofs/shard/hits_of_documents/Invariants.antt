@@ -11,7 +11,7 @@ abbrev pub invariant-loop-document : goal.invariant-loop-document
 invariant-loop-document l = record {
   some : length l.hits.items ≤ l.search.take;
   left : AllByRecursion (λ d. get l.shard.documents (id_of d) ≡ Some (kept_of d)) l.document-iterator;
-  rows : walked_by l.search l.shard.documents l.search.take (entry_rows (map entry_of l.documents))
+  rows : walked_by l.search l.shard.documents l.search.take (entry_rows (map entry_of l.fn.documents))
       ≡ hit_rows l.hits.items ++ walked_by l.search l.shard.documents (l.search.take - length l.hits.items) (entry_rows (map entry_of l.document-iterator));
   documents : AreHitsOf l.shard.documents l.hits.items;
 }

@@ -1,10 +1,10 @@
-use Rattle.std.proofs.Common.{◌≡◌, ◌||◌, ◌-◌, ◌++◌, ◌<◌, List, length, nat_le, false, true, ap, ap₂, sym, ◌∙◌, subst, arith}
+use Rattle.std.proofs.Common.{◌≡◌, ◌||◌, ◌-◌, ◌++◌, ◌<◌, ◌∷◌, List, length, nat_le, false, true, ap, ap₂, sym, ◌∙◌, subst, arith}
 use Rattle.mg_collate.specs.Row.{RowValue, row_view, rows_view}
 use Rattle.mg_scan.specs.Hit.{AreHitsOf, hit_rows}
 use Rattle.mg_scan.specs.Search.{walked_by}
 use Rattle.mg_scan.specs.Walked.{holds_at, is_late_row}
 use Rattle.mg_scan.specs.declared.hit.Hit.{Hit}
-use Rattle.mg_scan.proofs.Steps.{hits_one, neither, one_left, row_late, walk_end, walk_one, walk_over}
+use Rattle.mg_scan.proofs.Steps.{hits_one, neither, one_left, room, row_late, walk_end, walk_one, walk_over}
 use Rattle.mg_scan.proofs.shard.hits_of_rows.Goals as goal
 
 pub loop-row-preserved : goal.loop-row-preserved
@@ -17,7 +17,8 @@ loop-row-preserved c =
     let total = walked_by s ds s.take (rows_view c.args.rows) in
     let long : length hits ≡ c.len.result = sym l.hits.ok.0 ∙ sym c.len.ensures in
     let on_time = neither _ _ (sym c.is_over.ensures ∙ c.if-is_over.false) in
-    let less : length hits < s.take = omega (arith, long, on_time.0) in
+    let free = room s.take c.len.result on_time.0 in
+    let less : length hits < s.take = omega (arith, long, free) in
     let sum : total ≡ hit_rows hits ++ walked_by s ds (s.take - length hits) (rows_view (row ∷ c.next.new.self)) = l.invariant.rows ∙ ap (λ rows. hit_rows hits ++ walked_by s ds (s.take - length hits) (rows_view rows)) c.in-Some.ensures.steps in
     record {
       some = rw c.in_ok-push_if.ensures (one_left s.take hits c.hit_at.result less);

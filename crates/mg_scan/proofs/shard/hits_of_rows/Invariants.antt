@@ -8,6 +8,6 @@ use Rattle.mg_scan.proofs.shard.hits_of_rows.Given as goal
 abbrev pub invariant-loop-row : goal.invariant-loop-row
 invariant-loop-row l = record {
   some : length l.hits.items ≤ l.search.take;
-  rows : walked_by l.search l.shard.documents l.search.take (rows_view l.rows) ≡ hit_rows l.hits.items ++ walked_by l.search l.shard.documents (l.search.take - length l.hits.items) (rows_view l.row-iterator);
+  rows : walked_by l.search l.shard.documents l.search.take (rows_view l.fn.rows) ≡ hit_rows l.hits.items ++ walked_by l.search l.shard.documents (l.search.take - length l.hits.items) (rows_view l.row-iterator);
   documents : AreHitsOf l.shard.documents l.hits.items;
 }

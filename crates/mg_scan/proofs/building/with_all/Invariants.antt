@@ -1,7 +1,7 @@
 use Rattle.std.proofs.Common.{◌≡◌, vec_len, length, map, take}
 use Rattle.mg_scan.specs.Built.{AreRowsAt, with_index}
 use Rattle.mg_scan.specs.Found.{shards_seen}
-use Rattle.mg_scan.proofs.build.with_all.Given as goal
+use Rattle.mg_scan.proofs.building.with_all.Given as goal
 
 -- what is left of the rows, and the shards so far
 abbrev pub invariant-loop-i : goal.invariant-loop-i

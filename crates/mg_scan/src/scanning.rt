@@ -62,7 +62,8 @@ pub fn scan_lent<'a, R: Threads + Sync, G: Gate + Sync>(
         &|_worker| work(alloc, shards, search, &next, gate),
     )?;
     let slots = gather(alloc, given, shards, search)?;
-    finish(alloc, slots, shards, search, gate)
+    let lists = finish(alloc, slots, shards, search, gate)?;
+    Ok(lists)
 }
 
 /// The same rows, copied.

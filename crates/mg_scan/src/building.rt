@@ -1,5 +1,6 @@
 //! Indexes built over shards, their keys extracted in parallel.
 ghost use Rattle.std.specs.Prelude.{◌≡◌, ◌<◌, ◌≤◌, Some, length, map, slice_get, vec_len, IfOk};
+ghost use Rattle.std.specs.List.{AllZip, range_with_len};
 ghost use Rattle.mg_scan.specs.Built.{AreRowsAt, HasRowsAt, with_index};
 ghost use Rattle.mg_scan.specs.Found.{shards_seen};
 
@@ -9,7 +10,7 @@ use mg_index::IndexDef;
 use mg_shard::Shard;
 use mg_value::NoMemory;
 use rayon::prelude::*;
-use std::alloc::Global;
+use std::alloc::{AllocError, Global};
 use std::mem::replace;
 use std::sync::Arc;
 use std::thread::Threads;
@@ -57,19 +58,36 @@ fn extracted_by_threads<R: Threads + Sync, G: Gate + Sync>(
     shards: &[Arc<Shard>],
     definition: &IndexDef,
     gate: &G,
+) -> Result<Vec<Result<Vec<Row>, NoMemory>>, AllocError>
+    ensures { IfOk result (λ v. AllZip (HasRowsAt definition.now (shards_seen shards.now)) (range_with_len 0 (length shards.now)) v.items) }
+{
+    (0..shards.len())
+        .into_par_iter()
+        .map(
+            |i: usize| -> Result<Vec<Row>, NoMemory>
+                requires { i < length shards.now }
+                ensures { HasRowsAt definition.entry.now (shards_seen shards.entry.now) i result }
+            { rows_at(alloc, shards, definition, i, gate) },
+        )
+        .collect(rt, alloc)
+}
+
+// The rows that the index has in each shard, extracted by up to so many threads.
+fn extracted<R: Threads + Sync, G: Gate + Sync>(
+    rt: &R,
+    alloc: Global,
+    shards: &[Arc<Shard>],
+    definition: &IndexDef,
+    workers: usize,
+    gate: &G,
 ) -> Result<Vec<Result<Vec<Row>, NoMemory>>, NoMemory>
     ensures rows { IfOk result (λ v. AreRowsAt definition.now (shards_seen shards.now) v.items) }
     ensures len { IfOk result (λ v. vec_len v ≡ length shards.now) }
 {
-    let all = (0..shards.len())
-        .into_par_iter()
-        .map(
-            |i: usize| -> Result<Vec<Row>, NoMemory>
-                requires { i < length shards.entry.now }
-                ensures { HasRowsAt definition.entry.now (shards_seen shards.entry.now) i result }
-            { rows_at(alloc, shards, definition, i, gate) },
-        )
-        .collect(rt, alloc)?;
+    if workers < 2 || shards.len() < 2 {
+        return extracted_here(alloc, shards, definition, gate);
+    }
+    let all = extracted_by_threads(rt, alloc, shards, definition, gate)?;
     Ok(all)
 }
 
@@ -102,7 +120,7 @@ fn taken(
     ensures given { AreRowsAt definition.now (shards_seen shards.now) given.new.items }
     ensures len { vec_len given.new ≡ vec_len given.old }
 {
-    let _ = (shards.len(), definition);
+    let _ = (shards.len(), definition.columns().len());
     replace(&mut given[i], Err(NoMemory))
 }
 
@@ -143,10 +161,6 @@ pub fn build<R: Threads + Sync, G: Gate + Sync>(
     requires { (0 < workers) × (workers ≤ 32) }
     ensures { IfOk result (λ v. v.items ≡ map (with_index definition.now) (shards_seen shards.now)) }
 {
-    let given = if workers > 1 && shards.len() > 1 {
-        extracted_by_threads(rt, alloc, shards, definition, gate)?
-    } else {
-        extracted_here(alloc, shards, definition, gate)?
-    };
+    let given = extracted(rt, alloc, shards, definition, workers, gate)?;
     with_all(alloc, shards, definition, given)
 }

@@ -1,4 +1,4 @@
--- Rows in a direction: those that a search passes over come first, then those that it looks at, then those that are late.
+-- Laws that the code cites: rows in a direction: those that a search passes over come first, then those that it looks at, then those that are late.
 use Rattle.std.proofs.Common.{◌≡◌, ℕ, ◌≤◌, Bool, true, false, ◌&&◌, not, List, [], ◌∷◌, Option, Some, None, option_map, Ordering, Less, Equal, Greater, is_gt, if◌then◌else◌, refl, ap, ap₂, sym, ◌∙◌, arith}
 use Rattle.std.proofs.lemmas.Cmp.{upto}
 use Rattle.std.specs.Cmp.{IsTotalOrder}

@@ -1,9 +1,0 @@
-use Rattle.mg_scan.specs.Found.{shards_seen}
-use Rattle.mg_scan.proofs.Maps.{zip_documents, zip_rows}
-use Rattle.mg_scan.proofs.scan.scan_lent.Goals as goal
-
-pub returns-clause-rows : goal.returns-clause-rows
-returns-clause-rows g c = zip_rows _ (shards_seen c.args.shards.now) _ c.finish.ensures
-
-pub returns-clause-hits : goal.returns-clause-hits
-returns-clause-hits g c = zip_documents _ (shards_seen c.args.shards.now) _ c.finish.ensures
