@@ -5,3 +5,4 @@ pub mod Maps
 pub mod Found
 pub mod Steps
 pub mod Builds
+pub mod Crossing
