@@ -1,37 +1,65 @@
--- What may cross threads: values, which hold one another.
-use denote.Enum.Declared as E
-use denote.Hole.Fix.{holes}
-use denote.Hole.FixSend.{fix_pulls}
-use denote.Model.Goals.{send, sync}
-use denote.Enum.Enum.{Enum}
-use denote.Param.Send.{IsSend, IsSync, enum_send, enum_sync, recorded_send, recorded_sync, sendable}
-use denote.Param.SendFields.{variants_send, variants_sync, as_row_send, as_row_sync}
+-- Shards and rows may cross threads.
+use denote.Param.Send.{IsSend, IsSync, sendable}
 use Rattle.std.proofs.Crossing.{crosses}
-use Rattle.std.proofs.MapsCrossing.{BTreeMap-send, BTreeMap-sync, String-send, String-sync, crosses as maps}
-use Rattle.std.specs.contracts.alloc.Global as Global
-use Rattle.std.specs.contracts.impls.GlobalAllocator.TheImpl as allocator
-use Rattle.std.specs.contracts.impls.StringPartialEq.TheImpl as eq
-use Rattle.std.specs.contracts.impls.StringPartialOrd.TheImpl as partial
-use Rattle.mg_value.specs.contracts.value.Json as Json
+use Rattle.std.proofs.MapsCrossing.{crosses as maps}
+use Rattle.mg_scan.proofs.Values.{json_field_send, json_field_sync, json_send, json_sync}
+use Rattle.mg_collate.specs.contracts.row.Row as Row
+use Rattle.mg_index.proofs.definition.IndexDef.TheSendSync as definition
+use Rattle.mg_pages.proofs.pages.Pages.TheSendSync as pages
+use Rattle.mg_revtree.specs.contracts.leaf.Leaf as Leaf
+use Rattle.mg_revtree.specs.contracts.leaf.Shared as Shared
+use Rattle.mg_revtree.specs.contracts.tree.RevTree as RevTree
+use Rattle.mg_revtree.proofs.links.Links.TheSendSync as links
+use Rattle.mg_revtree.proofs.revision.Rev.TheSendSync as revision
+use Rattle.mg_shard.specs.contracts.document.Document as Document
+use Rattle.mg_shard.specs.contracts.index.IndexRows as IndexRows
+use Rattle.mg_shard.specs.contracts.served.Served as Served
+use Rattle.mg_shard.specs.contracts.shard.Shard as Shard
 
-ring_sync : IsSync (holes Json.the_ring Json.the_member)
-ring_sync = fix_pulls Json.the_ring (record { G = Unit {0}; member = λ _. Json.the_member; law = λ _. sync }) (λ h pull all g. let s = all tt in let T = Json.the_layer h in recorded_sync (Enum (E.shape T)) T.D T.to T.to_one (enum_sync (E.shape T) (tt, ((search sendable depth 20, tt), ((search sendable depth 20, tt), ((search (sendable, crosses, maps) depth 20, tt), ((search (sendable, crosses, maps, s) depth 20, tt), ((BTreeMap-sync _ _ _ (eq.ghosts Global.the_row allocator.ghosts eq.no_dict eq.no_dict) (partial.ghosts Global.the_row allocator.ghosts partial.no_dict partial.no_dict) String-sync s, tt), tt)))))))) tt
+pub row_send : IsSend Row.the_row
+row_send = search (sendable, crosses, maps, json_send, json_sync) depth 40
 
-ring_send : IsSend (holes Json.the_ring Json.the_member)
-ring_send = fix_pulls Json.the_ring (record { G = Unit {0}; member = λ _. Json.the_member; law = λ _. send }) (λ h pull all g. let s = all tt in let T = Json.the_layer h in recorded_send (Enum (E.shape T)) T.D T.to T.to_one (enum_send (E.shape T) (tt, ((search sendable depth 20, tt), ((search sendable depth 20, tt), ((search (sendable, crosses, maps) depth 20, tt), ((search (sendable, crosses, maps, s) depth 20, tt), ((BTreeMap-send _ _ _ (eq.ghosts Global.the_row allocator.ghosts eq.no_dict eq.no_dict) (partial.ghosts Global.the_row allocator.ghosts partial.no_dict partial.no_dict) String-send s, tt), tt)))))))) tt
+pub row_sync : IsSync Row.the_row
+row_sync = search (sendable, crosses, maps, json_send, json_sync) depth 40
 
-hole_sync : IsSync Json.the_hole
-hole_sync = ring_sync
+pub leaf_send : IsSend Leaf.the_row
+leaf_send = search (sendable, crosses, maps, json_field_send, json_field_sync, revision.the_send, revision.the_sync) depth 40
 
-hole_send : IsSend Json.the_hole
-hole_send = ring_send
+pub leaf_sync : IsSync Leaf.the_row
+leaf_sync = search (sendable, crosses, maps, json_field_send, json_field_sync, revision.the_send, revision.the_sync) depth 40
 
-pub json_sync : IsSync Json.the_row
-json_sync =
-    variants_sync Json.enum
-    (tt, ((search (sendable, as_row_sync) depth 20, tt), ((search (sendable, as_row_sync) depth 20, tt), ((search (sendable, crosses, maps) depth 20, tt), ((search (sendable, crosses, maps, as_row_sync, hole_sync) depth 20, tt), ((search (sendable, crosses, maps, as_row_sync, hole_sync) depth 20, tt), tt))))))
+pub shared_send : IsSend Shared.the_row
+shared_send = search (sendable, crosses, maps, leaf_send, leaf_sync) depth 40
 
-pub json_send : IsSend Json.the_row
-json_send =
-    variants_send Json.enum
-    (tt, ((search (sendable, as_row_send) depth 20, tt), ((search (sendable, as_row_send) depth 20, tt), ((search (sendable, crosses, maps, as_row_send) depth 20, tt), ((search (sendable, crosses, maps, as_row_send, hole_send) depth 20, tt), ((search (sendable, crosses, maps, as_row_send, hole_send) depth 20, tt), tt))))))
+pub shared_sync : IsSync Shared.the_row
+shared_sync = search (sendable, crosses, maps, leaf_send, leaf_sync) depth 40
+
+pub tree_send : IsSend RevTree.the_row
+tree_send = search (sendable, crosses, maps, shared_send, shared_sync, links.the_send, links.the_sync) depth 40
+
+pub tree_sync : IsSync RevTree.the_row
+tree_sync = search (sendable, crosses, maps, shared_send, shared_sync, links.the_send, links.the_sync) depth 40
+
+pub served_send : IsSend Served.the_row
+served_send = search (sendable, crosses, maps, json_field_send, json_field_sync) depth 40
+
+pub served_sync : IsSync Served.the_row
+served_sync = search (sendable, crosses, maps, json_field_send, json_field_sync) depth 40
+
+pub document_send : IsSend Document.the_row
+document_send = search (sendable, crosses, maps, tree_send, tree_sync, served_send, served_sync) depth 40
+
+pub document_sync : IsSync Document.the_row
+document_sync = search (sendable, crosses, maps, tree_send, tree_sync, served_send, served_sync) depth 40
+
+pub index_send : IsSend IndexRows.the_row
+index_send = search (sendable, crosses, maps, row_send, row_sync, definition.the_send, definition.the_sync, pages.the_send, pages.the_sync) depth 40
+
+pub index_sync : IsSync IndexRows.the_row
+index_sync = search (sendable, crosses, maps, row_send, row_sync, definition.the_send, definition.the_sync, pages.the_send, pages.the_sync) depth 40
+
+pub shard_send : IsSend Shard.the_row
+shard_send = search (sendable, crosses, maps, document_send, document_sync, index_send, index_sync, pages.the_send, pages.the_sync) depth 40
+
+pub shard_sync : IsSync Shard.the_row
+shard_sync = search (sendable, crosses, maps, document_send, document_sync, index_send, index_sync, pages.the_send, pages.the_sync) depth 40

@@ -5,4 +5,6 @@ pub mod Maps
 pub mod Found
 pub mod Steps
 pub mod Builds
+pub mod Values
 pub mod Crossing
+pub mod Asked
