@@ -10,6 +10,8 @@ use denote.Param.SendFields.{variants_sync, as_row_sync}
 use Rattle.std.proofs.Common.{Bool, true, false, cond}
 use Rattle.std.proofs.Crossing.{crosses}
 use Rattle.std.proofs.MapsCrossing.{crosses as maps}
+use Rattle.mg_index.specs.contracts.definition.IndexDef as IndexDef
+use Rattle.mg_index.proofs.definition.IndexDef.TheSendSync as definition
 use Rattle.mg_normal.specs.contracts.atom.Atom as Atom
 use Rattle.mg_normal.specs.contracts.form.Form as Form
 use Rattle.mg_normal.specs.contracts.normal.Normal as Normal
@@ -17,6 +19,9 @@ use Rattle.mg_path.proofs.path.Path.TheSendSync as path
 use Rattle.mg_range.specs.contracts.range.KeyRange as KeyRange
 use Rattle.mg_range.specs.contracts.span.Limit as Limit
 use Rattle.mg_range.specs.contracts.span.Span as Span
+use Rattle.mg_scan.specs.contracts.search.Search as Search
+use Rattle.mg_scan.proofs.target.Target.TheSendSync as target
+use Rattle.mg_scan.proofs.Crossing.{row_sync}
 use Rattle.mg_scan.proofs.Values.{json_field_sync, json_sync}
 use Rattle.mg_selector.specs.contracts.operator.Op as Op
 use Rattle.mg_selector.specs.contracts.selector.Sel as Sel
@@ -76,3 +81,13 @@ atom_sync = search (sendable, crosses, maps, op_field_sync) depth 40
 
 pub normal_sync : IsSync Normal.the_row
 normal_sync = search (sendable, crosses, maps, atom_sync, form_sync) depth 40
+
+-- ---- the whole search
+
+pub search_sync : (κs : _) → IsSync (Search.the_row κs)
+search_sync κs = search (sendable, crosses, maps, normal_sync, range_sync, row_sync, target.the_sync) depth 60
+
+-- ---- the definition of an index
+
+pub definition_sync : IsSync IndexDef.the_row
+definition_sync = definition.the_sync
