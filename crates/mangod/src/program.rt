@@ -43,7 +43,7 @@ fn serve<H: Wait + Threads + AllocGlobal, R: Read, W: Write>(
     writer: &mut Device<W>,
 ) -> Ending
     requires shards { (1 ≤ settings.shards) × (settings.shards ≤ 64) }
-    requires workers { (1 ≤ settings.workers) × (settings.workers ≤ 32) }
+    requires workers { settings.workers ≡ 1 }
     requires reading { has_failed reader.old ≡ false }
     requires writing { has_failed writer.old ≡ false }
     ensures { Serves settings.entry.db.now

@@ -1,6 +1,10 @@
+pub mod Shown
+pub mod Standing
 pub mod Runs
-mod Collecting
-mod Editing
-mod Indexes
+mod Dealing
+mod Drafts
+mod Pages
+mod Dealt
+mod Answering
 mod Reading
-pub mod Whole
+mod Changes

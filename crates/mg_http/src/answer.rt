@@ -29,8 +29,6 @@ fn command_of(endpoint: Endpoint, value: Json) -> Command
     match endpoint {
         Endpoint::BulkDocs => Command::Bulk(value),
         Endpoint::Find => Command::Find(value),
-        Endpoint::Explain => Command::Explain(value),
-        Endpoint::CreateIndex => Command::CreateIndex(value),
     }
 }
 

@@ -1,4 +1,4 @@
-ghost use Rattle.std.specs.Prelude.{◌≡◌, ◌≤◌, Option, IfNone};
+ghost use Rattle.std.specs.Prelude.{◌≡◌, Option, IfNone};
 ghost use Rattle.mg_engine.specs.Commands.{Asked, Answer};
 ghost use Rattle.mg_engine.specs.View.{asked, said};
 ghost use Rattle.mg_http.specs.Solo.{Steps};
@@ -19,13 +19,12 @@ pub trait Service {
         ensures { answers self.old (asked command.now) (said result) self.new };
 }
 
-/// An engine for one caller, and the number of workers, 1 to 32, with which it answers.
+/// An engine for one caller. It answers with one worker for now.
 #[derive(Drop)]
 pub struct Solo<P> {
     pub engine: Engine<P>,
     pub workers: usize,
-    ghost some_worker: { 1 ≤ workers },
-    ghost most_workers: { workers ≤ 32 },
+    ghost one_worker: { workers ≡ 1 },
 }
 
 impl<P: Placement + Drop> Service for Solo<P> {

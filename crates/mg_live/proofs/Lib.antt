@@ -1,4 +1,0 @@
-mod Beginnings
-mod Events
-mod Commits
-mod Sessions

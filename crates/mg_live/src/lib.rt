@@ -1,7 +1,6 @@
 //! The live database: sessions that read and write side by side, each at a seat of its own.
 #![tactic(auto)]
 
-pub mod laws;
 mod tally;
 #[cfg(test)]
 mod tally_tests;

@@ -2,14 +2,7 @@
 #![tactic(auto)]
 
 mod error;
-mod explanation;
-mod field;
-pub mod laws;
-mod member;
 mod query;
-mod shown;
-mod source;
 
-pub use error::{PageError, QueryError};
-pub use explanation::explain;
+pub use error::QueryError;
 pub use query::Query;

@@ -29,8 +29,6 @@ mod range_tests;
 #[cfg(test)]
 mod revtree_tests;
 #[cfg(test)]
-mod scan_tests;
-#[cfg(test)]
 mod selector_tests;
 #[cfg(test)]
 mod shard_tests;
