@@ -73,6 +73,15 @@ def python_client(bridge, tally):
     tally.expect("another database, with a body", ask("PUT", "/other/x", b"a body"), (404, other, str(len(other))))
     page = b'{"bookmark":"nil","docs":[]}\n'
     tally.expect("a query", ask("POST", "/db/_find", b'{"selector":{"v":2}}'), (200, page, str(len(page))))
+    created = b'{"id":"_design/x y","name":"i","result":"created"}\n'
+    index = b'{"index":{"fields":["v"]},"ddoc":"x y","name":"i"}'
+    tally.expect("an index", ask("POST", "/db/_index", index), (200, created, str(len(created))))
+    status, listed, _ = ask("GET", "/db/_index")
+    tally.expect("the list of the indexes", (status, [row["ddoc"] for row in json.loads(listed)["indexes"]]), (200, [None, "_design/x y"]))
+    status, explained, _ = ask("POST", "/db/_explain", b'{"selector":{"v":2}}')
+    tally.expect("an explanation", (status, json.loads(explained)["index"]["name"]), (200, "i"))
+    dropped = b'{"ok":true}\n'
+    tally.expect("an index that is dropped", ask("DELETE", "/db/_index/_design/x%20y/json/i"), (200, dropped, str(len(dropped))))
     tally.expect("one connection for all", connection.sock is first, True)
     status, _, _ = ask("GET", "/db/none", headers={"Connection": "close"})
     tally.expect("a last message that closes", status, 404)
@@ -117,6 +126,10 @@ def curl_client(bridge, tally):
     code, out = curl("-d", '{"docs":[{"_id":"x","_rev":"1-a"}],"new_edits":false}', at + "/db/_bulk_docs", *written,
                      "--next", "-sS", at + "/db/x", *written, "--next", "-sS", at + "/db/none", *written)
     tally.expect("curl: one connection", (code, out), (0, b'[]\n201 1\n{"_id":"x","_rev":"1-a"}\n200 0\n{"error":"not_found","reason":"missing"}\n404 0\n'))
+    code, out = curl("-d", '{"index":{"fields":["v"]},"ddoc":"x","name":"i"}', at + "/db/_index",
+                     "--next", "-sS", "-X", "DELETE", at + "/db/_index/x/json/i", "--next", "-sS", at + "/db/_index/x/json/i")
+    tally.expect("curl: an index", (code, out), (0, b'{"id":"_design/x","name":"i","result":"created"}\n{"ok":true}\n'
+                                                 b'{"error":"method_not_allowed","reason":"Method not allowed."}\n'))
     code, out = curl("-I", at + "/db/x")
     tally.expect("curl: HEAD", (code, out.split(b"\r\n")[0], out[-4:]), (0, b"HTTP/1.1 405 Method Not Allowed", b"\r\n\r\n"))
     code, out = curl("--http1.0", at + "/db/none")

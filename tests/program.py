@@ -15,13 +15,15 @@ QUERY = b'POST /%s/_find HTTP/1.1\r\nContent-Length: 15\r\n\r\n{"selector":{}}'
 PAGE = b'HTTP/1.1 200 OK\r\nContent-Type: application/json\r\nContent-Length: 29\r\n\r\n{"bookmark":"nil","docs":[]}\n'
 USAGE = b"mangod: usage: mangod DB SHARDS WORKERS SESSIONS ADDR\n"
 
-RIGHT = ["db 1 1 1 -", "a 1 1 1 -", "z9_$()+-a 1 1 1 -", "db 01 1 001 -", "db 2 1 1 -", "db 64 1 1 -", "db 064 1 1 -"]
+RIGHT = ["db 1 1 1 -", "a 1 1 1 -", "z9_$()+-a 1 1 1 -", "db 01 1 001 -", "db 2 1 1 -", "db 64 1 1 -", "db 064 1 1 -",
+         "db 1 2 1 -", "db 1 32 1 -", "db 64 032 1 -"]
 
 # one word a field, cut at `|`
 WRONG = [
     "", "db", "db|1|1|1", "db|1|1|1|-|", "db|1|1|1|-|1", "D|1|1|1|-", "dB|1|1|1|-", "|1|1|1|-", "1|1|1|1|-", "_db|1|1|1|-",
     "d b|1|1|1|-", "d.b|1|1|1|-", "d/b|1|1|1|-", "dé|1|1|1|-", "db|0|1|1|-", "db|65|1|1|-", "db|1|0|1|-", "db|1|33|1|-",
     "db|1|1|0|-", "db|1|1|17|-", "db||1|1|-", "db|1||1|-", "db|1|1||-", "db|+1|1|1|-", "db|-1|1|1|-", "db|1 |1|1|-",
+    "db|1|+2|1|-", "db|1|3 |1|-", "db|1|18446744073709551618|1|-",
     "db| 1|1|1|-", "db|1.0|1|1|-", "db|x|1|1|-", "db|18446744073709551617|1|1|-",
 ]
 

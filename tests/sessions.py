@@ -1,7 +1,7 @@
 #!/usr/bin/env python3
 """Runs whole conversations through the program, byte for byte.
 
-usage: sessions.py --program PATH [--data FOLDER] [--shards 1,2,7,64] [--only NAME ..]
+usage: sessions.py --program PATH [--data FOLDER] [--shards 1,2,7,64] [--workers 1] [--only NAME ..]
 
 The data are the files *.json of the folder sessions/ beside this script. A file is a list of conversations:
   name     what would have to break for it to fail
@@ -10,7 +10,7 @@ The data are the files *.json of the folder sessions/ beside this script. A file
   cuts     true: each front of the bytes is a conversation of its own, which has the replies that were due by then
 Bytes are text (each character is a byte up to U+00FF), or a list of texts and of {"repeat": TEXT, "times": N}.
 A reply is [STATUS, BODY] or [STATUS, BODY, "silent"], which leaves out the body's bytes and keeps their length.
-One process `PATH db SHARDS 1 1 -` a conversation. Prints each fault; the last line is 'N passed, M failed'.
+One process `PATH db SHARDS WORKERS 1 -` a conversation. Prints each fault; the last line is 'N passed, M failed'.
 """
 import argparse
 import json
@@ -38,8 +38,8 @@ def reply_of(status, body, silent=None):
     return head.encode() + (b"" if silent else body)
 
 
-def run(program, shards, data):
-    done = subprocess.run([program, "db", shards, "1", "1", "-"], input=data, capture_output=True, timeout=SECONDS)
+def run(program, shards, workers, data):
+    done = subprocess.run([program, "db", shards, workers, "1", "-"], input=data, capture_output=True, timeout=SECONDS)
     return done.stdout, (done.returncode, done.stderr)
 
 
@@ -80,6 +80,7 @@ def main():
     words.add_argument("--program", required=True)
     words.add_argument("--data", type=Path, default=Path(__file__).parent / "sessions")
     words.add_argument("--shards", default="1,2,7,64")
+    words.add_argument("--workers", default="1")
     words.add_argument("--only", nargs="*", default=[])
     args = words.parse_args()
     passed = failed = 0
@@ -89,7 +90,7 @@ def main():
                 continue
             for name, data, text, end in cases_of(conversation):
                 for shards in args.shards.split(",") if name == conversation["name"] else ["1"]:
-                    found = fault(run(args.program, shards, data), (text, end))
+                    found = fault(run(args.program, shards, args.workers, data), (text, end))
                     passed, failed = passed + (not found), failed + bool(found)
                     if found:
                         print(f"{file.name}: {name}, {shards} shards:\n  {found}")

@@ -7,14 +7,14 @@ use crate::config::Settings;
 
 /// The most shards.
 const SHARDS: usize = 64;
-/// The most workers, for now.
-const WORKERS: usize = 1;
+/// The most workers.
+const WORKERS: usize = 32;
 /// The most sessions, for now.
 const SESSIONS: usize = 1;
 
 /// The settings of `DB SHARDS WORKERS SESSIONS ADDR`, none for wrong arguments. Takes no memory.
 ///
-/// SHARDS is 1 to 64. For now the other numbers are 1, and ADDR is `-`.
+/// SHARDS is 1 to 64, and WORKERS is 1 to 32. For now SESSIONS is 1, and ADDR is `-`.
 pub(crate) fn settings(words: &[String]) -> Option<Settings<'_>>
     ensures { option_map settings_seen result ≡ settings_of (map (λ w. string_bytes w) words.now) }
 {

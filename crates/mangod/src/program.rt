@@ -17,7 +17,7 @@ use std::sync::Wait;
 use std::thread::Threads;
 
 /// Does what the words ask for: one session over the input and the output, if they are right.
-pub(crate) fn run<H: Wait + Threads + AllocGlobal, R: Read, W: Write>(
+pub(crate) fn run<H: Wait + Threads + Sync + AllocGlobal, R: Read, W: Write>(
     rt: &H,
     words: &[String],
     reader: &mut Device<R>,
@@ -36,14 +36,14 @@ pub(crate) fn run<H: Wait + Threads + AllocGlobal, R: Read, W: Write>(
 }
 
 // Serves one session of a database that is empty at first.
-fn serve<H: Wait + Threads + AllocGlobal, R: Read, W: Write>(
+fn serve<H: Wait + Threads + Sync + AllocGlobal, R: Read, W: Write>(
     rt: &H,
     settings: Settings<'_>,
     reader: &mut Device<R>,
     writer: &mut Device<W>,
 ) -> Ending
     requires shards { (1 ≤ settings.shards) × (settings.shards ≤ 64) }
-    requires workers { settings.workers ≡ 1 }
+    requires workers { (1 ≤ settings.workers) × (settings.workers ≤ 32) }
     requires reading { has_failed reader.old ≡ false }
     requires writing { has_failed writer.old ≡ false }
     ensures { Serves settings.entry.db.now

@@ -1,10 +1,7 @@
-pub mod Shown
-pub mod Standing
 pub mod Runs
-mod Dealing
-mod Drafts
-mod Pages
-mod Dealt
-mod Answering
+mod Collecting
+mod Editing
+mod Indexes
 mod Reading
-mod Changes
+mod Telling
+pub mod Whole

@@ -1,19 +1,17 @@
 -- A bulk of edits, after CouchDB's `_bulk_docs`: how its body is read, what it does, and what it answers.
-use Rattle.std.specs.Prelude.{ℕ, ◌+◌, ◌%◌, ◌^◌, List, [], ◌∷◌, ◌++◌, Bool, true, false, ◌&&◌, codes, Option, Some, None, is_some, unwrap_or, Result, Ok, Err, if◌then◌else◌}
-use Rattle.std.specs.FinMap.{insert}
+use Rattle.std.specs.Prelude.{ℕ, ◌+◌, ◌%◌, ◌^◌, List, [], ◌∷◌, ◌++◌, Bool, true, false, ◌&&◌, codes, Option, Some, None, is_some, Result, Ok, Err, if◌then◌else◌}
 use Rattle.std.specs.Int.{to_be_bytes, w64}
 use Rattle.hex.specs.Hex.{encode_lower}
 use Rattle.mg_value.specs.Value.{Value, flag, text, list, object, Items, no_items, item, no_members, member, member_of}
 use Rattle.mg_revtree.specs.Revision.{Revision, revision_text}
 use Rattle.mg_doc.specs.Document.{Edit, edit_of, is_object, then_read}
-use Rattle.mg_doc.specs.Edit.{edited, outcome_of}
 use Rattle.mg_doc.specs.declared.error.DocError.{DocError}
 use Rattle.mg_doc.specs.declared.error.DocError.TheVariants as document_fault
 use Rattle.mg_doc.specs.declared.error.Refused.{Refused}
 use Rattle.mg_doc.specs.declared.error.Refused.TheVariants.{Conflict, BadHistory}
+use Rattle.mg_shard.specs.Edits.{id_in}
 use Rattle.mg_engine.specs.declared.refusal.Refusal.{Refusal}
 use Rattle.mg_engine.specs.declared.refusal.Refusal.TheVariants.{WrongShape, BadMember, BadId, BadRev, OutOfMemory}
-use Rattle.mg_engine.specs.World.{Histories, history_at}
 
 -- ---- reading the body
 
@@ -91,39 +89,6 @@ abbrev pub last_number : ℕ → List Edit → ℕ
 last_number n [] = n
 last_number n (e ∷ es) = last_number (number_with n e) es
 
--- ---- what the edits do, in order
-
--- the id of an edit that has one
-abbrev pub id_in : Edit → List ℕ
-id_in e = unwrap_or e.id []
-
--- the histories with the one that an edit leaves
-abbrev pub history_put : Histories → Edit → Result Revision Refused → Histories
-history_put m e (Ok r) = insert m (id_in e) (edited (history_at m (id_in e)) e)
-history_put m e (Err refused) = m
-
--- what becomes of an edit
-abbrev pub outcome_in : Histories → Edit → Result Revision Refused
-outcome_in m e = outcome_of (history_at m (id_in e)) e
-
--- the histories after an edit: a refused one changes none
-abbrev pub after_edit : Histories → Edit → Histories
-after_edit m e = history_put m e (outcome_in m e)
-
--- the histories after all of them
-abbrev pub after_edits : Histories → List Edit → Histories
-after_edits m [] = m
-after_edits m (e ∷ es) = after_edits (after_edit m e) es
-
--- an edit's id, and what became of the edit
-abbrev pub Outcome : Type 0
-Outcome = List ℕ × Result Revision Refused
-
--- what becomes of each edit, in order
-abbrev pub outcomes : Histories → List Edit → List Outcome
-outcomes m [] = []
-outcomes m (e ∷ es) = (id_in e, outcome_in m e) ∷ outcomes (after_edit m e) es
-
 -- ---- the reply
 
 -- `{"id":..,"ok":true,"rev":..}`
@@ -146,7 +111,7 @@ abbrev pub entry_before : Option Value → Items → Items
 entry_before None vs = vs
 entry_before (Some v) vs = item v vs
 
--- the entries of the reply, in the order of the documents
-abbrev pub entries_of : Bool → List Outcome → Items
-entries_of new_edits [] = no_items
-entries_of new_edits (o ∷ os) = entry_before (entry_of new_edits o.0 o.1) (entries_of new_edits os)
+-- the entries of the reply, in the order of the documents: of each edit, and of what became of it
+abbrev pub entries_of : Bool → List Edit → List (Result Revision Refused) → Items
+entries_of new_edits (e ∷ es) (o ∷ os) = entry_before (entry_of new_edits (id_in e) o) (entries_of new_edits es os)
+entries_of new_edits es os = no_items

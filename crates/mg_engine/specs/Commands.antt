@@ -1,27 +1,51 @@
 -- What each command answers and which world it leaves: the whole behaviour of the database, for one caller.
-use Rattle.std.specs.Prelude.{ℕ, List, [], ◌∷◌, Bool, Option, Some, None, Result, Ok, Err}
+use Rattle.std.specs.Prelude.{ℕ, List, [], ◌∷◌, Bool, true, false, codes, Option, Some, None, is_some, option_map, Result, Ok, Err, if◌then◌else◌}
 use Rattle.std.specs.FinMap as finite
+use Rattle.std.specs.Option.{option_map_or}
 use Rattle.mg_value.specs.Value.{Value, list}
 use Rattle.mg_revtree.specs.History.{History}
+use Rattle.mg_doc.specs.Conflicts.{with_conflicts_of}
 use Rattle.mg_doc.specs.Document.{Edit}
 use Rattle.mg_doc.specs.Served.{served_of}
+use Rattle.mg_index.specs.Catalog.{definition_at, with_definition, without_definition}
+use Rattle.mg_index.specs.Definition.{IndexDefinition, design_document}
+use Rattle.mg_index.specs.Reading.{definition_of}
+use Rattle.mg_index.specs.Same.{is_there}
+use Rattle.mg_index.specs.declared.error.IndexError.{IndexError}
+use Rattle.mg_index.specs.declared.error.IndexError.TheVariants as index_fault
+use Rattle.mg_shard.specs.Edits.{after_edits, outcomes}
 use Rattle.mg_query.specs.Query.{Query, query_of}
-use Rattle.mg_query.specs.Page.{Page, Unanswered, no_usable_index, answer_of}
+use Rattle.mg_query.specs.Page.{Page, Unanswered, no_usable_index, bad_bookmark, answer_of, candidates_of, page_value}
+use Rattle.mg_query.specs.Explain.{explanation_of}
 use Rattle.mg_query.specs.declared.error.QueryError.{QueryError}
 use Rattle.mg_query.specs.declared.error.QueryError.TheVariants as query_fault
 use Rattle.mg_engine.specs.declared.refusal.Refusal.{Refusal}
-use Rattle.mg_engine.specs.declared.refusal.Refusal.TheVariants.{WrongShape, InvalidOperator, BadArg, NoUsableIndex, OutOfMemory, Missing, Deleted}
+use Rattle.mg_engine.specs.declared.refusal.Refusal.TheVariants.{WrongShape, InvalidOperator, BadArg, BadBookmark, MixedSort, NoUsableIndex, OutOfMemory, Missing, Deleted}
 use Rattle.mg_engine.specs.Refusals.{status_of, refusal_body}
-use Rattle.mg_engine.specs.World.{World, documents_of}
-use Rattle.mg_engine.specs.Bulk.{Bulk, bulk_of, edits_read, numbered, last_number, after_edits, outcomes, entries_of}
-use Rattle.mg_engine.specs.Bodies.{line_of, page_value}
+use Rattle.mg_engine.specs.World.{World}
+use Rattle.mg_engine.specs.Bulk.{Bulk, bulk_of, edits_read, numbered, last_number, entries_of}
+use Rattle.mg_engine.specs.Bodies.{line_of, done_value, index_value, indexes_value}
 
--- a command: the body of a `_bulk_docs`, the body of a `_find`, or a document's id and whether its conflicts are asked for
--- (which changes no reply yet)
+-- a command: the body of a `_bulk_docs`; the body of an `_index` that creates one; the design document and name of one to be dropped;
+-- the list of indexes; the body of a `_find` or of an `_explain`; or a document's id and whether its conflicts are asked for
 pub data Asked : Type 0 where
   bulk : Value → Asked
+  create_index : Value → Asked
+  drop_index : List ℕ → List ℕ → Asked
+  list_indexes : Asked
   find : Value → Asked
+  explain : Value → Asked
   get : List ℕ → Bool → Asked
+
+-- whether a command may leave another world
+abbrev pub is_write : Asked → Bool
+is_write (bulk v) = true
+is_write (create_index v) = true
+is_write (drop_index ddoc name) = true
+is_write list_indexes = false
+is_write (find v) = false
+is_write (explain v) = false
+is_write (get id conflicts) = false
 
 -- a reply: its status and the bytes of its body
 pub record Answer : Type 0 where
@@ -32,11 +56,19 @@ pub record Answer : Type 0 where
 abbrev pub refused : Refusal → Answer
 refused r = record { status = status_of r; body = refusal_body r }
 
+-- the answer that is done, with a value to tell
+abbrev pub done : Value → Answer
+done v = record { status = 200; body = line_of v }
+
 -- ---- `_bulk_docs`
+
+-- the answer to edits that have ids
+abbrev pub edits_answer : World → Bool → List Edit → Answer
+edits_answer w new_edits es = record { status = 201; body = line_of (list (entries_of new_edits es (outcomes w.docs es))) }
 
 -- the answer to a bulk whose documents were read, or refused
 abbrev pub bulk_reply : World → Bool → Result (List Edit) Refusal → Answer
-bulk_reply w new_edits (Ok es) = record { status = 201; body = line_of (list (entries_of new_edits (outcomes w.docs (numbered w.counter es)))) }
+bulk_reply w new_edits (Ok es) = edits_answer w new_edits (numbered w.counter es)
 bulk_reply w new_edits (Err r) = refused r
 
 -- the answer to a bulk; a body of another shape is refused
@@ -49,53 +81,97 @@ abbrev pub world_with : World → Result (List Edit) Refusal → World
 world_with w (Ok es) = record w { docs = after_edits w.docs (numbered w.counter es); counter = last_number w.counter es }
 world_with w (Err r) = w
 
--- ---- `_find`
+-- ---- `_index`
+
+-- a definition's fault as a refusal
+abbrev pub refusal_of_index : IndexError → Refusal
+refusal_of_index index_fault.Shape = WrongShape
+refusal_of_index index_fault.Mixed = MixedSort
+refusal_of_index index_fault.NoMemory = OutOfMemory
+
+-- the answer to a definition that was read, or refused
+abbrev pub created : World → Result IndexDefinition IndexError → Answer
+created w (Ok d) = done (index_value d (if is_there d w.indexes then codes "exists" else codes "created"))
+created w (Err e) = refused (refusal_of_index e)
+
+-- the world with the definition, instead of another of its design document and name
+abbrev pub world_defined : World → Result IndexDefinition IndexError → World
+world_defined w (Ok d) = record w { indexes = with_definition d w.indexes }
+world_defined w (Err e) = w
+
+-- the answer to a deletion, by whether there is such an index
+abbrev pub dropped : Bool → Answer
+dropped true = done done_value
+dropped false = refused Missing
+
+-- ---- `_find` and `_explain`
 
 -- a query's fault as a refusal
 abbrev pub refusal_of : QueryError → Refusal
 refusal_of query_fault.Shape = WrongShape
 refusal_of query_fault.InvalidOperator = InvalidOperator
 refusal_of query_fault.BadArg = BadArg
+refusal_of query_fault.BadBookmark = BadBookmark
+refusal_of query_fault.MixedSort = MixedSort
 refusal_of query_fault.NoMemory = OutOfMemory
 
 -- why a query that was read is not answered, as a refusal
 abbrev pub refusal_for : Unanswered → Refusal
 refusal_for no_usable_index = NoUsableIndex
+refusal_for bad_bookmark = BadBookmark
 
--- a page, or why there is none
-abbrev pub page_or_refusal : Result Page Unanswered → Answer
-page_or_refusal (Ok page) = record { status = 200; body = line_of (page_value page) }
-page_or_refusal (Err why) = refused (refusal_for why)
+-- what is told of a query, or why it is not answered
+abbrev pub told_or_refused : {A : Type 0} → (A → Value) → Result A Unanswered → Answer
+told_or_refused value (Ok a) = done (value a)
+told_or_refused value (Err why) = refused (refusal_for why)
 
 -- the answer to a query: its page, or its refusal
 abbrev pub found : World → Result Query QueryError → Answer
-found w (Ok q) = page_or_refusal (answer_of w.indexes q (documents_of w))
+found w (Ok q) = told_or_refused page_value (answer_of w.indexes q (candidates_of w.docs))
 found w (Err e) = refused (refusal_of e)
+
+-- the explanation of a query, or its refusal
+abbrev pub explained : World → Result Query QueryError → Answer
+explained w (Ok q) = told_or_refused (λ v. v) (explanation_of w.name w.indexes q)
+explained w (Err e) = refused (refusal_of e)
 
 -- ---- `GET` of a document
 
--- the answer where there is a history: the served document, or that it is deleted
+-- a document of this history, with its conflicts where they are asked for
+abbrev pub with_asked : Bool → History → Value → Value
+with_asked true h v = with_conflicts_of h v
+with_asked false h v = v
+
+-- the answer where there is a history: the document, or that it is deleted
 abbrev pub shown_or_deleted : Option Value → Answer
-shown_or_deleted (Some v) = record { status = 200; body = line_of v }
+shown_or_deleted (Some v) = done v
 shown_or_deleted None = refused Deleted
 
 -- the served document; `deleted` where there is a history and none is served, `missing` where there is no history
-abbrev pub got : List ℕ → Option History → Answer
-got id (Some h) = shown_or_deleted (served_of id h)
-got id None = refused Missing
+abbrev pub got : List ℕ → Bool → Option History → Answer
+got id conflicts (Some h) = shown_or_deleted (option_map (with_asked conflicts h) (served_of id h))
+got id conflicts None = refused Missing
 
 -- ---- all commands
 
 -- what a command answers
 abbrev pub reply_of : World → Asked → Answer
 reply_of w (bulk v) = bulk_answer w (bulk_of v)
+reply_of w (create_index v) = created w (definition_of v)
+reply_of w (drop_index ddoc name) = dropped (is_some (definition_at (design_document ddoc) name w.indexes))
+reply_of w list_indexes = done (indexes_value w.indexes)
 reply_of w (find v) = found w (query_of v)
-reply_of w (get id conflicts) = got id (finite.get w.docs id)
+reply_of w (explain v) = explained w (query_of v)
+reply_of w (get id conflicts) = got id conflicts (finite.get w.docs id)
 
 -- the world that a command leaves: one that is refused, or that reads, leaves it as it is
 abbrev pub next : World → Asked → World
 next w (bulk v) = world_with w (edits_read (bulk_of v))
+next w (create_index v) = world_defined w (definition_of v)
+next w (drop_index ddoc name) = record w { indexes = without_definition (design_document ddoc) name w.indexes }
+next w list_indexes = w
 next w (find v) = w
+next w (explain v) = w
 next w (get id conflicts) = w
 
 -- the answers to commands, in order

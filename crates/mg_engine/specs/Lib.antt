@@ -6,11 +6,10 @@ pub mod Bodies
 pub mod Before
 pub mod View
 pub mod BulkView
-pub mod Documents
-pub mod Apart
-pub mod Shards
-pub mod Found
 pub mod Stands
 pub mod StateView
 pub mod Run
 pub mod Faults
+pub mod Told
+pub mod Settled
+pub mod Objects

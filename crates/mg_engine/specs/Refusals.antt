@@ -3,7 +3,7 @@ use Rattle.std.specs.Prelude.{ℕ, List, codes}
 use Rattle.mg_value.specs.Value.{object, member, no_members, text}
 use Rattle.mg_engine.specs.Bodies.{line_of}
 use Rattle.mg_engine.specs.declared.refusal.Refusal.{Refusal}
-use Rattle.mg_engine.specs.declared.refusal.Refusal.TheVariants.{InvalidJson, WrongShape, InvalidOperator, BadArg, NoUsableIndex, BadMember, BadId, BadRev, Missing, Deleted, NoDatabase, MethodNotAllowed, LengthRequired, TooLarge, HeadTooLarge, OutOfMemory, BadHead}
+use Rattle.mg_engine.specs.declared.refusal.Refusal.TheVariants.{InvalidJson, WrongShape, InvalidOperator, BadArg, BadBookmark, MixedSort, NoUsableIndex, BadMember, BadId, BadRev, Missing, Deleted, NoDatabase, MethodNotAllowed, LengthRequired, TooLarge, HeadTooLarge, OutOfMemory, BadHead}
 
 -- the status of a refusal, as in RFC 9110
 abbrev pub status_of : Refusal → ℕ
@@ -11,6 +11,8 @@ status_of InvalidJson = 400
 status_of WrongShape = 400
 status_of InvalidOperator = 400
 status_of BadArg = 400
+status_of BadBookmark = 400
+status_of MixedSort = 400
 status_of NoUsableIndex = 400
 status_of BadMember = 400
 status_of BadId = 400
@@ -35,6 +37,8 @@ refusal_body InvalidJson = refusal_line (codes "bad_request") (codes "Invalid JS
 refusal_body WrongShape = refusal_line (codes "bad_request") (codes "Wrong shape.")
 refusal_body InvalidOperator = refusal_line (codes "invalid_operator") (codes "Unknown operator.")
 refusal_body BadArg = refusal_line (codes "bad_arg") (codes "Bad argument for an operator.")
+refusal_body BadBookmark = refusal_line (codes "invalid_bookmark") (codes "Invalid bookmark.")
+refusal_body MixedSort = refusal_line (codes "unsupported_mixed_sort") (codes "Sorts currently only support a single direction for all fields.")
 refusal_body NoUsableIndex = refusal_line (codes "no_usable_index") (codes "No index exists for this sort, try indexing by the sort fields.")
 refusal_body BadMember = refusal_line (codes "doc_validation") (codes "Bad special document member.")
 refusal_body BadId = refusal_line (codes "doc_validation") (codes "Bad document id.")

@@ -1,33 +1,44 @@
 -- Which world an engine stands for.
-use Rattle.std.specs.Prelude.{◌≡◌, ℕ, List, [], length, refl}
-use Rattle.std.specs.Coded.{Coded, code_by, coded×, coded_ℕ, coded_list, coded_option}
-use Rattle.std.specs.FinMap as finite
-use Rattle.mg_value.specs.Code.{value_code}
-use Rattle.mg_revtree.specs.Tree.{tree_code}
+use Rattle.std.specs.Prelude.{◌≡◌, ℕ, List, All, length, map, refl}
+use Rattle.std.specs.Coded.{Coded, code_by, coded×, coded_ℕ, coded_list}
+use Rattle.mg_index.specs.Definition.{IndexDefinition, definition_code}
+use Rattle.mg_shard.specs.Dealt.{Placing, ShardsStandFor}
+use Rattle.mg_shard.specs.Shard.{ShardView, shard_code}
+use Rattle.mg_engine.specs.Objects.{HaveObjects}
 use Rattle.mg_engine.specs.World.{World}
-use Rattle.mg_engine.specs.Documents.{KeptDocuments}
-use Rattle.mg_engine.specs.Shards.{Placing, ShardsStandFor}
 
--- what a state holds: the database's name, the documents of each shard, by their ids, and the number that was given last
+-- what a state holds: the database's name, the catalog of its indexes, its shards, and the number that was given last
 pub record Shown : Type 0 where
   pub name : List ℕ
-  pub shards : List KeptDocuments
+  pub catalog : List IndexDefinition
+  pub shards : List ShardView
   pub counter : ℕ
 
 -- how the logic stores it
 abbrev pub shown_code : Coded Shown
 shown_code =
-    code_by (List ℕ × (List KeptDocuments × ℕ))
-    (coded× (coded_list coded_ℕ) (coded× (coded_list (finite.code (coded_list coded_ℕ) (coded× tree_code (coded_option value_code)))) coded_ℕ))
-    (λ s. (s.name, (s.shards, s.counter))) (λ p. record { name = p.0; shards = p.1.0; counter = p.1.1 }) (λ _. refl)
+    code_by (List ℕ × (List IndexDefinition × (List ShardView × ℕ)))
+    (coded× (coded_list coded_ℕ) (coded× (coded_list definition_code) (coded× (coded_list shard_code) coded_ℕ)))
+    (λ s. (s.name, (s.catalog, (s.shards, s.counter)))) (λ p. record { name = p.0; catalog = p.1.0; shards = p.1.1.0; counter = p.1.1.1 }) (λ _. refl)
 
--- a state whose documents are placed by `place` stands for a world where its shards stand for the histories, and the
--- names and the counters are the same. There is no index yet
+-- the indexes of each shard
+abbrev pub definitions_of : List ShardView → List (List IndexDefinition)
+definitions_of shards = map (λ s. s.definitions) shards
+
+-- each shard has the rows of exactly these indexes
+abbrev pub HaveRows : List IndexDefinition → List ShardView → Type 0
+HaveRows ds shards = All (λ given. given ≡ ds) (definitions_of shards)
+
+-- a state whose documents are placed by `place` stands for a world where its shards stand for the histories, its catalog is the list of
+-- indexes and each shard has the rows of exactly these, and the names and the counters are the same. The documents of such a world have
+-- objects as bodies, as all have that commands brought
 pub record Holds (place : Placing) (s : Shown) (w : World) : Type 0 where
   pub name : s.name ≡ w.name
   pub documents : ShardsStandFor place s.shards w.docs
-  pub indexes : w.indexes ≡ []
+  pub indexes : s.catalog ≡ w.indexes
+  pub rows : HaveRows w.indexes s.shards
   pub counter : s.counter ≡ w.counter
+  pub objects : HaveObjects w.docs
 
 -- an engine, whose documents are placed by `place`, stands for the world of its state
 abbrev pub Stands : {P : Type 0} → (P → List ℕ → ℕ → ℕ) → P × Shown → World → Type 0

@@ -1,37 +1,52 @@
--- What clauses see of a state, and of a shard while a bulk is applied.
-use Rattle.std.specs.Prelude.{List, map, String, string_bytes}
+-- What clauses see of a state, and of shards while a bulk is applied.
+use Rattle.std.specs.Prelude.{◌≡◌, ◌<◌, ℕ, List, [], ◌∷◌, length, map, string_bytes}
 use Rattle.std.specs.Arc.{arc_value}
-use Rattle.std.specs.BTreeMap.{BTreeMap}
+use Rattle.std.specs.FinMap as finite
 use Rattle.std.specs.declared.alloc.Global.{Global}
 use Rattle.std.specs.declared.sync.Arc.{Arc}
-use Rattle.mg_engine.specs.Documents.{KeptDocuments, documents_seen}
-use Rattle.mg_engine.specs.Stands.{Shown}
-use Rattle.mg_engine.specs.declared.document.Document.{Document}
-use Rattle.mg_engine.specs.declared.draft.Draft.{Draft}
-use Rattle.mg_engine.specs.declared.draft.Draft.TheVariants.{Shared, Changed}
+use Rattle.mg_index.specs.Definition.{IndexDefinition}
+use Rattle.mg_shard.specs.Documents.{StandFor}
+use Rattle.mg_shard.specs.Draft.{DraftStandsFor, DraftView}
+use Rattle.mg_shard.specs.Histories.{Histories}
+use Rattle.mg_shard.specs.Shard.{ShardView}
+use Rattle.mg_engine.specs.Stands.{HaveRows, Shown}
 use Rattle.mg_engine.specs.declared.state.State.TheInside.{Inside}
 
--- the documents of the code, by their ids
-abbrev pub Documents : Type 0
-Documents = BTreeMap (String Global) (Arc Document Global)
+-- the shards of the code
+abbrev pub shards_seen : List (Arc ShardView Global) → List ShardView
+shards_seen shards = map (λ (s : Arc ShardView Global). arc_value s) shards
 
--- the documents of a shard
-abbrev pub shard_seen : Arc Documents Global → KeptDocuments
-shard_seen shard = documents_seen (arc_value shard).entries
-
--- the documents of each shard
-abbrev pub shards_seen : List (Arc Documents Global) → List KeptDocuments
-shards_seen shards = map shard_seen shards
-
--- the documents of a shard while a bulk is applied
-abbrev pub draft_seen : Draft → KeptDocuments
-draft_seen (Shared shard) = shard_seen shard
-draft_seen (Changed docs) = documents_seen docs.entries
-
--- the documents of each of them
-abbrev pub drafts_seen : List Draft → List KeptDocuments
-drafts_seen drafts = map draft_seen drafts
-
--- the name, the shards and the number that a state holds
+-- the name, the catalog, the shards and the number that a state holds
 abbrev pub state_shown : Inside → Shown
-state_shown s = record { name = string_bytes (arc_value s.name); shards = shards_seen s.shards.items; counter = s.counter }
+state_shown s = record { name = string_bytes (arc_value s.name); catalog = arc_value s.catalog; shards = shards_seen s.shards.items; counter = s.counter }
+
+-- there is a shard, and each has the rows of exactly the catalog's indexes
+pub record IsWhole (s : Inside) : Type 0 where
+  pub some : 0 < length s.shards.items
+  pub rows : HaveRows (arc_value s.catalog) (shards_seen s.shards.items)
+
+-- a shard without documents and indexes
+abbrev pub empty_shard : ShardView
+empty_shard = record { documents = finite.empty; definitions = [] }
+
+-- ---- while a bulk is applied
+
+-- a draft that has touched no document yet
+abbrev pub fresh : ShardView → DraftView
+fresh s = record { shard = s; touched = finite.empty }
+
+-- the shards as they were before
+abbrev pub before : List DraftView → List ShardView
+before drafts = map (λ d. d.shard) drafts
+
+-- a shard is what a draft leaves: it stands for what the draft stands for, with the same indexes
+pub record Leaves (d : DraftView) (s : ShardView) : Type 0 where
+  pub stands : (hs : Histories) → DraftStandsFor d hs → StandFor s.documents hs
+  pub definitions : s.definitions ≡ d.shard.definitions
+
+-- these shards are what those drafts leave, one for each
+abbrev pub AllLeave : List DraftView → List ShardView → Type 0
+AllLeave [] [] = Unit {0}
+AllLeave [] (s ∷ ss) = ⊥
+AllLeave (d ∷ ds) [] = ⊥
+AllLeave (d ∷ ds) (s ∷ ss) = Leaves d s × AllLeave ds ss

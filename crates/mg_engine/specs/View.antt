@@ -1,9 +1,9 @@
 -- What the program's commands and replies stand for.
 use Rattle.std.specs.Prelude.{Option, Some, None, string_bytes}
 use Rattle.mg_value.specs.View.{view}
-use Rattle.mg_engine.specs.Commands.{Asked, bulk, find, get, Answer, refused}
+use Rattle.mg_engine.specs.Commands.{Asked, bulk, create_index, drop_index, list_indexes, find, explain, get, Answer, refused}
 use Rattle.mg_engine.specs.declared.command.Command.{Command}
-use Rattle.mg_engine.specs.declared.command.Command.TheVariants.{Bulk, Find, Get}
+use Rattle.mg_engine.specs.declared.command.Command.TheVariants.{Bulk, CreateIndex, DropIndex, ListIndexes, Find, Explain, Get}
 use Rattle.mg_engine.specs.declared.reply.Reply.{Reply}
 use Rattle.mg_engine.specs.declared.reply.Reply.TheVariants.{Full, NoMemory}
 use Rattle.mg_engine.specs.declared.refusal.Refusal.TheVariants.{OutOfMemory}
@@ -11,7 +11,11 @@ use Rattle.mg_engine.specs.declared.refusal.Refusal.TheVariants.{OutOfMemory}
 -- what a command asks
 abbrev pub asked : Command → Asked
 asked (Bulk body) = bulk (view body)
+asked (CreateIndex body) = create_index (view body)
+asked (DropIndex ddoc name) = drop_index (string_bytes ddoc) (string_bytes name)
+asked ListIndexes = list_indexes
 asked (Find body) = find (view body)
+asked (Explain body) = explain (view body)
 asked (Get id conflicts) = get (string_bytes id) conflicts
 
 -- a reply that was made whole, and none where memory was refused

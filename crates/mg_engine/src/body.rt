@@ -1,5 +1,5 @@
 //! Bodies of replies.
-ghost use Rattle.std.specs.Prelude.{◌≡◌, IfOk};
+ghost use Rattle.std.specs.Prelude.{◌≡◌, ◌∷◌, ◌++◌, [], IfOk};
 ghost use Rattle.mg_value.specs.View.{view};
 ghost use Rattle.mg_engine.specs.Bodies.{line_of};
 
@@ -13,4 +13,14 @@ pub(crate) fn line(alloc: Global, value: &Json) -> Result<Vec<u8>, NoMemory>
     let mut text = write(alloc, value)?;
     text.push(b'\n')?;
     Ok(text)
+}
+
+/// A text and a line feed.
+pub(crate) fn text_line(alloc: Global, text: &[u8]) -> Result<Vec<u8>, NoMemory>
+    ensures { IfOk result (λ b. b.items ≡ text.now ++ 10 ∷ []) }
+{
+    let mut line = Vec::with_capacity(alloc, text.len().saturating_add(1))?;
+    line.extend_from_slice(text)?;
+    line.push(b'\n')?;
+    Ok(line)
 }

@@ -1,19 +1,26 @@
-ghost use Rattle.std.specs.Prelude.{◌≡◌, ◌≤◌, IfOk, IfNone, OnErr, map};
+ghost use Rattle.std.specs.Prelude.{◌≡◌, ◌≤◌, All, IfOk, IfNone, IfSome, OnErr, false, map, true, unwrap_or};
+ghost use Rattle.mg_engine.specs.Commands.{is_write, reply_of};
+ghost use Rattle.mg_engine.specs.Settled.{IsSettled};
 ghost use Rattle.mg_engine.specs.World.{World, empty_world};
 ghost use Rattle.mg_engine.specs.View.{asked, said};
 ghost use Rattle.mg_engine.specs.Stands.{Stands, shard_count};
+ghost use Rattle.mg_engine.specs.StateView.{shards_seen};
 ghost use Rattle.mg_engine.specs.Run.{Answers, IsRun};
 
 use crate::command::Command;
 use crate::reply::Reply;
 use crate::state::State;
-use mg_shard::Placement;
+use mg_index::Catalog;
+use mg_scan::{Gate, NoGate};
+use mg_shard::{Placement, Shard};
 use mg_value::NoMemory;
 use std::alloc::Global;
 use std::marker::Model;
-use std::sync::{Arc, Wait};
+use std::sync::Arc;
+use std::thread::Threads;
 
-/// A database for one caller: documents, placed on shards, and the commands on them.
+/// A database for one caller: documents, placed on shards, indexes over them, and the commands on both. What an engine holds is
+/// shared with the one that a write makes of it.
 #[derive(Drop)]
 pub struct Engine<P> {
     placement: Arc<P>,
@@ -49,16 +56,18 @@ impl<P: Placement + Drop> Engine<P> {
 
     /// Answers one command. Where memory is refused, nothing has changed.
     ///
-    /// A bulk costs its edits and a pass over the ids of the shards that it writes to; a query looks in each shard at the
-    /// documents until a page's rows are found.
-    pub fn step<R: Wait>(
+    /// A bulk costs its edits, each with its document and its rows; a query costs its page, where an index serves it, and else the
+    /// documents that it looks at until the page is found; an index that is created costs each document. Any number of workers, 1 to 32,
+    /// gives the same reply.
+    pub fn step<R: Threads + Sync>(
         &mut self,
         rt: &R,
         alloc: Global,
         command: &Command,
         workers: usize,
     ) -> Reply
-        requires { workers ≡ 1 }
+        requires some { 1 ≤ workers }
+        requires most { workers ≤ 32 }
 
         // For each world that the engine stands for, the reply is the definition's, and the engine then stands for
         // the world that the command leaves; or memory was refused, and it stands for the same world.
@@ -67,26 +76,93 @@ impl<P: Placement + Drop> Engine<P> {
         ensures refused { IfNone (said result) (self.new ≡ self.old) }
         ensures shards { shard_count self.new ≡ shard_count self.old }
     {
-        let _ = rt;
-        let (reply, next) = self.state.commit(alloc, &*self.placement, command);
+        let (reply, next) = self
+            .state
+            .take(rt, alloc, &*self.placement, command, workers, &NoGate);
         if let Some(next) = next {
             self.state = next;
         }
         reply
     }
 
+    /// The reply to a command that reads, for every gate, which a query passes: `ShardBegun` before a shard's first row is read and
+    /// `ShardDone` after its last. Cost: as of `step`.
+    pub fn answer<R: Threads + Sync, G: Gate + Sync>(
+        &self,
+        rt: &R,
+        alloc: Global,
+        command: &Command,
+        workers: usize,
+        gate: &G,
+    ) -> Reply
+        requires read { is_write (asked command.now) ≡ false }
+        requires some { 1 ≤ workers }
+        requires most { workers ≤ 32 }
+        ensures { (w : World) → Stands P.place self.now w → IfSome (said result) (λ a. a ≡ reply_of w (asked command.now)) }
+    {
+        let (reply, _) = self
+            .state
+            .take(rt, alloc, &*self.placement, command, workers, gate);
+        reply
+    }
+
+    /// The reply to a write, and the engine that it leaves, which is there exactly where the status is 200 or 201. This engine stays.
+    /// Cost: as of `step`.
+    pub fn commit<R: Threads + Sync>(
+        &self,
+        rt: &R,
+        alloc: Global,
+        command: &Command,
+        workers: usize,
+    ) -> (Reply, Option<Engine<P>>)
+        requires write { is_write (asked command.now) ≡ true }
+        requires some { 1 ≤ workers }
+        requires most { workers ≤ 32 }
+        ensures answers { (w : World) → Stands P.place self.now w
+            → Answers w (asked command.now) (said result.0) (Stands P.place (unwrap_or result.1 self.now)) }
+        ensures next { IsSettled result.0 result.1 }
+        ensures shards { shard_count (unwrap_or result.1 self.now) ≡ shard_count self.now }
+    {
+        let Ok(placement) = self.placement.clone() else {
+            return (Reply::NoMemory, None);
+        };
+        match self
+            .state
+            .take(rt, alloc, &*self.placement, command, workers, &NoGate)
+        {
+            (reply, Some(state)) => (reply, Some(Engine { placement, state })),
+            (reply, None) => (reply, None),
+        }
+    }
+
+    /// The catalog of the indexes. Takes no memory.
+    pub fn catalog(&self) -> &Catalog
+        ensures { result.now ≡ self.now.1.catalog }
+    {
+        &self.state.catalog
+    }
+
+    /// The shards, each of which has the rows of exactly the indexes of the catalog. Takes no memory.
+    pub fn shards(&self) -> &[Arc<Shard>]
+        ensures shards { shards_seen result.now ≡ self.now.1.shards }
+        ensures rows { All (λ s. s.definitions ≡ self.now.1.catalog) (shards_seen result.now) }
+    {
+        self.state.whole_shards()
+    }
+
     /// Answers commands in order: the replies are those of a single thread that runs the commands whose reply is not
     /// a want of memory.
     ///
     /// Errors: `NoMemory` where the room for the replies was refused; then no command was run.
-    pub fn run<R: Wait>(
+    pub fn run<R: Threads + Sync>(
         &mut self,
         rt: &R,
         alloc: Global,
         commands: &[Command],
         workers: usize,
     ) -> Result<Vec<Reply>, NoMemory>
-        requires { workers ≡ 1 }
+        requires some { 1 ≤ workers }
+        requires most { workers ≤ 32 }
         ensures run { (w : World) → Stands P.place self.old w → IfOk result
             (λ replies. IsRun w (map asked commands.now) (map said replies.items) (Stands P.place self.new)) }
         ensures none_run { OnErr result (self.new ≡ self.old) }

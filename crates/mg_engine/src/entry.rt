@@ -1,33 +1,68 @@
 //! The entries of the reply to a bulk.
-ghost use Rattle.std.specs.Prelude.{◌≡◌, IfOk, option_map};
-ghost use Rattle.mg_value.specs.View.{view};
-ghost use Rattle.mg_engine.specs.Bulk.{entry_of, done_entry, refused_entry};
+ghost use Rattle.std.specs.Prelude.{◌≡◌, IfOk, OnOk, length, map, option_map};
+ghost use Rattle.mg_value.specs.Value.{Items};
+ghost use Rattle.mg_value.specs.View.{items_view, view};
+ghost use Rattle.mg_shard.specs.Edits.{outcome_seen};
+ghost use Rattle.mg_engine.specs.Before.{items_before};
+ghost use Rattle.mg_engine.specs.Bulk.{done_entry, entries_of, entry_before, entry_of, refused_entry};
 
 use crate::refusal::{BAD_HISTORY_ERROR, BAD_HISTORY_REASON, CONFLICT_ERROR, CONFLICT_REASON};
-use mg_doc::Refused;
+use mg_doc::Edit;
 use mg_revtree::Rev;
+use mg_shard::EditReply;
+use mg_shard::draft::id_in;
 use mg_value::{Json, NoMemory};
 use std::alloc::Global;
 
-/// The entry of an edit, by its id and by what became of it, if it is told of.
-pub(crate) fn entry(
+/// The entries of edits that have ids, by what became of each, for those that are told of. Cost: their number.
+pub(crate) fn entries(
+    alloc: Global,
+    new_edits: bool,
+    edits: &[Edit],
+    replies: &[EditReply],
+) -> Result<Vec<Json>, NoMemory>
+    requires { length replies.now ≡ length edits.now }
+    ensures { IfOk result (λ v. items_view v.items ≡ entries_of new_edits edits.now (map outcome_seen replies.now)) }
+{
+    let mut entries = Vec::new(alloc);
+    for place in 0..edits.len() {
+        let id = id_in(&edits[place]);
+        let entry = entry(alloc, new_edits, id, &replies[place])?;
+        push_entry(&mut entries, entry)?;
+    }
+    Ok(entries)
+}
+
+// Adds an entry, if there is one.
+fn push_entry(entries: &mut Vec<Json>, entry: Option<Json>) -> Result<(), NoMemory>
+    ensures { OnOk result ((vs : Items) → items_before entries.new.items vs
+        ≡ items_before entries.old.items (entry_before (option_map view entry) vs)) }
+{
+    if let Some(entry) = entry {
+        entries.push(entry)?;
+    }
+    Ok(())
+}
+
+// The entry of an edit, by its id and by what became of it, if it is told of.
+fn entry(
     alloc: Global,
     new_edits: bool,
     id: &str,
-    outcome: &Result<Rev, Refused>,
+    reply: &EditReply,
 ) -> Result<Option<Json>, NoMemory>
-    ensures { IfOk result (λ o. option_map view o ≡ entry_of new_edits id.now outcome.now) }
+    ensures { IfOk result (λ o. option_map view o ≡ entry_of new_edits id.now (outcome_seen reply.now)) }
 {
-    match outcome {
-        Ok(rev) => if new_edits {
+    match reply {
+        EditReply::Done(rev) => if new_edits {
             Ok(Some(done_entry(alloc, id, rev)?))
         } else {
             Ok(None)
         },
-        Err(Refused::Conflict) => {
+        EditReply::Conflict => {
             Ok(Some(refused_entry(alloc, CONFLICT_ERROR, id, CONFLICT_REASON)?))
         }
-        Err(Refused::BadHistory) => {
+        EditReply::BadHistory => {
             Ok(Some(refused_entry(alloc, BAD_HISTORY_ERROR, id, BAD_HISTORY_REASON)?))
         }
     }

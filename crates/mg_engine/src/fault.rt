@@ -1,6 +1,7 @@
 use crate::refusal::Refusal;
 use mg_doc::DocError;
-use mg_query::QueryError;
+use mg_index::IndexError;
+use mg_query::{PageError, QueryError};
 use mg_value::NoMemory;
 use std::alloc::{AllocError, AllocFailed};
 
@@ -71,7 +72,39 @@ impl From<QueryError> for Fault {
             QueryError::Shape => Fault::Refused(Refusal::WrongShape),
             QueryError::InvalidOperator => Fault::Refused(Refusal::InvalidOperator),
             QueryError::BadArg => Fault::Refused(Refusal::BadArg),
+            QueryError::BadBookmark => Fault::Refused(Refusal::BadBookmark),
+            QueryError::MixedSort => Fault::Refused(Refusal::MixedSort),
             QueryError::NoMemory => Fault::NoMemory,
+        }
+    }
+}
+
+impl From<IndexError> for Fault {
+    ghost use Rattle.std.specs.Prelude.{◌≡◌};
+    ghost use Rattle.mg_engine.specs.Faults.{of_index};
+
+    ghost from_gives = { λ i e. e ≡ of_index i };
+
+    fn from(fault: IndexError) -> Fault {
+        match fault {
+            IndexError::Shape => Fault::Refused(Refusal::WrongShape),
+            IndexError::Mixed => Fault::Refused(Refusal::MixedSort),
+            IndexError::NoMemory => Fault::NoMemory,
+        }
+    }
+}
+
+impl From<PageError> for Fault {
+    ghost use Rattle.std.specs.Prelude.{◌≡◌};
+    ghost use Rattle.mg_engine.specs.Faults.{of_page};
+
+    ghost from_gives = { λ p e. e ≡ of_page p };
+
+    fn from(fault: PageError) -> Fault {
+        match fault {
+            PageError::NoUsableIndex => Fault::Refused(Refusal::NoUsableIndex),
+            PageError::BadBookmark => Fault::Refused(Refusal::BadBookmark),
+            PageError::NoMemory => Fault::NoMemory,
         }
     }
 }

@@ -1,21 +1,22 @@
-//! The engine: commands on documents, answered as one thread would that keeps plain revision paths.
+//! The engine: commands on documents and indexes, answered as one thread would that keeps plain revision paths.
 #![tactic(auto)]
 
 mod body;
 mod bulk;
 pub mod command;
-mod document;
-mod documents;
-mod draft;
+mod define;
+mod edits;
 pub mod engine;
 mod entry;
 mod fault;
 pub mod laws;
-mod page;
+mod query;
+mod read;
 pub mod refusal;
 pub mod reply;
-mod shards;
 mod state;
+mod take;
+mod write;
 
 pub use command::Command;
 pub use engine::Engine;

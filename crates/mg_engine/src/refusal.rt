@@ -10,6 +10,12 @@ pub const INVALID_OPERATOR: &str =
     "{\"error\":\"invalid_operator\",\"reason\":\"Unknown operator.\"}\n";
 /// The body of `BadArg`.
 pub const BAD_ARG: &str = "{\"error\":\"bad_arg\",\"reason\":\"Bad argument for an operator.\"}\n";
+/// The body of `BadBookmark`.
+pub const BAD_BOOKMARK: &str =
+    "{\"error\":\"invalid_bookmark\",\"reason\":\"Invalid bookmark.\"}\n";
+/// The body of `MixedSort`.
+pub const MIXED_SORT: &str =
+    "{\"error\":\"unsupported_mixed_sort\",\"reason\":\"Sorts currently only support a single direction for all fields.\"}\n";
 /// The body of `NoUsableIndex`.
 pub const NO_USABLE_INDEX: &str =
     "{\"error\":\"no_usable_index\",\"reason\":\"No index exists for this sort, try indexing by the sort fields.\"}\n";
@@ -62,6 +68,10 @@ pub enum Refusal {
     InvalidOperator,
     /// An operator of a selector has an argument that it does not take.
     BadArg,
+    /// The bookmark of a query is none, or one of another index or direction.
+    BadBookmark,
+    /// A sort, or an index, has columns in both directions.
+    MixedSort,
     /// No index serves the sort of a query.
     NoUsableIndex,
     /// A document has a reserved member that is not known.
@@ -115,6 +125,8 @@ impl Refusal {
             Refusal::WrongShape => WRONG_SHAPE,
             Refusal::InvalidOperator => INVALID_OPERATOR,
             Refusal::BadArg => BAD_ARG,
+            Refusal::BadBookmark => BAD_BOOKMARK,
+            Refusal::MixedSort => MIXED_SORT,
             Refusal::NoUsableIndex => NO_USABLE_INDEX,
             Refusal::BadMember => BAD_MEMBER,
             Refusal::BadId => BAD_ID,

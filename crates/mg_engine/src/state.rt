@@ -1,38 +1,27 @@
-//! The state of the engine: what a command reads, and what it leaves.
-ghost use Rattle.std.specs.Prelude.{◌≡◌, ◌<◌, IfOk, IfNone, IfSome, IsSome, None, Ok, Some, length, unwrap_or};
-ghost use Rattle.mg_value.specs.View.{view};
-ghost use Rattle.mg_engine.specs.World.{World, empty_world};
-ghost use Rattle.mg_engine.specs.Commands.{bulk, find, got, next, reply_of, bulk_reply, world_with};
-ghost use Rattle.std.specs.FinMap as finite;
-ghost use Rattle.mg_engine.specs.View.{asked, said};
-ghost use Rattle.mg_engine.specs.Shards.{Placing};
-ghost use Rattle.mg_engine.specs.Stands.{Holds};
-ghost use Rattle.mg_engine.specs.Run.{Answers};
+//! The state of the engine: what the database holds.
+ghost use Rattle.std.specs.Prelude.{◌≡◌, ◌<◌, All, IfOk, length};
+ghost use Rattle.std.specs.Prelude.{replicate};
+ghost use Rattle.mg_engine.specs.World.{empty_world};
+ghost use Rattle.mg_engine.specs.Stands.{HaveRows, Holds};
+ghost use Rattle.mg_engine.specs.StateView.{empty_shard, shards_seen};
+ghost use Rattle.mg_shard.specs.Dealt.{Placing};
 
-use crate::body::line;
-use crate::bulk::{numbered, read_bulk, read_edits};
-use crate::command::Command;
-use crate::documents::Documents;
-use crate::fault::Fault;
-use crate::page::page;
-use crate::refusal::Refusal;
-use crate::reply::Reply;
-use crate::shards::{edited, served_in};
-use mg_doc::Edit;
-use mg_query::Query;
-use mg_shard::Placement;
-use mg_value::{Json, NoMemory};
+use mg_index::Catalog;
+use mg_shard::Shard;
+use mg_shard::laws::nothing_is_dealt;
+use mg_value::NoMemory;
 use std::alloc::Global;
-use std::collections::BTreeMap;
 use std::marker::Model;
 use std::sync::Arc;
 
-/// The database's name, the documents of each shard, and the number that was last given to a document without an id.
+/// The database's name, the catalog of its indexes, its shards, and the number that was last given to a document without an id.
+/// Each shard has the rows of exactly the indexes of the catalog.
 #[derive(Drop)]
 pub(crate) struct State {
-    name: Arc<String>,
-    shards: Vec<Arc<Documents>>,
-    counter: u64,
+    pub(crate) name: Arc<String>,
+    pub(crate) catalog: Arc<Catalog>,
+    pub(crate) shards: Vec<Arc<Shard>>,
+    pub(crate) counter: u64,
 }
 
 impl Model for State {
@@ -42,151 +31,105 @@ impl Model for State {
 
     ghost coded = { shown_code };
 
-    ghost use Rattle.mg_engine.specs.StateView.{state_shown};
+    ghost use Rattle.mg_engine.specs.StateView.{IsWhole, state_shown};
 
     ghost view = { state_shown };
 
-    ghost use Rattle.std.specs.Prelude.{◌<◌, length};
-
-    ghost invariant = { λ s. 0 < length s.shards.items };
+    ghost invariant = { IsWhole };
 }
 
 impl State {
-    /// A database of this name, with shards that have no document. Cost: their number, and the name.
+    /// A database of this name, with shards that have no document, and no index. Cost: their number, and the name.
     pub(crate) fn new(alloc: Global, name: &str, shards: usize) -> Result<State, NoMemory>
         requires { 0 < shards }
         ensures stands { IfOk result (λ s. (place : Placing) → Holds place s (empty_world name.now)) }
         ensures number { IfOk result (λ s. length s.shards ≡ shards) }
     {
         let name = Arc::new(alloc, String::from_str(alloc, name)?)?;
-        let mut made = Vec::with_capacity(alloc, shards)?;
-        for _ in 0..shards {
-            made.push(Arc::new(alloc, BTreeMap::new(alloc))?)?;
-        }
+        let catalog = Arc::new(alloc, Catalog::new(alloc))?;
+        let shards = empty_shards(alloc, shards)?;
+        nothing_is_dealt();
         Ok(State {
             name,
-            shards: made,
+            catalog,
+            shards,
             counter: 0,
         })
     }
 
-    /// The reply to a command, made whole, and the next state, if the command leaves another.
-    pub(crate) fn commit<P: Placement>(
+    /// The state with other shards, of the same indexes, and another number. Cost: none.
+    pub(crate) fn with_shards(
         &self,
-        alloc: Global,
-        placement: &P,
-        command: &Command,
-    ) -> (Reply, Option<State>)
-        ensures answers { (w : World) → Holds (P.place placement.now) self.now w
-            → Answers w (asked command.now) (said result.0) (Holds (P.place placement.now) (unwrap_or result.1 self.now)) }
-        ensures number { length (unwrap_or result.1 self.now).shards ≡ length self.now.shards }
-        ensures refused { IfNone (said result.0) (result.1 ≡ None) }
+        shards: Vec<Arc<Shard>>,
+        counter: u64,
+    ) -> Result<State, NoMemory>
+        requires some { 0 < length shards.items }
+        requires rows { HaveRows self.now.catalog (shards_seen shards.items) }
+        ensures { IfOk result (λ s. s ≡ record self.now { shards = shards_seen shards.items; counter = counter }) }
     {
-        match command {
-            Command::Bulk(body) => match self.bulk(alloc, placement, body) {
-                Ok(done) => done,
-                Err(NoMemory) => (Reply::NoMemory, None),
-            },
-            Command::Find(body) => match self.find(alloc, placement, body) {
-                Ok(reply) => (reply, None),
-                Err(NoMemory) => (Reply::NoMemory, None),
-            },
-            Command::Get { id, conflicts: _ } => match self.get(alloc, placement, id.as_str()) {
-                Ok(reply) => (reply, None),
-                Err(NoMemory) => (Reply::NoMemory, None),
-            },
-        }
+        Ok(State {
+            name: self.name.clone()?,
+            catalog: self.catalog.clone()?,
+            shards,
+            counter,
+        })
     }
 
-    // The reply to a bulk, and the next state, if the bulk is accepted.
-    fn bulk<P: Placement>(
+    /// The state with another catalog, and shards of its indexes. Cost: none.
+    pub(crate) fn with_catalog(
         &self,
         alloc: Global,
-        placement: &P,
-        body: &Json,
-    ) -> Result<(Reply, Option<State>), NoMemory>
-        ensures whole { IfOk result (λ r. IsSome (said r.0)) }
-        ensures does { IfOk result (λ r. (w : World) → Holds (P.place placement.now) self.now w
-            → (said r.0 ≡ Some (reply_of w (bulk (view body.now))))
-            × Holds (P.place placement.now) (unwrap_or r.1 self.now) (next w (bulk (view body.now)))) }
-        ensures number { IfOk result (λ r. length (unwrap_or r.1 self.now).shards ≡ length self.now.shards) }
+        catalog: Catalog,
+        shards: Vec<Arc<Shard>>,
+    ) -> Result<State, NoMemory>
+        requires some { 0 < length shards.items }
+        requires rows { HaveRows catalog (shards_seen shards.items) }
+        ensures { IfOk result (λ s. s ≡ record self.now { catalog = catalog; shards = shards_seen shards.items }) }
     {
-        let Some(bulk) = read_bulk(body) else {
-            return Ok((Reply::refusing(alloc, Refusal::WrongShape)?, None));
-        };
-        match read_edits(alloc, bulk.new_edits, bulk.documents) {
-            Ok(edits) => {
-                let (reply, next) = self.accept(alloc, placement, bulk.new_edits, edits)?;
-                Ok((reply, Some(next)))
-            }
-            Err(Fault::Refused(refusal)) => Ok((Reply::refusing(alloc, refusal)?, None)),
-            Err(Fault::NoMemory) => Err(NoMemory),
-        }
+        Ok(State {
+            name: self.name.clone()?,
+            catalog: Arc::new(alloc, catalog)?,
+            shards,
+            counter: self.counter,
+        })
     }
 
-    // The reply to edits, and the next state.
-    fn accept<P: Placement>(
-        &self,
-        alloc: Global,
-        placement: &P,
-        new_edits: bool,
-        edits: Vec<Edit>,
-    ) -> Result<(Reply, State), NoMemory>
-        ensures whole { IfOk result (λ r. IsSome (said r.0)) }
-        ensures does { IfOk result (λ r. (w : World) → Holds (P.place placement.now) self.now w
-            → (said r.0 ≡ Some (bulk_reply w new_edits (Ok edits.items)))
-            × Holds (P.place placement.now) r.1 (world_with w (Ok edits.items))) }
-        ensures number { IfOk result (λ r. length r.1.shards ≡ length self.now.shards) }
+    /// The shards, each of which has the indexes of the catalog. Takes no memory.
+    pub(crate) fn whole_shards(&self) -> &[Arc<Shard>]
+        ensures shards { shards_seen result.now ≡ self.now.shards }
+        ensures rows { All (λ s. s.definitions ≡ self.now.catalog) (shards_seen result.now) }
     {
-        let (edits, counter) = numbered(alloc, edits, self.counter)?;
-        let (entries, shards) = edited(alloc, placement, &self.shards, edits, new_edits)?;
-        let body = line(alloc, &Json::List(entries))?;
-        let name = self.name.clone()?;
-        Ok((
-            Reply::Full { status: 201, body },
-            State {
-                name,
-                shards,
-                counter,
-            },
-        ))
+        &self.shards
     }
 
-    // The reply to a query.
-    fn find<P: Placement>(
-        &self,
-        alloc: Global,
-        placement: &P,
-        body: &Json,
-    ) -> Result<Reply, NoMemory>
-        ensures { IfOk result (λ r. (w : World) → Holds (P.place placement.now) self.now w
-            → said r ≡ Some (reply_of w (find (view body.now)))) }
+    /// The same state, all of it shared. Cost: the number of the shards.
+    pub(crate) fn share(&self, alloc: Global) -> Result<State, NoMemory>
+        ensures { IfOk result (λ s. s ≡ self.now) }
     {
-        match Query::read(alloc, body) {
-            Ok(query) => {
-                let page = page(alloc, placement, &self.shards, &query)?;
-                let body = line(alloc, &page)?;
-                Ok(Reply::Full { status: 200, body })
-            }
-            Err(fault) => match Fault::from(fault) {
-                Fault::Refused(refusal) => Reply::refusing(alloc, refusal),
-                Fault::NoMemory => Err(NoMemory),
-            },
-        }
+        let shards = shares(alloc, &self.shards)?;
+        let state = self.with_shards(shards, self.counter)?;
+        Ok(state)
     }
+}
 
-    // The reply to a `GET` of a document: one look-up, and one copy into the reply.
-    fn get<P: Placement>(&self, alloc: Global, placement: &P, id: &str) -> Result<Reply, NoMemory>
-        ensures { IfOk result (λ r. (w : World) → Holds (P.place placement.now) self.now w
-            → said r ≡ Some (got id.now (finite.get w.docs id.now))) }
-    {
-        match served_in(placement, &self.shards, id) {
-            Some(Some(form)) => {
-                let body = line(alloc, form)?;
-                Ok(Reply::Full { status: 200, body })
-            }
-            Some(None) => Ok(Reply::refusing(alloc, Refusal::Deleted)?),
-            None => Ok(Reply::refusing(alloc, Refusal::Missing)?),
-        }
+// So many shards without a document.
+fn empty_shards(alloc: Global, shards: usize) -> Result<Vec<Arc<Shard>>, NoMemory>
+    ensures { IfOk result (λ v. shards_seen v.items ≡ replicate shards empty_shard) }
+{
+    let mut made = Vec::with_capacity(alloc, shards)?;
+    for _ in 0..shards {
+        made.push(Arc::new(alloc, Shard::new(alloc))?)?;
     }
+    Ok(made)
+}
+
+// The same shards, all of them shared.
+fn shares(alloc: Global, shards: &[Arc<Shard>]) -> Result<Vec<Arc<Shard>>, NoMemory>
+    ensures { IfOk result (λ v. shards_seen v.items ≡ shards_seen shards.now) }
+{
+    let mut all = Vec::with_capacity(alloc, shards.len())?;
+    for shard in shards {
+        all.push(shard.clone()?)?;
+    }
+    Ok(all)
 }

@@ -1,6 +1,6 @@
 -- A table whose routes have no parameter, what is left of routes, and the segments of a path.
 use Rattle.std.proofs.Common.{◌≡◌, ◌+◌, ◌<◌, ◌≤◌, ℕ, zero, suc, ◌-◌, ◌==◌, Bool, true, false, ◌&&◌, ◌||◌, cond, List, [], ◌∷◌, ◌++◌, length, map, get_or, take, drop, Option, Some, None, refl, sym, ap, ◌∙◌, arith}
-use Rattle.std.specs.Prelude.{bytes_eq, nat_lt, is_some}
+use Rattle.std.specs.Prelude.{bytes_eq, codes, nat_lt, is_some}
 use Rattle.std.specs.List.{list_all, list_any, filter_map, cons_option, slice_split, position_or_len}
 use Rattle.std.proofs.lemmas.Bool.{cond-false, and_from}
 use Rattle.std.proofs.lemmas.Bool.Decides.{nat_tests}
@@ -12,6 +12,7 @@ use Rattle.std.proofs.lemmas.List.Elements.{filter_map-append}
 use Rattle.std.proofs.lemmas.List.Sums.{fails_before_first}
 use Rattle.matchit.specs.Rows.{RowsOf, param_token, catch_all_token}
 use Rattle.matchit.specs.Seek.{seek, param_step, own, step, or_else, first, has_slash, slash}
+use Rattle.mg_http.specs.Routes.{literal, routes, goes_on}
 use Rattle.mg_http.proofs.ListLemmas.{both}
 
 module _ {K : Type 0} where
@@ -106,6 +107,18 @@ module _ {K : Type 0} where
   pub some_first : (rows : RowsOf K) (path : List ℕ) (found : Bool) → list_all is_plain rows ≡ true → is_some (first rows path) ≡ found
       → found ≡ list_any (λ row. bytes_eq row.0 path) rows
   some_first rows path found plain e = sym e ∙ ap is_some (first_plain rows path plain) ∙ some_row rows path
+
+-- a text that is the second segment of three routes more
+again : (b : Bool) → (b || false) ≡ (b || (b || (b || (b || false))))
+again true = refl
+again false = refl
+
+-- the second segments that stand as they are: each text once, where the table of the routes may have it more often
+pub seconds : (text : List ℕ)
+    → (bytes_eq (codes "_bulk_docs") text || (bytes_eq (codes "_explain") text || (bytes_eq (codes "_find") text || (bytes_eq (codes "_index") text || false))))
+    ≡ goes_on (literal text) routes
+seconds text =
+    ap (λ (b : Bool). bytes_eq (codes "_bulk_docs") text || (bytes_eq (codes "_explain") text || (bytes_eq (codes "_find") text || b))) (again (bytes_eq (codes "_index") text))
 
 -- what is left of what each element shows
 pub filter_map-map : {X Y Z : Type 0} (h : Y → Option Z) (f : X → Y) (xs : List X) → filter_map h (map f xs) ≡ filter_map (λ x. h (f x)) xs

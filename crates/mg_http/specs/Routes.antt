@@ -4,9 +4,9 @@ use Rattle.std.specs.Prelude.{ℕ, Bool, true, false, ◌&&◌, ◌==◌, List, 
 use Rattle.std.specs.List.{list_any, filter_map, slice_split}
 use Rattle.std.specs.Option.{option_map}
 use Rattle.percent_encoding.specs.Percent.{percent_decode}
-use Rattle.mg_http.specs.declared.routes.Endpoint.TheVariants.{BulkDocs, Find}
+use Rattle.mg_http.specs.declared.routes.Endpoint.TheVariants.{BulkDocs, Find, Explain, CreateIndex}
 use Rattle.mg_http.specs.declared.routes.Action.{Action}
-use Rattle.mg_http.specs.declared.routes.Action.TheVariants.{Body, Document}
+use Rattle.mg_http.specs.declared.routes.Action.TheVariants.{Body, Document, ListIndexes, DropIndex, DropDesignIndex}
 
 -- a part of a path: a segment as it stands, or a parameter, which is any segment that is not empty
 pub data Part : Type 0 where
@@ -23,7 +23,20 @@ pub record Route : Type 0 where
 abbrev pub routes : List Route
 routes =
     record { method = codes "POST"; path = literal (codes "_bulk_docs") ∷ []; asks = Body BulkDocs }
+    ∷ record { method = codes "POST"; path = literal (codes "_explain") ∷ []; asks = Body Explain }
     ∷ record { method = codes "POST"; path = literal (codes "_find") ∷ []; asks = Body Find }
+    ∷ record { method = codes "POST"; path = literal (codes "_index") ∷ []; asks = Body CreateIndex }
+    ∷ record { method = codes "GET"; path = literal (codes "_index") ∷ []; asks = ListIndexes }
+    ∷ record {
+      method = codes "DELETE";
+      path = literal (codes "_index") ∷ parameter ∷ literal (codes "json") ∷ parameter ∷ [];
+      asks = DropIndex;
+    }
+    ∷ record {
+      method = codes "DELETE";
+      path = literal (codes "_index") ∷ literal (codes "_design") ∷ parameter ∷ literal (codes "json") ∷ parameter ∷ [];
+      asks = DropDesignIndex;
+    }
     ∷ record { method = codes "GET"; path = parameter ∷ []; asks = Document }
     ∷ []
 

@@ -6,9 +6,9 @@ use Rattle.mg_value.specs.Value.{Value}
 use Rattle.mg_value.specs.Text.{Reads}
 use Rattle.mg_engine.specs.declared.refusal.Refusal.{Refusal}
 use Rattle.mg_engine.specs.declared.refusal.Refusal.TheVariants.{InvalidJson}
-use Rattle.mg_engine.specs.Commands.{Asked, bulk, find, Answer, refused}
+use Rattle.mg_engine.specs.Commands.{Asked, bulk, find, explain, create_index, Answer, refused}
 use Rattle.mg_http.specs.declared.routes.Endpoint.{Endpoint}
-use Rattle.mg_http.specs.declared.routes.Endpoint.TheVariants.{BulkDocs, Find}
+use Rattle.mg_http.specs.declared.routes.Endpoint.TheVariants.{BulkDocs, Find, Explain, CreateIndex}
 use Rattle.mg_http.specs.declared.sessions.SessionEnd.{SessionEnd}
 use Rattle.mg_http.specs.declared.sessions.SessionEnd.TheVariants.{Eof, Closed, Refused, ReadFault, WriteFault, Limit}
 use Rattle.mg_http.specs.Device.{IsPrefix}
@@ -21,6 +21,8 @@ use Rattle.mg_http.specs.Target.{Request, body, asks, refuses}
 abbrev pub asked_by : Endpoint → Value → Asked
 asked_by BulkDocs v = bulk v
 asked_by Find v = find v
+asked_by Explain v = explain v
+asked_by CreateIndex v = create_index v
 
 -- The reply to a body: that of the service to the value that the body is, or that the body is none, or that memory was
 -- refused before the service was asked.

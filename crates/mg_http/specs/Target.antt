@@ -1,15 +1,15 @@
 -- What the method and the target of a head ask for (RFC 9110, section 9; RFC 3986, sections 2 and 3).
-use Rattle.std.specs.Prelude.{ℕ, Bool, false, not, ◌&&◌, List, [], ◌∷◌, bytes_eq, codes, find, Option, Some, None, if◌then◌else◌}
+use Rattle.std.specs.Prelude.{ℕ, Bool, false, not, ◌&&◌, List, [], ◌∷◌, ◌++◌, bytes_eq, codes, find, Option, Some, None, if◌then◌else◌}
 use Rattle.std.specs.List.{list_all, list_any}
 use Rattle.std.specs.Str.{is_utf8}
 use Rattle.std.specs.Str.Lossy.{utf8_lossy}
 use Rattle.form_urlencoded.specs.Form.{split_once, raw_pairs, decode}
 use Rattle.mg_engine.specs.declared.refusal.Refusal.{Refusal}
 use Rattle.mg_engine.specs.declared.refusal.Refusal.TheVariants.{Missing, NoDatabase, MethodNotAllowed}
-use Rattle.mg_engine.specs.Commands.{Asked, get}
+use Rattle.mg_engine.specs.Commands.{Asked, get, list_indexes, drop_index}
 use Rattle.mg_http.specs.declared.routes.Endpoint.{Endpoint}
 use Rattle.mg_http.specs.declared.routes.Action.{Action}
-use Rattle.mg_http.specs.declared.routes.Action.TheVariants.{Body, Document}
+use Rattle.mg_http.specs.declared.routes.Action.TheVariants.{Body, Document, ListIndexes, DropIndex, DropDesignIndex}
 use Rattle.mg_http.specs.Routes.{Route, Place, place_of, segments_of, ends_here, is_asked}
 
 -- what is asked: what an endpoint does with the value that the body is, a command, or a refusal
@@ -34,11 +34,25 @@ is_conflicts pair = bytes_eq (utf8_lossy (decode pair.0)) (codes "conflicts") &&
 abbrev pub asks_conflicts : List ℕ → Bool
 asks_conflicts query = list_any is_conflicts (raw_pairs query)
 
--- what a route asks for with these parameters, of which the first is the database's name
+-- that the document be shown whose id is behind the database's name
+abbrev pub document_asked : List (List ℕ) → Bool → Request
+document_asked (db ∷ id ∷ []) conflicts = asks (get id conflicts)
+document_asked parameters conflicts = refuses Missing
+
+-- That the index be dropped whose design document and name are behind the database's name. The design document's name is
+-- its parameter behind this front.
+abbrev pub drop_asked : List ℕ → List (List ℕ) → Request
+drop_asked front (db ∷ ddoc ∷ name ∷ []) = asks (drop_index (front ++ ddoc) name)
+drop_asked front parameters = refuses Missing
+
+-- What a route asks for with these parameters, of which the first is the database's name. Below `_index/_design` the
+-- design document is what the path spells there, `_design/` and the parameter, also where that begins with `_design/` itself.
 abbrev pub requested : Action → List (List ℕ) → List ℕ → Request
 requested (Body endpoint) parameters query = body endpoint
-requested Document (name ∷ id ∷ []) query = asks (get id (asks_conflicts query))
-requested Document parameters query = refuses Missing
+requested Document parameters query = document_asked parameters (asks_conflicts query)
+requested ListIndexes parameters query = asks list_indexes
+requested DropIndex parameters query = drop_asked [] parameters
+requested DropDesignIndex parameters query = drop_asked (codes "_design/") parameters
 
 -- the same of the route that was found; there is none for another method
 abbrev pub requested_by : Option Route → List (List ℕ) → List ℕ → Request

@@ -29,11 +29,13 @@ fn command_of(endpoint: Endpoint, value: Json) -> Command
     match endpoint {
         Endpoint::BulkDocs => Command::Bulk(value),
         Endpoint::Find => Command::Find(value),
+        Endpoint::Explain => Command::Explain(value),
+        Endpoint::CreateIndex => Command::CreateIndex(value),
     }
 }
 
 /// Answers the body for an endpoint, and writes the reply.
-fn answer_body<H: Wait + Threads, S: Service, W: Write>(
+fn answer_body<H: Wait + Threads + Sync, S: Service, W: Write>(
     rt: &H,
     alloc: Global,
     service: &mut S,
@@ -59,7 +61,7 @@ fn answer_body<H: Wait + Threads, S: Service, W: Write>(
 }
 
 /// Answers what a message asks for with its body, and writes the reply; where it is silent, without its body.
-pub(crate) fn answer<H: Wait + Threads, S: Service, W: Write>(
+pub(crate) fn answer<H: Wait + Threads + Sync, S: Service, W: Write>(
     rt: &H,
     alloc: Global,
     service: &mut S,

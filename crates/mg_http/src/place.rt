@@ -149,7 +149,9 @@ fn look_up(alloc: Global, text: &str) -> Result<bool, InsertError>
 {
     let mut table = Router::new(alloc);
     table.insert("_bulk_docs", ())?;
+    table.insert("_explain", ())?;
     table.insert("_find", ())?;
+    table.insert("_index", ())?;
     match table.at(text) {
         Ok(_) => Ok(true),
         Err(_) => Ok(false),

@@ -10,6 +10,10 @@ pub enum Endpoint {
     BulkDocs,
     /// A query.
     Find,
+    /// A query that is to be explained.
+    Explain,
+    /// An index that is to be created.
+    CreateIndex,
 }
 
 /// What a route asks for.
@@ -19,6 +23,12 @@ pub enum Action {
     Body(Endpoint),
     /// The document whose id is the parameter behind the database's name.
     Document,
+    /// The list of the indexes.
+    ListIndexes,
+    /// That the index be dropped whose design document and name are the parameters behind the database's name.
+    DropIndex,
+    /// The same, where the design document is `_design/` and the parameter behind it.
+    DropDesignIndex,
 }
 
 /// A part of a path.
@@ -39,7 +49,7 @@ pub struct Route {
 }
 
 /// The table. A route is a row here, and the same row of the definition.
-const ROUTES: [Route; 3] = [
+const ROUTES: [Route; 8] = [
     Route {
         method: b"POST",
         path: &[Part::Literal(b"_bulk_docs")],
@@ -47,8 +57,44 @@ const ROUTES: [Route; 3] = [
     },
     Route {
         method: b"POST",
+        path: &[Part::Literal(b"_explain")],
+        action: Action::Body(Endpoint::Explain),
+    },
+    Route {
+        method: b"POST",
         path: &[Part::Literal(b"_find")],
         action: Action::Body(Endpoint::Find),
+    },
+    Route {
+        method: b"POST",
+        path: &[Part::Literal(b"_index")],
+        action: Action::Body(Endpoint::CreateIndex),
+    },
+    Route {
+        method: b"GET",
+        path: &[Part::Literal(b"_index")],
+        action: Action::ListIndexes,
+    },
+    Route {
+        method: b"DELETE",
+        path: &[
+            Part::Literal(b"_index"),
+            Part::Parameter,
+            Part::Literal(b"json"),
+            Part::Parameter,
+        ],
+        action: Action::DropIndex,
+    },
+    Route {
+        method: b"DELETE",
+        path: &[
+            Part::Literal(b"_index"),
+            Part::Literal(b"_design"),
+            Part::Parameter,
+            Part::Literal(b"json"),
+            Part::Parameter,
+        ],
+        action: Action::DropDesignIndex,
     },
     Route {
         method: b"GET",

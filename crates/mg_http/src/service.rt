@@ -1,4 +1,5 @@
-ghost use Rattle.std.specs.Prelude.{◌≡◌, Option, IfNone};
+ghost use denote.Param.Send.{IsSync};
+ghost use Rattle.std.specs.Prelude.{◌≡◌, ◌≤◌, Option, IfNone};
 ghost use Rattle.mg_engine.specs.Commands.{Asked, Answer};
 ghost use Rattle.mg_engine.specs.View.{asked, said};
 ghost use Rattle.mg_http.specs.Solo.{Steps};
@@ -14,17 +15,20 @@ pub trait Service {
     // From the first state the command is answered so, or for want of memory not, and the second state is left.
     ghost answers: { Self → Asked → Option Answer → Self → Type 0 };
 
-    /// Answers the command.
-    fn ask<H: Wait + Threads>(&mut self, rt: &H, alloc: Global, command: &Command) -> Reply
+    /// Answers the command. That the handle may be shared by threads, as its bound says, is a clause too, since an impl is not
+    /// handed such a bound of its trait's method.
+    fn ask<H: Wait + Threads + Sync>(&mut self, rt: &H, alloc: Global, command: &Command) -> Reply
+        requires { IsSync H.row }
         ensures { answers self.old (asked command.now) (said result) self.new };
 }
 
-/// An engine for one caller. It answers with one worker for now.
+/// An engine for one caller, and the number of workers, 1 to 32, with which it answers.
 #[derive(Drop)]
 pub struct Solo<P> {
     pub engine: Engine<P>,
     pub workers: usize,
-    ghost one_worker: { workers ≡ 1 },
+    ghost some_worker: { 1 ≤ workers },
+    ghost most_workers: { workers ≤ 32 },
 }
 
 impl<P: Placement + Drop> Service for Solo<P> {
@@ -32,7 +36,7 @@ impl<P: Placement + Drop> Service for Solo<P> {
     ghost answers = { λ old command answer new.
         Steps P.place old.engine command answer new.engine × IfNone answer (new.engine ≡ old.engine) };
 
-    fn ask<H: Wait + Threads>(&mut self, rt: &H, alloc: Global, command: &Command) -> Reply {
+    fn ask<H: Wait + Threads + Sync>(&mut self, rt: &H, alloc: Global, command: &Command) -> Reply {
         self.engine.step(rt, alloc, command, self.workers)
     }
 }

@@ -79,7 +79,7 @@ fn stopped<W: Write>(
 }
 
 /// Reads the rest of the message whose head is at the front, and answers it.
-fn message<H: Wait + Threads, S: Service, R: Read, W: Write>(
+fn message<H: Wait + Threads + Sync, S: Service, R: Read, W: Write>(
     rt: &H,
     alloc: Global,
     inbox: &mut Inbox,
@@ -128,7 +128,7 @@ fn message<H: Wait + Threads, S: Service, R: Read, W: Write>(
 }
 
 /// One turn: a message is answered, or more bytes are read, or the session ends.
-fn turn<H: Wait + Threads, S: Service, R: Read, W: Write>(
+fn turn<H: Wait + Threads + Sync, S: Service, R: Read, W: Write>(
     rt: &H,
     alloc: Global,
     db: &str,
@@ -170,7 +170,7 @@ fn turn<H: Wait + Threads, S: Service, R: Read, W: Write>(
 }
 
 /// Answers message after message until the session ends.
-pub fn session<H: Wait + Threads, S: Service, R: Read, W: Write>(
+pub fn session<H: Wait + Threads + Sync, S: Service, R: Read, W: Write>(
     rt: &H,
     alloc: Global,
     db: &str,

@@ -19,7 +19,7 @@ impl<P: Placement + Drop> Solo<P> {
     /// were read, and the engine then stands for the world that they leave.
     ///
     /// Errors are ends: see `SessionEnd`. Cost: that of the commands, and one pass over the bytes.
-    pub fn serve<H: Wait + Threads, R: Read, W: Write>(
+    pub fn serve<H: Wait + Threads + Sync, R: Read, W: Write>(
         &mut self,
         rt: &H,
         alloc: Global,

@@ -3,7 +3,7 @@ ghost use Rattle.std.specs.Prelude.{◌≡◌, map, IfOk, true};
 ghost use Rattle.std.specs.List.{list_all};
 ghost use Rattle.std.specs.Str.{is_utf8};
 ghost use Rattle.mg_http.specs.RouteViews.{place_in};
-ghost use Rattle.mg_http.specs.Target.{path_in, query_in, names, requested, request_at, request_of};
+ghost use Rattle.mg_http.specs.Target.{path_in, query_in, names, document_asked, drop_asked, request_at, request_of};
 ghost use Rattle.mg_http.specs.Turns.{request_in};
 
 use crate::decode::asks_conflicts;
@@ -61,21 +61,45 @@ fn names(db: &str, parameters: &[Vec<u8>]) -> bool
     }
 }
 
-/// The command that asks for the document of these parameters; they are the database's name and an id that is text.
-fn document(alloc: Global, mut parameters: Vec<Vec<u8>>, query: &[u8]) -> Result<Target, AllocError>
-    requires { list_all is_utf8 (map (λ v. v.items) parameters.items) ≡ true }
-    ensures { IfOk result (λ t. request_in t ≡ requested Action.Document (map (λ v. v.items) parameters.items) query.now) }
+/// The bytes as the text that they are.
+fn as_text(bytes: &[u8]) -> &str
+    requires { is_utf8 bytes.now ≡ true }
+    ensures { result.now ≡ bytes.now }
 {
-    if parameters.len() != 2 {
-        return Ok(Target::Refuses(Refusal::Missing));
-    }
-    let Some(id) = parameters.pop() else {
-        return Ok(Target::Refuses(Refusal::Missing));
-    };
-    let conflicts = asks_conflicts(alloc, query)?;
-    match String::from_utf8(id) {
-        Ok(id) => Ok(Target::Asks(Command::Get { id, conflicts })),
+    match str::from_utf8(bytes) {
+        Ok(text) => text,
         Err(_) => unreachable!(),
+    }
+}
+
+/// What asks for the document of these parameters, which are texts: the database's name and an id.
+fn document(alloc: Global, parameters: &[Vec<u8>], conflicts: bool) -> Result<Target, AllocError>
+    requires { list_all is_utf8 (map (λ v. v.items) parameters.now) ≡ true }
+    ensures { IfOk result (λ t. request_in t ≡ document_asked (map (λ v. v.items) parameters.now) conflicts) }
+{
+    match parameters {
+        [_, id] => {
+            let id = String::from_str(alloc, as_text(id))?;
+            Ok(Target::Asks(Command::Get { id, conflicts }))
+        }
+        _ => Ok(Target::Refuses(Refusal::Missing)),
+    }
+}
+
+/// What drops the index of these parameters, which are texts: the database's name, what the design document's name is
+/// behind the front, and the index's name.
+fn drop_index(alloc: Global, front: &str, parameters: &[Vec<u8>]) -> Result<Target, AllocError>
+    requires { list_all is_utf8 (map (λ v. v.items) parameters.now) ≡ true }
+    ensures { IfOk result (λ t. request_in t ≡ drop_asked front.now (map (λ v. v.items) parameters.now)) }
+{
+    match parameters {
+        [_, rest, name] => {
+            let mut ddoc = String::from_str(alloc, front)?;
+            ddoc.push_str(as_text(rest))?;
+            let name = String::from_str(alloc, as_text(name))?;
+            Ok(Target::Asks(Command::DropIndex { ddoc, name }))
+        }
+        _ => Ok(Target::Refuses(Refusal::Missing)),
     }
 }
 
@@ -98,7 +122,12 @@ fn target_at(
     match place.action(method) {
         None => Ok(Target::Refuses(Refusal::MethodNotAllowed)),
         Some(Action::Body(endpoint)) => Ok(Target::Body(endpoint)),
-        Some(Action::Document) => document(alloc, place.parameters, query),
+        Some(Action::Document) => {
+            document(alloc, &place.parameters, asks_conflicts(alloc, query)?)
+        }
+        Some(Action::ListIndexes) => Ok(Target::Asks(Command::ListIndexes)),
+        Some(Action::DropIndex) => drop_index(alloc, "", &place.parameters),
+        Some(Action::DropDesignIndex) => drop_index(alloc, "_design/", &place.parameters),
     }
 }
 

@@ -1,0 +1,17 @@
+pub mod Items
+pub mod Each
+pub mod Exits
+pub mod Shapes
+pub mod Sorts
+pub mod Gathered
+pub mod Dealt
+pub mod Usable
+pub mod Candidates
+pub mod Answered
+pub mod Serving
+pub mod Chained
+pub mod Kept
+pub mod Listed
+pub mod Handed
+pub mod Lent
+pub mod Showing

@@ -1,58 +1,159 @@
--- The page that answers a query, after CouchDB's `_find`: of the documents that the selector holds of, in the order of the
--- index that serves them, the first of them, and the bookmark of the last.
-use Rattle.std.specs.Prelude.{ℕ, List, [], ◌∷◌, Bool, codes, Some, None, Result, Ok, filter, take, map, length, ◌-◌, slice_get}
+-- The page that answers a query, after CouchDB's `_find`: of the documents that the selector holds of and that have each path of the
+-- sort, in the order of the index that serves the query, what comes after the bookmark, and the bookmark of the last.
+use Rattle.std.specs.Prelude.{ℕ, ◌==◌, ◌-◌, List, [], ◌∷◌, Bool, true, false, ◌&&◌, codes, drop, filter, length, map, take, slice_get, Option, Some, None, is_some, option_map, unwrap_or, Result, Ok, Err, if◌then◌else◌}
+use Rattle.std.specs.FinMap.{entries}
+use Rattle.std.specs.List.{filter_map, list_all}
 use Rattle.std.specs.Option.{option_map_or}
-use Rattle.mg_value.specs.Value.{Value, text, item, no_items}
-use Rattle.mg_collate.specs.declared.direction.Direction.TheVariants.{Asc}
+use Rattle.std.specs.Ordering.{is_gt}
+use Rattle.std.specs.Str.{bytes_eq}
+use Rattle.std.specs.declared.cmp.Ordering.{Ordering}
+use Rattle.mg_value.specs.Value.{Value, null, text, list, object, no_members, member, item_list}
+use Rattle.mg_value.specs.View.{items_of}
+use Rattle.mg_path.specs.Part.{part_of, projection_of}
+use Rattle.mg_collate.specs.declared.direction.Direction.{Direction}
+use Rattle.mg_collate.specs.Row.{RowValue, directed_order}
+use Rattle.mg_collate.specs.Sorted.{sorted}
+use Rattle.mg_revtree.specs.History.{History}
+use Rattle.mg_doc.specs.Served.{served_of}
+use Rattle.mg_doc.specs.Conflicts.{with_conflicts_of}
 use Rattle.mg_selector.specs.Meaning.{holds_in}
 use Rattle.mg_selector.specs.declared.sense.Sense.TheVariants.{Plain}
-use Rattle.mg_bookmark.specs.Bookmark.{spelled}
-use Rattle.mg_index.specs.Definition.{IndexDefinition}
-use Rattle.mg_path.specs.Part.{projection_of}
-use Rattle.mg_query.specs.Query.{Query, Steps}
+use Rattle.mg_normal.specs.Atoms.{atoms_of}
+use Rattle.mg_bookmark.specs.Bookmark.{Place, spelled}
+use Rattle.mg_index.specs.Choice.{Source, all_docs, defined, choice_of, id_path}
+use Rattle.mg_index.specs.Definition.{IndexDefinition, Steps}
+use Rattle.mg_index.specs.Reading.{is_same}
+use Rattle.mg_shard.specs.Histories.{Histories}
+use Rattle.mg_query.specs.Query.{Query}
 
--- a document's id and the form in which it is served
-abbrev pub Row : Type 0
-Row = List ℕ × Value
+-- a document that a query looks at: its id; the form in which it is served, which selectors, sorts and indexes see; and its history
+pub record Candidate : Type 0 where
+  pub id : List ℕ
+  pub form : Value
+  pub history : History
 
--- how many documents a page has at most
-abbrev pub page_limit : ℕ
-page_limit = 25
+-- the document of an id with this history, if it is served
+abbrev pub candidate_of : List ℕ × History → Option Candidate
+candidate_of e = option_map (λ form. record { id = e.0; form = form; history = e.1 }) (served_of e.0 e.1)
 
--- whether the query's selector holds of the document
-abbrev pub is_asked : Query → Row → Bool
-is_asked q r = holds_in q.selector Plain (Some r.1)
+-- all documents that are served, in the order of their ids
+abbrev pub candidates_of : Histories → List Candidate
+candidates_of hs = filter_map candidate_of (entries hs)
 
--- the page's rows, of rows in the order of their ids
-abbrev pub page_rows : Query → List Row → List Row
-page_rows q rows = take page_limit (filter (is_asked q) rows)
+-- ---- the index that serves the query
 
--- the bookmark of a row of `_all_docs`, where a document's key is its id
-abbrev pub bookmark_of : Row → List ℕ
-bookmark_of r = spelled (record { ddoc = None; name = codes "_all_docs"; direction = Asc; key = item (text r.0) no_items; id = r.0 })
+-- its columns; the index of all documents has the one column `_id`
+abbrev pub columns_of : Source → List Steps
+columns_of all_docs = id_path ∷ []
+columns_of (defined d) = d.columns
 
--- the bookmark of the last row, and `nil` where there is none
-abbrev pub bookmark_after : List Row → List ℕ
-bookmark_after rows = option_map_or bookmark_of (slice_get rows (length rows - 1)) (codes "nil")
+-- its design document, none for the index of all documents
+abbrev pub ddoc_of : Source → Option (List ℕ)
+ddoc_of all_docs = None
+ddoc_of (defined d) = Some d.ddoc
+
+-- its name
+abbrev pub name_of : Source → List ℕ
+name_of all_docs = codes "_all_docs"
+name_of (defined d) = d.name
+
+-- ---- the order
+
+-- the value of a column, null where it is missing: of a document that the query finds none is, as the law of ranges says
+abbrev pub value_at : Candidate → Steps → Value
+value_at c column = unwrap_or (part_of column c.form) null
+
+-- the row of a document in an index of these columns
+abbrev pub row_by : List Steps → Candidate → RowValue
+row_by columns c = (items_of (map (value_at c) columns), c.id)
+
+-- by the values of the columns, then by id, and the other way round where the direction is descending
+abbrev pub order_by : List Steps → Direction → Candidate → Candidate → Ordering
+order_by columns direction a b = directed_order direction (row_by columns a) (row_by columns b)
+
+-- ---- the page
+
+-- the selector holds of the document, and each path of the sort is there
+abbrev pub is_asked : Query → Candidate → Bool
+is_asked q c = holds_in q.selector Plain (Some c.form) && list_all (λ path. is_some (part_of path c.form)) q.sort
+
+-- the document comes after the place that the bookmark names, if there is one
+abbrev pub is_after : List Steps → Query → Candidate → Bool
+is_after columns q c = option_map_or (λ p. is_gt (directed_order q.direction (row_by columns c) (p.key, p.id))) q.bookmark true
+
+-- all documents that are found after the bookmark, in order
+abbrev pub found : List Steps → Query → List Candidate → List Candidate
+found columns q cs = filter (is_after columns q) (sorted (order_by columns q.direction) (filter (is_asked q) cs))
+
+-- those of the page
+abbrev pub page_rows : List Steps → Query → List Candidate → List Candidate
+page_rows columns q cs = take q.limit (drop q.skip (found columns q cs))
+
+-- a document, with its conflicts where they are asked for
+abbrev pub with_asked : Query → Candidate → Value
+with_asked q c = if q.conflicts then with_conflicts_of c.history c.form else c.form
+
+-- the parts at the fields, or the whole where there are none
+abbrev pub projected : List Steps → Value → Value
+projected [] v = v
+projected (field ∷ fields) v = projection_of (field ∷ fields) v
+
+-- what a page shows of a document
+abbrev pub shown_of : Query → Candidate → Value
+shown_of q c = projected q.fields (with_asked q c)
+
+-- the bookmark of a document
+abbrev pub bookmark_at : Source → Query → Candidate → List ℕ
+bookmark_at s q c = spelled (record { ddoc = ddoc_of s; name = name_of s; direction = q.direction; key = (row_by (columns_of s) c).0; id = c.id })
+
+-- the bookmark of the last document, and the one that came in where there is none
+abbrev pub bookmark_after : Source → Query → List Candidate → List ℕ
+bookmark_after s q cs = option_map_or (bookmark_at s q) (slice_get cs (length cs - 1)) q.told_bookmark
 
 -- a page: its documents and its bookmark
 pub record Page : Type 0 where
   pub docs : List Value
   pub bookmark : List ℕ
 
--- what a page shows of a document: the parts at the fields, or the whole where there are none
-abbrev pub shown_of : List Steps → Value → Value
-shown_of [] v = v
-shown_of (field ∷ fields) v = projection_of (field ∷ fields) v
+-- the page of these documents
+abbrev pub page_of : Source → Query → List Candidate → Page
+page_of s q cs = record { docs = map (shown_of q) cs; bookmark = bookmark_after s q cs }
 
--- the page of these rows
-abbrev pub page_of : Query → List Row → Page
-page_of q rows = record { docs = map (λ r. shown_of q.fields r.1) rows; bookmark = bookmark_after rows }
+-- `{"bookmark":..,"docs":[..]}`
+abbrev pub page_value : Page → Value
+page_value p = object (member (codes "bookmark") (text p.bookmark) (member (codes "docs") (list (items_of p.docs)) no_members))
 
--- why a query that was read has no page. Queries of today always have one; a sort that no index serves will not
+-- ---- the answer
+
+-- why a query that was read has no page: no index serves it, or its bookmark is of another index or direction
 pub data Unanswered : Type 0 where
   no_usable_index : Unanswered
+  bad_bookmark : Unanswered
 
--- the answer to a query, over the index definitions and all served documents in the order of their ids
-abbrev pub answer_of : List IndexDefinition → Query → List Row → Result Page Unanswered
-answer_of indexes q rows = Ok (page_of q (page_rows q rows))
+-- whether a design document is the index's
+abbrev pub is_ddoc : Option (List ℕ) → Option (List ℕ) → Bool
+is_ddoc None None = true
+is_ddoc (Some a) (Some b) = bytes_eq a b
+is_ddoc a b = false
+
+-- whether a place is one in the index, read in the query's direction
+abbrev pub is_place_in : Source → Query → Place → Bool
+is_place_in s q p =
+    is_ddoc p.ddoc (ddoc_of s) && (bytes_eq p.name (name_of s) && (is_same p.direction q.direction && (length (item_list p.key) == length (columns_of s))))
+
+-- whether the bookmark is, if there is one
+abbrev pub fits : Source → Query → Bool
+fits s q = option_map_or (is_place_in s q) q.bookmark true
+
+-- what serves the query, or why it is not answered
+abbrev pub served_by : List IndexDefinition → Query → Result Source Unanswered
+served_by ds q = option_map_or (λ s. if fits s q then Ok s else Err bad_bookmark) (choice_of ds (atoms_of q.selector) q.sort q.hint) (Err no_usable_index)
+
+-- what is told of it, or why it is not answered
+abbrev pub if_served : {A : Type 0} → (Source → A) → Result Source Unanswered → Result A Unanswered
+if_served f (Ok s) = Ok (f s)
+if_served f (Err why) = Err why
+
+-- the answer to a query, over the index definitions and all served documents
+abbrev pub answer_of : List IndexDefinition → Query → List Candidate → Result Page Unanswered
+answer_of ds q cs = if_served (λ s. page_of s q (page_rows (columns_of s) q cs)) (served_by ds q)

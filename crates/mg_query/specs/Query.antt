@@ -1,25 +1,53 @@
--- How the body of a query is read, after CouchDB's `_find`.
-use Rattle.std.specs.Prelude.{List, [], ◌∷◌, ℕ, Bool, codes, Option, Some, None, option_and_then, option_map, is_some, Result, Ok, Err, if◌then◌else◌}
-use Rattle.std.specs.List.{list_any}
-use Rattle.mg_value.specs.Value.{Value, text, list, Items, no_items, item, member_of}
+-- How the body of a query is read, after CouchDB's `_find`. All shapes are settled first, then the selector's operators, then the
+-- bookmark's text, and last that a sort has one direction.
+use Rattle.std.specs.Prelude.{ℕ, pos, nat_le, List, [], ◌∷◌, Bool, false, codes, Option, Some, None, option_and_then, option_map, Result, Ok, Err, if◌then◌else◌}
+use Rattle.std.specs.List.{list_all}
+use Rattle.mg_value.specs.Value.{Value, null, flag, whole, text, list, object, no_items, item, member_of, item_list}
 use Rattle.mg_path.specs.Part.{steps_of}
 use Rattle.mg_path.specs.declared.error.PathError.{PathError}
 use Rattle.mg_path.specs.declared.error.PathError.TheVariants as path_fault
+use Rattle.mg_collate.specs.declared.direction.Direction.{Direction}
+use Rattle.mg_collate.specs.declared.direction.Direction.TheVariants.{Asc}
 use Rattle.mg_selector.specs.Selector.{Selector}
 use Rattle.mg_selector.specs.Reading.{reading}
 use Rattle.mg_selector.specs.declared.error.SelError.{SelError}
 use Rattle.mg_selector.specs.declared.error.SelError.TheVariants as selector_fault
+use Rattle.mg_bookmark.specs.Bookmark.{Place, bookmark_read}
+use Rattle.mg_index.specs.Choice.{Hint, no_hint, in_document, exactly}
+use Rattle.mg_index.specs.Definition.{Steps, design_document}
+use Rattle.mg_index.specs.Reading.{each_of, field_path, field_direction, is_same}
 use Rattle.mg_query.specs.declared.error.QueryError.{QueryError}
-use Rattle.mg_query.specs.declared.error.QueryError.TheVariants.{Shape, InvalidOperator, BadArg, NoMemory}
+use Rattle.mg_query.specs.declared.error.QueryError.TheVariants.{Shape, InvalidOperator, BadArg, BadBookmark, MixedSort, NoMemory}
 
--- the steps of a path
-abbrev pub Steps : Type 0
-Steps = List (List ℕ)
-
--- what a query asks for, and the paths of the parts that a page shows of a document: none where it shows the whole
+-- what a query asks for: the paths of the parts that a page shows of a document, none where it shows the whole; how many documents,
+-- and how many are passed over; its sort, which may be empty; which indexes it prefers; the place after which the page begins; and
+-- whether conflicts are shown. Beside these stand the selector, the fields and the bookmark as they are told again
 pub record Query : Type 0 where
   pub selector : Selector
   pub fields : List Steps
+  pub limit : ℕ
+  pub skip : ℕ
+  pub sort : List Steps
+  pub direction : Direction
+  pub hint : Hint
+  pub bookmark : Option Place
+  pub conflicts : Bool
+  pub told_selector : Value
+  pub told_fields : Value
+  pub told_bookmark : List ℕ
+
+-- ---- faults
+
+-- the fault, or what f gives of the value
+infixl 10 ◌>>=◌
+abbrev pub ◌>>=◌ : {A B : Type 0} → Result A QueryError → (A → Result B QueryError) → Result B QueryError
+(Ok x) >>= f = f x
+(Err e) >>= f = Err e
+
+-- what was found, or this fault
+abbrev pub or_fault : {A : Type 0} → QueryError → Option A → Result A QueryError
+or_fault e None = Err e
+or_fault e (Some x) = Ok x
 
 -- a selector's fault as the query's
 abbrev pub fault_of : SelError → QueryError
@@ -28,50 +56,137 @@ fault_of selector_fault.BadArg = BadArg
 fault_of selector_fault.Shape = Shape
 fault_of selector_fault.NoMemory = NoMemory
 
+-- a selector that was read, or its fault as the query's
+abbrev pub selector_or_fault : Result Selector SelError → Result Selector QueryError
+selector_or_fault (Ok s) = Ok s
+selector_or_fault (Err e) = Err (fault_of e)
+
 -- a path's fault as the query's
 abbrev pub fault_of_path : PathError → QueryError
 fault_of_path path_fault.Empty = Shape
 fault_of_path path_fault.NoMemory = NoMemory
 
--- members that no query takes yet
-abbrev pub later_names : List (List ℕ)
-later_names = codes "use_index" ∷ codes "limit" ∷ codes "skip" ∷ codes "sort" ∷ codes "bookmark" ∷ codes "conflicts" ∷ []
+-- ---- members. None is a wrong shape
 
--- whether a body has one of them
-abbrev pub has_later_member : Value → Bool
-has_later_member v = list_any (λ name. is_some (member_of name v)) later_names
+-- `selector`, an object
+abbrev pub selector_given : Option Value → Option Value
+selector_given (Some (object ms)) = Some (object ms)
+selector_given v = None
 
 -- the path that a text spells
 abbrev pub path_of : Value → Option Steps
 path_of (text t) = steps_of t
 path_of v = None
 
--- the paths that items spell, each of which has to be one
-abbrev pub paths_of : Items → Option (List Steps)
-paths_of no_items = Some []
-paths_of (item v vs) = option_and_then (λ path. option_map (λ paths. path ∷ paths) (paths_of vs)) (path_of v)
-
 -- `fields`, an array of path texts, which may be absent
 abbrev pub fields_of : Option Value → Option (List Steps)
 fields_of None = Some []
-fields_of (Some (list vs)) = paths_of vs
+fields_of (Some (list vs)) = each_of path_of (item_list vs)
 fields_of (Some v) = None
 
--- the query of a selector that was read, or its fault
-abbrev pub query_with : List Steps → Result Selector SelError → Result Query QueryError
-query_with fields (Ok s) = Ok (record { selector = s; fields = fields })
-query_with fields (Err e) = Err (fault_of e)
+-- `fields` as they are told: as given, and `all_fields` where they are absent or empty
+abbrev pub told_fields_of : Option Value → Value
+told_fields_of None = text (codes "all_fields")
+told_fields_of (Some (list no_items)) = text (codes "all_fields")
+told_fields_of (Some v) = v
 
--- the query of a selector, which has to be there
-abbrev pub selector_read : List Steps → Option Value → Result Query QueryError
-selector_read fields None = Err Shape
-selector_read fields (Some v) = query_with fields (reading v)
+-- the greatest `limit` and `skip`
+abbrev pub greatest_count : ℕ
+greatest_count = 2147483647
 
--- the query of its fields, which have to be paths, and its selector
-abbrev pub parts_read : Option (List Steps) → Option Value → Result Query QueryError
-parts_read None selector = Err Shape
-parts_read (Some fields) selector = selector_read fields selector
+-- `limit` and `skip`: a whole number from 0 on, and this one where it is absent
+abbrev pub count_of : ℕ → Option Value → Option ℕ
+count_of otherwise None = Some otherwise
+count_of otherwise (Some (whole (pos n))) = if nat_le n greatest_count then Some n else None
+count_of otherwise (Some v) = None
 
--- the query that a body is, or its first fault: shapes are settled before the selector is read
+-- the path of a sort's field
+abbrev pub sort_path : Value → Option Steps
+sort_path v = option_and_then steps_of (field_path v)
+
+-- `sort`, an array of path texts, which are ascending, and of `{path: "asc"}` or `{path: "desc"}`: its fields
+abbrev pub sort_fields : Option Value → Option (List Value)
+sort_fields None = Some []
+sort_fields (Some (list vs)) = Some (item_list vs)
+sort_fields (Some v) = None
+
+-- the one direction of all, ascending where there are none
+abbrev pub one_direction : List Direction → Option Direction
+one_direction [] = Some Asc
+one_direction (d ∷ ds) = if list_all (is_same d) ds then Some d else None
+
+-- `use_index`: a design document, or an array of none, of a design document, or of one and a name
+abbrev pub hint_given : Option Value → Option Hint
+hint_given None = Some no_hint
+hint_given (Some (text ddoc)) = Some (in_document (design_document ddoc))
+hint_given (Some (list no_items)) = Some no_hint
+hint_given (Some (list (item (text ddoc) no_items))) = Some (in_document (design_document ddoc))
+hint_given (Some (list (item (text ddoc) (item (text name) no_items)))) = Some (exactly (design_document ddoc) name)
+hint_given (Some v) = None
+
+-- `bookmark`, a text; `nil` where it is null or absent
+abbrev pub bookmark_given : Option Value → Option (List ℕ)
+bookmark_given None = Some (codes "nil")
+bookmark_given (Some null) = Some (codes "nil")
+bookmark_given (Some (text t)) = Some t
+bookmark_given (Some v) = None
+
+-- `conflicts`, true or false, and false where it is absent
+abbrev pub conflicts_of : Option Value → Option Bool
+conflicts_of None = Some false
+conflicts_of (Some (flag b)) = Some b
+conflicts_of (Some v) = None
+
+-- ---- the query
+
+-- the members of a body whose shapes are right: of the sort its paths and its directions, of the selector and the bookmark what was given
+pub record Shaped : Type 0 where
+  pub selector : Value
+  pub fields : List Steps
+  pub limit : ℕ
+  pub skip : ℕ
+  pub sort : List Steps
+  pub directions : List Direction
+  pub hint : Hint
+  pub bookmark : List ℕ
+  pub conflicts : Bool
+
+-- the members of a body; a member that is not named here is ignored
+abbrev pub shaped : Value → Option Shaped
+shaped v =
+    option_and_then (λ selector. option_and_then (λ fields. option_and_then (λ limit. option_and_then (λ skip.
+    option_and_then (λ sorted. option_and_then (λ sort. option_and_then (λ directions.
+    option_and_then (λ hint. option_and_then (λ bookmark. option_map (λ conflicts.
+    record { selector = selector; fields = fields; limit = limit; skip = skip; sort = sort; directions = directions; hint = hint; bookmark = bookmark; conflicts = conflicts })
+    (conflicts_of (member_of (codes "conflicts") v)))
+    (bookmark_given (member_of (codes "bookmark") v)))
+    (hint_given (member_of (codes "use_index") v)))
+    (each_of field_direction sorted)) (each_of sort_path sorted)) (sort_fields (member_of (codes "sort") v)))
+    (count_of 0 (member_of (codes "skip") v))) (count_of 25 (member_of (codes "limit") v)))
+    (fields_of (member_of (codes "fields") v)))
+    (selector_given (member_of (codes "selector") v))
+
+-- the query of members whose shapes are right, or the first of its other faults; `fields` is the member as it was given
+abbrev pub query_with : Option Value → Shaped → Result Query QueryError
+query_with fields m =
+    selector_or_fault (reading m.selector) >>= (λ selector.
+    or_fault BadBookmark (bookmark_read m.bookmark) >>= (λ bookmark.
+    or_fault MixedSort (one_direction m.directions) >>= (λ direction.
+    Ok (record {
+      selector = selector;
+      fields = m.fields;
+      limit = m.limit;
+      skip = m.skip;
+      sort = m.sort;
+      direction = direction;
+      hint = m.hint;
+      bookmark = bookmark;
+      conflicts = m.conflicts;
+      told_selector = m.selector;
+      told_fields = told_fields_of fields;
+      told_bookmark = m.bookmark;
+    }))))
+
+-- the query that a body is, or its first fault
 abbrev pub query_of : Value → Result Query QueryError
-query_of v = if has_later_member v then Err Shape else parts_read (fields_of (member_of (codes "fields") v)) (member_of (codes "selector") v)
+query_of v = or_fault Shape (shaped v) >>= query_with (member_of (codes "fields") v)

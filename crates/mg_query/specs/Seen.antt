@@ -1,31 +1,48 @@
 -- The query that a `Query` stands for, and what a call that reads one returns.
-use Rattle.std.specs.Prelude.{◌≡◌, Option, Some, None, Result, Ok, Err}
+use Rattle.std.specs.Prelude.{◌≡◌, Option, option_map, Result, Ok, Err}
+use denote.Ref.{Bor}
+use Rattle.mg_value.specs.Value.{Value}
+use Rattle.mg_value.specs.View.{view}
+use Rattle.mg_value.specs.declared.value.Json.{Json}
 use Rattle.mg_selector.specs.View.{selector_of}
-use Rattle.mg_query.specs.Query.{Query}
+use Rattle.mg_bookmark.specs.Seen.{place_of}
+use Rattle.mg_index.specs.View.{hint_of}
+use Rattle.mg_query.specs.Query.{Query, told_fields_of}
 use Rattle.mg_query.specs.declared.error.QueryError.{QueryError}
-use Rattle.mg_query.specs.declared.error.QueryError.TheVariants.{Shape, InvalidOperator, BadArg, NoMemory}
+use Rattle.mg_query.specs.declared.error.QueryError.TheVariants.{Shape, InvalidOperator, BadArg, BadBookmark, MixedSort, NoMemory}
 use Rattle.mg_query.specs.declared.query.Query as code
+
+-- the value that is lent, if one is
+abbrev pub lent : Option (Bor Json) → Option Value
+lent = option_map (λ v. view v.now)
 
 -- the query that the code's stands for
 abbrev pub query_seen : code.Query → Query
-query_seen q = record { selector = selector_of q.selector; fields = q.fields.items }
+query_seen q = record {
+  selector = selector_of q.selector;
+  fields = q.fields.items;
+  limit = q.limit;
+  skip = q.skip;
+  sort = q.sort.paths.items;
+  direction = q.sort.direction;
+  hint = hint_of q.hint;
+  bookmark = option_map place_of q.bookmark;
+  conflicts = q.conflicts;
+  told_selector = view q.told_selector.now;
+  told_fields = told_fields_of (lent q.told_fields);
+  told_bookmark = q.told_bookmark.now;
+}
 
--- the fault is the definition's, but for a want of memory
-abbrev pub Fails : QueryError → Result Query QueryError → Type 0
-Fails NoMemory r = Unit {0}
+-- the result is the fault, or anything where a growth was refused
+abbrev pub Fails : {Y : Type 0} → QueryError → Result Y QueryError → Type 0
 Fails Shape r = r ≡ Err Shape
 Fails InvalidOperator r = r ≡ Err InvalidOperator
 Fails BadArg r = r ≡ Err BadArg
+Fails BadBookmark r = r ≡ Err BadBookmark
+Fails MixedSort r = r ≡ Err MixedSort
+Fails NoMemory r = Unit {0}
 
--- the query that was read is the definition's
-abbrev pub Gives : Result code.Query QueryError → Result Query QueryError → Type 0
-Gives (Ok q) r = r ≡ Ok (query_seen q)
-Gives (Err e) r = Fails e r
-
--- what was read is the definition's, and the wrong shape is told where there is nothing to read
-abbrev pub GivesShape : {A B : Type 0} → (A → B) → Result A QueryError → Option B → Type 0
-GivesShape seen (Ok a) r = r ≡ Some (seen a)
-GivesShape seen (Err Shape) r = r ≡ None
-GivesShape seen (Err NoMemory) r = Unit {0}
-GivesShape seen (Err InvalidOperator) r = ⊥
-GivesShape seen (Err BadArg) r = ⊥
+-- what a call returned is what is read, unless a growth was refused
+abbrev pub Gives : {X Y : Type 0} → (X → Y) → Result X QueryError → Result Y QueryError → Type 0
+Gives seen (Ok x) r = r ≡ Ok (seen x)
+Gives seen (Err e) r = Fails e r

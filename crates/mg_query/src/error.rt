@@ -1,12 +1,14 @@
+use mg_index::NoUsableIndex;
 use mg_path::PathError;
 use mg_selector::SelError;
+use mg_value::NoMemory;
 use std::alloc::{AllocError, AllocFailed};
 use thiserror::Error;
 
 /// Why the body of a query was not read.
 #[derive(Clone, Copy, PartialEq, Eq, Debug, Drop, Error)]
 pub enum QueryError {
-    /// The body is no object, a member has the wrong shape, or the selector is no object.
+    /// The body is no object, a member has the wrong shape, or a path of `sort` or `fields` has an empty step.
     #[error("wrong shape")]
     Shape,
     /// An operator that is not known.
@@ -15,6 +17,12 @@ pub enum QueryError {
     /// An operator with an argument that it does not take.
     #[error("bad argument for an operator")]
     BadArg,
+    /// The bookmark is no spelling of one.
+    #[error("invalid bookmark")]
+    BadBookmark,
+    /// A sort in both directions.
+    #[error("a sort has one direction")]
+    MixedSort,
     /// A growth was refused.
     #[error("out of memory")]
     NoMemory,
@@ -38,6 +46,17 @@ impl<T: Drop> From<AllocFailed<T>> for QueryError {
     ghost from_gives = { λ _ e. e ≡ refused };
 
     fn from(_refused: AllocFailed<T>) -> QueryError {
+        QueryError::NoMemory
+    }
+}
+
+impl From<NoMemory> for QueryError {
+    ghost use Rattle.std.specs.Prelude.{◌≡◌};
+    ghost use Rattle.mg_query.specs.declared.error.QueryError.TheVariants.{NoMemory as refused};
+
+    ghost from_gives = { λ _ e. e ≡ refused };
+
+    fn from(_refused: NoMemory) -> QueryError {
         QueryError::NoMemory
     }
 }
@@ -69,5 +88,63 @@ impl From<SelError> for QueryError {
             SelError::Shape => QueryError::Shape,
             SelError::NoMemory => QueryError::NoMemory,
         }
+    }
+}
+
+/// Why a query that was read has no page.
+#[derive(Clone, Copy, PartialEq, Eq, Debug, Drop, Error)]
+pub enum PageError {
+    /// No index serves the query's sort.
+    #[error("no index is usable")]
+    NoUsableIndex,
+    /// The bookmark is of another index or direction.
+    #[error("invalid bookmark")]
+    BadBookmark,
+    /// A growth was refused.
+    #[error("out of memory")]
+    NoMemory,
+}
+
+impl From<AllocError> for PageError {
+    ghost use Rattle.std.specs.Prelude.{◌≡◌};
+    ghost use Rattle.mg_query.specs.declared.error.PageError.TheVariants.{NoMemory as refused};
+
+    ghost from_gives = { λ _ e. e ≡ refused };
+
+    fn from(_refused: AllocError) -> PageError {
+        PageError::NoMemory
+    }
+}
+
+impl<T: Drop> From<AllocFailed<T>> for PageError {
+    ghost use Rattle.std.specs.Prelude.{◌≡◌};
+    ghost use Rattle.mg_query.specs.declared.error.PageError.TheVariants.{NoMemory as refused};
+
+    ghost from_gives = { λ _ e. e ≡ refused };
+
+    fn from(_refused: AllocFailed<T>) -> PageError {
+        PageError::NoMemory
+    }
+}
+
+impl From<NoMemory> for PageError {
+    ghost use Rattle.std.specs.Prelude.{◌≡◌};
+    ghost use Rattle.mg_query.specs.declared.error.PageError.TheVariants.{NoMemory as refused};
+
+    ghost from_gives = { λ _ e. e ≡ refused };
+
+    fn from(_refused: NoMemory) -> PageError {
+        PageError::NoMemory
+    }
+}
+
+impl From<NoUsableIndex> for PageError {
+    ghost use Rattle.std.specs.Prelude.{◌≡◌};
+    ghost use Rattle.mg_query.specs.declared.error.PageError.TheVariants.{NoUsableIndex as none_usable};
+
+    ghost from_gives = { λ _ e. e ≡ none_usable };
+
+    fn from(_none: NoUsableIndex) -> PageError {
+        PageError::NoUsableIndex
     }
 }

@@ -1,112 +1,113 @@
-ghost use Rattle.std.specs.Prelude.{◌≡◌, true, Err, IfOk, option_map};
-ghost use Rattle.mg_value.specs.View.{view, items_view};
-ghost use Rattle.mg_query.specs.Query.{query_of, fields_of, has_later_member, path_of, paths_of, selector_read};
-ghost use Rattle.mg_query.specs.Page.{shown_of};
-ghost use Rattle.mg_query.specs.Seen.{Gives, GivesShape};
+ghost use Rattle.std.specs.Prelude.{◌≡◌, None, Err, option_map};
+ghost use Rattle.mg_value.specs.View.{view};
+ghost use Rattle.mg_query.specs.Given.{given as given_of, given_seen, query_given};
+ghost use Rattle.mg_query.specs.Query.{or_fault, query_of};
+ghost use Rattle.mg_bookmark.specs.Bookmark.{bookmark_read};
+ghost use Rattle.mg_bookmark.specs.Seen.{place_of};
+ghost use Rattle.mg_query.specs.Seen.{Gives, lent, query_seen};
 
 use crate::error::QueryError;
-use mg_path::{Path, project};
+use crate::field::{one_direction, read_directions, read_paths, read_sort_paths};
+use crate::member::{Members, members_in};
+use mg_bookmark::{Bookmark, BookmarkError};
+use mg_index::{Hint, Sort};
+use mg_path::Path;
 use mg_selector::Sel;
-use mg_value::{Json, NoMemory};
+use mg_value::Json;
 use std::alloc::Global;
 
-/// A query: what a `_find` asks for.
+/// A query: what the body of a `_find` or an `_explain` asks for. What is told again of the body is lent from it.
 #[derive(Debug, Drop)]
-pub struct Query {
+pub struct Query<'a> {
     /// Which documents are asked for.
     pub selector: Sel,
     /// The paths of the parts that a page shows of a document; none where it shows the whole.
     pub fields: Vec<Path>,
+    /// How many documents a page has at most.
+    pub limit: u32,
+    /// How many documents are passed over.
+    pub skip: u32,
+    /// The order that is asked for.
+    pub sort: Sort,
+    /// Which indexes are preferred.
+    pub hint: Hint,
+    /// The place after which the page begins, none where it begins with the first document.
+    pub bookmark: Option<Bookmark>,
+    /// Whether documents are shown with their conflicts.
+    pub conflicts: bool,
+    /// The selector as it was given.
+    pub told_selector: &'a Json,
+    /// The fields as they were given.
+    pub told_fields: Option<&'a Json>,
+    /// The bookmark's text as it was given, `nil` where none was.
+    pub told_bookmark: &'a str,
 }
 
-impl Query {
-    /// Reads the body of a `_find`: an object whose `selector` is an object, and whose `fields`, if they are there, are
-    /// an array of path texts. Members that are not known are ignored.
+impl<'a> Query<'a> {
+    /// Reads the body of a `_find` or an `_explain`, an object:
     ///
-    /// Errors, in this order: `Shape`, also where a path has an empty step, and where a member is there that no query
-    /// takes yet (`use_index`, `limit`, `skip`, `sort`, `bookmark`, `conflicts`), which is found before memory is taken;
-    /// then the selector's first fault; `NoMemory` where a growth was refused.
-    /// Cost: the size of the selector and of the fields. Source: CouchDB's API reference, `_find`.
-    pub fn read(alloc: Global, body: &Json) -> Result<Query, QueryError>
-        ensures query { Gives result (query_of (view body.now)) }
-        ensures later { has_later_member (view body.now) ≡ true → result ≡ Err QueryError.Shape }
+    /// - `selector`, an object, has to be there.
+    /// - `limit` (25) and `skip` (0), 0 to 2,147,483,647.
+    /// - `sort`, an array of path texts, which are ascending, and of `{path: "asc"}` or `{path: "desc"}`.
+    /// - `fields`, an array of path texts; absent or empty gives whole documents.
+    /// - `use_index`, a design document, or an array of none, of one, or of one and a name.
+    /// - `bookmark`, a text or null; `conflicts`, true or false. Other members are ignored.
+    ///
+    /// Errors, in this order: `Shape` for any other body, or a path of `sort` or `fields` with an empty step; the
+    /// selector's first fault; `BadBookmark` where the text spells no bookmark; `MixedSort` for a sort in both
+    /// directions. `NoMemory` where a growth was refused, and never in place of a wrong shape that needs no look
+    /// into a path or a field of the sort.
+    /// Cost: the size of the selector, the sort, the fields and the bookmark. Source: `_find` of CouchDB's API
+    /// reference.
+    pub fn read(alloc: Global, body: &'a Json) -> Result<Query<'a>, QueryError>
+        ensures query { Gives query_seen result (query_of (view body.now)) }
+        ensures shape { given_of (view body.now) ≡ None → result ≡ Err QueryError.Shape }
     {
-        if has_later_member(body) {
-            return Err(QueryError::Shape);
-        }
-        let fields = read_fields(alloc, body.member("fields"))?;
-        read_selector(alloc, fields, body.member("selector"))
-    }
-
-    /// What a page shows of a document: an object of the parts at the fields, or, where there are no fields, an equal
-    /// document. Cost: the size of what is shown.
-    pub fn show(&self, alloc: Global, document: &Json) -> Result<Json, NoMemory>
-        ensures { IfOk result (λ v. view v ≡ shown_of self.now.fields.items (view document.now)) }
-    {
-        if self.fields.is_empty() {
-            document.copy(alloc)
-        } else {
-            project(alloc, document, &self.fields)
+        match members_in(body) {
+            Some(members) => query_with(alloc, members, body.member("fields")),
+            None => Err(QueryError::Shape),
         }
     }
 }
 
-// Whether a member is there that no query takes yet.
-fn has_later_member(body: &Json) -> bool
-    ensures { result ≡ has_later_member (view body.now) }
-{
-    body.member("use_index").is_some()
-        || body.member("limit").is_some()
-        || body.member("skip").is_some()
-        || body.member("sort").is_some()
-        || body.member("bookmark").is_some()
-        || body.member("conflicts").is_some()
-}
-
-// The fields that a page shows.
-fn read_fields(alloc: Global, fields: Option<&Json>) -> Result<Vec<Path>, QueryError>
-    ensures { GivesShape (λ v. v.items) result (fields_of (option_map (λ j. view j.now) fields.entry)) }
-{
-    match fields {
-        None => Ok(Vec::new(alloc)),
-        Some(Json::List(texts)) => read_paths(alloc, texts),
-        Some(_) => Err(QueryError::Shape),
-    }
-}
-
-fn read_paths(alloc: Global, texts: &[Json]) -> Result<Vec<Path>, QueryError>
-    ensures { GivesShape (λ v. v.items) result (paths_of (items_view texts.now)) }
-{
-    let mut paths = Vec::with_capacity(alloc, texts.len())?;
-    for text in texts {
-        let path = read_path(alloc, text)?;
-        paths.push(path)?;
-    }
-    Ok(paths)
-}
-
-fn read_path(alloc: Global, text: &Json) -> Result<Path, QueryError>
-    ensures { GivesShape (λ path. path) result (path_of (view text.now)) }
-{
-    match text {
-        Json::Text(text) => Ok(Path::parse(alloc, text.as_str())?),
-        _ => Err(QueryError::Shape),
-    }
-}
-
-// The query of the fields and the selector, which has to be there.
-fn read_selector(
+// The query of these members, with the fields as they were given.
+fn query_with<'a>(
     alloc: Global,
-    fields: Vec<Path>,
-    selector: Option<&Json>,
-) -> Result<Query, QueryError>
-    ensures { Gives result (selector_read fields.items (option_map (λ j. view j.now) selector.entry)) }
+    members: Members<'a>,
+    told_fields: Option<&'a Json>,
+) -> Result<Query<'a>, QueryError>
+    ensures { Gives query_seen result (query_given (lent told_fields.entry) (given_seen members.entry)) }
 {
-    match selector {
-        Some(selector) => {
-            let selector = Sel::read(alloc, selector)?;
-            Ok(Query { selector, fields })
-        }
-        None => Err(QueryError::Shape),
+    let fields = read_paths(alloc, members.fields)?;
+    let paths = read_sort_paths(alloc, members.sort)?;
+    let directions = read_directions(alloc, members.sort)?;
+    let selector = Sel::read(alloc, members.selector)?;
+    let bookmark = read_bookmark(alloc, members.bookmark)?;
+    let direction = one_direction(&directions)?;
+    let hint = members.hint.named(alloc)?;
+    Ok(Query {
+        selector,
+        fields,
+        limit: members.limit,
+        skip: members.skip,
+        sort: Sort { paths, direction },
+        hint,
+        bookmark,
+        conflicts: members.conflicts,
+        told_selector: members.selector,
+        told_fields,
+        told_bookmark: members.bookmark,
+    })
+}
+
+// The place that a bookmark's text names, none for `nil`.
+fn read_bookmark(alloc: Global, text: &str) -> Result<Option<Bookmark>, QueryError>
+    ensures { Gives (option_map place_of) result
+        (or_fault QueryError.BadBookmark (bookmark_read text.now)) }
+{
+    match Bookmark::decode(alloc, text) {
+        Ok(found) => Ok(found),
+        Err(BookmarkError::Invalid) => Err(QueryError::BadBookmark),
+        Err(BookmarkError::NoMemory) => Err(QueryError::NoMemory),
     }
 }

@@ -106,7 +106,7 @@ struct Ran {
 const ALL: usize = 1 << 20;
 
 fn run(
-    rt: &(impl Wait + Threads),
+    rt: &(impl Wait + Threads + Sync),
     alloc: Global,
     bytes: &[u8],
     most: usize,
@@ -144,7 +144,7 @@ fn run(
 }
 
 fn whole(
-    rt: &(impl Wait + Threads),
+    rt: &(impl Wait + Threads + Sync),
     alloc: Global,
     bytes: &[u8],
     most: usize,

@@ -15,6 +15,8 @@ mod http_tests;
 #[cfg(test)]
 mod index_tests;
 #[cfg(test)]
+mod live_tests;
+#[cfg(test)]
 mod merge_tests;
 #[cfg(test)]
 mod normal_tests;
@@ -28,6 +30,8 @@ mod plain_tests;
 mod range_tests;
 #[cfg(test)]
 mod revtree_tests;
+#[cfg(test)]
+mod scan_tests;
 #[cfg(test)]
 mod selector_tests;
 #[cfg(test)]

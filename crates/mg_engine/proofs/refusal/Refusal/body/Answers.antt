@@ -71,3 +71,11 @@ returns-in-OutOfMemory c = sym (ap refusal_body c.in-OutOfMemory.is)
 pub returns-in-BadHead : goal.returns-in-BadHead
 unfolding escape_byte
 returns-in-BadHead c = sym (ap refusal_body c.in-BadHead.is)
+
+pub returns-in-BadBookmark : goal.returns-in-BadBookmark
+unfolding escape_byte
+returns-in-BadBookmark c = sym (ap refusal_body c.in-BadBookmark.is)
+
+pub returns-in-MixedSort : goal.returns-in-MixedSort
+unfolding escape_byte
+returns-in-MixedSort c = sym (ap refusal_body c.in-MixedSort.is)

@@ -1,36 +1,30 @@
-use Rattle.std.proofs.Common.{◌≡◌, Some, String, Global, string_bytes, ap, sym, ◌∙◌, subst}
-use Rattle.std.specs.Prelude.{List, ℕ}
-use Rattle.mg_value.specs.Value.{list}
-use Rattle.mg_value.proofs.Views.{view-List}
-use Rattle.mg_doc.specs.Document.{Edit}
-use Rattle.mg_engine.specs.Bodies.{line_of}
-use Rattle.mg_engine.specs.Bulk.{after_edits, entries_of, last_number, numbered, outcomes}
-use Rattle.mg_engine.specs.Commands.{Answer}
-use Rattle.mg_engine.specs.Documents.{KeptDocuments}
-use Rattle.mg_engine.specs.Shards.{ShardsStandFor}
-use Rattle.mg_engine.specs.Stands.{Shown}
+use Rattle.std.proofs.Common.{◌≡◌, List, sym, ap, ◌∙◌, subst}
+use Rattle.mg_shard.specs.Dealt.{ShardsStandFor}
+use Rattle.mg_shard.specs.Edits.{after_edits}
+use Rattle.mg_shard.specs.Histories.{Histories}
+use Rattle.mg_shard.specs.Shard.{ShardView}
+use Rattle.mg_engine.specs.Bulk.{last_number, numbered}
+use Rattle.mg_engine.specs.Stands.{Holds, Shown, definitions_of}
 use Rattle.mg_engine.specs.StateView.{shards_seen}
+use Rattle.mg_engine.proofs.Indexes.{have_same}
+use Rattle.mg_engine.proofs.Whole.{still_objects}
 use Rattle.mg_engine.proofs.state.State.accept.Goals as goal
 
--- a bulk that was accepted
-abbrev accepted : List ℕ → Answer
-accepted b = record { status = 201; body = b }
-
-pub returns-clause-does : goal.returns-clause-does
-returns-clause-does g c = λ w h.
+pub returns-clause-holds : goal.returns-clause-holds
+returns-clause-holds g c = λ w h.
     let place = g.P.Placement.place c.args.placement.now in
-    let told = c.args.new_edits in
-    let before : shards_seen c.deref.result.now ≡ c.args.self.now.shards = ap shards_seen c.deref.ensures.value ∙ ap (λ (s : Shown). s.shards) c.self.view_is in
-    let counter = ap (λ (s : Shown). s.counter) c.self.view_is ∙ h.counter in
-    let edits = c.in_ok-edits.ensures.edits ∙ ap (λ n. numbered n c.args.edits.items) counter in
-    let stands = subst (λ (s : List KeptDocuments). ShardsStandFor place s w.docs) (sym before) h.documents in
-    let entries = c.in_ok-entries.ensures.entries w.docs stands ∙ ap (λ (es : List Edit). entries_of told (outcomes w.docs es)) edits in
-    let body = c.in_ok-body.ensures ∙ ap line_of (view-List c.in_ok-entries.entries ∙ ap list entries) in (
-      ap (λ b. Some (accepted b)) body,
-      record {
-        name = ap (λ (s : String Global). string_bytes s) c.in_ok-name.ensures.cases ∙ ap (λ (s : Shown). s.name) c.self.view_is ∙ h.name;
-        documents = subst (λ (es : List Edit). ShardsStandFor place (shards_seen c.in_ok-entries.shards.items) (after_edits w.docs es)) edits (c.in_ok-entries.ensures.stands w.docs stands);
-        indexes = h.indexes;
-        counter = c.in_ok-edits.ensures.last ∙ ap (λ n. last_number n c.args.edits.items) counter;
-      },
-    )
+    let given = c.args.edits.items in
+    let made = shards_seen c.in_ok-replies.shards.items in
+    let counter : c.self.inside.counter ≡ w.counter = ap (λ (s : Shown). s.counter) c.self.view_is ∙ h.counter in
+    let shards : shards_seen c.deref.result.now ≡ c.args.self.now.shards = ap shards_seen c.deref.ensures.value ∙ ap (λ (s : Shown). s.shards) c.self.view_is in
+    let edits = c.deref-2.ensures.value ∙ c.in_ok-edits.ensures.edits ∙ ap (λ n. numbered n given) counter in
+    let before = subst (λ (ss : List ShardView). ShardsStandFor place ss w.docs) (sym shards) h.documents in
+    subst (λ (s : Shown). Holds place s (record w { docs = after_edits w.docs (numbered w.counter given); counter = last_number w.counter given })) (sym c.in_ok-next.ensures)
+    (record {
+      name = h.name;
+      documents = subst (λ (hs : Histories). ShardsStandFor place made hs) (ap (after_edits w.docs) edits) (c.in_ok-replies.ensures.stands w.docs before);
+      indexes = h.indexes;
+      rows = have_same w.indexes made c.args.self.now.shards (c.in_ok-replies.ensures.definitions ∙ ap definitions_of shards) h.rows;
+      counter = c.in_ok-edits.ensures.last ∙ ap (λ n. last_number n given) counter;
+      objects = still_objects w.docs w.counter given h.objects c.requires;
+    })

@@ -1,0 +1,60 @@
+-- Refusals of a query that was not read, or is not answered, as they are told.
+use Rattle.std.proofs.Common.{◌≡◌, ℕ, List, [], ◌∷◌, ◌++◌, Result, Ok, Err, sym, ap, ◌∙◌}
+use Rattle.mg_value.specs.Value.{Value}
+use Rattle.mg_value.specs.Text.{compact}
+use Rattle.mg_query.specs.Page.{Page, Unanswered, page_value}
+use Rattle.mg_query.specs.Paged.{text_of}
+use Rattle.mg_query.specs.Query.{Query}
+use Rattle.mg_query.specs.Seen.{Fails}
+use Rattle.mg_query.specs.Served.{Refuses}
+use Rattle.mg_query.specs.declared.error.PageError.{PageError}
+use Rattle.mg_query.specs.declared.error.PageError.TheVariants as page_fault
+use Rattle.mg_query.specs.declared.error.QueryError.{QueryError}
+use Rattle.mg_query.specs.declared.error.QueryError.TheVariants as query_fault
+use Rattle.mg_engine.specs.Commands.{Answer, refusal_of, refused, told_or_refused}
+use Rattle.mg_engine.specs.Faults.{of_page, of_query}
+use Rattle.mg_engine.specs.Told.{Tells}
+
+-- the refusal of a query that was not read
+pub not_read : (f : Result Query QueryError → Answer) → ((e : QueryError) → f (Err e) ≡ refused (refusal_of e)) → (e : QueryError) (r : Result Query QueryError) → Fails e r → Tells (Err (of_query e)) (f r)
+not_read f each query_fault.Shape r h = ap f h ∙ each query_fault.Shape
+not_read f each query_fault.InvalidOperator r h = ap f h ∙ each query_fault.InvalidOperator
+not_read f each query_fault.BadArg r h = ap f h ∙ each query_fault.BadArg
+not_read f each query_fault.BadBookmark r h = ap f h ∙ each query_fault.BadBookmark
+not_read f each query_fault.MixedSort r h = ap f h ∙ each query_fault.MixedSort
+not_read f each query_fault.NoMemory r h = tt
+
+-- the refusal of one that is not answered
+not_answered : {A : Type 0} (value : A → Value) (e : PageError) (r : Result A Unanswered) → Refuses e r → Tells (Err (of_page e)) (told_or_refused value r)
+not_answered value page_fault.NoUsableIndex r h = ap (told_or_refused value) h
+not_answered value page_fault.BadBookmark r h = ap (told_or_refused value) h
+not_answered value page_fault.NoMemory r h = tt
+
+-- why a page has no text is why there is no page
+no_text : (e : PageError) (r : Result Page Unanswered) → Refuses e (text_of r) → Refuses e r
+no_text page_fault.NoUsableIndex (Ok p) h = absurd cc
+no_text page_fault.NoUsableIndex (Err why) h = ap (λ r. as_page why r) h
+  where
+    as_page : Unanswered → Result (List ℕ) Unanswered → Result Page Unanswered
+    as_page why (Ok t) = Err why
+    as_page why (Err x) = Err x
+no_text page_fault.BadBookmark (Ok p) h = absurd cc
+no_text page_fault.BadBookmark (Err why) h = ap (λ r. as_page why r) h
+  where
+    as_page : Unanswered → Result (List ℕ) Unanswered → Result Page Unanswered
+    as_page why (Ok t) = Err why
+    as_page why (Err x) = Err x
+no_text page_fault.NoMemory r h = tt
+
+-- the refusal of a query that has no page
+pub no_page : (e : PageError) (r : Result Page Unanswered) → Refuses e (text_of r) → Tells (Err (of_page e)) (told_or_refused page_value r)
+no_page e r h = not_answered page_value e r (no_text e r h)
+
+-- the line of a page
+pub page_told : (r : Result Page Unanswered) (t b : List ℕ) → text_of r ≡ Ok t → b ≡ t ++ 10 ∷ [] → told_or_refused page_value r ≡ record { status = 200; body = b }
+page_told (Ok p) t b h e = ap (λ (x : List ℕ). record { status = 200; body = x }) (ap (λ r. ok_or r t ++ 10 ∷ []) h ∙ sym e)
+  where
+    ok_or : Result (List ℕ) Unanswered → List ℕ → List ℕ
+    ok_or (Ok x) y = x
+    ok_or (Err w) y = y
+page_told (Err why) t b h e = absurd cc

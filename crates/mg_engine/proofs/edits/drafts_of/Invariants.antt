@@ -1,0 +1,7 @@
+use Rattle.std.proofs.Common.{◌≡◌, ◌++◌, drop, map}
+use Rattle.mg_engine.specs.StateView.{fresh, shards_seen}
+use Rattle.mg_engine.proofs.edits.drafts_of.Given as goal
+
+-- what is left decides
+abbrev pub invariant-loop-shard : goal.invariant-loop-shard
+invariant-loop-shard l = map fresh (shards_seen l.shards) ≡ l.drafts.items ++ map fresh (shards_seen (drop l.shard-index l.shards))

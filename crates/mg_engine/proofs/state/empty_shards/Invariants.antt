@@ -1,0 +1,7 @@
+use Rattle.std.proofs.Common.{◌≡◌, replicate}
+use Rattle.mg_engine.specs.StateView.{empty_shard, shards_seen}
+use Rattle.mg_engine.proofs.state.empty_shards.Given as goal
+
+-- so many shards without a document
+abbrev pub invariant-loop : goal.invariant-loop
+invariant-loop l = shards_seen l.made.items ≡ replicate l.counter empty_shard

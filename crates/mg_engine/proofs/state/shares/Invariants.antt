@@ -1,0 +1,7 @@
+use Rattle.std.proofs.Common.{◌≡◌, ◌++◌, drop}
+use Rattle.mg_engine.specs.StateView.{shards_seen}
+use Rattle.mg_engine.proofs.state.shares.Given as goal
+
+-- what is left decides
+abbrev pub invariant-loop-shard : goal.invariant-loop-shard
+invariant-loop-shard l = shards_seen l.shards ≡ shards_seen l.all.items ++ shards_seen (drop l.shard-index l.shards)

@@ -1,0 +1,266 @@
+//! The commands on indexes.
+ghost use Rattle.std.specs.Prelude.{◌≡◌, ◌≤◌, ◌∷◌, codes, IfOk, Ok, Some, true, is_some, length, map, unwrap_or, if◌then◌else◌};
+ghost use Rattle.mg_value.specs.View.{view};
+ghost use Rattle.mg_index.specs.Definition.{listed_all_docs, listed_of};
+ghost use Rattle.mg_index.specs.Catalog.{definition_at, with_definition};
+ghost use Rattle.mg_engine.specs.Bodies.{done_value, index_value, line_of, indexes_value};
+ghost use Rattle.mg_engine.specs.Commands.{create_index, created, drop_index, list_indexes, next, reply_of, world_defined};
+ghost use Rattle.mg_engine.specs.Settled.{IsSettled, accepts, shard_with, shard_without, state_with, state_without};
+ghost use Rattle.mg_engine.specs.Stands.{Holds};
+ghost use Rattle.mg_engine.specs.StateView.{shards_seen};
+ghost use Rattle.mg_engine.specs.View.{said};
+ghost use Rattle.mg_engine.specs.World.{World};
+ghost use Rattle.mg_shard.specs.Dealt.{Placing};
+
+use crate::body::line;
+use crate::fault::Fault;
+use crate::refusal::Refusal;
+use crate::reply::Reply;
+use crate::state::State;
+use mg_index::{Catalog, IndexDef, all_docs_listed, design_document};
+use mg_scan::{NoGate, build};
+use mg_shard::Shard;
+use mg_value::{Json, NoMemory};
+use std::alloc::Global;
+use std::sync::Arc;
+use std::thread::Threads;
+
+impl State {
+    /// The reply to an index that is to be created, and the next state, if the body defines one.
+    /// Cost: nothing more where the same definition stands; else each document, and its row to its place.
+    pub(crate) fn create_index<R: Threads + Sync>(
+        &self,
+        rt: &R,
+        alloc: Global,
+        body: &Json,
+        workers: usize,
+    ) -> Result<(Reply, Option<State>), NoMemory>
+        requires some { 1 ≤ workers }
+        requires most { workers ≤ 32 }
+        ensures does { IfOk result (λ r. (place : Placing) (w : World) → Holds place self.now w
+            → (said r.0 ≡ Some (reply_of w (create_index (view body.now))))
+            × Holds place (unwrap_or r.1 self.now) (next w (create_index (view body.now)))) }
+        ensures settled { IfOk result (λ r. IsSettled r.0 r.1) }
+        ensures number { IfOk result (λ r. length (unwrap_or r.1 self.now).shards ≡ length self.now.shards) }
+    {
+        match IndexDef::read(alloc, body) {
+            Ok(definition) => {
+                let (reply, next) = self.define(rt, alloc, definition, workers)?;
+                Ok((reply, Some(next)))
+            }
+            Err(fault) => match Fault::from(fault) {
+                Fault::Refused(refusal) => Ok((Reply::refusing(alloc, refusal)?, None)),
+                Fault::NoMemory => Err(NoMemory),
+            },
+        }
+    }
+
+    // The reply to a definition, and the state with it.
+    fn define<R: Threads + Sync>(
+        &self,
+        rt: &R,
+        alloc: Global,
+        definition: IndexDef,
+        workers: usize,
+    ) -> Result<(Reply, State), NoMemory>
+        requires some { 1 ≤ workers }
+        requires most { workers ≤ 32 }
+        ensures does { IfOk result (λ r. (place : Placing) (w : World) → Holds place self.now w
+            → (said r.0 ≡ Some (created w (Ok definition)))
+            × Holds place r.1 (world_defined w (Ok definition))) }
+        ensures accepted { IfOk result (λ r. accepts r.0 ≡ true) }
+        ensures number { IfOk result (λ r. length r.1.shards ≡ length self.now.shards) }
+    {
+        let there = self.catalog.has(&definition);
+        let body = created_line(alloc, &definition, there)?;
+        let next = self.defined(rt, alloc, definition, there, workers)?;
+        Ok((Reply::Full { status: 200, body }, next))
+    }
+
+    // The state with a definition, which is as it was where the same one is there.
+    fn defined<R: Threads + Sync>(
+        &self,
+        rt: &R,
+        alloc: Global,
+        definition: IndexDef,
+        there: bool,
+        workers: usize,
+    ) -> Result<State, NoMemory>
+        requires some { 1 ≤ workers }
+        requires most { workers ≤ 32 }
+        requires same { there ≡ true → with_definition definition self.now.catalog ≡ self.now.catalog }
+        ensures stands { IfOk result (λ s. (place : Placing) (w : World) → Holds place self.now w → Holds place s (world_defined w (Ok definition))) }
+        ensures number { IfOk result (λ s. length s.shards ≡ length self.now.shards) }
+    {
+        if there {
+            let state = self.share(alloc)?;
+            Ok(state)
+        } else {
+            let state = self.with_index(rt, alloc, definition, workers)?;
+            Ok(state)
+        }
+    }
+
+    // The state with an index, over all shards.
+    fn with_index<R: Threads + Sync>(
+        &self,
+        rt: &R,
+        alloc: Global,
+        definition: IndexDef,
+        workers: usize,
+    ) -> Result<State, NoMemory>
+        requires some { 1 ≤ workers }
+        requires most { workers ≤ 32 }
+        ensures { IfOk result (λ s. s ≡ state_with definition self.now) }
+    {
+        let shards = all_with(rt, alloc, &self.shards, &definition, workers)?;
+        let mut catalog = self.catalog.copy(alloc)?;
+        catalog.add(definition)?;
+        self.with_catalog(alloc, catalog, shards)
+    }
+
+    /// The reply to an index that is to be dropped, and the next state, if there is such an index. Cost: the number of the shards
+    /// and of the indexes.
+    pub(crate) fn drop_index(
+        &self,
+        alloc: Global,
+        ddoc: &str,
+        name: &str,
+    ) -> Result<(Reply, Option<State>), NoMemory>
+        ensures does { IfOk result (λ r. (place : Placing) (w : World) → Holds place self.now w
+            → (said r.0 ≡ Some (reply_of w (drop_index ddoc.now name.now)))
+            × Holds place (unwrap_or r.1 self.now) (next w (drop_index ddoc.now name.now))) }
+        ensures settled { IfOk result (λ r. IsSettled r.0 r.1) }
+        ensures number { IfOk result (λ r. length (unwrap_or r.1 self.now).shards ≡ length self.now.shards) }
+    {
+        let ddoc = design_document(alloc, ddoc)?;
+        if !has_index(&self.catalog, &ddoc, name) {
+            return Ok((Reply::refusing(alloc, Refusal::Missing)?, None));
+        }
+        let body = done_line(alloc)?;
+        let next = self.without_index(alloc, &ddoc, name)?;
+        Ok((Reply::Full { status: 200, body }, Some(next)))
+    }
+
+    // The state without an index, over all shards.
+    fn without_index(&self, alloc: Global, ddoc: &str, name: &str) -> Result<State, NoMemory>
+        ensures { IfOk result (λ s. s ≡ state_without ddoc.now name.now self.now) }
+    {
+        let shards = all_without(alloc, &self.shards, ddoc, name)?;
+        let mut catalog = self.catalog.copy(alloc)?;
+        catalog.remove(ddoc, name);
+        self.with_catalog(alloc, catalog, shards)
+    }
+
+    /// The reply that lists the indexes, that of all documents first. Cost: their number.
+    pub(crate) fn list_indexes(&self, alloc: Global) -> Result<Reply, NoMemory>
+        ensures { IfOk result (λ r. (place : Placing) (w : World) → Holds place self.now w → said r ≡ Some (reply_of w list_indexes)) }
+    {
+        let indexes = indexes_json(alloc, self.catalog.list())?;
+        let body = line(alloc, &indexes)?;
+        Ok(Reply::Full { status: 200, body })
+    }
+}
+
+// Whether an index of this design document and name is in the catalog.
+fn has_index(catalog: &Catalog, ddoc: &str, name: &str) -> bool
+    ensures { result ≡ is_some (definition_at ddoc.now name.now catalog.now) }
+{
+    catalog.find(ddoc, name).is_some()
+}
+
+// The body of the reply to an index that was dropped.
+fn done_line(alloc: Global) -> Result<Vec<u8>, NoMemory>
+    ensures { IfOk result (λ b. b.items ≡ line_of done_value) }
+{
+    let mut done = Json::empty_object(alloc);
+    done.insert(alloc, "ok", Json::Flag(true))?;
+    line(alloc, &done)
+}
+
+// The body of the reply that lists the indexes.
+fn indexes_json(alloc: Global, definitions: &[IndexDef]) -> Result<Json, NoMemory>
+    ensures { IfOk result (λ v. view v ≡ indexes_value definitions.now) }
+{
+    let listed = all_listed(alloc, definitions)?;
+    let rows = listed.len() as i64;
+    let mut indexes = Json::empty_object(alloc);
+    indexes.insert(alloc, "total_rows", Json::Whole(rows))?;
+    indexes.insert(alloc, "indexes", Json::List(listed))?;
+    Ok(indexes)
+}
+
+// The body of the reply to an index that was created, or was there.
+fn created_line(alloc: Global, definition: &IndexDef, there: bool) -> Result<Vec<u8>, NoMemory>
+    ensures { IfOk result (λ b. b.items ≡ line_of (index_value definition.now (if there then codes "exists" else codes "created"))) }
+{
+    let word = if there { "exists" } else { "created" };
+    let mut created = Json::empty_object(alloc);
+    created.insert(
+        alloc,
+        "id",
+        Json::Text(String::from_str(alloc, definition.ddoc())?),
+    )?;
+    created.insert(
+        alloc,
+        "name",
+        Json::Text(String::from_str(alloc, definition.name())?),
+    )?;
+    created.insert(alloc, "result", Json::Text(String::from_str(alloc, word)?))?;
+    line(alloc, &created)
+}
+
+// All shards with an index.
+fn all_with<R: Threads + Sync>(
+    rt: &R,
+    alloc: Global,
+    shards: &[Arc<Shard>],
+    definition: &IndexDef,
+    workers: usize,
+) -> Result<Vec<Arc<Shard>>, NoMemory>
+    requires some { 1 ≤ workers }
+    requires most { workers ≤ 32 }
+    ensures { IfOk result (λ v. shards_seen v.items ≡ map (shard_with definition.now) (shards_seen shards.now)) }
+{
+    let built = build(rt, alloc, shards, definition, workers, &NoGate)?;
+    shared(alloc, built)
+}
+
+// Shards that can be shared.
+fn shared(alloc: Global, shards: Vec<Shard>) -> Result<Vec<Arc<Shard>>, NoMemory>
+    ensures { IfOk result (λ v. shards_seen v.items ≡ shards.items) }
+{
+    let mut all = Vec::with_capacity(alloc, shards.len())?;
+    for shard in shards {
+        all.push(Arc::new(alloc, shard)?)?;
+    }
+    Ok(all)
+}
+
+// All shards without an index.
+fn all_without(
+    alloc: Global,
+    shards: &[Arc<Shard>],
+    ddoc: &str,
+    name: &str,
+) -> Result<Vec<Arc<Shard>>, NoMemory>
+    ensures { IfOk result (λ v. shards_seen v.items ≡ map (shard_without ddoc.now name.now) (shards_seen shards.now)) }
+{
+    let mut all = Vec::with_capacity(alloc, shards.len())?;
+    for shard in shards {
+        all.push(Arc::new(alloc, shard.without_index(alloc, ddoc, name)?)?)?;
+    }
+    Ok(all)
+}
+
+// The definitions as they are listed, the index of all documents first.
+fn all_listed(alloc: Global, definitions: &[IndexDef]) -> Result<Vec<Json>, NoMemory>
+    ensures { IfOk result (λ v. map view v.items ≡ listed_all_docs ∷ map listed_of definitions.now) }
+{
+    let mut listed = Vec::new(alloc);
+    listed.push(all_docs_listed(alloc)?)?;
+    for definition in definitions {
+        listed.push(definition.listed(alloc)?)?;
+    }
+    Ok(listed)
+}

@@ -1,0 +1,139 @@
+//! Queries, and how they would be answered.
+ghost use Rattle.std.specs.Prelude.{◌≡◌, ◌≤◌, ◌++◌, ◌∷◌, [], All, IfOk, Ok, Some};
+ghost use Rattle.mg_value.specs.View.{view};
+ghost use Rattle.mg_shard.specs.Dealt.{Placing, ShardsStandFor};
+ghost use Rattle.mg_query.specs.Page.{candidates_of};
+ghost use Rattle.mg_query.specs.Query.{query_of};
+ghost use Rattle.mg_query.specs.Seen.{query_seen};
+ghost use Rattle.mg_query.specs.Served.{AreWhole};
+ghost use Rattle.mg_engine.specs.Commands.{Answer, explain as explain_command, explained as explained_of, find, found, reply_of};
+ghost use Rattle.mg_engine.specs.Stands.{Holds};
+ghost use Rattle.mg_engine.specs.StateView.{shards_seen};
+ghost use Rattle.mg_engine.specs.Told.{Tells};
+ghost use Rattle.mg_engine.specs.View.{said};
+ghost use Rattle.mg_engine.specs.World.{World};
+
+use crate::body::line;
+use crate::fault::Fault;
+use crate::reply::Reply;
+use crate::state::State;
+use mg_index::Catalog;
+use mg_query::{Query, explain, page_text};
+use mg_scan::Gate;
+use mg_shard::Shard;
+use mg_value::{Json, NoMemory};
+use std::alloc::Global;
+use std::sync::Arc;
+use std::thread::Threads;
+
+impl State {
+    /// The reply to a query: its page. Cost: the choice of the index; in each shard a look-up, and what is read until the page's rows are
+    /// found; the page.
+    pub(crate) fn find<R: Threads + Sync, G: Gate + Sync>(
+        &self,
+        rt: &R,
+        alloc: Global,
+        body: &Json,
+        workers: usize,
+        gate: &G,
+    ) -> Result<Reply, NoMemory>
+        requires some { 1 ≤ workers }
+        requires most { workers ≤ 32 }
+        ensures { IfOk result (λ r. (place : Placing) (w : World) → Holds place self.now w → said r ≡ Some (reply_of w (find (view body.now)))) }
+    {
+        let line = page_line(
+            rt,
+            alloc,
+            &self.catalog,
+            self.whole_shards(),
+            body,
+            workers,
+            gate,
+        );
+        let reply = told(alloc, line)?;
+        Ok(reply)
+    }
+
+    /// The reply to a query that is to be explained. Cost: the choice of the index, and the query.
+    pub(crate) fn explain(&self, alloc: Global, body: &Json) -> Result<Reply, NoMemory>
+        ensures { IfOk result (λ r. (place : Placing) (w : World) → Holds place self.now w → said r ≡ Some (reply_of w (explain_command (view body.now)))) }
+    {
+        let line = explained(alloc, &self.name, &self.catalog, body);
+        let reply = told(alloc, line)?;
+        Ok(reply)
+    }
+}
+
+// The line of a query's page, over the indexes of the catalog, which each shard has.
+fn page_line<R: Threads + Sync, G: Gate + Sync>(
+    rt: &R,
+    alloc: Global,
+    catalog: &Catalog,
+    shards: &[Arc<Shard>],
+    body: &Json,
+    workers: usize,
+    gate: &G,
+) -> Result<Vec<u8>, Fault>
+    requires some { 1 ≤ workers }
+    requires most { workers ≤ 32 }
+    requires indexes { All (λ s. s.definitions ≡ catalog.now) (shards_seen shards.now) }
+    ensures { (place : Placing) (w : World) → ShardsStandFor place (shards_seen shards.now) w.docs → AreWhole (candidates_of w.docs)
+        → w.indexes ≡ catalog.now → Tells result (found w (query_of (view body.now))) }
+{
+    let query = Query::read(alloc, body)?;
+    answer_line(rt, alloc, catalog, shards, &query, workers, gate)
+}
+
+// The line of the page of a query that was read.
+fn answer_line<R: Threads + Sync, G: Gate + Sync>(
+    rt: &R,
+    alloc: Global,
+    catalog: &Catalog,
+    shards: &[Arc<Shard>],
+    query: &Query<'_>,
+    workers: usize,
+    gate: &G,
+) -> Result<Vec<u8>, Fault>
+    requires some { 1 ≤ workers }
+    requires most { workers ≤ 32 }
+    requires indexes { All (λ s. s.definitions ≡ catalog.now) (shards_seen shards.now) }
+    ensures { (place : Placing) (w : World) → ShardsStandFor place (shards_seen shards.now) w.docs → AreWhole (candidates_of w.docs)
+        → w.indexes ≡ catalog.now → Tells result (found w (Ok (query_seen query.now))) }
+{
+    match page_text(rt, alloc, query, catalog, shards, workers, gate) {
+        Ok((text, _)) => {
+            let line = with_line_feed(text)?;
+            Ok(line)
+        }
+        Err(fault) => Err(Fault::from(fault)),
+    }
+}
+
+// A text and a line feed.
+fn with_line_feed(text: Vec<u8>) -> Result<Vec<u8>, NoMemory>
+    ensures { IfOk result (λ b. b.items ≡ text.items ++ 10 ∷ []) }
+{
+    let mut line = text;
+    line.push(b'\n')?;
+    Ok(line)
+}
+
+// The line that explains a query in a database of this name, over the indexes of the catalog.
+fn explained(alloc: Global, name: &str, catalog: &Catalog, body: &Json) -> Result<Vec<u8>, Fault>
+    ensures { (w : World) → w.name ≡ name.now → w.indexes ≡ catalog.now → Tells result (explained_of w (query_of (view body.now))) }
+{
+    let query = Query::read(alloc, body)?;
+    let value = explain(alloc, name, &query, catalog)?;
+    Ok(line(alloc, &value)?)
+}
+
+// The reply of this body, or of the refusal.
+fn told(alloc: Global, body: Result<Vec<u8>, Fault>) -> Result<Reply, NoMemory>
+    ensures { IfOk result (λ r. (a : Answer) → Tells body a → said r ≡ Some a) }
+{
+    match body {
+        Ok(body) => Ok(Reply::Full { status: 200, body }),
+        Err(Fault::Refused(refusal)) => Ok(Reply::refusing(alloc, refusal)?),
+        Err(Fault::NoMemory) => Err(NoMemory),
+    }
+}

@@ -1,0 +1,98 @@
+//! The commands that read: queries, explanations, and `GET` of a document.
+ghost use Rattle.std.specs.Prelude.{◌≡◌, ◌<◌, IfOk, Option, Some, length, slice_get};
+ghost use Rattle.std.specs.FinMap as finite;
+ghost use Rattle.std.specs.FinMap.{get};
+ghost use Rattle.mg_value.specs.View.{view};
+ghost use Rattle.mg_revtree.specs.History.{History};
+ghost use Rattle.mg_revtree.specs.Tree.{StandsFor};
+ghost use Rattle.mg_doc.specs.Conflicts.{with_conflicts_of};
+ghost use Rattle.mg_shard.specs.Documents.{StandsAt, form_at};
+ghost use Rattle.mg_engine.specs.Bodies.{line_of};
+ghost use Rattle.mg_engine.specs.Commands.{got};
+ghost use Rattle.mg_engine.specs.Stands.{Holds};
+ghost use Rattle.mg_engine.specs.StateView.{shards_seen};
+ghost use Rattle.mg_engine.specs.View.{said};
+ghost use Rattle.mg_engine.specs.World.{World};
+
+use crate::body::{line, text_line};
+use crate::refusal::Refusal;
+use crate::reply::Reply;
+use crate::state::State;
+use mg_doc::with_conflicts;
+use mg_revtree::RevTree;
+use mg_shard::laws::each_id_has_its_shard;
+use mg_shard::{Placement, Shard};
+use mg_value::{Json, NoMemory};
+use std::alloc::Global;
+use std::sync::Arc;
+
+impl State {
+    /// The reply to a `GET` of a document: the placement, look-ups in one shard, and a copy of the text that is kept, or, where
+    /// conflicts are asked for, a copy of the document.
+    pub(crate) fn get<P: Placement>(
+        &self,
+        alloc: Global,
+        placement: &P,
+        id: &str,
+        conflicts: bool,
+    ) -> Result<Reply, NoMemory>
+        ensures { IfOk result (λ r. (w : World) → Holds (P.place placement.now) self.now w
+            → said r ≡ Some (got id.now conflicts (finite.get w.docs id.now))) }
+    {
+        each_id_has_its_shard();
+        let shard = shard_of(placement, &self.shards, id);
+        let reply = get_from(alloc, shard, id, conflicts)?;
+        Ok(reply)
+    }
+}
+
+// The shard on which an id is placed.
+fn shard_of<'a, P: Placement>(placement: &P, shards: &'a [Arc<Shard>], id: &str) -> &'a Shard
+    requires { 0 < length shards.now }
+    ensures { slice_get (shards_seen shards.now) (P.place placement.now id.now (length (shards_seen shards.now))) ≡ Some result.now }
+{
+    let place = placement.shard_of(id, shards.len());
+    let shard = &shards[place];
+    shard
+}
+
+// The reply to a `GET` of a document that is placed on this shard.
+fn get_from(alloc: Global, shard: &Shard, id: &str, conflicts: bool) -> Result<Reply, NoMemory>
+    ensures { IfOk result (λ r. (o : Option History) → StandsAt id.now (get shard.now.documents id.now) o
+        → said r ≡ Some (got id.now conflicts o)) }
+{
+    let Some(tree) = shard.tree(id) else {
+        return Ok(Reply::refusing(alloc, Refusal::Missing)?);
+    };
+    let Some(form) = shard.served(id) else {
+        return Ok(Reply::refusing(alloc, Refusal::Deleted)?);
+    };
+    let body = if conflicts {
+        conflicted_line(alloc, form, tree)?
+    } else {
+        served_line(alloc, shard, id, form)?
+    };
+    Ok(Reply::Full { status: 200, body })
+}
+
+// The line of a document with its conflicts.
+fn conflicted_line(alloc: Global, form: &Json, tree: &RevTree) -> Result<Vec<u8>, NoMemory>
+    ensures { IfOk result (λ b. (h : History) → StandsFor tree.now h → b.items ≡ line_of (with_conflicts_of h (view form.now))) }
+{
+    let document = form.copy(alloc)?;
+    let shown = with_conflicts(alloc, document, tree)?;
+    let body = line(alloc, &shown)?;
+    Ok(body)
+}
+
+// The line of a document that is served in this form, by the text that is kept of it.
+fn served_line(alloc: Global, shard: &Shard, id: &str, form: &Json) -> Result<Vec<u8>, NoMemory>
+    requires { form_at shard.now.documents id.now ≡ Some (view form.now) }
+    ensures { IfOk result (λ b. b.items ≡ line_of (view form.now)) }
+{
+    let body = match shard.served_text(id) {
+        Some(text) => text_line(alloc, text)?,
+        None => line(alloc, form)?,
+    };
+    Ok(body)
+}

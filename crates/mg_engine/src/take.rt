@@ -1,0 +1,69 @@
+//! One command on a state.
+ghost use Rattle.std.specs.Prelude.{◌≡◌, ◌≤◌, None, false, length, true, unwrap_or};
+ghost use Rattle.mg_engine.specs.Commands.{is_write};
+ghost use Rattle.mg_engine.specs.Run.{Answers};
+ghost use Rattle.mg_engine.specs.Settled.{IsSettled, reply_made, settled_of};
+ghost use Rattle.mg_engine.specs.Stands.{Holds};
+ghost use Rattle.mg_engine.specs.View.{asked, said};
+ghost use Rattle.mg_engine.specs.World.{World};
+
+use crate::command::Command;
+use crate::reply::Reply;
+use crate::state::State;
+use mg_scan::Gate;
+use mg_shard::Placement;
+use mg_value::NoMemory;
+use std::alloc::Global;
+use std::thread::Threads;
+
+impl State {
+    /// The reply to a command, made whole, and the next state, if the command is a write that is accepted. Where memory is refused,
+    /// there is none. A query passes the gate.
+    pub(crate) fn take<P: Placement, R: Threads + Sync, G: Gate + Sync>(
+        &self,
+        rt: &R,
+        alloc: Global,
+        placement: &P,
+        command: &Command,
+        workers: usize,
+        gate: &G,
+    ) -> (Reply, Option<State>)
+        requires some { 1 ≤ workers }
+        requires most { workers ≤ 32 }
+        ensures answers { (w : World) → Holds (P.place placement.now) self.now w
+            → Answers w (asked command.now) (said result.0) (Holds (P.place placement.now) (unwrap_or result.1 self.now)) }
+        ensures write { is_write (asked command.now) ≡ true → IsSettled result.0 result.1 }
+        ensures read { is_write (asked command.now) ≡ false → result.1 ≡ None }
+        ensures number { length (unwrap_or result.1 self.now).shards ≡ length self.now.shards }
+    {
+        match command {
+            Command::Bulk(body) => settled(self.bulk(alloc, placement, body)),
+            Command::CreateIndex(body) => settled(self.create_index(rt, alloc, body, workers)),
+            Command::DropIndex { ddoc, name } => settled(self.drop_index(alloc, ddoc, name)),
+            Command::ListIndexes => told(self.list_indexes(alloc)),
+            Command::Find(body) => told(self.find(rt, alloc, body, workers, gate)),
+            Command::Explain(body) => told(self.explain(alloc, body)),
+            Command::Get { id, conflicts } => told(self.get(alloc, placement, id, *conflicts)),
+        }
+    }
+}
+
+// The reply of a write and what it leaves, or that memory was refused.
+fn settled(made: Result<(Reply, Option<State>), NoMemory>) -> (Reply, Option<State>)
+    ensures { result ≡ settled_of made }
+{
+    match made {
+        Ok(settled) => settled,
+        Err(NoMemory) => (Reply::NoMemory, None),
+    }
+}
+
+// A reply that leaves nothing, or that memory was refused.
+fn told(made: Result<Reply, NoMemory>) -> (Reply, Option<State>)
+    ensures { result ≡ (reply_made made, None) }
+{
+    match made {
+        Ok(reply) => (reply, None),
+        Err(NoMemory) => (Reply::NoMemory, None),
+    }
+}

@@ -1,0 +1,74 @@
+//! Bulks of edits, each with the state that it leaves.
+ghost use Rattle.std.specs.Prelude.{◌≡◌, IfOk, Ok, Some, true, length, unwrap_or};
+ghost use Rattle.mg_value.specs.View.{view};
+ghost use Rattle.mg_engine.specs.Commands.{bulk, bulk_reply, next, reply_of, world_with};
+ghost use Rattle.mg_engine.specs.Objects.{BringObjects};
+ghost use Rattle.mg_engine.specs.Settled.{IsSettled, accepts};
+ghost use Rattle.mg_engine.specs.Stands.{Holds};
+ghost use Rattle.mg_engine.specs.View.{said};
+ghost use Rattle.mg_engine.specs.World.{World};
+
+use crate::body::line;
+use crate::bulk::{numbered, read_bulk, read_edits};
+use crate::edits::edited;
+use crate::entry::entries;
+use crate::fault::Fault;
+use crate::refusal::Refusal;
+use crate::reply::Reply;
+use crate::state::State;
+use mg_doc::Edit;
+use mg_shard::Placement;
+use mg_value::{Json, NoMemory};
+use std::alloc::Global;
+
+impl State {
+    /// The reply to a bulk, and the next state, if the bulk is accepted. Cost: its documents.
+    pub(crate) fn bulk<P: Placement>(
+        &self,
+        alloc: Global,
+        placement: &P,
+        body: &Json,
+    ) -> Result<(Reply, Option<State>), NoMemory>
+        ensures does { IfOk result (λ r. (w : World) → Holds (P.place placement.now) self.now w
+            → (said r.0 ≡ Some (reply_of w (bulk (view body.now))))
+            × Holds (P.place placement.now) (unwrap_or r.1 self.now) (next w (bulk (view body.now)))) }
+        ensures settled { IfOk result (λ r. IsSettled r.0 r.1) }
+        ensures number { IfOk result (λ r. length (unwrap_or r.1 self.now).shards ≡ length self.now.shards) }
+    {
+        let Some(bulk) = read_bulk(body) else {
+            return Ok((Reply::refusing(alloc, Refusal::WrongShape)?, None));
+        };
+        match read_edits(alloc, bulk.new_edits, bulk.documents) {
+            Ok(edits) => {
+                let (reply, next) = self.accept(alloc, placement, bulk.new_edits, edits)?;
+                Ok((reply, Some(next)))
+            }
+            Err(Fault::Refused(refusal)) => Ok((Reply::refusing(alloc, refusal)?, None)),
+            Err(Fault::NoMemory) => Err(NoMemory),
+        }
+    }
+
+    // The reply to edits, and the next state.
+    fn accept<P: Placement>(
+        &self,
+        alloc: Global,
+        placement: &P,
+        new_edits: bool,
+        edits: Vec<Edit>,
+    ) -> Result<(Reply, State), NoMemory>
+        requires { BringObjects edits.items }
+        ensures reply { IfOk result (λ r. (w : World) → Holds (P.place placement.now) self.now w
+            → said r.0 ≡ Some (bulk_reply w new_edits (Ok edits.items))) }
+        ensures holds { IfOk result (λ r. (w : World) → Holds (P.place placement.now) self.now w
+            → Holds (P.place placement.now) r.1 (world_with w (Ok edits.items))) }
+        ensures accepted { IfOk result (λ r. accepts r.0 ≡ true) }
+        ensures number { IfOk result (λ r. length r.1.shards ≡ length self.now.shards) }
+    {
+        let (edits, counter) = numbered(alloc, edits, self.counter)?;
+        let (replies, shards) = edited(alloc, placement, &self.shards, &edits)?;
+        let entries = entries(alloc, new_edits, &edits, &replies)?;
+        let body = line(alloc, &Json::List(entries))?;
+        let next = self.with_shards(shards, counter)?;
+        Ok((Reply::Full { status: 201, body }, next))
+    }
+}

@@ -1,0 +1,13 @@
+use Rattle.std.proofs.Common.{arith}
+use Rattle.std.proofs.lemmas.List.Elements.{All-push}
+use Rattle.mg_live.specs.Points.{IsAfter}
+use Rattle.mg_live.proofs.seats.copies.Goals as goal
+
+pub loop-preserved : goal.loop-preserved
+loop-preserved c =
+    let pushed = c.in_ok-push.ensures in
+    record {
+      after = λ name cs at.
+          rw pushed.items (All-push (λ p. IsAfter name p cs) c.loop.copies.items c.in_ok-again.field-0 (c.loop.invariant.after name cs at) (c.in_ok-again.ensures name cs at));
+      number = omega (arith, pushed.len, c.loop.invariant.number);
+    }

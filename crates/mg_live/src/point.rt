@@ -1,0 +1,127 @@
+//! Points of a database's history.
+ghost use Rattle.std.specs.Prelude.{◌≡◌, ◌<◌, ℕ, List, [], IfOk, Some, true, false, is_some};
+ghost use Rattle.mg_engine.specs.declared.refusal.Refusal.TheVariants.{TooLarge};
+ghost use Rattle.mg_engine.specs.Commands.{is_write, refused, reply_of};
+ghost use Rattle.mg_engine.specs.View.{asked, said};
+ghost use Rattle.mg_live.specs.Machine.{Commit, after_write, world_of, write_reply};
+ghost use Rattle.mg_live.specs.Points.{IsAfter};
+
+use mg_engine::{Command, Engine, Refusal, Reply};
+use mg_scan::NoGate;
+use mg_shard::Md5Placement;
+use mg_value::NoMemory;
+use std::alloc::Global;
+use std::sync::Arc;
+use std::thread::Threads;
+
+/// A point of a database's history: the engine as it stood there, and the number of commits before it.
+#[derive(Drop)]
+pub(crate) struct Point {
+    pub(crate) engine: Arc<Engine<Md5Placement>>,
+    pub(crate) commits: u64,
+}
+
+impl Point {
+    /// The point before the first commit to a database of this name, over one shard. Cost: the name.
+    pub(crate) fn first(alloc: Global, db: &str) -> Result<Point, NoMemory>
+        ensures { IfOk result (λ p. IsAfter db.now p []) }
+    {
+        let engine = Engine::new(alloc, db, Md5Placement, 1)?;
+        let engine = Arc::new(alloc, engine)?;
+        Ok(Point { engine, commits: 0 })
+    }
+
+    /// The same point once more, over the same engine.
+    pub(crate) fn again(&self) -> Result<Point, NoMemory>
+        ensures { IfOk result (λ p. (name : List ℕ) (cs : List Commit) → IsAfter name self.now cs → IsAfter name p cs) }
+    {
+        let engine = self.engine.clone()?;
+        Ok(Point {
+            engine,
+            commits: self.commits,
+        })
+    }
+
+    /// The reply to a command that reads. Cost: that of the engine's reply.
+    pub(crate) fn read<R: Threads + Sync>(
+        &self,
+        rt: &R,
+        alloc: Global,
+        command: &Command,
+    ) -> Result<Reply, NoMemory>
+        requires { is_write (asked command.now) ≡ false }
+        ensures { IfOk result (λ r. (name : List ℕ) (cs : List Commit) → IsAfter name self.now cs
+            → said r ≡ Some (reply_of (world_of name cs) (asked command.now))) }
+    {
+        whole(self.engine.answer(rt, alloc, command, 1, &NoGate))
+    }
+
+    /// The reply to a write, and the point after it, which is one commit more where it is accepted, and else the same once more.
+    /// Cost: that of the engine's commit.
+    pub(crate) fn write<R: Threads + Sync>(
+        &self,
+        rt: &R,
+        alloc: Global,
+        command: &Command,
+    ) -> Result<(Reply, Point), NoMemory>
+        requires { is_write (asked command.now) ≡ true }
+        ensures { IfOk result (λ r. (name : List ℕ) (cs : List Commit) (seat : ℕ) → IsAfter name self.now cs
+            → (said r.0 ≡ Some (write_reply name cs (asked command.now)))
+            × IsAfter name r.1 (after_write name cs seat (asked command.now))) }
+    {
+        if self.commits == u64::MAX {
+            return Ok((too_large(alloc)?, self.again()?));
+        }
+        self.commit(rt, alloc, command)
+    }
+
+    // The same where there can be one commit more.
+    fn commit<R: Threads + Sync>(
+        &self,
+        rt: &R,
+        alloc: Global,
+        command: &Command,
+    ) -> Result<(Reply, Point), NoMemory>
+        requires write { is_write (asked command.now) ≡ true }
+        requires room { self.now.commits < 18446744073709551615 }
+        ensures { IfOk result (λ r. (name : List ℕ) (cs : List Commit) (seat : ℕ) → IsAfter name self.now cs
+            → (said r.0 ≡ Some (write_reply name cs (asked command.now)))
+            × IsAfter name r.1 (after_write name cs seat (asked command.now))) }
+    {
+        let (reply, engine) = self.engine.commit(rt, alloc, command, 1);
+        let reply = whole(reply)?;
+        match engine {
+            Some(engine) => {
+                let engine = Arc::new(alloc, engine)?;
+                let commits = self.commits + 1;
+                Ok((reply, Point { engine, commits }))
+            }
+            None => {
+                let engine = self.engine.clone()?;
+                let commits = self.commits;
+                Ok((reply, Point { engine, commits }))
+            }
+        }
+    }
+}
+
+// A reply that was made whole.
+fn whole(reply: Reply) -> Result<Reply, NoMemory>
+    ensures { IfOk result (λ r. (r ≡ reply) × (is_some (said r) ≡ true)) }
+{
+    match reply {
+        Reply::NoMemory => Err(NoMemory),
+        Reply::Full { status, body } => Ok(Reply::Full { status, body }),
+    }
+}
+
+// The reply to a write where there can be no more commits.
+fn too_large(alloc: Global) -> Result<Reply, NoMemory>
+    ensures { IfOk result (λ r. said r ≡ Some (refused TooLarge)) }
+{
+    let body = Vec::from_slice(alloc, Refusal::TooLarge.body().as_bytes())?;
+    Ok(Reply::Full {
+        status: Refusal::TooLarge.status(),
+        body,
+    })
+}

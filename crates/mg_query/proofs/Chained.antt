@@ -1,0 +1,224 @@
+-- Pages that follow one another by their bookmarks.
+use lib.Dec.{T}
+use Rattle.std.proofs.Common.{◌≡◌, ℕ, zero, suc, ◌-◌, ◌≤◌, Bool, true, false, ◌&&◌, cond, List, [], ◌∷◌, ◌++◌, Option, Some, None, option_map, option_to_list, length, take, drop, slice_get, Ordering, Less, Equal, Greater, is_gt, is_lt, refl, sym, ap, ◌∙◌, subst, arith, append_assoc}
+use Rattle.std.specs.Prelude.{unwrap_or}
+use Rattle.std.specs.Cmp.{IsTotalOrder}
+use Rattle.std.specs.Ordering.{ordering_reverse}
+use Rattle.std.specs.FinMap.{entries, entries_sorted}
+use Rattle.std.specs.FinMap.Entries.{below_all, is_sorted}
+use Rattle.std.specs.List.{AllByRecursion, filter, filter_map}
+use Rattle.std.specs.Option.{option_map_or}
+use Rattle.std.proofs.lemmas.Cmp.{on_total, tied_itself, nat_list_cmp_total}
+use Rattle.std.proofs.lemmas.List.{take-append-drop}
+use Rattle.mg_collate.specs.Row.{directed_order}
+use Rattle.mg_collate.specs.Sorted.{inserted, sorted}
+use Rattle.mg_collate.proofs.Directed.{directed_total, directed_ties}
+use Rattle.mg_collate.proofs.Sorting.{NoneBelow, Rises, rises_sorted}
+use Rattle.mg_doc.specs.Served.{served_of}
+use Rattle.mg_revtree.specs.History.{History}
+use Rattle.mg_bookmark.specs.Bookmark.{Place, bookmark_read, spelled}
+use Rattle.mg_value.specs.Value.{Value}
+use Rattle.mg_index.specs.Choice.{Source}
+use Rattle.mg_index.specs.Definition.{Steps}
+use Rattle.mg_merge.specs.Merged.{joined}
+use Rattle.mg_shard.proofs.Shown.{bytes_cmp}
+use Rattle.mg_query.specs.Laws.{AreChained, CanBeReadBack, PagesJoin, beginning_after, place_at}
+use Rattle.mg_query.specs.Page.{Candidate, bookmark_after, candidate_of, candidates_of, columns_of, is_asked, order_by, page_rows, row_by}
+use Rattle.mg_query.specs.Query.{Query}
+use Rattle.mg_query.proofs.Candidates.{shown_first}
+
+-- ---- lists whose elements are apart
+
+all_if : {X : Type 0} (P : X → Type 0) (b : Bool) (xs ys : List X) → AllByRecursion P xs → AllByRecursion P ys → AllByRecursion P (cond b xs ys)
+all_if P true xs ys h k = h
+all_if P false xs ys h k = k
+
+pub all_kept : {X : Type 0} (P : X → Type 0) (p : X → Bool) (xs : List X) → AllByRecursion P xs → AllByRecursion P (filter p xs)
+all_kept P p [] h = tt
+all_kept P p (x ∷ xs) h = all_if P (p x) (x ∷ filter p xs) (filter p xs) (h.0, all_kept P p xs h.1) (all_kept P p xs h.1)
+
+all_inserted : {X : Type 0} (P : X → Type 0) (order : X → X → Ordering) (x : X) (ys : List X) → P x → AllByRecursion P ys → AllByRecursion P (inserted order x ys)
+all_inserted P order x [] h k = (h, tt)
+all_inserted P order x (y ∷ ys) h k = all_if P (is_gt (order x y)) (y ∷ inserted order x ys) (x ∷ y ∷ ys) (k.0, all_inserted P order x ys h k.1) (h, k)
+
+pub all_sorted : {X : Type 0} (P : X → Type 0) (order : X → X → Ordering) (xs : List X) → AllByRecursion P xs → AllByRecursion P (sorted order xs)
+all_sorted P order [] h = tt
+all_sorted P order (x ∷ xs) h = all_inserted P order x (sorted order xs) h.0 (all_sorted P order xs h.1)
+
+-- the ids differ
+abbrev Differ : Candidate → Candidate → Type 0
+Differ c d = c.id ≡ d.id → ⊥
+
+abbrev Apart : List Candidate → Type 0
+Apart [] = Unit {0}
+Apart (c ∷ cs) = AllByRecursion (Differ c) cs × Apart cs
+
+apart_if : (b : Bool) (xs ys : List Candidate) → Apart xs → Apart ys → Apart (cond b xs ys)
+apart_if true xs ys h k = h
+apart_if false xs ys h k = k
+
+apart_kept : (p : Candidate → Bool) (cs : List Candidate) → Apart cs → Apart (filter p cs)
+apart_kept p [] h = tt
+apart_kept p (c ∷ cs) h = apart_if (p c) (c ∷ filter p cs) (filter p cs) (all_kept (Differ c) p cs h.0, apart_kept p cs h.1) (apart_kept p cs h.1)
+
+apart_inserted : (order : Candidate → Candidate → Ordering) (c : Candidate) (ds : List Candidate) → AllByRecursion (Differ c) ds → Apart ds → Apart (inserted order c ds)
+apart_inserted order c [] h k = (tt, tt)
+apart_inserted order c (d ∷ ds) h k =
+    apart_if (is_gt (order c d)) (d ∷ inserted order c ds) (c ∷ d ∷ ds) (all_inserted (Differ d) order c ds (λ e. h.0 (sym e)) k.0, apart_inserted order c ds h.1 k.1) (h, k)
+
+apart_sorted : (order : Candidate → Candidate → Ordering) (cs : List Candidate) → Apart cs → Apart (sorted order cs)
+apart_sorted order [] h = tt
+apart_sorted order (c ∷ cs) h = apart_inserted order c (sorted order cs) (all_sorted (Differ c) order cs h.0) (apart_sorted order cs h.1)
+
+-- ---- the candidates are apart
+
+both : (a b : Bool) → T (a && b) → T a × T b
+both true b h = (tt, h)
+both false b h = absurd h
+
+less_differ : (id other : List ℕ) → T (is_lt (bytes_cmp id other)) → id ≡ other → ⊥
+less_differ id other h e = subst (λ o. T (is_lt o)) (tied_itself nat_list_cmp_total id) (subst (λ x. T (is_lt (bytes_cmp id x))) (sym e) h)
+
+abbrev candidate : List ℕ → History → Value → Candidate
+candidate id h form = record { id = id; form = form; history = h }
+
+above_one : (c : Candidate) (id : List ℕ) (h : History) (o : Option Value) (rest : List Candidate) → (c.id ≡ id → ⊥) → AllByRecursion (Differ c) rest
+    → AllByRecursion (Differ c) (option_to_list (option_map (candidate id h) o) ++ rest)
+above_one c id h None rest k m = m
+above_one c id h (Some form) rest k m = (k, m)
+
+all_above : (c : Candidate) (es : List (List ℕ × History)) → T (below_all bytes_cmp c.id es) → AllByRecursion (Differ c) (filter_map candidate_of es)
+all_above c [] h = tt
+all_above c (e ∷ es) h =
+    let p = both (is_lt (bytes_cmp c.id e.0)) (below_all bytes_cmp c.id es) h in
+    subst (AllByRecursion (Differ c)) (sym (shown_first candidate_of e es (candidate_of e) refl))
+    (above_one c e.0 e.1 (served_of e.0 e.1) (filter_map candidate_of es) (less_differ c.id e.0 p.0) (all_above c es p.1))
+
+apart_one : (id : List ℕ) (h : History) (o : Option Value) (rest : List Candidate) → ((form : Value) → AllByRecursion (Differ (candidate id h form)) rest) → Apart rest
+    → Apart (option_to_list (option_map (candidate id h) o) ++ rest)
+apart_one id h None rest k m = m
+apart_one id h (Some form) rest k m = (k form, m)
+
+apart_entries : (es : List (List ℕ × History)) → T (is_sorted bytes_cmp es) → Apart (filter_map candidate_of es)
+apart_entries [] h = tt
+apart_entries (e ∷ es) h =
+    let p = both (below_all bytes_cmp e.0 es) (is_sorted bytes_cmp es) h in
+    subst Apart (sym (shown_first candidate_of e es (candidate_of e) refl))
+    (apart_one e.0 e.1 (served_of e.0 e.1) (filter_map candidate_of es) (λ form. all_above (candidate e.0 e.1 form) es p.0) (apart_entries es p.1))
+
+-- ---- what comes after one of the documents in their order
+
+module _ (columns : List Steps) (q : Query) where
+  abbrev order : Candidate → Candidate → Ordering
+  order = order_by columns q.direction
+
+  order_total : IsTotalOrder order
+  order_total = on_total (row_by columns) (directed_total q.direction)
+
+  -- each is below all later ones
+  abbrev Climbs : List Candidate → Type 0
+  Climbs [] = Unit {0}
+  Climbs (c ∷ cs) = AllByRecursion (λ d. order c d ≡ Less) cs × Climbs cs
+
+  less : (c d : Candidate) (o : Ordering) → order c d ≡ o → is_gt o ≡ false → Differ c d → o ≡ Less
+  less c d Less e h k = refl
+  less c d Equal e h k = absurd (k (ap (λ r. r.1) (directed_ties q.direction (row_by columns c) (row_by columns d) e)))
+  less c d Greater e h k = absurd cc
+
+  all_less : (c : Candidate) (ds : List Candidate) → NoneBelow order c ds → AllByRecursion (Differ c) ds → AllByRecursion (λ d. order c d ≡ Less) ds
+  all_less c [] h k = tt
+  all_less c (d ∷ ds) h k = (less c d (order c d) refl h.0 k.0, all_less c ds h.1 k.1)
+
+  climbs : (cs : List Candidate) → Rises order cs → Apart cs → Climbs cs
+  climbs [] h k = tt
+  climbs (c ∷ cs) h k = (all_less c cs h.0 k.0, climbs cs h.1 k.1)
+
+  abbrev follows : Candidate → Candidate → Bool
+  follows c d = is_gt (order d c)
+
+  all_later : (c : Candidate) (ds : List Candidate) → AllByRecursion (λ d. order c d ≡ Less) ds → filter (follows c) ds ≡ ds
+  all_later c [] h = refl
+  all_later c (d ∷ ds) h =
+      let later : follows c d ≡ true = ap is_gt (order_total.antisymm d c ∙ ap ordering_reverse h.0) in
+      ap (λ b. cond b (d ∷ filter (follows c) ds) (filter (follows c) ds)) later ∙ ap (λ xs. d ∷ xs) (all_later c ds h.1)
+
+  all_middle : (P : Candidate → Type 0) (xs : List Candidate) (c : Candidate) (ys : List Candidate) → AllByRecursion P (xs ++ c ∷ ys) → P c
+  all_middle P [] c ys h = h.0
+  all_middle P (x ∷ xs) c ys h = all_middle P xs c ys h.1
+
+  -- what comes after one of them is what stands after it
+  after_one : (xs : List Candidate) (c : Candidate) (ys : List Candidate) → Climbs (xs ++ c ∷ ys) → filter (follows c) (xs ++ c ∷ ys) ≡ ys
+  after_one [] c ys h =
+      let itself : follows c c ≡ false = ap is_gt (tied_itself order_total c) in
+      ap (λ b. cond b (c ∷ filter (follows c) ys) (filter (follows c) ys)) itself ∙ all_later c ys h.0
+  after_one (x ∷ xs) c ys h =
+      let earlier : follows c x ≡ false = ap is_gt (all_middle (λ d. order x d ≡ Less) xs c ys h.0) in
+      ap (λ b. cond b (x ∷ filter (follows c) (xs ++ c ∷ ys)) (filter (follows c) (xs ++ c ∷ ys))) earlier ∙ after_one xs c ys h.1
+
+-- ---- the last of a page
+
+record IsLast {X : Type 0} (xs : List X) : Type 0 where
+  front : List X
+  last : X
+  is : xs ≡ front ++ last ∷ []
+  at : slice_get xs (length xs - 1) ≡ Some last
+
+last_of : {X : Type 0} (x : X) (xs : List X) → IsLast (x ∷ xs)
+last_of x [] = record { front = []; last = x; is = refl; at = refl }
+last_of x (y ∷ xs) =
+    let more = last_of y xs in
+    let n : length (x ∷ y ∷ xs) - 1 ≡ suc (length (y ∷ xs) - 1) = omega arith in
+    record { front = x ∷ more.front; last = more.last; is = ap (λ ys. x ∷ ys) more.is; at = ap (slice_get (x ∷ y ∷ xs)) n ∙ more.at }
+
+none_taken : {X : Type 0} (n : ℕ) (xs : List X) → 1 ≤ n → take n xs ≡ [] → xs ≡ []
+none_taken zero xs h e = absurd (omega arith)
+none_taken (suc n) [] h e = refl
+none_taken (suc n) (x ∷ xs) h e = absurd cc
+
+-- ---- pages joined
+
+module _ (s : Source) (q : Query) (cs : List Candidate) (none_skipped : q.skip ≡ 0) (some : 1 ≤ q.limit) where
+  abbrev whole : List Candidate
+  whole = sorted (order_by (columns_of s) q.direction) (filter (is_asked q) cs)
+
+  abbrev after : Option Place → Candidate → Bool
+  after place c = option_map_or (λ p. is_gt (directed_order q.direction (row_by (columns_of s) c) (p.key, p.id))) place true
+
+  page_is : (place : Option Place) (left : List Candidate) → filter (after place) whole ≡ left → page_rows (columns_of s) (beginning_after q place) cs ≡ take q.limit left
+  page_is place left h = ap (λ n. take q.limit (drop n (filter (after place) whole))) none_skipped ∙ ap (take q.limit) h
+
+  join : Climbs (columns_of s) q whole → AllByRecursion (CanBeReadBack s q) whole
+      → (pages : List (List Candidate)) (done left : List Candidate) (place : Option Place) → whole ≡ done ++ left → filter (after place) whole ≡ left → AreChained s q cs place pages → joined pages ≡ left
+  join climbing back [] done left place parts here chained = sym (none_taken q.limit left some (sym (page_is place left here) ∙ chained))
+  join climbing back ([] ∷ pages) done left place parts here chained = absurd (chained.0 refl)
+  join climbing back ((c ∷ rest) ∷ pages) done left place parts here chained =
+      let l = last_of c rest in
+      let later = drop q.limit left in
+      let page : c ∷ rest ≡ take q.limit left = chained.1 ∙ page_is place left here in
+      let cut : left ≡ (c ∷ rest) ++ later = sym (take-append-drop q.limit left) ∙ ap (λ xs. xs ++ later) (sym page) in
+      let whole_is : whole ≡ (done ++ l.front) ++ l.last ∷ later =
+      parts ∙ ap (λ xs. done ++ xs) (cut ∙ ap (λ xs. xs ++ later) l.is ∙ append_assoc l.front (l.last ∷ []) later) ∙ sym (append_assoc done l.front (l.last ∷ later)) in
+      let readable = all_middle (columns_of s) q (CanBeReadBack s q) (done ++ l.front) l.last later (subst (AllByRecursion (CanBeReadBack s q)) whole_is back) in
+      let mark : bookmark_after s (beginning_after q place) (c ∷ rest) ≡ spelled (place_at s q l.last) = ap (λ (o : Option Candidate). option_map_or (λ d. spelled (place_at s q d)) o q.told_bookmark) l.at in
+      let next : chained.2.0 ≡ Some (place_at s q l.last) =
+      ap (λ o. unwrap_or o chained.2.0) (sym chained.2.1 ∙ ap bookmark_read mark ∙ readable) in
+      let left_over : filter (after (Some (place_at s q l.last))) whole ≡ later =
+      ap (filter (after (Some (place_at s q l.last)))) whole_is ∙ after_one (columns_of s) q (done ++ l.front) l.last later (subst (Climbs (columns_of s) q) whole_is climbing) in
+      let here_next : filter (after chained.2.0) whole ≡ later = ap (λ p. filter (after p) whole) next ∙ left_over in
+      let parts_next : whole ≡ (done ++ (c ∷ rest)) ++ later = parts ∙ ap (λ xs. done ++ xs) cut ∙ sym (append_assoc done (c ∷ rest) later) in
+      ap (λ xs. (c ∷ rest) ++ xs) (join climbing back pages (done ++ (c ∷ rest)) later chained.2.0 parts_next here_next chained.2.2) ∙ sym cut
+
+all_after_none : (cs : List Candidate) → filter (λ c. true) cs ≡ cs
+all_after_none [] = refl
+all_after_none (c ∷ cs) = ap (λ xs. c ∷ xs) (all_after_none cs)
+
+pub pages_join : PagesJoin
+pages_join s q hs pages skipped limit back chained =
+    let cs = candidates_of hs in
+    let order = order_by (columns_of s) q.direction in
+    let asked = filter (is_asked q) cs in
+    let whole = sorted order asked in
+    let climbing = climbs (columns_of s) q whole (rises_sorted order (order_total (columns_of s) q) asked) (apart_sorted order asked (apart_kept (is_asked q) cs (apart_entries (entries hs) (entries_sorted hs)))) in
+    let readable = all_sorted (CanBeReadBack s q) order asked (all_kept (CanBeReadBack s q) (is_asked q) cs back) in
+    join s q cs skipped limit climbing readable pages [] whole None refl (all_after_none whole) chained
+    ∙ sym (all_after_none whole)

@@ -1,0 +1,173 @@
+-- What shards hand over for a page: which rows, in which order, and how many.
+use Rattle.std.proofs.Common.{◌≡◌, ℕ, suc, ◌+◌, ◌≤◌, min, Bool, true, false, ◌&&◌, cond, Ordering, List, [], ◌∷◌, ◌++◌, Option, Some, None, All, Vec, Global, option_map, map, take, drop, length, is_gt, refl, sym, ap, ap₂, ◌∙◌, subst, arith}
+use Rattle.std.specs.List.{AllByRecursion, filter, filter_map, sum}
+use Rattle.std.specs.Option.{option_map_or}
+use Rattle.std.proofs.lemmas.List.{drop-map, length-append, length-map, length-take}
+use Rattle.std.proofs.lemmas.List.Sums.{sum_by-append}
+use Rattle.std.proofs.lemmas.List.Elements.{All-from_recursion, filter_agree, recursion_from_All}
+use Rattle.mg_value.specs.Value.{item_list}
+use Rattle.mg_collate.specs.declared.direction.Direction.{Direction}
+use Rattle.mg_collate.specs.Row.{RowValue, directed_order}
+use Rattle.mg_collate.specs.Sorted.{IsInOrder, inserted, sorted, sorted_rows}
+use Rattle.mg_bookmark.specs.Bookmark.{Place}
+use Rattle.mg_index.specs.Choice.{is_usable}
+use Rattle.mg_index.specs.Definition.{Steps}
+use Rattle.mg_merge.specs.Merged.{IsInOrderBy, contents_of, joined, merged, merged_by, order_by}
+use Rattle.mg_merge.specs.Work.{Hand}
+use Rattle.mg_merge.specs.Sharding.{Document, rows_of}
+use Rattle.mg_merge.proofs.Cuts.{cut_in_order}
+use Rattle.mg_merge.proofs.Rows.{by_rows, rows_of_merged}
+use Rattle.mg_normal.specs.Atoms.{atoms_of}
+use Rattle.mg_normal.specs.Normal.{IsNormalOf, NormalForm, normal_atoms, normal_holds}
+use Rattle.mg_range.specs.Laws.{RangesAreComplete}
+use Rattle.mg_range.specs.Place.{has_key}
+use Rattle.mg_range.specs.Range.{Range, range_of}
+use Rattle.mg_scan.specs.Found.{asked, columns_of as columns_at, found_in}
+use Rattle.mg_scan.specs.Hit.{hit_row, hit_rows}
+use Rattle.mg_scan.specs.Scan.{Request, scanned}
+use Rattle.mg_scan.specs.declared.target.Target.{Target}
+use Rattle.mg_scan.specs.declared.hit.Hit.{Hit}
+use Rattle.mg_shard.specs.Dealt.{Placing, ShardsStandFor}
+use Rattle.mg_shard.specs.Documents.{docs_of}
+use Rattle.mg_shard.specs.Histories.{Histories}
+use Rattle.mg_shard.specs.Rows.{row_of}
+use Rattle.mg_shard.specs.Shard.{ShardView}
+use Rattle.mg_query.specs.Page.{candidates_of, page_rows, row_by}
+use Rattle.mg_query.specs.Paged.{IsWithin, row_at, shard_rows}
+use Rattle.mg_query.specs.Query.{Query}
+use Rattle.mg_query.specs.Served.{AreWhole}
+use Rattle.mg_query.proofs.Answered.{is_wanted_by, rows_of_answer}
+use Rattle.mg_query.proofs.Gathered.{listed, listed_sorted, lists_in_order, rows_asked}
+
+follows_same : (o : Option Place) (direction : Direction) (r : RowValue)
+    → option_map_or (λ p. is_gt (directed_order direction r p)) (option_map row_at o) true ≡ option_map_or (λ p. is_gt (directed_order direction r (p.key, p.id))) o true
+follows_same None direction r = refl
+follows_same (Some p) direction r = refl
+
+-- ---- numbers
+
+either : {X : Type 0} (b : Bool) (xs ys : List X) (n : ℕ) → length xs ≡ n → length ys ≡ n → length (cond b xs ys) ≡ n
+either true xs ys n p q = p
+either false xs ys n p q = q
+
+length_inserted : {X : Type 0} (order : X → X → Ordering) (x : X) (ys : List X) → length (inserted order x ys) ≡ suc (length ys)
+length_inserted order x [] = refl
+length_inserted order x (y ∷ ys) = either (is_gt (order x y)) (y ∷ inserted order x ys) (x ∷ y ∷ ys) (suc (suc (length ys))) (ap suc (length_inserted order x ys)) refl
+
+length_sorted : {X : Type 0} (order : X → X → Ordering) (xs : List X) → length (sorted order xs) ≡ length xs
+length_sorted order [] = refl
+length_sorted order (x ∷ xs) = length_inserted order x (sorted order xs) ∙ ap suc (length_sorted order xs)
+
+sum_first : (n : ℕ) (ns : List ℕ) → sum (n ∷ ns) ≡ n + sum ns
+sum_first n ns = let e : sum ((n ∷ []) ++ ns) ≡ sum (n ∷ []) + sum ns = sum_by-append (λ (x : ℕ). x) (n ∷ []) ns in omega (arith, e)
+
+length_joined : (lists : List (Vec Hit Global)) → length (joined (contents_of lists)) ≡ sum (map (λ (v : Vec Hit Global). length v.items) lists)
+length_joined [] = refl
+length_joined (v ∷ lists) =
+    length-append v.items (joined (contents_of lists)) ∙ ap (λ n. length v.items + n) (length_joined lists) ∙ sym (sum_first (length v.items) (map (λ (w : Vec Hit Global). length w.items) lists))
+
+-- ---- rows
+
+-- a merge of the same number of the same lists
+pub merged_same : (direction : Direction) (hits : List Hit) (m n : ℕ) (lists others : List (Vec Hit Global)) → hits ≡ merged_by hit_row direction m (contents_of lists) → m ≡ n → lists ≡ others → hits ≡ merged_by hit_row direction n (contents_of others)
+merged_same direction hits m n lists others e f g = e ∙ ap₂ (λ k ls. merged_by hit_row direction k (contents_of ls)) f g
+
+-- what a scan finds in a shard that has the columns of its target
+found_at : (q : Query) (columns : List Steps) (normal : NormalForm) (target : Target) (range : Range) (after : Option RowValue) (count : ℕ) → range ≡ range_of (normal_atoms normal) columns → after ≡ option_map row_at q.bookmark → count ≡ q.skip + q.limit
+    → (s : ShardView) → columns_at target s.definitions ≡ Some columns → found_in target (asked normal range after count q.direction) s ≡ shard_rows normal columns q s
+found_at q columns normal target range after count r a n s e =
+    ap (λ o. option_map_or (λ cs. scanned (asked normal range after count q.direction cs) (docs_of s.documents)) o []) e
+    ∙ ap (λ x. scanned (asked normal x after count q.direction columns) (docs_of s.documents)) r
+    ∙ ap₂ (λ x m. scanned (asked normal (range_of (normal_atoms normal) columns) x m q.direction columns) (docs_of s.documents)) a n
+
+found_each : (target : Target) (request : List Steps → Request) (columns : List Steps) (rows : ShardView → List RowValue) → ((s : ShardView) → columns_at target s.definitions ≡ Some columns → found_in target request s ≡ rows s)
+    → (shards : List ShardView) → AllByRecursion (λ s. columns_at target s.definitions ≡ Some columns) shards → map (found_in target request) shards ≡ map rows shards
+found_each target request columns rows f [] h = refl
+found_each target request columns rows f (s ∷ shards) h = ap₂ (λ x xs. x ∷ xs) (f s h.0) (found_each target request columns rows f shards h.1)
+
+pub found_rows : (q : Query) (columns : List Steps) (normal : NormalForm) (target : Target) (range : Range) (after : Option RowValue) (count : ℕ) → range ≡ range_of (normal_atoms normal) columns → after ≡ option_map row_at q.bookmark → count ≡ q.skip + q.limit
+    → (shards : List ShardView) → All (λ s. columns_at target s.definitions ≡ Some columns) shards → map (found_in target (asked normal range after count q.direction)) shards ≡ map (shard_rows normal columns q) shards
+found_rows q columns normal target range after count r a n shards h =
+    found_each target (asked normal range after count q.direction) columns (shard_rows normal columns q) (found_at q columns normal target range after count r a n) shards
+    (recursion_from_All (λ s. columns_at target s.definitions ≡ Some columns) shards h)
+
+-- the rows of hits, list by list
+contents : (lists : List (Vec Hit Global)) → map (map hit_row) (contents_of lists) ≡ map (λ v. hit_rows v.items) lists
+contents [] = refl
+contents (v ∷ lists) = ap (λ rows. hit_rows v.items ∷ rows) (contents lists)
+
+module _ (q : Query) (columns : List Steps) (normal : NormalForm) (is : IsNormalOf q.selector normal) where
+  abbrev most : ℕ
+  most = q.skip + q.limit
+
+  abbrev asked_here : Document → Bool
+  asked_here d = normal_holds normal (Some d.1)
+
+  abbrev listed_here : List Document → List RowValue
+  listed_here ds = listed asked_here (row_of columns) (is_wanted_by q columns) q.direction ds
+
+  shard_listed : (s : ShardView) → shard_rows normal columns q s ≡ take most (listed_here (docs_of s.documents))
+  shard_listed s =
+      ap (take most)
+      (filter_agree (λ r. has_key (range_of (normal_atoms normal) columns) (item_list r.0) && option_map_or (λ p. is_gt (directed_order q.direction r p)) (option_map row_at q.bookmark) true) (is_wanted_by q columns)
+      (λ r. ap₂ ◌&&◌ (ap (λ atoms. has_key (range_of atoms columns) (item_list r.0)) is.atoms) (follows_same q.bookmark q.direction r))
+      (sorted_rows q.direction (filter_map (row_of columns) (filter asked_here (docs_of s.documents)))))
+
+  all_listed : (shards : List ShardView) → map (shard_rows normal columns q) shards ≡ map (λ ds. take most (listed_here ds)) (map (λ s. docs_of s.documents) shards)
+  all_listed [] = refl
+  all_listed (s ∷ shards) = ap₂ (λ rows lists. rows ∷ lists) (shard_listed s) (all_listed shards)
+
+  -- the rows of the hits after the first are those of the page, over all documents that the histories serve
+  pub rows_handed : RangesAreComplete → is_usable (atoms_of q.selector) q.sort columns ≡ true → (place : Placing) (shards : List ShardView) (hs : Histories) → ShardsStandFor place shards hs → AreWhole (candidates_of hs)
+      → (lists : List (Vec Hit Global)) → map (λ v. hit_rows v.items) lists ≡ map (shard_rows normal columns q) shards
+      → map hit_row (drop q.skip (merged_by hit_row q.direction most (contents_of lists))) ≡ map (row_by columns) (page_rows columns q (candidates_of hs))
+  rows_handed complete usable place shards hs stands whole lists e =
+      sym (drop-map hit_row q.skip (merged_by hit_row q.direction most (contents_of lists)))
+      ∙ ap (drop q.skip) (rows_of_merged hit_row q.direction most (contents_of lists) ∙ ap (merged q.direction most) (contents lists ∙ e ∙ all_listed shards))
+      ∙ rows_of_answer complete q columns (normal_holds normal) is.meaning usable place shards hs stands whole
+
+  shard_in_order : (s : ShardView) → IsInOrder q.direction (shard_rows normal columns q s)
+  shard_in_order s =
+      let ds = docs_of s.documents in
+      let rows = rows_asked asked_here (row_of columns) (is_wanted_by q columns) in
+      let same : take most (rows_of q.direction rows ds) ≡ shard_rows normal columns q s = sym (shard_listed s ∙ ap (take most) (listed_sorted asked_here (row_of columns) (is_wanted_by q columns) q.direction ds)) in
+      subst (IsInOrder q.direction) same (cut_in_order q.direction most (rows_of q.direction rows ds ∷ []) (lists_in_order q.direction rows (ds ∷ [])) 0 [] (omega arith))
+
+  each_in_order : (lists : List (Vec Hit Global)) (shards : List ShardView) → map (λ v. hit_rows v.items) lists ≡ map (shard_rows normal columns q) shards → AllByRecursion (IsInOrderBy hit_row q.direction) (contents_of lists)
+  each_in_order [] shards e = tt
+  each_in_order (v ∷ lists) [] e = absurd cc
+  each_in_order (v ∷ lists) (s ∷ shards) e =
+      let here : hit_rows v.items ≡ shard_rows normal columns q s = cc in
+      let rest : map (λ (w : Vec Hit Global). hit_rows w.items) lists ≡ map (shard_rows normal columns q) shards = cc in
+      (by_rows hit_row q.direction v.items (subst (IsInOrder q.direction) (sym here) (shard_in_order s)), each_in_order lists shards rest)
+
+  -- what is handed over is in order
+  pub handed_in_order : (lists : List (Vec Hit Global)) (shards : List ShardView) → map (λ v. hit_rows v.items) lists ≡ map (shard_rows normal columns q) shards → All (IsInOrderBy hit_row q.direction) (contents_of lists)
+  handed_in_order lists shards e = All-from_recursion (IsInOrderBy hit_row q.direction) (contents_of lists) (each_in_order lists shards e)
+
+  shard_at_most : (s : ShardView) → length (shard_rows normal columns q s) ≤ most
+  shard_at_most s = let l = ap length (shard_listed s) ∙ length-take most (listed_here (docs_of s.documents)) in omega (arith, l)
+
+  each_at_most : (lists : List (Vec Hit Global)) (shards : List ShardView) → map (λ v. hit_rows v.items) lists ≡ map (shard_rows normal columns q) shards → AllByRecursion (λ n. n ≤ most) (map (λ (v : Vec Hit Global). length v.items) lists)
+  each_at_most [] shards e = tt
+  each_at_most (v ∷ lists) [] e = absurd cc
+  each_at_most (v ∷ lists) (s ∷ shards) e =
+      let here : hit_rows v.items ≡ shard_rows normal columns q s = cc in
+      let rest : map (λ (w : Vec Hit Global). hit_rows w.items) lists ≡ map (shard_rows normal columns q) shards = cc in
+      let same : length (hit_rows v.items) ≡ length (shard_rows normal columns q s) = ap length here in
+      (omega (arith, length-map v.items hit_row, same, shard_at_most s), each_at_most lists shards rest)
+
+  -- and what of it is merged out is bounded by the page
+  pub handed_within : (lists : List (Vec Hit Global)) (shards : List ShardView) → map (λ v. hit_rows v.items) lists ≡ map (shard_rows normal columns q) shards
+      → (hits : List Hit) → hits ≡ merged_by hit_row q.direction most (contents_of lists) → (work : Hand) → work.handed ≡ map (λ (v : Vec Hit Global). length v.items) lists → work.taken ≡ length hits
+      → IsWithin (length shards) most work
+  handed_within lists shards e hits merge work handed taken =
+      let sizes = λ (v : Vec Hit Global). length v.items in
+      let count = ap length e in
+      let order = order_by hit_row q.direction in
+      let all = joined (contents_of lists) in
+      record {
+        shards = ap length handed ∙ length-map lists sizes ∙ sym (length-map lists (λ (v : Vec Hit Global). hit_rows v.items)) ∙ count ∙ length-map shards (shard_rows normal columns q);
+        handed = subst (All (λ n. n ≤ most)) (sym handed) (All-from_recursion (λ n. n ≤ most) (map sizes lists) (each_at_most lists shards e));
+        taken = taken ∙ ap length merge ∙ length-take most (sorted order all) ∙ ap (min most) (length_sorted order all ∙ length_joined lists ∙ ap sum (sym handed));
+      }

@@ -1,0 +1,162 @@
+-- The hits of a page lend the documents of its candidates.
+use Rattle.std.proofs.Common.{◌≡◌, ℕ, zero, suc, ◌+◌, ◌-◌, ◌<◌, ◌≤◌, List, [], ◌∷◌, Some, None, Vec, Global, get_or, length, map, take, drop, slice_get, refl, sym, ap, ap₂, ◌∙◌, subst, arith}
+use Rattle.std.specs.Prelude.{unwrap_or}
+use Rattle.std.specs.FinMap.{get}
+use Rattle.std.specs.List.{AllByRecursion, AllZip, filter}
+use Rattle.mg_value.specs.Text.{compact}
+use Rattle.mg_collate.proofs.Sorting.{all_append, all_weaker}
+use Rattle.mg_collate.specs.Sorted.{sorted}
+use Rattle.mg_collate.specs.declared.direction.Direction.{Direction}
+use Rattle.mg_doc.specs.Served.{served_of}
+use Rattle.mg_index.specs.Definition.{Steps}
+use Rattle.mg_merge.specs.Merged.{contents_of, joined, merged_by, order_by}
+use Rattle.mg_revtree.specs.History.{History}
+use Rattle.mg_revtree.specs.Tree.{StandsFor}
+use Rattle.mg_scan.specs.Hit.{AreHitsOf, IsHitOf, hit_document, hit_form, hit_row, hit_text}
+use Rattle.mg_scan.specs.declared.hit.Hit.{Hit}
+use Rattle.mg_shard.specs.Dealt.{Placing, ShardsStandFor, histories_on}
+use Rattle.mg_shard.specs.Documents.{KeptDocuments, StandFor, kept_of}
+use Rattle.mg_shard.specs.Histories.{Histories}
+use Rattle.mg_shard.specs.Shard.{ShardView}
+use Rattle.mg_query.specs.Page.{Candidate, candidates_of, is_after, is_asked, order_by as candidate_order, page_rows, row_by}
+use Rattle.mg_query.specs.Paged.{LendEach, Lends}
+use Rattle.mg_query.specs.Query.{Query}
+use Rattle.mg_query.proofs.Chained.{all_kept, all_sorted}
+use Rattle.mg_query.proofs.Kept.{IsKnown, all_known, kept_history}
+
+-- ---- what a hit lends is of the history of its id
+
+record IsOf (hs : Histories) (h : Hit) : Type 0 where
+  history : History
+  known : get hs (hit_row h).1 ≡ Some history
+  tree : StandsFor (kept_of (hit_document h)).0 history
+  form : Some (hit_form h) ≡ served_of (hit_row h).1 history
+  text : hit_text h ≡ compact (hit_form h)
+
+of_shard : (place : Placing) (n i : ℕ) (hs : Histories) (ds : KeptDocuments) → StandFor ds (histories_on place n i hs) → (h : Hit) → IsHitOf ds h → IsOf hs h
+of_shard place n i hs ds stands h is =
+    let k = kept_history place n i hs (hit_row h).1 ds (kept_of (hit_document h)) stands is.document in
+    record { history = k.0; known = k.1; tree = k.2; form = sym is.form ∙ k.3; text = is.text }
+
+of_lists : (place : Placing) (n k : ℕ) (hs : Histories) (shards : List ShardView) (lists : List (Vec Hit Global)) → ((i : ℕ) (s : ShardView) → slice_get shards i ≡ Some s → StandFor s.documents (histories_on place n (k + i) hs))
+    → AllZip (λ s v. AreHitsOf s.documents v.items) shards lists → AllByRecursion (IsOf hs) (joined (contents_of lists))
+of_lists place n k hs [] [] each h = tt
+of_lists place n k hs [] (v ∷ lists) each h = absurd h
+of_lists place n k hs (s ∷ shards) [] each h = absurd h
+of_lists place n k hs (s ∷ shards) (v ∷ lists) each h =
+    all_append (IsOf hs) v.items (joined (contents_of lists))
+    (all_weaker (IsHitOf s.documents) (IsOf hs) (of_shard place n (k + 0) hs s.documents (each 0 s refl)) v.items h.0)
+    (of_lists place n (suc k) hs shards lists
+    (λ i t e. let m : k + suc i ≡ suc k + i = omega arith in subst (λ j. StandFor t.documents (histories_on place n j hs)) m (each (suc i) t e)) h.1)
+
+all_taken : {X : Type 0} (P : X → Type 0) (n : ℕ) (xs : List X) → AllByRecursion P xs → AllByRecursion P (take n xs)
+all_taken P zero xs h = tt
+all_taken P (suc n) [] h = tt
+all_taken P (suc n) (x ∷ xs) h = (h.0, all_taken P n xs h.1)
+
+all_dropped : {X : Type 0} (P : X → Type 0) (n : ℕ) (xs : List X) → AllByRecursion P xs → AllByRecursion P (drop n xs)
+all_dropped P zero xs h = h
+all_dropped P (suc n) [] h = tt
+all_dropped P (suc n) (x ∷ xs) h = all_dropped P n xs h.1
+
+of_merged : (place : Placing) (hs : Histories) (shards : List ShardView) (lists : List (Vec Hit Global)) (direction : Direction) (skip most : ℕ) → ShardsStandFor place shards hs
+    → AllZip (λ s v. AreHitsOf s.documents v.items) shards lists → AllByRecursion (IsOf hs) (drop skip (merged_by hit_row direction most (contents_of lists)))
+of_merged place hs shards lists direction skip most stands h =
+    let all = joined (contents_of lists) in
+    let each = λ (i : ℕ) (s : ShardView) (e : slice_get shards i ≡ Some s).
+    let here : i ≡ 0 + i = omega arith in subst (λ j. StandFor s.documents (histories_on place (length shards) j hs)) here (stands.each i s e) in
+    all_dropped (IsOf hs) skip (take most (sorted (order_by hit_row direction) all))
+    (all_taken (IsOf hs) most (sorted (order_by hit_row direction) all) (all_sorted (IsOf hs) (order_by hit_row direction) all (of_lists place (length shards) 0 hs shards lists each h)))
+
+-- ---- so it is of the candidate whose row it has
+
+same : {X : Type 0} (x y : X) → Some x ≡ Some y → x ≡ y
+same x y e = ap (λ o. unwrap_or o x) e
+
+lends : (columns : List Steps) (hs : Histories) (h : Hit) (c : Candidate) → hit_row h ≡ row_by columns c → IsOf hs h → IsKnown hs c → Lends columns h c
+lends columns hs h c row is known =
+    let id : (hit_row h).1 ≡ c.id = ap (λ r. r.1) row in
+    let history : is.history ≡ c.history = same is.history c.history (sym is.known ∙ ap (get hs) id ∙ known.0) in
+    let form : hit_form h ≡ c.form = same (hit_form h) c.form (is.form ∙ ap₂ served_of id history ∙ known.1) in
+    record { row = row; form = form; text = is.text ∙ ap compact form; tree = subst (StandsFor (kept_of (hit_document h)).0) history is.tree }
+
+lend_all : (columns : List Steps) (hs : Histories) (hits : List Hit) (cs : List Candidate) → map hit_row hits ≡ map (row_by columns) cs → AllByRecursion (IsOf hs) hits → AllByRecursion (IsKnown hs) cs → LendEach columns hits cs
+lend_all columns hs [] [] e p k = tt
+lend_all columns hs [] (c ∷ cs) e p k = absurd cc
+lend_all columns hs (h ∷ hits) [] e p k = absurd cc
+lend_all columns hs (h ∷ hits) (c ∷ cs) e p k =
+    let first : hit_row h ≡ row_by columns c = cc in
+    let rest : map hit_row hits ≡ map (row_by columns) cs = cc in
+    (lends columns hs h c first p.0 k.0, lend_all columns hs hits cs rest p.1 k.1)
+
+known_rows : (columns : List Steps) (q : Query) (hs : Histories) → AllByRecursion (IsKnown hs) (page_rows columns q (candidates_of hs))
+known_rows columns q hs =
+    let asked = filter (is_asked q) (candidates_of hs) in
+    let order = candidate_order columns q.direction in
+    let found = filter (is_after columns q) (sorted order asked) in
+    all_taken (IsKnown hs) q.limit (drop q.skip found)
+    (all_dropped (IsKnown hs) q.skip found
+    (all_kept (IsKnown hs) (is_after columns q) (sorted order asked) (all_sorted (IsKnown hs) order asked (all_kept (IsKnown hs) (is_asked q) (candidates_of hs) (all_known hs)))))
+
+-- hits with the rows of a page lend its candidates
+pub lend_page : (columns : List Steps) (q : Query) (place : Placing) (hs : Histories) (shards : List ShardView) (lists : List (Vec Hit Global)) (most : ℕ) → ShardsStandFor place shards hs
+    → AllZip (λ s v. AreHitsOf s.documents v.items) shards lists
+    → map hit_row (drop q.skip (merged_by hit_row q.direction most (contents_of lists))) ≡ map (row_by columns) (page_rows columns q (candidates_of hs))
+    → LendEach columns (drop q.skip (merged_by hit_row q.direction most (contents_of lists))) (page_rows columns q (candidates_of hs))
+lend_page columns q place hs shards lists most stands h e =
+    lend_all columns hs (drop q.skip (merged_by hit_row q.direction most (contents_of lists))) (page_rows columns q (candidates_of hs)) e
+    (of_merged place hs shards lists q.direction q.skip most stands h) (known_rows columns q hs)
+
+-- ---- hits and candidates one by one
+
+-- the candidate that a hit lends, and those after it
+pub lends_next : (columns : List Steps) (hits : List Hit) (cs : List Candidate) (i : ℕ) (h : Hit) → LendEach columns hits cs → i < length hits → h ≡ get_or hits i h
+    → (c : Candidate) × Lends columns h c × (drop i cs ≡ c ∷ drop (i + 1) cs)
+lends_next columns [] cs i h l less is = absurd (omega arith)
+lends_next columns (x ∷ hits) [] i h l less is = absurd l
+lends_next columns (x ∷ hits) (c ∷ cs) zero h l less is = (c, subst (λ y. Lends columns y c) (sym is) l.0, refl)
+lends_next columns (x ∷ hits) (c ∷ cs) (suc i) h l less is =
+    let more = lends_next columns hits cs i h l.1 (omega arith) is in
+    let n : suc (i + 1) ≡ suc i + 1 = omega arith in
+    (more.0, more.1, more.2 ∙ ap (λ m. more.0 ∷ drop m (c ∷ cs)) n)
+
+-- after the last hit there are no more
+pub lends_no_more : (columns : List Steps) (hits : List Hit) (cs : List Candidate) (i : ℕ) → LendEach columns hits cs → length hits ≤ i → drop i cs ≡ []
+lends_no_more columns [] [] zero l le = refl
+lends_no_more columns [] [] (suc i) l le = refl
+lends_no_more columns [] (c ∷ cs) i l le = absurd l
+lends_no_more columns (h ∷ hits) [] i l le = absurd l
+lends_no_more columns (h ∷ hits) (c ∷ cs) zero l le = absurd (omega arith)
+lends_no_more columns (h ∷ hits) (c ∷ cs) (suc i) l le = lends_no_more columns hits cs i l.1 (omega arith)
+
+as_many : (columns : List Steps) (hits : List Hit) (cs : List Candidate) → LendEach columns hits cs → length cs ≡ length hits
+as_many columns [] [] l = refl
+as_many columns [] (c ∷ cs) l = absurd l
+as_many columns (h ∷ hits) [] l = absurd l
+as_many columns (h ∷ hits) (c ∷ cs) l = ap suc (as_many columns hits cs l.1)
+
+lends_at : (columns : List Steps) (hits : List Hit) (cs : List Candidate) (i : ℕ) (h : Hit) → LendEach columns hits cs → slice_get hits i ≡ Some h → (c : Candidate) × Lends columns h c × (slice_get cs i ≡ Some c)
+lends_at columns [] cs zero h l e = absurd cc
+lends_at columns [] cs (suc i) h l e = absurd cc
+lends_at columns (x ∷ hits) [] i h l e = absurd l
+lends_at columns (x ∷ hits) (c ∷ cs) zero h l e = (c, subst (λ y. Lends columns y c) (same x h e) l.0, refl)
+lends_at columns (x ∷ hits) (c ∷ cs) (suc i) h l e = lends_at columns hits cs i h l.1 e
+
+-- the last ones
+pub lends_last : (columns : List Steps) (hits : List Hit) (cs : List Candidate) (h : Hit) → LendEach columns hits cs → slice_get hits (length hits - 1) ≡ Some h
+    → (c : Candidate) × Lends columns h c × (slice_get cs (length cs - 1) ≡ Some c)
+lends_last columns hits cs h l e =
+    let last : length hits - 1 ≡ length cs - 1 = ap (λ n. n - 1) (sym (as_many columns hits cs l)) in
+    let found = lends_at columns hits cs (length hits - 1) h l e in
+    (found.0, found.1, ap (slice_get cs) (sym last) ∙ found.2)
+
+none_at : (columns : List Steps) (hits : List Hit) (cs : List Candidate) (i : ℕ) → LendEach columns hits cs → slice_get hits i ≡ None → slice_get cs i ≡ None
+none_at columns [] [] zero l e = refl
+none_at columns [] [] (suc i) l e = refl
+none_at columns [] (c ∷ cs) i l e = absurd l
+none_at columns (h ∷ hits) [] i l e = absurd l
+none_at columns (h ∷ hits) (c ∷ cs) zero l e = absurd cc
+none_at columns (h ∷ hits) (c ∷ cs) (suc i) l e = none_at columns hits cs i l.1 e
+
+pub lends_none : (columns : List Steps) (hits : List Hit) (cs : List Candidate) → LendEach columns hits cs → slice_get hits (length hits - 1) ≡ None → slice_get cs (length cs - 1) ≡ None
+lends_none columns hits cs l e = ap (λ n. slice_get cs (n - 1)) (as_many columns hits cs l) ∙ none_at columns hits cs (length hits - 1) l e

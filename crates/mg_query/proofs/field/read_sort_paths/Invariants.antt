@@ -1,0 +1,9 @@
+use Rattle.std.proofs.Common.{◌≡◌, ◌++◌, drop, map, option_map}
+use Rattle.mg_value.specs.View.{view}
+use Rattle.mg_index.specs.Reading.{each_of}
+use Rattle.mg_query.specs.Query.{sort_path}
+use Rattle.mg_query.proofs.field.read_sort_paths.Given as goal
+
+-- what is left decides
+abbrev pub invariant-loop-field : goal.invariant-loop-field
+invariant-loop-field l = each_of sort_path (map view l.fields) ≡ option_map (λ more. l.paths.items ++ more) (each_of sort_path (map view (drop l.field-index l.fields)))

@@ -1,0 +1,30 @@
+-- How a query is told that it would be answered, after CouchDB's `_explain`.
+use Rattle.std.specs.Prelude.{ℕ, pos, List, codes, Result}
+use Rattle.mg_value.specs.Value.{Value, text, whole, object, no_members, member}
+use Rattle.mg_normal.specs.Atoms.{atoms_of}
+use Rattle.mg_index.specs.Choice.{Source, all_docs, defined}
+use Rattle.mg_index.specs.Definition.{IndexDefinition, listed_of, listed_all_docs}
+use Rattle.mg_range.specs.Range.{range_of}
+use Rattle.mg_range.specs.Listed.{range_value}
+use Rattle.mg_query.specs.Query.{Query}
+use Rattle.mg_query.specs.Page.{Unanswered, columns_of, served_by, if_served}
+
+-- an index as it is listed
+abbrev pub listed_source : Source → Value
+listed_source all_docs = listed_all_docs
+listed_source (defined d) = listed_of d
+
+-- `{"dbname":..,"fields":..,"index":..,"limit":..,"range":..,"selector":..,"skip":..}`, of an index and a range as they are told
+abbrev pub told_of : List ℕ → Query → Value → Value → Value
+told_of db q index range =
+    object (member (codes "dbname") (text db) (member (codes "fields") q.told_fields (member (codes "index") index
+    (member (codes "limit") (whole (pos q.limit)) (member (codes "range") range
+    (member (codes "selector") q.told_selector (member (codes "skip") (whole (pos q.skip)) no_members)))))))
+
+-- the explanation of a query that this index serves
+abbrev pub explained : List ℕ → Query → Source → Value
+explained db q s = told_of db q (listed_source s) (range_value (range_of (atoms_of q.selector) (columns_of s)))
+
+-- the explanation of a query in a database of this name, or why it is not answered
+abbrev pub explanation_of : List ℕ → List IndexDefinition → Query → Result Value Unanswered
+explanation_of db ds q = if_served (explained db q) (served_by ds q)

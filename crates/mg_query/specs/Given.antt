@@ -1,0 +1,83 @@
+-- For private clauses: the members of a body as they are lent, before any path is read.
+use Rattle.std.specs.Prelude.{ℕ, List, Bool, Option, codes, map, option_and_then, option_map, Result}
+use Rattle.mg_value.specs.Value.{Value, member_of}
+use Rattle.mg_value.specs.View.{view}
+use Rattle.mg_collate.specs.declared.direction.Direction.{Direction}
+use Rattle.mg_index.specs.Choice.{Hint, no_hint, in_document, exactly}
+use Rattle.mg_index.specs.Definition.{design_document}
+use Rattle.mg_index.specs.Reading.{each_of, field_direction}
+use Rattle.mg_query.specs.Query.{Query, Shaped, ◌>>=◌, or_fault, query_with, path_of, sort_path, sort_fields, selector_given, count_of, hint_given, bookmark_given, conflicts_of}
+use Rattle.mg_query.specs.declared.error.QueryError.{QueryError}
+use Rattle.mg_query.specs.declared.error.QueryError.TheVariants.{Shape as wrong_shape}
+use Rattle.mg_query.specs.declared.member.Members as code
+use Rattle.mg_query.specs.declared.member.GivenHint as code_hint
+
+-- members whose shapes are right, but for the paths and the directions, which are not yet read
+pub record Given : Type 0 where
+  pub selector : Value
+  pub fields : List Value
+  pub limit : ℕ
+  pub skip : ℕ
+  pub sort : List Value
+  pub hint : Hint
+  pub bookmark : List ℕ
+  pub conflicts : Bool
+
+-- the members of a body, seen on the loan
+abbrev pub given : Value → Option Given
+given v =
+    option_and_then (λ selector. option_and_then (λ fields. option_and_then (λ limit. option_and_then (λ skip. option_and_then (λ sort.
+    option_and_then (λ hint. option_and_then (λ bookmark. option_map (λ conflicts.
+    record { selector = selector; fields = fields; limit = limit; skip = skip; sort = sort; hint = hint; bookmark = bookmark; conflicts = conflicts })
+    (conflicts_of (member_of (codes "conflicts") v)))
+    (bookmark_given (member_of (codes "bookmark") v)))
+    (hint_given (member_of (codes "use_index") v)))
+    (sort_fields (member_of (codes "sort") v)))
+    (count_of 0 (member_of (codes "skip") v))) (count_of 25 (member_of (codes "limit") v)))
+    (sort_fields (member_of (codes "fields") v)))
+    (selector_given (member_of (codes "selector") v))
+
+-- the members with these paths and directions
+abbrev pub with_parts : Given → List (List (List ℕ)) → List (List (List ℕ)) → List Direction → Shaped
+with_parts g fields sort directions = record {
+  selector = g.selector;
+  fields = fields;
+  limit = g.limit;
+  skip = g.skip;
+  sort = sort;
+  directions = directions;
+  hint = g.hint;
+  bookmark = g.bookmark;
+  conflicts = g.conflicts;
+}
+
+-- the members with their paths and directions, where all of these can be read
+abbrev pub parsed : Given → Option Shaped
+parsed g =
+    option_and_then (λ fields. option_and_then (λ sort. option_map (λ directions. with_parts g fields sort directions)
+    (each_of field_direction g.sort)) (each_of sort_path g.sort)) (each_of path_of g.fields)
+
+-- the query of given members, or their first fault; `fields` is the member as it was given
+abbrev pub query_given : Option Value → Given → Result Query QueryError
+query_given fields g = or_fault wrong_shape (parsed g) >>= query_with fields
+
+-- ---- of the code's members
+
+-- the hint
+abbrev pub hint_seen : code_hint.GivenHint → Hint
+hint_seen code_hint.TheVariants.None = no_hint
+hint_seen (code_hint.TheVariants.Ddoc ddoc) = in_document (design_document ddoc.now)
+hint_seen (code_hint.TheVariants.Both ddoc name) = exactly (design_document ddoc.now) name.now
+
+-- the members
+abbrev pub given_seen : code.Members → Given
+given_seen g = record {
+  selector = view g.selector.now;
+  fields = map view g.fields.now;
+  limit = g.limit;
+  skip = g.skip;
+  sort = map view g.sort.now;
+  hint = hint_seen g.hint;
+  bookmark = g.bookmark.now;
+  conflicts = g.conflicts;
+}

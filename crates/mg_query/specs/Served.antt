@@ -1,0 +1,49 @@
+-- What the code's answers to a query that was read stand for.
+use Rattle.std.specs.Prelude.{◌≡◌, List, Option, Some, None, Result, Ok, Err}
+use Rattle.mg_index.specs.Catalog.{definition_at}
+use Rattle.mg_index.specs.Choice.{Source, all_docs, defined, id_path, rev_path}
+use Rattle.mg_index.specs.Definition.{IndexDefinition}
+use Rattle.std.specs.List.{AllByRecursion}
+use Rattle.mg_range.specs.Laws.{Has}
+use Rattle.mg_query.specs.Page.{Candidate, Unanswered, no_usable_index, bad_bookmark}
+use Rattle.mg_query.specs.declared.error.PageError.{PageError}
+use Rattle.mg_query.specs.declared.error.PageError.TheVariants.{NoUsableIndex, BadBookmark, NoMemory}
+use Rattle.mg_query.specs.declared.source.Source as code
+
+-- why a query is not answered, unless a growth was refused
+abbrev pub Refuses : {Y : Type 0} → PageError → Result Y Unanswered → Type 0
+Refuses NoUsableIndex r = r ≡ Err no_usable_index
+Refuses BadBookmark r = r ≡ Err bad_bookmark
+Refuses NoMemory r = Unit {0}
+
+-- what a call returned is the answer, unless a growth was refused
+abbrev pub Answers : {X Y : Type 0} → (X → Y) → Result X PageError → Result Y Unanswered → Type 0
+Answers seen (Ok x) r = r ≡ Ok (seen x)
+Answers seen (Err e) r = Refuses e r
+
+-- the index that serves a query
+abbrev pub source_seen : code.Source → Source
+source_seen code.TheVariants.AllDocs = all_docs
+source_seen (code.TheVariants.Defined d) = defined d.now
+
+-- the index is one of these definitions, and the one of its design document and name; that of all documents always is
+abbrev pub IsListed : List IndexDefinition → Source → Type 0
+IsListed ds all_docs = Unit {0}
+IsListed ds (defined d) = definition_at d.ddoc d.name ds ≡ Some d
+
+-- for private clauses: what is chosen
+abbrev pub Chooses : Result code.Source PageError → Option Source → Type 0
+Chooses (Ok s) r = r ≡ Some (source_seen s)
+Chooses (Err NoUsableIndex) r = r ≡ None
+Chooses (Err BadBookmark) r = ⊥
+Chooses (Err NoMemory) r = ⊥
+
+-- ---- documents that are objects
+
+-- a document that is served has its id and its revision among its members, as every one has whose body is an object
+abbrev pub IsWhole : Candidate → Type 0
+IsWhole c = Has c.form id_path × Has c.form rev_path
+
+-- so has each of them
+abbrev pub AreWhole : List Candidate → Type 0
+AreWhole cs = AllByRecursion IsWhole cs

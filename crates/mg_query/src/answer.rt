@@ -1,0 +1,120 @@
+//! The page that answers a query, as values and as text.
+ghost use Rattle.std.specs.Prelude.{◌≡◌, ◌+◌, ◌<◌, ◌≤◌, List, All, IfOk, length, map, string_bytes};
+ghost use Rattle.mg_value.specs.View.{view};
+ghost use Rattle.mg_index.specs.Definition.{Steps};
+ghost use Rattle.mg_scan.specs.Found.{shards_seen};
+ghost use Rattle.mg_shard.specs.Dealt.{Placing, ShardsStandFor};
+ghost use Rattle.mg_shard.specs.Histories.{Histories};
+ghost use Rattle.mg_query.specs.Page.{Candidate, answer_of, bookmark_after, candidates_of, columns_of, shown_of};
+ghost use Rattle.mg_query.specs.Paged.{IsWithin, LendEach, page_seen, text_of};
+ghost use Rattle.mg_query.specs.Seen.{query_seen};
+ghost use Rattle.mg_query.specs.Served.{Answers, AreWhole, source_seen};
+
+use crate::error::PageError;
+use crate::found::{after_skip, find};
+use crate::query::Query;
+use crate::shown::{Page, bookmark_of, shown};
+use crate::source::Source;
+use crate::text::text_with;
+use mg_index::Catalog;
+use mg_merge::Work;
+use mg_scan::{Gate, Hit};
+use mg_shard::Shard;
+use mg_value::{Json, NoMemory};
+use std::alloc::Global;
+use std::sync::Arc;
+use std::thread::Threads;
+
+/// The page that answers a query over the indexes of the catalog, which each shard has to have, and how many rows each
+/// shard handed over for it: at most as many as the page passes over and may have, together. What it is does not rest
+/// on the number of workers, from 1 to 32, nor on how documents are placed on shards. The gate is passed before a
+/// shard's first row is read and after its last.
+///
+/// Errors: `NoUsableIndex` where no index serves the query, then `BadBookmark` where its bookmark is of another index
+/// or direction; `NoMemory` where a growth was refused.
+/// Cost: the choice of the index; in each shard a look-up of where to begin, then a look-up of a document and the selector on
+/// it for each row, until skip + limit are found; the merge of these; copies of what is shown. Source: `_find` of
+/// CouchDB's API reference.
+pub fn page<R: Threads + Sync, G: Gate + Sync>(
+    rt: &R,
+    alloc: Global,
+    query: &Query<'_>,
+    catalog: &Catalog,
+    shards: &[Arc<Shard>],
+    workers: usize,
+    gate: &G,
+) -> Result<(Page, Work), PageError>
+    requires workers { (0 < workers) × (workers ≤ 32) }
+    requires indexes { All (λ s. s.definitions ≡ catalog.now) (shards_seen shards.now) }
+    ensures answers { (place : Placing) (hs : Histories)
+        → ShardsStandFor place (shards_seen shards.now) hs → AreWhole (candidates_of hs)
+        → Answers (λ r. page_seen r.0) result
+        (answer_of catalog.now (query_seen query.now) (candidates_of hs)) }
+    ensures work { IfOk result
+        (λ r. IsWithin (length shards.now) (query.now.skip + query.now.limit) r.1) }
+{
+    let found = find(rt, alloc, query, catalog, shards, workers, gate)?;
+    let hits = after_skip(&found.hits, query.skip);
+    let docs = shown_all(alloc, query, hits)?;
+    let bookmark = last_bookmark(alloc, query, found.source, hits)?;
+    Ok((Page { docs, bookmark }, found.work))
+}
+
+/// The compact text of the page that answers a query, `{"bookmark":..,"docs":[..]}`, and how many rows each shard handed
+/// over for it: as `page` says. The text that a shard keeps of a document is copied where the query shows it whole.
+///
+/// Errors: as of `page`. Cost: as of `page`, but that of what is shown no value is made where documents are shown whole.
+pub fn page_text<R: Threads + Sync, G: Gate + Sync>(
+    rt: &R,
+    alloc: Global,
+    query: &Query<'_>,
+    catalog: &Catalog,
+    shards: &[Arc<Shard>],
+    workers: usize,
+    gate: &G,
+) -> Result<(Vec<u8>, Work), PageError>
+    requires workers { (0 < workers) × (workers ≤ 32) }
+    requires indexes { All (λ s. s.definitions ≡ catalog.now) (shards_seen shards.now) }
+    ensures answers { (place : Placing) (hs : Histories)
+        → ShardsStandFor place (shards_seen shards.now) hs → AreWhole (candidates_of hs)
+        → Answers (λ r. r.0.items) result
+        (text_of (answer_of catalog.now (query_seen query.now) (candidates_of hs))) }
+    ensures work { IfOk result
+        (λ r. IsWithin (length shards.now) (query.now.skip + query.now.limit) r.1) }
+{
+    let found = find(rt, alloc, query, catalog, shards, workers, gate)?;
+    let hits = after_skip(&found.hits, query.skip);
+    let bookmark = last_bookmark(alloc, query, found.source, hits)?;
+    let text = text_with(alloc, query, &bookmark, hits)?;
+    Ok((text, found.work))
+}
+
+// What the page shows of the documents.
+fn shown_all(alloc: Global, query: &Query<'_>, hits: &[Hit<'_>]) -> Result<Vec<Json>, NoMemory>
+    ensures { IfOk result (λ v. (columns : List Steps) (cs : List Candidate) → LendEach columns hits.now cs
+        → map view v.items ≡ map (shown_of (query_seen query.now)) cs) }
+{
+    let mut docs = Vec::with_capacity(alloc, hits.len())?;
+    for hit in hits {
+        let doc = shown(alloc, query, hit.form(), hit.document().tree())?;
+        docs.push(doc)?;
+    }
+    Ok(docs)
+}
+
+// The bookmark of the last hit, or the text that came in where there is none.
+fn last_bookmark(
+    alloc: Global,
+    query: &Query<'_>,
+    source: Source<'_>,
+    hits: &[Hit<'_>],
+) -> Result<String, NoMemory>
+    ensures { IfOk result
+        (λ t. (cs : List Candidate) → LendEach (columns_of (source_seen source.entry)) hits.now cs
+        → string_bytes t ≡ bookmark_after (source_seen source.entry) (query_seen query.now) cs) }
+{
+    match hits.last() {
+        Some(hit) => bookmark_of(alloc, source, query.sort.direction, hit.key(), hit.id()),
+        None => Ok(String::from_str(alloc, query.told_bookmark)?),
+    }
+}

@@ -1,0 +1,113 @@
+ghost use Rattle.std.specs.Prelude.{◌≡◌, ◌<◌, None, Some, IfOk, length};
+ghost use Rattle.mg_value.specs.Value.{list};
+ghost use Rattle.mg_value.specs.View.{view, items_view};
+ghost use Rattle.mg_query.specs.Explain.{explanation_of, told_of};
+ghost use Rattle.mg_query.specs.Query.{told_fields_of};
+ghost use Rattle.mg_query.specs.Seen.{lent, query_seen};
+ghost use Rattle.mg_query.specs.Served.{Answers};
+
+use crate::error::PageError;
+use crate::query::Query;
+use crate::source::served_by;
+use mg_index::Catalog;
+use mg_normal::Normal;
+use mg_value::{Json, NoMemory, copy_items};
+use std::alloc::Global;
+
+/// How a query would be answered in a database of this name, over the indexes of the catalog:
+/// `{"dbname":..,"fields":..,"index":..,"limit":..,"range":..,"selector":..,"skip":..}`, with `fields` and `selector`
+/// as they were given, `"all_fields"` where no fields were, the index as it is listed, and the range of its keys.
+///
+/// Errors: `NoUsableIndex` where no index serves the query, then `BadBookmark` where its bookmark is of another index
+/// or direction; `NoMemory` where a growth was refused.
+/// Cost: the size of the query, and for each definition its columns times the query's atoms. Source: `_explain` of
+/// CouchDB's API reference.
+pub fn explain(
+    alloc: Global,
+    db: &str,
+    query: &Query<'_>,
+    catalog: &Catalog,
+) -> Result<Json, PageError>
+    ensures { Answers view result (explanation_of db.now catalog.now (query_seen query.now)) }
+{
+    let normal = Normal::of(alloc, &query.selector)?;
+    let source = served_by(query, &normal, catalog)?;
+    let range = source.range(alloc, &normal)?;
+    let range = range.to_json(alloc)?;
+    let index = source.listed(alloc)?;
+    Ok(told(alloc, db, query, index, range)?)
+}
+
+// The explanation, of an index and a range as they are told.
+fn told(
+    alloc: Global,
+    db: &str,
+    query: &Query<'_>,
+    index: Json,
+    range: Json,
+) -> Result<Json, NoMemory>
+    ensures { IfOk result
+        (λ v. view v ≡ told_of db.now (query_seen query.now) (view index) (view range)) }
+{
+    let fields = told_fields(alloc, query.told_fields)?;
+    let db = Json::Text(String::from_str(alloc, db)?);
+    let selector = query.told_selector.copy(alloc)?;
+    let mut told = Json::empty_object(alloc);
+    told.insert(alloc, "skip", Json::Whole(i64::from(query.skip)))?;
+    told.insert(alloc, "selector", selector)?;
+    told.insert(alloc, "range", range)?;
+    told.insert(alloc, "limit", Json::Whole(i64::from(query.limit)))?;
+    told.insert(alloc, "index", index)?;
+    told.insert(alloc, "fields", fields)?;
+    told.insert(alloc, "dbname", db)?;
+    Ok(told)
+}
+
+// The fields as they were given, `all_fields` where they are absent or empty.
+fn told_fields(alloc: Global, fields: Option<&Json>) -> Result<Json, NoMemory>
+    ensures { IfOk result (λ v. view v ≡ told_fields_of (lent fields.entry)) }
+{
+    match fields {
+        Some(fields) => told_given(alloc, fields),
+        None => all_fields(alloc),
+    }
+}
+
+fn told_given(alloc: Global, fields: &Json) -> Result<Json, NoMemory>
+    ensures { IfOk result (λ v. view v ≡ told_fields_of (Some (view fields.now))) }
+{
+    match fields {
+        Json::List(paths) => told_list(alloc, paths),
+        _ => fields.copy(alloc),
+    }
+}
+
+fn told_list(alloc: Global, paths: &[Json]) -> Result<Json, NoMemory>
+    ensures { IfOk result (λ v. view v ≡ told_fields_of (Some (list (items_view paths.now)))) }
+{
+    if paths.is_empty() {
+        all_fields(alloc)
+    } else {
+        copied_list(alloc, paths)
+    }
+}
+
+fn copied_list(alloc: Global, paths: &[Json]) -> Result<Json, NoMemory>
+    requires { 0 < length paths.now }
+    ensures { IfOk result (λ v. view v ≡ told_fields_of (Some (list (items_view paths.now)))) }
+{
+    let copy = copy_items(alloc, paths)?;
+    Ok(array_of(copy))
+}
+
+fn array_of(items: Vec<Json>) -> Json
+    ensures { view result ≡ list (items_view items.items) }
+{
+    Json::List(items)
+}
+
+fn all_fields(alloc: Global) -> Result<Json, NoMemory>
+    ensures { IfOk result (λ v. view v ≡ told_fields_of None) }
+{
+    Ok(Json::Text(String::from_str(alloc, "all_fields")?))
+}

@@ -1,0 +1,215 @@
+// The members of a query's body, lent from it: no memory is taken here.
+ghost use Rattle.std.specs.Prelude.{◌≡◌, Some, map, option_map};
+ghost use Rattle.mg_value.specs.Value.{item, list, no_items, whole};
+ghost use Rattle.mg_value.specs.View.{view, items_view};
+ghost use Rattle.mg_query.specs.Given.{given as given_of, given_seen, hint_seen};
+ghost use Rattle.mg_query.specs.Query.{bookmark_given as bookmark_of, conflicts_of, count_of, hint_given as hint_of, selector_given as selector_of, sort_fields};
+ghost use Rattle.mg_query.specs.Seen.{lent};
+
+use mg_index::{Hint, design_document};
+use mg_value::{Json, NoMemory};
+use std::alloc::Global;
+
+// The greatest `limit` and `skip`.
+const GREATEST_COUNT: i64 = 2_147_483_647;
+
+// The bookmark of a query that gives none.
+const NO_BOOKMARK: &str = "nil";
+
+// The members of a body whose shapes are right, but for paths and directions.
+#[derive(Clone, Copy, Debug)]
+pub(crate) struct Members<'a> {
+    pub(crate) selector: &'a Json,
+    pub(crate) fields: &'a [Json],
+    pub(crate) limit: u32,
+    pub(crate) skip: u32,
+    pub(crate) sort: &'a [Json],
+    pub(crate) hint: GivenHint<'a>,
+    pub(crate) bookmark: &'a str,
+    pub(crate) conflicts: bool,
+}
+
+// `use_index` as it is given: nothing, a design document, or one and a name.
+#[derive(Clone, Copy, Debug)]
+pub(crate) enum GivenHint<'a> {
+    None,
+    Ddoc(&'a str),
+    Both(&'a str, &'a str),
+}
+
+// The members, where their shapes are right.
+pub(crate) fn members_in(body: &Json) -> Option<Members<'_>>
+    ensures { option_map given_seen result ≡ given_of (view body.now) }
+{
+    let selector = selector_given(body.member("selector"))?;
+    let fields = array_given(body.member("fields"))?;
+    let limit = count_given(25, body.member("limit"))?;
+    let skip = count_given(0, body.member("skip"))?;
+    let sort = array_given(body.member("sort"))?;
+    let hint = hint_given(body.member("use_index"))?;
+    let bookmark = bookmark_given(body.member("bookmark"))?;
+    let conflicts = conflicts_given(body.member("conflicts"))?;
+    Some(Members {
+        selector,
+        fields,
+        limit,
+        skip,
+        sort,
+        hint,
+        bookmark,
+        conflicts,
+    })
+}
+
+// An object.
+fn selector_given<'a>(value: Option<&'a Json>) -> Option<&'a Json>
+    ensures { option_map (λ v. view v.now) result ≡ selector_of (lent value.entry) }
+{
+    match value {
+        Some(selector) => object_in(selector),
+        None => None,
+    }
+}
+
+fn object_in(value: &Json) -> Option<&Json>
+    ensures { option_map (λ v. view v.now) result ≡ selector_of (Some (view value.now)) }
+{
+    match value {
+        Json::Object(_) => Some(value),
+        _ => None,
+    }
+}
+
+// The items of an array, none where it is absent.
+fn array_given<'a>(value: Option<&'a Json>) -> Option<&'a [Json]>
+    ensures { option_map (λ items. map view items.now) result ≡ sort_fields (lent value.entry) }
+{
+    match value {
+        None => Some(&[]),
+        Some(value) => items_in(value),
+    }
+}
+
+fn items_in(value: &Json) -> Option<&[Json]>
+    ensures { option_map (λ items. map view items.now) result ≡ sort_fields (Some (view value.now)) }
+{
+    match value {
+        Json::List(items) => listed(items),
+        _ => None,
+    }
+}
+
+fn listed(items: &[Json]) -> Option<&[Json]>
+    ensures { option_map (λ items. map view items.now) result
+        ≡ sort_fields (Some (list (items_view items.now))) }
+{
+    Some(items)
+}
+
+// A whole number from 0 to the greatest count, and the one named here where it is absent.
+fn count_given(otherwise: u32, value: Option<&Json>) -> Option<u32>
+    ensures { result ≡ count_of otherwise (lent value.entry) }
+{
+    match value {
+        None => Some(otherwise),
+        Some(Json::Whole(count)) => count_in(otherwise, *count),
+        Some(_) => None,
+    }
+}
+
+fn count_in(_otherwise: u32, count: i64) -> Option<u32>
+    ensures { result ≡ count_of _otherwise (Some (whole count)) }
+{
+    if 0 <= count && count <= GREATEST_COUNT {
+        Some(count as u32)
+    } else {
+        None
+    }
+}
+
+// A design document, or an array of none, one, or one and a name.
+fn hint_given<'a>(value: Option<&'a Json>) -> Option<GivenHint<'a>>
+    ensures { option_map hint_seen result ≡ hint_of (lent value.entry) }
+{
+    match value {
+        None => Some(GivenHint::None),
+        Some(Json::Text(ddoc)) => Some(GivenHint::Ddoc(ddoc.as_str())),
+        Some(Json::List(parts)) => hint_in(parts),
+        Some(_) => None,
+    }
+}
+
+fn hint_in(parts: &[Json]) -> Option<GivenHint<'_>>
+    ensures { option_map hint_seen result ≡ hint_of (Some (list (items_view parts.now))) }
+{
+    match parts {
+        [] => Some(GivenHint::None),
+        [ddoc] => hint_by_ddoc(ddoc),
+        [ddoc, name] => hint_by_both(ddoc, name),
+        _ => None,
+    }
+}
+
+fn hint_by_ddoc(ddoc: &Json) -> Option<GivenHint<'_>>
+    ensures { option_map hint_seen result ≡ hint_of (Some (list (item (view ddoc.now) no_items))) }
+{
+    match ddoc {
+        Json::Text(ddoc) => Some(GivenHint::Ddoc(ddoc.as_str())),
+        _ => None,
+    }
+}
+
+fn hint_by_both<'a>(ddoc: &'a Json, name: &'a Json) -> Option<GivenHint<'a>>
+    ensures { option_map hint_seen result
+        ≡ hint_of (Some (list (item (view ddoc.now) (item (view name.now) no_items)))) }
+{
+    match (ddoc, name) {
+        (Json::Text(ddoc), Json::Text(name)) => {
+            Some(GivenHint::Both(ddoc.as_str(), name.as_str()))
+        }
+        _ => None,
+    }
+}
+
+// A text; `nil` where it is null or absent.
+fn bookmark_given<'a>(value: Option<&'a Json>) -> Option<&'a str>
+    ensures { option_map (λ t. t.now) result ≡ bookmark_of (lent value.entry) }
+{
+    match value {
+        None => Some(NO_BOOKMARK),
+        Some(Json::Null) => Some(NO_BOOKMARK),
+        Some(Json::Text(bookmark)) => Some(bookmark.as_str()),
+        Some(_) => None,
+    }
+}
+
+// True or false; false where it is absent.
+fn conflicts_given(value: Option<&Json>) -> Option<bool>
+    ensures { result ≡ conflicts_of (lent value.entry) }
+{
+    match value {
+        None => Some(false),
+        Some(Json::Flag(conflicts)) => Some(*conflicts),
+        Some(_) => None,
+    }
+}
+
+impl GivenHint<'_> {
+    ghost use Rattle.std.specs.Prelude.{IfOk};
+    ghost use Rattle.mg_index.specs.View.{hint_of as hint_named};
+
+    // The hint, its texts copied, and the front of a design document put before one that lacks it.
+    pub(crate) fn named(self, alloc: Global) -> Result<Hint, NoMemory>
+        ensures { IfOk result (λ hint. hint_named hint ≡ hint_seen self.entry) }
+    {
+        match self {
+            GivenHint::None => Ok(Hint::None),
+            GivenHint::Ddoc(ddoc) => Ok(Hint::Ddoc(design_document(alloc, ddoc)?)),
+            GivenHint::Both(ddoc, name) => {
+                let ddoc = design_document(alloc, ddoc)?;
+                let name = String::from_str(alloc, name)?;
+                Ok(Hint::Both(ddoc, name))
+            }
+        }
+    }
+}

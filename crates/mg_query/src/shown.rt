@@ -1,0 +1,93 @@
+// What a page shows of a document, and the bookmark of its last one.
+ghost use Rattle.std.specs.Prelude.{◌≡◌, ℕ, List, IfOk, string_bytes};
+ghost use Rattle.mg_value.specs.View.{view, items_view};
+ghost use Rattle.mg_revtree.specs.History.{History as Paths};
+ghost use Rattle.mg_revtree.specs.Tree.{StandsFor};
+ghost use Rattle.mg_bookmark.specs.Bookmark.{spelled};
+ghost use Rattle.mg_query.specs.Page.{ddoc_of, name_of, projected, shown_of};
+ghost use Rattle.mg_query.specs.Seen.{query_seen};
+ghost use Rattle.mg_query.specs.Served.{source_seen};
+
+use crate::query::Query;
+use crate::source::Source;
+use mg_bookmark::{RowKey, RowPlace};
+use mg_collate::Direction;
+use mg_doc::with_conflicts;
+use mg_path::{Path, project};
+use mg_revtree::RevTree;
+use mg_value::{Json, NoMemory};
+use std::alloc::Global;
+
+/// A page: what it shows of its documents, and the bookmark of the last one, or the text that came in where there is none.
+#[derive(Debug, Drop)]
+pub struct Page {
+    pub docs: Vec<Json>,
+    pub bookmark: String,
+}
+
+// A document of this form and tree as a query shows it: with its conflicts, where they are asked for, and of that the
+// parts at the fields, where there are any.
+pub(crate) fn shown(
+    alloc: Global,
+    query: &Query<'_>,
+    form: &Json,
+    tree: &RevTree,
+) -> Result<Json, NoMemory>
+    ensures { IfOk result (λ v. (id : List ℕ) (h : Paths) → StandsFor tree.now h
+        → view v ≡ shown_of (query_seen query.now) (record { id = id; form = view form.now; history = h })) }
+{
+    if query.conflicts {
+        let whole = with_conflicts(alloc, form.copy(alloc)?, tree)?;
+        parts_in(alloc, &query.fields, whole)
+    } else {
+        parts_of(alloc, &query.fields, form)
+    }
+}
+
+// The parts at the fields, or the whole where there are none.
+fn parts_in(alloc: Global, fields: &[Path], document: Json) -> Result<Json, NoMemory>
+    ensures { IfOk result (λ v. view v ≡ projected fields.now (view document)) }
+{
+    if fields.is_empty() {
+        Ok(document)
+    } else {
+        project(alloc, &document, fields)
+    }
+}
+
+// The same of a document that is lent.
+fn parts_of(alloc: Global, fields: &[Path], document: &Json) -> Result<Json, NoMemory>
+    ensures { IfOk result (λ v. view v ≡ projected fields.now (view document.now)) }
+{
+    if fields.is_empty() {
+        document.copy(alloc)
+    } else {
+        project(alloc, document, fields)
+    }
+}
+
+// The bookmark of a row of this key and id, in an index that is read in this direction.
+pub(crate) fn bookmark_of(
+    alloc: Global,
+    source: Source<'_>,
+    direction: Direction,
+    key: &[Json],
+    id: &str,
+) -> Result<String, NoMemory>
+    ensures { IfOk result (λ t. string_bytes t ≡ spelled (record {
+      ddoc = ddoc_of (source_seen source.entry);
+      name = name_of (source_seen source.entry);
+      direction = direction;
+      key = items_view key.now;
+      id = id.now;
+    })) }
+{
+    let place = RowPlace {
+        ddoc: source.ddoc(),
+        name: source.name(),
+        direction,
+        key: RowKey::Columns(key),
+        id,
+    };
+    place.spell(alloc)
+}

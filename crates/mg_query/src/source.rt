@@ -1,0 +1,196 @@
+// The index that serves a query, and whether a bookmark is of it.
+ghost use Rattle.std.specs.Prelude.{◌≡◌, List, Some, IfOk, length, option_map};
+ghost use Rattle.mg_value.specs.View.{view, items_view};
+ghost use Rattle.mg_value.specs.Value.{item_list};
+ghost use Rattle.mg_bookmark.specs.Seen.{place_of};
+ghost use Rattle.mg_index.specs.Choice.{all_docs, choice_of, id_path};
+ghost use Rattle.mg_index.specs.Definition.{IndexDefinition};
+ghost use Rattle.mg_normal.specs.Normal.{normal_atoms};
+ghost use Rattle.mg_range.specs.Range.{range_of};
+ghost use Rattle.mg_normal.specs.Normal.{IsNormalOf};
+ghost use Rattle.mg_scan.specs.Found.{columns_of as columns_at};
+ghost use Rattle.mg_selector.specs.View.{selector_of};
+ghost use Rattle.mg_query.specs.Explain.{listed_source};
+ghost use Rattle.mg_query.specs.Page.{columns_of, ddoc_of, fits as fits_source, is_ddoc as is_same_ddoc, is_place_in as is_place_of_source, name_of, served_by as served_of};
+ghost use Rattle.mg_query.specs.Seen.{query_seen};
+ghost use Rattle.mg_query.specs.Served.{Answers, Chooses, IsListed, source_seen};
+
+use crate::error::PageError;
+use crate::field::is_same;
+use crate::query::Query;
+use mg_bookmark::Bookmark;
+use mg_index::{Catalog, Choice, IndexDef, all_docs_listed, choose};
+use mg_normal::Normal;
+use mg_path::{Path, PathError};
+use mg_range::KeyRange;
+use mg_scan::Target;
+use mg_value::{Json, NoMemory};
+use std::alloc::Global;
+
+// The column of the index of all documents, and its name.
+const ID_COLUMN: &str = "_id";
+
+const ALL_DOCS: &str = "_all_docs";
+
+// The index that serves a query: that of all documents, or a defined one, lent by its catalog.
+#[derive(Clone, Copy)]
+pub(crate) enum Source<'a> {
+    AllDocs,
+    Defined(&'a IndexDef),
+}
+
+// The index that serves the query, if its bookmark is of that one.
+pub(crate) fn served_by<'a>(
+    query: &Query<'_>,
+    normal: &Normal,
+    catalog: &'a Catalog,
+) -> Result<Source<'a>, PageError>
+    requires { IsNormalOf (selector_of query.now.selector) normal.now }
+    ensures answers { Answers source_seen result (served_of catalog.now (query_seen query.now)) }
+    ensures listed { IfOk result (λ s. IsListed catalog.now (source_seen s)) }
+{
+    let source = chosen(query, normal, catalog)?;
+    if fits(source, query) {
+        Ok(source)
+    } else {
+        Err(PageError::BadBookmark)
+    }
+}
+
+fn chosen<'a>(
+    query: &Query<'_>,
+    normal: &Normal,
+    catalog: &'a Catalog,
+) -> Result<Source<'a>, PageError>
+    ensures chosen { Chooses result (choice_of catalog.now (normal_atoms normal.now)
+        (query_seen query.now).sort (query_seen query.now).hint) }
+    ensures listed { IfOk result (λ s. IsListed catalog.now (source_seen s)) }
+{
+    match choose(catalog, normal, &query.sort, &query.hint) {
+        Ok(Choice::AllDocs) => Ok(Source::AllDocs),
+        Ok(Choice::Index(place)) => Ok(Source::Defined(&catalog.list()[place])),
+        Err(_) => Err(PageError::NoUsableIndex),
+    }
+}
+
+// Whether the query's bookmark is of the index, if it has one.
+fn fits(source: Source<'_>, query: &Query<'_>) -> bool
+    ensures { result ≡ fits_source (source_seen source.entry) (query_seen query.now) }
+{
+    match &query.bookmark {
+        Some(bookmark) => is_place_in(source, query, bookmark),
+        None => true,
+    }
+}
+
+fn is_place_in(source: Source<'_>, query: &Query<'_>, bookmark: &Bookmark) -> bool
+    ensures { result ≡ is_place_of_source (source_seen source.entry) (query_seen query.now)
+        (place_of bookmark.now) }
+{
+    is_ddoc(bookmark.ddoc.as_deref(), source.ddoc())
+        && bookmark.name.as_str() == source.name()
+        && is_same(bookmark.direction, query.sort.direction)
+        && key_width(&bookmark.key) == source.width()
+}
+
+// How many values a key has.
+fn key_width(key: &[Json]) -> usize
+    ensures { result ≡ length (item_list (items_view key.now)) }
+{
+    key.len()
+}
+
+fn is_ddoc(a: Option<&str>, b: Option<&str>) -> bool
+    ensures { result ≡ is_same_ddoc (option_map (λ t. t.now) a.entry) (option_map (λ t. t.now) b.entry) }
+{
+    match (a, b) {
+        (None, None) => true,
+        (Some(a), Some(b)) => a == b,
+        _ => false,
+    }
+}
+
+impl<'a> Source<'a> {
+    // Its design document, none for the index of all documents.
+    pub(crate) fn ddoc(self) -> Option<&'a str>
+        ensures { option_map (λ t. t.now) result ≡ ddoc_of (source_seen self.entry) }
+    {
+        match self {
+            Source::AllDocs => None,
+            Source::Defined(definition) => Some(definition.ddoc()),
+        }
+    }
+
+    // Its name.
+    pub(crate) fn name(self) -> &'a str
+        ensures { result.now ≡ name_of (source_seen self.entry) }
+    {
+        match self {
+            Source::AllDocs => ALL_DOCS,
+            Source::Defined(definition) => definition.name(),
+        }
+    }
+
+    // How many columns it has.
+    pub(crate) fn width(self) -> usize
+        ensures { result ≡ length (columns_of (source_seen self.entry)) }
+    {
+        match self {
+            Source::AllDocs => 1,
+            Source::Defined(definition) => definition.columns().len(),
+        }
+    }
+
+    // What a scan of it reads in each shard that has it.
+    pub(crate) fn target(self) -> Target<'a>
+        ensures { (ds : List IndexDefinition) → IsListed ds (source_seen self.entry)
+            → columns_at result ds ≡ Some (columns_of (source_seen self.entry)) }
+    {
+        match self {
+            Source::AllDocs => Target::AllDocs,
+            Source::Defined(definition) => Target::Index {
+                ddoc: definition.ddoc(),
+                name: definition.name(),
+            },
+        }
+    }
+
+    // The range of its keys in which a query looks.
+    pub(crate) fn range(self, alloc: Global, normal: &Normal) -> Result<KeyRange, NoMemory>
+        ensures { IfOk result
+            (λ r. r ≡ range_of (normal_atoms normal.now) (columns_of (source_seen self.entry))) }
+    {
+        match self {
+            Source::AllDocs => id_range(alloc, normal),
+            Source::Defined(definition) => KeyRange::of(alloc, definition.columns(), normal),
+        }
+    }
+
+    // The index as it is listed.
+    pub(crate) fn listed(self, alloc: Global) -> Result<Json, NoMemory>
+        ensures { IfOk result (λ v. view v ≡ listed_source (source_seen self.entry)) }
+    {
+        match self {
+            Source::AllDocs => all_docs_listed(alloc),
+            Source::Defined(definition) => definition.listed(alloc),
+        }
+    }
+}
+
+// The range of ids.
+fn id_range(alloc: Global, normal: &Normal) -> Result<KeyRange, NoMemory>
+    ensures { IfOk result (λ r. r ≡ range_of (normal_atoms normal.now) (columns_of all_docs)) }
+{
+    let columns = vec![in alloc; id_column(alloc)?]?;
+    KeyRange::of(alloc, &columns, normal)
+}
+
+fn id_column(alloc: Global) -> Result<Path, NoMemory>
+    ensures { IfOk result (λ path. path ≡ id_path) }
+{
+    match Path::parse(alloc, ID_COLUMN) {
+        Ok(path) => Ok(path),
+        Err(PathError::NoMemory) => Err(NoMemory),
+        Err(PathError::Empty) => Err(NoMemory),
+    }
+}

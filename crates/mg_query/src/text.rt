@@ -1,0 +1,128 @@
+// The text of a page, part by part. Each of these gives the buffer that it takes, with its part behind.
+ghost use Rattle.std.specs.Prelude.{◌≡◌, ◌++◌, List, [], ◌∷◌, IfOk, map, nat_lt, if◌then◌else◌};
+ghost use Rattle.json.specs.Print.{quoted};
+ghost use Rattle.mg_value.specs.Text.{compact};
+ghost use Rattle.mg_value.specs.Value.{list};
+ghost use Rattle.mg_value.specs.View.{items_of};
+ghost use Rattle.mg_index.specs.Definition.{Steps};
+ghost use Rattle.mg_scan.specs.Hit.{hit_text};
+ghost use Rattle.mg_query.specs.Page.{Candidate, page_value, shown_of};
+ghost use Rattle.mg_query.specs.Paged.{LendEach, Lends, shows_whole};
+ghost use Rattle.mg_query.specs.Seen.{query_seen};
+
+use crate::query::Query;
+use crate::shown::shown;
+use json::Writer;
+use mg_scan::Hit;
+use mg_value::{NoMemory, write};
+use std::alloc::Global;
+
+// The bytes that are asked for at first: the text of most pages fits.
+const FIRST_ROOM: usize = 4096;
+
+// The text of the page that shows these documents and has this bookmark.
+pub(crate) fn text_with(
+    alloc: Global,
+    query: &Query<'_>,
+    bookmark: &str,
+    hits: &[Hit<'_>],
+) -> Result<Vec<u8>, NoMemory>
+    ensures { IfOk result (λ t. (columns : List Steps) (cs : List Candidate) → LendEach columns hits.now cs
+        → t.items ≡ compact (page_value (record {
+          docs = map (shown_of (query_seen query.now)) cs;
+          bookmark = bookmark.now;
+        }))) }
+{
+    let mut out = Vec::with_capacity(alloc, FIRST_ROOM)?;
+    out.extend_from_slice(b"{\"bookmark\":")?;
+    let mut out = with_text(out, bookmark)?;
+    out.extend_from_slice(b",\"docs\":")?;
+    let mut out = with_documents(alloc, query, out, hits)?;
+    out.push(b'}')?;
+    Ok(out)
+}
+
+fn with_text(out: Vec<u8>, text: &str) -> Result<Vec<u8>, NoMemory>
+    ensures { IfOk result (λ b. b.items ≡ out.items ++ quoted text.now) }
+{
+    let mut writer = Writer::new(out);
+    writer.string(text)?;
+    Ok(writer.into_inner())
+}
+
+// What the page shows of the documents, as an array.
+fn with_documents(
+    alloc: Global,
+    query: &Query<'_>,
+    mut out: Vec<u8>,
+    hits: &[Hit<'_>],
+) -> Result<Vec<u8>, NoMemory>
+    ensures { IfOk result (λ b. (columns : List Steps) (cs : List Candidate) → LendEach columns hits.now cs
+        → b.items ≡ out.items ++ compact (list (items_of (map (shown_of (query_seen query.now)) cs)))) }
+{
+    out.push(b'[')?;
+    for (place, hit) in hits.iter().enumerate() {
+        let begun = with_comma(out, place)?;
+        out = with_document(alloc, query, begun, hit)?;
+    }
+    out.push(b']')?;
+    Ok(out)
+}
+
+// The comma before an item at this place.
+fn with_comma(mut out: Vec<u8>, place: usize) -> Result<Vec<u8>, NoMemory>
+    ensures { IfOk result (λ b. b.items ≡ out.items ++ (if nat_lt 0 place then 44 ∷ [] else [])) }
+{
+    if place > 0 {
+        out.push(b',')?;
+    }
+    Ok(out)
+}
+
+// What it shows of one.
+fn with_document(
+    alloc: Global,
+    query: &Query<'_>,
+    out: Vec<u8>,
+    hit: &Hit<'_>,
+) -> Result<Vec<u8>, NoMemory>
+    ensures { IfOk result (λ b. (columns : List Steps) (c : Candidate) → Lends columns hit.now c
+        → b.items ≡ out.items ++ compact (shown_of (query_seen query.now) c)) }
+{
+    if is_shown_whole(query) {
+        with_kept(out, hit)
+    } else {
+        with_shown(alloc, query, out, hit)
+    }
+}
+
+// The text that is kept of a document.
+fn with_kept(mut out: Vec<u8>, hit: &Hit<'_>) -> Result<Vec<u8>, NoMemory>
+    ensures { IfOk result (λ b. b.items ≡ out.items ++ hit_text hit.now) }
+{
+    out.extend_from_slice(hit.text())?;
+    Ok(out)
+}
+
+// The text of what is made of it.
+fn with_shown(
+    alloc: Global,
+    query: &Query<'_>,
+    mut out: Vec<u8>,
+    hit: &Hit<'_>,
+) -> Result<Vec<u8>, NoMemory>
+    ensures { IfOk result (λ b. (columns : List Steps) (c : Candidate) → Lends columns hit.now c
+        → b.items ≡ out.items ++ compact (shown_of (query_seen query.now) c)) }
+{
+    let doc = shown(alloc, query, hit.form(), hit.document().tree())?;
+    let text = write(alloc, &doc)?;
+    out.extend_from_slice(&text)?;
+    Ok(out)
+}
+
+// Whether the query shows documents as they are served.
+fn is_shown_whole(query: &Query<'_>) -> bool
+    ensures { result ≡ shows_whole (query_seen query.now) }
+{
+    !query.conflicts && query.fields.is_empty()
+}

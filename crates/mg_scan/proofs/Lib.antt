@@ -1,0 +1,11 @@
+pub mod Lists
+pub mod Walking
+pub mod Entries
+pub mod Maps
+pub mod Found
+pub mod Steps
+pub mod Builds
+pub mod Values
+pub mod Crossing
+pub mod Asked
+pub mod Lent

@@ -1,0 +1,7 @@
+use Rattle.std.proofs.Common.{◌≡◌, vec_len}
+use Rattle.mg_scan.specs.Built.{AreRowsAt}
+use Rattle.mg_scan.specs.Found.{shards_seen}
+use Rattle.mg_scan.proofs.building.extracted_here.Given as goal
+
+abbrev pub invariant-loop-i : goal.invariant-loop-i
+invariant-loop-i g l = AreRowsAt l.definition (shards_seen l.shards) l.all.items × (vec_len l.all ≡ l.i)

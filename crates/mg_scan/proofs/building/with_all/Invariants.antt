@@ -1,0 +1,8 @@
+use Rattle.std.proofs.Common.{◌≡◌, vec_len, length, map, take}
+use Rattle.mg_scan.specs.Built.{AreRowsAt, with_index}
+use Rattle.mg_scan.specs.Found.{shards_seen}
+use Rattle.mg_scan.proofs.building.with_all.Given as goal
+
+-- what is left of the rows, and the shards so far
+abbrev pub invariant-loop-i : goal.invariant-loop-i
+invariant-loop-i l = AreRowsAt l.definition (shards_seen l.shards) l.given.items × (vec_len l.given ≡ length l.shards) × (l.built.items ≡ take l.i (map (with_index l.definition) (shards_seen l.shards)))

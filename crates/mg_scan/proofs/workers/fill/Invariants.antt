@@ -1,0 +1,10 @@
+use Rattle.std.proofs.Common.{◌≡◌, vec_len}
+use Rattle.mg_scan.specs.Found.{shards_seen}
+use Rattle.mg_scan.specs.Worked.{AllDone, AllSlots}
+use Rattle.mg_scan.proofs.workers.fill.Given as goal
+
+abbrev pub invariant-loop-shard : goal.invariant-loop-shard
+invariant-loop-shard l = AllDone l.search (shards_seen l.shards) l.given.items × AllSlots l.search (shards_seen l.shards) l.slots.items × (vec_len l.slots ≡ vec_len l.fn.slots)
+
+abbrev pub decreases-loop-shard : goal.decreases-loop-shard
+decreases-loop-shard l = vec_len l.given

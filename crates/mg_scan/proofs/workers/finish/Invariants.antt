@@ -1,0 +1,11 @@
+use Rattle.std.proofs.Common.{◌≡◌, vec_len, take, length}
+use Rattle.std.specs.List.{AllZip}
+use Rattle.mg_scan.specs.Found.{shards_seen}
+use Rattle.mg_scan.specs.Worked.{AllSlots, Gives}
+use Rattle.mg_scan.proofs.workers.finish.Given as goal
+
+-- the slots that are left, and the hits of the shards so far
+abbrev pub invariant-loop-i : goal.invariant-loop-i
+invariant-loop-i g l =
+    AllSlots l.search (shards_seen l.shards) l.slots.items × (vec_len l.slots ≡ length l.shards)
+    × AllZip (λ s v. Gives l.search s v.items) (take l.i (shards_seen l.shards)) l.all.items

@@ -1,0 +1,162 @@
+-- Laws that the code cites: rows in a direction: those that a search passes over come first, then those that it looks at, then those that are late.
+use Rattle.std.proofs.Common.{◌≡◌, ℕ, ◌≤◌, Bool, true, false, ◌&&◌, not, List, [], ◌∷◌, Option, Some, None, option_map, Ordering, Less, Equal, Greater, is_gt, if◌then◌else◌, refl, ap, ap₂, sym, ◌∙◌, arith}
+use Rattle.std.proofs.lemmas.Cmp.{upto}
+use Rattle.std.specs.Cmp.{IsTotalOrder}
+use Rattle.std.specs.Cmp.Lexicographic.{slice_cmp}
+use Rattle.std.specs.Ordering.{is_le, nat_cmp, ordering_reverse, ordering_then}
+use Rattle.mg_collate.specs.Direction.{directed}
+use Rattle.mg_collate.specs.Order.{items_order, value_order}
+use Rattle.mg_collate.specs.Row.{RowValue, directed_order, row_order, row_value_order, row_value_order_total, row_view}
+use Rattle.mg_collate.specs.declared.direction.Direction.{Direction}
+use Rattle.mg_collate.specs.declared.direction.Direction.TheVariants.{Asc, Desc}
+use Rattle.mg_collate.proofs.Directed.{directed_total}
+use Rattle.mg_collate.proofs.Flat.{items_order-item, text_order, then_equal}
+use Rattle.mg_pages.specs.Identified.{id_order}
+use Rattle.mg_pages.specs.Order.{IsProbe}
+use Rattle.mg_range.specs.Place.{place_of, place_rank}
+use Rattle.mg_range.specs.Range.{Range}
+use Rattle.mg_range.specs.declared.place.Place.{Place}
+use Rattle.mg_range.specs.declared.place.Place.TheVariants.{Before, Within, Past}
+use Rattle.mg_range.proofs.Together.{rows_together}
+use Rattle.mg_scan.specs.Scan.{comes_after}
+use Rattle.mg_scan.specs.Search.{after_of, begin_at}
+use Rattle.mg_scan.specs.Walked.{begin_order, id_row, is_beyond, is_early, is_late, is_late_row, reaches}
+use Rattle.mg_scan.specs.declared.search.Search.{Search}
+use Rattle.mg_shard.specs.Documents.{id_of}
+use Rattle.mg_value.specs.Value.{Items, no_items, item, item_list, text}
+use Rattle.mg_value.specs.View.{items_of}
+
+-- x does not come after y
+abbrev pub NotAfter : Direction → RowValue → RowValue → Type 0
+NotAfter direction x y = is_gt (directed_order direction x y) ≡ false
+
+-- ---- places
+
+items-list : (vs : Items) → items_of (item_list vs) ≡ vs
+items-list no_items = refl
+items-list (item v vs) = ap (item v) (items-list vs)
+
+same_row : (r : RowValue) → ◌≡◌ {A = RowValue} (items_of (item_list r.0), r.1) r
+same_row r = ap (λ vs. (vs, r.1)) (items-list r.0)
+
+not_gt-le : (o : Ordering) → is_gt o ≡ false → is_le o ≡ true
+not_gt-le Less e = refl
+not_gt-le Equal e = refl
+not_gt-le Greater e = absurd cc
+
+abbrev pub place_row : Range → RowValue → Place
+place_row range r = place_of range (item_list r.0)
+
+ranked : (range : Range) (x y : RowValue) → is_gt (row_value_order x y) ≡ false → place_rank (place_row range x) ≤ place_rank (place_row range y)
+ranked range x y e =
+    rows_together range (item_list x.0) (item_list y.0) x.1 y.1 (ap₂ (λ a b. is_le (row_value_order a b)) (same_row x) (same_row y) ∙ not_gt-le (row_value_order x y) e)
+
+-- the second place does not come before the first in a direction
+abbrev Follows : Direction → Place → Place → Type 0
+Follows Asc p q = place_rank p ≤ place_rank q
+Follows Desc p q = place_rank q ≤ place_rank p
+
+follows : (direction : Direction) (range : Range) (x y : RowValue) → NotAfter direction x y → Follows direction (place_row range x) (place_row range y)
+follows Asc range x y e = ranked range x y e
+follows Desc range x y e = ranked range y x (ap is_gt (row_value_order_total.antisymm y x) ∙ e)
+
+late_place : (direction : Direction) (p q : Place) → Follows direction p q → is_late direction p ≡ true → is_late direction q ≡ true
+late_place Asc Past Past h e = refl
+late_place Asc Past Before h e = absurd (omega (arith, h))
+late_place Asc Past Within h e = absurd (omega (arith, h))
+late_place Asc Before q h e = absurd cc
+late_place Asc Within q h e = absurd cc
+late_place Desc Before Before h e = refl
+late_place Desc Before Within h e = absurd (omega (arith, h))
+late_place Desc Before Past h e = absurd (omega (arith, h))
+late_place Desc Within q h e = absurd cc
+late_place Desc Past q h e = absurd cc
+
+early_place : (direction : Direction) (p q : Place) → Follows direction p q → is_early direction q ≡ true → is_early direction p ≡ true
+early_place Asc Before q h e = refl
+early_place Asc Within Before h e = absurd (omega (arith, h))
+early_place Asc Past Before h e = absurd (omega (arith, h))
+early_place Asc Within Within h e = absurd cc
+early_place Asc Within Past h e = absurd cc
+early_place Asc Past Within h e = absurd cc
+early_place Asc Past Past h e = absurd cc
+early_place Desc Past q h e = refl
+early_place Desc Before Past h e = absurd (omega (arith, h))
+early_place Desc Within Past h e = absurd (omega (arith, h))
+early_place Desc Before Before h e = absurd cc
+early_place Desc Before Within h e = absurd cc
+early_place Desc Within Before h e = absurd cc
+early_place Desc Within Within h e = absurd cc
+
+-- what comes after a late row is late
+pub late_rises : (direction : Direction) (range : Range) (x y : RowValue) → NotAfter direction x y → is_late_row direction range x ≡ true → is_late_row direction range y ≡ true
+late_rises direction range x y h e = late_place direction (place_row range x) (place_row range y) (follows direction range x y h) e
+
+-- ---- what a search reaches
+
+beyond_at : (R : RowValue → RowValue → Ordering) → IsTotalOrder R → (x y p : RowValue) (b : Bool) → is_gt (R y p) ≡ b → is_gt (R x y) ≡ false → is_gt (R x p) ≡ true → b ≡ true
+beyond_at R o x y p true is h e = refl
+beyond_at R o x y p false is h e = sym (upto o x y p h is) ∙ e
+
+beyond_rises : (direction : Direction) (after : Option RowValue) (x y : RowValue) → NotAfter direction x y
+    → is_beyond direction (option_map (row_value_order x) after) ≡ true → is_beyond direction (option_map (row_value_order y) after) ≡ true
+beyond_rises direction None x y h e = refl
+beyond_rises direction (Some p) x y h e = beyond_at (directed_order direction) (directed_total direction) x y p (is_gt (directed_order direction y p)) refl h e
+
+both : (a b : Bool) → (a && b) ≡ true → (a ≡ true) × (b ≡ true)
+both true b e = (refl, e)
+both false b e = absurd cc
+
+rejoined : (a b : Bool) → a ≡ true → b ≡ true → (a && b) ≡ true
+rejoined a b e f = rw (e, f) refl
+
+not_up : (a b : Bool) → (b ≡ true → a ≡ true) → not a ≡ true → not b ≡ true
+not_up a false f e = refl
+not_up true true f e = e
+not_up false true f e = absurd (let wrong = f refl in cc)
+
+-- a row that a search looks at, or that comes later
+abbrev pub reached : Direction → Range → Option RowValue → RowValue → Bool
+reached direction range after r = reaches direction (place_row range r) (option_map (row_value_order r) after)
+
+-- what comes after a row that is reached is reached
+reached_rises : (direction : Direction) (range : Range) (after : Option RowValue) (x y : RowValue) → NotAfter direction x y → reached direction range after x ≡ true → reached direction range after y ≡ true
+reached_rises direction range after x y h e =
+    let place = place_row range in
+    let was = both (not (is_early direction (place x))) (is_beyond direction (option_map (row_value_order x) after)) e in
+    rejoined (not (is_early direction (place y))) (is_beyond direction (option_map (row_value_order y) after))
+    (not_up (is_early direction (place x)) (is_early direction (place y)) (early_place direction (place x) (place y) (follows direction range x y h)) was.0)
+    (beyond_rises direction after x y h was.1)
+
+up_step : (b c : Bool) → (b ≡ true → c ≡ true) → is_gt (directed Asc (if b then Less else Greater)) ≡ false → directed Asc (if c then Less else Greater) ≡ Less
+up_step true c f e = ap (λ d. if d then Less else Greater) (f refl)
+up_step false c f e = absurd cc
+
+down_step : (b c : Bool) → (c ≡ true → b ≡ true) → is_gt (directed Desc (if b then Less else Greater)) ≡ false → directed Desc (if c then Less else Greater) ≡ Less
+down_step true c f e = absurd cc
+down_step false true f e = absurd (let wrong = f refl in cc)
+down_step false false f e = refl
+
+begin_probes : (direction : Direction) (range : Range) (after : Option RowValue) → IsProbe row_value_order (λ r. begin_order direction (place_row range r) (option_map (row_value_order r) after))
+begin_probes Asc range after = λ x y l n. up_step (reached Asc range after x) (reached Asc range after y) (reached_rises Asc range after x y (ap is_gt l)) n
+begin_probes Desc range after =
+    λ x y l n. down_step (reached Desc range after x) (reached Desc range after y) (reached_rises Desc range after y x (ap (λ o. is_gt (ordering_reverse o)) (row_value_order_total.antisymm y x ∙ ap ordering_reverse l))) n
+
+-- where a search begins is a place among rows
+pub begin_probes_rows : (s : Search) → IsProbe row_order (λ r. begin_at s (row_view r))
+begin_probes_rows s = λ x y l n. begin_probes s.direction s.range.now (after_of s) (row_view x) (row_view y) l n
+
+twice : (o : Ordering) → ordering_then o o ≡ o
+twice Less = refl
+twice Equal = refl
+twice Greater = refl
+
+-- the rows of ids among all documents are in the order of the ids
+pub id_rows : (a b : List ℕ) → row_value_order (id_row a) (id_row b) ≡ slice_cmp nat_cmp a b
+id_rows a b =
+    ap (λ o. ordering_then o (slice_cmp nat_cmp a b)) (items_order-item (text a) (text b) no_items no_items ∙ then_equal (value_order (text a) (text b)) ∙ text_order a b)
+    ∙ twice (slice_cmp nat_cmp a b)
+
+-- and a place among documents
+pub begin_probes_documents : (s : Search) → IsProbe (id_order id_of) (λ d. begin_at s (id_row (id_of d)))
+begin_probes_documents s = λ x y l n. begin_probes s.direction s.range.now (after_of s) (id_row (id_of x)) (id_row (id_of y)) (id_rows (id_of x) (id_of y) ∙ l) n

@@ -1,0 +1,37 @@
+-- What is searched in a shard, and what a scan of shards finds in each.
+use Rattle.std.specs.Prelude.{ℕ, List, [], Option, Some, option_map, map}
+use Rattle.std.specs.Arc.{arc_value}
+use Rattle.std.specs.Option.{option_map_or}
+use Rattle.std.specs.declared.alloc.Global.{Global}
+use Rattle.std.specs.declared.sync.Arc.{Arc}
+use Rattle.mg_collate.specs.Row.{RowValue, row_view}
+use Rattle.mg_collate.specs.declared.direction.Direction.{Direction}
+use Rattle.mg_collate.specs.declared.row.Row.{Row}
+use Rattle.mg_index.specs.Catalog.{definition_at}
+use Rattle.mg_index.specs.Definition.{IndexDefinition, Steps}
+use Rattle.mg_normal.specs.Normal.{NormalForm}
+use Rattle.mg_range.specs.Range.{Range}
+use Rattle.mg_scan.specs.Scan.{Request, scanned}
+use Rattle.mg_scan.specs.declared.target.Target.{Target}
+use Rattle.mg_scan.specs.declared.target.Target.TheVariants.{AllDocs, Index}
+use Rattle.mg_shard.specs.Documents.{docs_of}
+use Rattle.mg_shard.specs.Own.{all_columns}
+use Rattle.mg_shard.specs.Shard.{ShardView}
+
+-- the columns of a target among the indexes of a shard, if it has it: all documents have the column `_id`
+abbrev pub columns_of : Target → List IndexDefinition → Option (List Steps)
+columns_of AllDocs definitions = Some all_columns
+columns_of (Index ddoc name) definitions = option_map (λ d. d.columns) (definition_at ddoc.now name.now definitions)
+
+-- what a scan is asked, but for the columns
+abbrev pub asked : NormalForm → Range → Option RowValue → ℕ → Direction → List Steps → Request
+asked normal range after count direction columns =
+    record { columns = columns; normal = normal; range = range; after = after; count = count; direction = direction }
+
+-- what a scan finds in a shard, by the columns of its target; nothing where the shard has no such index
+abbrev pub found_in : Target → (List Steps → Request) → ShardView → List RowValue
+found_in target request s = option_map_or (λ columns. scanned (request columns) (docs_of s.documents)) (columns_of target s.definitions) []
+
+-- the shards that are shared
+abbrev pub shards_seen : List (Arc ShardView Global) → List ShardView
+shards_seen shards = map arc_value shards

@@ -1,0 +1,63 @@
+-- Hits: rows that a scan found, each with its document.
+use Rattle.std.specs.Prelude.{◌≡◌, ℕ, List, Some, map}
+use Rattle.std.specs.FinMap.{get}
+use Rattle.std.specs.List.{AllByRecursion}
+use Rattle.std.specs.declared.cmp.Ordering.{Ordering}
+use Rattle.std.specs.Cmp.{IsTotalOrder, IsEquivalence, IsPartialEquivalence, IsPartialOrder, partial_equiv_from_equiv, partial_order_from_total}
+use Rattle.std.proofs.lemmas.Cmp.{on_total, eq_by_cmp_equiv}
+use Rattle.std.specs.Ordering.{on, eq_by_cmp, as_partial_cmp}
+use Rattle.mg_collate.specs.Row.{RowValue, row_value_order, row_value_order_total}
+use Rattle.mg_value.specs.Text.{compact}
+use Rattle.mg_value.specs.Value.{Value}
+use Rattle.mg_value.specs.View.{items_view, view}
+use Rattle.mg_scan.specs.declared.hit.Hit.{Hit}
+use Rattle.mg_shard.specs.Documents.{KeptDocuments, form_of, id_of, kept_of}
+use Rattle.mg_shard.specs.declared.document.Document.{Document}
+
+-- the row of a hit: its key, and the id of its document
+abbrev pub hit_row : Hit → RowValue
+hit_row h = (items_view h.key.now, id_of h.document.now)
+
+-- the rows of hits
+abbrev pub hit_rows : List Hit → List RowValue
+hit_rows hits = map hit_row hits
+
+-- the document of a hit
+abbrev pub hit_document : Hit → Document
+hit_document h = h.document.now
+
+-- the form in which it is served
+abbrev pub hit_form : Hit → Value
+hit_form h = view h.form.now
+
+-- the text of that form
+abbrev pub hit_text : Hit → List ℕ
+hit_text h = h.text.now
+
+-- the hit's document is the one that is kept of its id, and is served, in the form and with the text that the hit lends
+pub record IsHitOf (ds : KeptDocuments) (h : Hit) : Type 0 where
+  pub document : get ds (hit_row h).1 ≡ Some (kept_of (hit_document h))
+  pub form : form_of (hit_document h) ≡ Some (hit_form h)
+  pub text : hit_text h ≡ compact (hit_form h)
+
+-- each is such a hit
+abbrev pub AreHitsOf : KeptDocuments → List Hit → Type 0
+AreHitsOf ds hits = AllByRecursion (IsHitOf ds) hits
+
+-- the order of hits is that of their rows: by key, then by the bytes of the id
+abbrev pub hit_order : Hit → Hit → Ordering
+hit_order = on hit_row row_value_order
+
+-- ---- the laws that Rust's traits of comparison ask for
+
+pub hit_order_total : IsTotalOrder hit_order
+hit_order_total = on_total hit_row row_value_order_total
+
+pub hit_equivalence : IsEquivalence (eq_by_cmp hit_order)
+hit_equivalence = eq_by_cmp_equiv hit_order_total
+
+pub hit_eq_laws : IsPartialEquivalence (eq_by_cmp hit_order)
+hit_eq_laws = partial_equiv_from_equiv hit_equivalence
+
+pub hit_partial_laws : IsPartialOrder (eq_by_cmp hit_order) (as_partial_cmp hit_order)
+hit_partial_laws = partial_order_from_total hit_order_total

@@ -1,0 +1,41 @@
+-- What a scan finds in a shard: of the rows of an index, which are made of the documents as a JSON index of CouchDB has them, those of
+-- the documents that the selector holds of, in a range of keys, after a row, and no more than a number of them.
+use Rattle.std.specs.Prelude.{ℕ, List, [], ◌∷◌, Bool, true, ◌&&◌, codes, Option, Some, None, take, filter}
+use Rattle.std.specs.List.{filter_map}
+use Rattle.std.specs.Option.{option_map_or}
+use Rattle.std.specs.Ordering.{is_gt}
+use Rattle.mg_value.specs.Value.{item_list}
+use Rattle.mg_collate.specs.declared.direction.Direction.{Direction}
+use Rattle.mg_collate.specs.Row.{RowValue, directed_order}
+use Rattle.mg_collate.specs.Sorted.{sorted_rows}
+use Rattle.mg_index.specs.Definition.{Steps}
+use Rattle.mg_normal.specs.Normal.{NormalForm, normal_holds}
+use Rattle.mg_range.specs.Range.{Range}
+use Rattle.mg_range.specs.Place.{has_key}
+use Rattle.mg_shard.specs.Histories.{ServedDocument}
+use Rattle.mg_shard.specs.Rows.{row_of}
+
+-- what a scan is asked: the columns of the index, which documents, which keys, after which row, how many rows, and in which direction
+pub record Request : Type 0 where
+  pub columns : List Steps
+  pub normal : NormalForm
+  pub range : Range
+  pub after : Option RowValue
+  pub count : ℕ
+  pub direction : Direction
+
+-- the row comes after another in a direction; after none where there is none
+abbrev pub comes_after : Direction → Option RowValue → RowValue → Bool
+comes_after direction after r = option_map_or (λ p. is_gt (directed_order direction r p)) after true
+
+-- the row's key is in the range, and the row comes after the one that is named
+abbrev pub is_wanted : Request → RowValue → Bool
+is_wanted q r = has_key q.range (item_list r.0) && comes_after q.direction q.after r
+
+-- the documents that the selector holds of
+abbrev pub asked_documents : Request → List ServedDocument → List ServedDocument
+asked_documents q ds = filter (λ d. normal_holds q.normal (Some d.1)) ds
+
+-- what a scan of a shard with these documents finds
+abbrev pub scanned : Request → List ServedDocument → List RowValue
+scanned q ds = take q.count (filter (is_wanted q) (sorted_rows q.direction (filter_map (row_of q.columns) (asked_documents q ds))))

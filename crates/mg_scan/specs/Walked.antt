@@ -1,0 +1,67 @@
+-- For private clauses: where a search begins among rows that are in order, where it ends, and what it finds on the way.
+use Rattle.std.specs.Prelude.{ℕ, zero, suc, Bool, true, false, not, ◌&&◌, List, [], ◌∷◌, Option, Some, None, if◌then◌else◌}
+use Rattle.std.specs.Option.{option_map_or}
+use Rattle.std.specs.Ordering.{is_gt}
+use Rattle.std.specs.declared.cmp.Ordering.{Ordering}
+use Rattle.std.specs.declared.cmp.Ordering.TheVariants.{Less, Greater}
+use Rattle.mg_collate.specs.Direction.{directed}
+use Rattle.mg_collate.specs.declared.direction.Direction.{Direction}
+use Rattle.mg_collate.specs.declared.direction.Direction.TheVariants.{Asc, Desc}
+use Rattle.mg_collate.specs.Row.{RowValue}
+use Rattle.mg_normal.specs.Normal.{NormalForm, normal_holds}
+use Rattle.mg_range.specs.Place.{place_of}
+use Rattle.mg_range.specs.Range.{Range}
+use Rattle.mg_range.specs.declared.place.Place.{Place}
+use Rattle.mg_range.specs.declared.place.Place.TheVariants.{Before, Past}
+use Rattle.mg_scan.specs.Scan.{Request, comes_after}
+use Rattle.mg_shard.specs.Documents.{KeptDocuments, form_at}
+use Rattle.mg_value.specs.Value.{item, item_list, no_items, text}
+
+-- a key of this place comes before the range in a direction
+abbrev pub is_early : Direction → Place → Bool
+is_early Asc Before = true
+is_early Asc place = false
+is_early Desc Past = true
+is_early Desc place = false
+
+-- a key of this place comes after the range in a direction
+abbrev pub is_late : Direction → Place → Bool
+is_late Asc Past = true
+is_late Asc place = false
+is_late Desc Before = true
+is_late Desc place = false
+
+-- something that stands so to the row after which a search begins comes after it, if there is one
+abbrev pub is_beyond : Direction → Option Ordering → Bool
+is_beyond direction order = option_map_or (λ o. is_gt (directed direction o)) order true
+
+-- what stands so to a range, and to the row after which a search begins, is among what the search looks at, or comes later
+abbrev pub reaches : Direction → Place → Option Ordering → Bool
+reaches direction place order = not (is_early direction place) && is_beyond direction order
+
+-- where a search begins, against something that stands so
+abbrev pub begin_order : Direction → Place → Option Ordering → Ordering
+begin_order direction place order = directed direction (if reaches direction place order then Less else Greater)
+
+-- the row comes after the range in a direction
+abbrev pub is_late_row : Direction → Range → RowValue → Bool
+is_late_row direction range r = is_late direction (place_of range (item_list r.0))
+
+-- the selector holds of the document of an id, which is there and served
+abbrev pub holds_at : NormalForm → KeptDocuments → List ℕ → Bool
+holds_at normal ds id = option_map_or (λ form. normal_holds normal (Some form)) (form_at ds id) false
+
+-- of rows in order the first so many that hold, up to the first that is late
+abbrev pub walked : (RowValue → Bool) → (RowValue → Bool) → ℕ → List RowValue → List RowValue
+walked late holds zero rows = []
+walked late holds (suc n) [] = []
+walked late holds (suc n) (r ∷ rows) = if late r then [] else if holds r then r ∷ walked late holds n rows else walked late holds (suc n) rows
+
+-- the row of an id among all documents
+abbrev pub id_row : List ℕ → RowValue
+id_row id = (item (text id) no_items, id)
+
+-- what may be there, as a list
+abbrev pub listed : {X : Type 0} → Option X → List X
+listed None = []
+listed (Some x) = x ∷ []

@@ -1,0 +1,28 @@
+-- For private clauses: what workers hand over.
+use Rattle.std.specs.Prelude.{◌≡◌, ℕ, List, Option, Some, slice_get}
+use Rattle.std.specs.List.{AllByRecursion}
+use Rattle.std.specs.declared.alloc.Global.{Global}
+use Rattle.std.specs.declared.vec.Vec.{Vec}
+use Rattle.mg_scan.specs.Hit.{AreHitsOf, hit_rows}
+use Rattle.mg_scan.specs.Search.{found_by}
+use Rattle.mg_scan.specs.declared.hit.Hit.{Hit}
+use Rattle.mg_scan.specs.declared.search.Search.{Search}
+use Rattle.mg_scan.specs.declared.workers.Done.{Done}
+use Rattle.mg_shard.specs.Shard.{ShardView}
+
+-- the hits are what the search finds in the shard, with their documents
+pub record Gives (search : Search) (s : ShardView) (hits : List Hit) : Type 0 where
+  pub rows : hit_rows hits ≡ found_by search s
+  pub documents : AreHitsOf s.documents hits
+
+-- they are what it finds in the i-th shard
+pub record Answers (search : Search) (shards : List ShardView) (i : ℕ) (hits : List Hit) : Type 0 where
+  pub gives : (s : ShardView) → slice_get shards i ≡ Some s → Gives search s hits
+
+-- each piece of work has the hits of its shard
+abbrev pub AllDone : Search → List ShardView → List Done → Type 0
+AllDone search shards ds = AllByRecursion (λ d. Answers search shards d.shard d.hits.items) ds
+
+-- a full slot has the hits of its shard
+abbrev pub AllSlots : Search → List ShardView → List (Option (Vec Hit Global)) → Type 0
+AllSlots search shards slots = (i : ℕ) (v : Vec Hit Global) → slice_get slots i ≡ Some (Some v) → Answers search shards i v.items

@@ -1,0 +1,192 @@
+//! Indexes built over shards, their keys extracted in parallel.
+ghost use Rattle.std.specs.Prelude.{◌≡◌, ◌+◌, ◌^◌, ◌<◌, ◌≤◌, Some, length, map, slice_get, vec_len, IfOk};
+ghost use Rattle.mg_scan.specs.Built.{AreRowsAt, AreRowsFrom, HasRowsAt, with_index};
+ghost use Rattle.mg_scan.specs.Found.{shards_seen};
+
+use crate::gate::{Gate, Place};
+use mg_collate::Row;
+use mg_index::IndexDef;
+use mg_shard::Shard;
+use mg_value::NoMemory;
+use std::alloc::{AllocError, Global};
+use std::mem::replace;
+use std::sync::Arc;
+use std::thread;
+use std::thread::Threads;
+
+// The rows that the index has in the i-th shard, between two passes of the gate.
+fn rows_at<G: Gate>(
+    alloc: Global,
+    shards: &[Arc<Shard>],
+    definition: &IndexDef,
+    i: usize,
+    gate: &G,
+) -> Result<Vec<Row>, NoMemory>
+    requires { i < length shards.now }
+    ensures { HasRowsAt definition.now (shards_seen shards.now) i result }
+{
+    gate.at(Place::ShardBegun(i));
+    let shard: &Shard = &shards[i];
+    let rows = shard.rows_for(alloc, definition)?;
+    gate.at(Place::ShardDone(i));
+    Ok(rows)
+}
+
+// The rows that the index has in each shard, extracted here.
+fn extracted_here<G: Gate>(
+    alloc: Global,
+    shards: &[Arc<Shard>],
+    definition: &IndexDef,
+    gate: &G,
+) -> Result<Vec<Result<Vec<Row>, NoMemory>>, NoMemory>
+    ensures rows { IfOk result (λ v. AreRowsAt definition.now (shards_seen shards.now) v.items) }
+    ensures len { IfOk result (λ v. vec_len v ≡ length shards.now) }
+{
+    let mut all = Vec::new(alloc);
+    for i in 0..shards.len() {
+        let rows = rows_at(alloc, shards, definition, i, gate);
+        all.push(rows)?;
+    }
+    Ok(all)
+}
+
+// The rows that the index has in so many shards from a place on, extracted by a thread each.
+fn extracted_at_once<R: Threads + Sync, G: Gate + Sync>(
+    rt: &R,
+    alloc: Global,
+    shards: &[Arc<Shard>],
+    definition: &IndexDef,
+    from: usize,
+    count: usize,
+    gate: &G,
+) -> Result<Vec<Result<Vec<Row>, NoMemory>>, AllocError>
+    requires { from + count ≤ length shards.now }
+    ensures rows { IfOk result (λ v. AreRowsFrom definition.now (shards_seen shards.now) from v.items) }
+    ensures len { IfOk result (λ v. vec_len v ≡ count) }
+{
+    let rows = thread::map_indices(
+        rt,
+        alloc,
+        count,
+        &|k: usize| -> Result<Vec<Row>, NoMemory>
+            requires { (from + k < length shards.now) × (from + k < 2 ^ 64) }
+            ensures { HasRowsAt definition.entry.now (shards_seen shards.entry.now) (from + k) result }
+        { rows_at(alloc, shards, definition, from + k, gate) },
+    )?;
+    Ok(rows)
+}
+
+// The rows that the index has in each shard, extracted by so many threads at a time.
+fn extracted_by_threads<R: Threads + Sync, G: Gate + Sync>(
+    rt: &R,
+    alloc: Global,
+    shards: &[Arc<Shard>],
+    definition: &IndexDef,
+    workers: usize,
+    gate: &G,
+) -> Result<Vec<Result<Vec<Row>, NoMemory>>, NoMemory>
+    requires { 0 < workers }
+    ensures rows { IfOk result (λ v. AreRowsAt definition.now (shards_seen shards.now) v.items) }
+    ensures len { IfOk result (λ v. vec_len v ≡ length shards.now) }
+{
+    let mut all = Vec::new(alloc);
+    while all.len() < shards.len() {
+        let from = all.len();
+        let count = workers.min(shards.len() - from);
+        let mut more = extracted_at_once(rt, alloc, shards, definition, from, count, gate)?;
+        all.append(&mut more)?;
+    }
+    Ok(all)
+}
+
+// The rows that the index has in each shard, extracted here or by threads.
+fn extracted<R: Threads + Sync, G: Gate + Sync>(
+    rt: &R,
+    alloc: Global,
+    shards: &[Arc<Shard>],
+    definition: &IndexDef,
+    workers: usize,
+    gate: &G,
+) -> Result<Vec<Result<Vec<Row>, NoMemory>>, NoMemory>
+    ensures rows { IfOk result (λ v. AreRowsAt definition.now (shards_seen shards.now) v.items) }
+    ensures len { IfOk result (λ v. vec_len v ≡ length shards.now) }
+{
+    if workers < 2 || shards.len() < 2 {
+        return extracted_here(alloc, shards, definition, gate);
+    }
+    extracted_by_threads(rt, alloc, shards, definition, workers, gate)
+}
+
+// The shard with the index of these rows.
+fn with_these(
+    alloc: Global,
+    shards: &[Arc<Shard>],
+    definition: &IndexDef,
+    i: usize,
+    rows: Result<Vec<Row>, NoMemory>,
+) -> Result<Shard, NoMemory>
+    requires inside { i < length shards.now }
+    requires rows { HasRowsAt definition.now (shards_seen shards.now) i rows }
+    ensures { IfOk result (λ s. slice_get (map (with_index definition.now) (shards_seen shards.now)) i ≡ Some s) }
+{
+    let shard: &Shard = &shards[i];
+    Ok(shard.with_rows(alloc, definition, rows?)?)
+}
+
+// What was extracted of the i-th shard, which then gives way to a refusal.
+fn taken(
+    given: &mut Vec<Result<Vec<Row>, NoMemory>>,
+    i: usize,
+    shards: &[Arc<Shard>],
+    definition: &IndexDef,
+) -> Result<Vec<Row>, NoMemory>
+    requires inside { i < vec_len given.old }
+    requires given { AreRowsAt definition.now (shards_seen shards.now) given.old.items }
+    ensures rows { HasRowsAt definition.now (shards_seen shards.now) i result }
+    ensures given { AreRowsAt definition.now (shards_seen shards.now) given.new.items }
+    ensures len { vec_len given.new ≡ vec_len given.old }
+{
+    let _ = (shards.len(), definition.columns().len());
+    replace(&mut given[i], Err(NoMemory))
+}
+
+// The shards, each with the index of these rows.
+fn with_all(
+    alloc: Global,
+    shards: &[Arc<Shard>],
+    definition: &IndexDef,
+    given: Vec<Result<Vec<Row>, NoMemory>>,
+) -> Result<Vec<Shard>, NoMemory>
+    requires rows { AreRowsAt definition.now (shards_seen shards.now) given.items }
+    requires len { vec_len given ≡ length shards.now }
+    ensures { IfOk result (λ v. v.items ≡ map (with_index definition.now) (shards_seen shards.now)) }
+{
+    let mut built = Vec::new(alloc);
+    let mut given = given;
+    for i in 0..shards.len() {
+        let rows = taken(&mut given, i, shards, definition);
+        let shard = with_these(alloc, shards, definition, i, rows)?;
+        built.push(shard)?;
+    }
+    Ok(built)
+}
+
+/// The shards, each with an index of this definition, instead of one of its design document and name: what `Shard::with_index` makes of
+/// each, for every number of workers, from 1 to 32, and for every gate. One worker starts no thread.
+///
+/// The gate is passed before a shard's first document is read and after its last row is made.
+/// Errors: `NoMemory` where a growth was refused. Cost: each document once, and its row to its place.
+pub fn build<R: Threads + Sync, G: Gate + Sync>(
+    rt: &R,
+    alloc: Global,
+    shards: &[Arc<Shard>],
+    definition: &IndexDef,
+    workers: usize,
+    gate: &G,
+) -> Result<Vec<Shard>, NoMemory>
+    requires { (0 < workers) × (workers ≤ 32) }
+    ensures { IfOk result (λ v. v.items ≡ map (with_index definition.now) (shards_seen shards.now)) }
+{
+    let given = extracted(rt, alloc, shards, definition, workers, gate)?;
+    with_all(alloc, shards, definition, given)
+}

@@ -1,0 +1,24 @@
+/// Where a query or a build passes its gate.
+#[derive(Clone, Copy, PartialEq, Eq, Debug)]
+pub enum Place {
+    /// The snapshot is taken.
+    Snapshot,
+    /// A shard's first row comes next. Shards are counted from 0.
+    ShardBegun(usize),
+    /// A shard's last row has come.
+    ShardDone(usize),
+}
+
+/// What is passed at places, for tests: a gate may count them, and may wait there.
+pub trait Gate {
+    /// Passes a place.
+    fn at(&self, place: Place);
+}
+
+/// The gate that does nothing.
+#[derive(Clone, Copy, Drop, Debug)]
+pub struct NoGate;
+
+impl Gate for NoGate {
+    fn at(&self, _place: Place) {}
+}

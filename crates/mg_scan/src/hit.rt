@@ -1,0 +1,125 @@
+//! Rows that a scan found, each with its document, all lent.
+ghost use Rattle.std.specs.Prelude.{◌≡◌, IfOk};
+ghost use Rattle.mg_collate.specs.Row.{row_view};
+ghost use Rattle.mg_value.specs.View.{items_view, view};
+ghost use Rattle.mg_scan.specs.Hit.{hit_document, hit_form, hit_row, hit_text};
+
+use mg_collate::{Row, compare_keys};
+use mg_merge::Ranked;
+use mg_shard::Document;
+use mg_value::{Json, NoMemory, copy_items};
+use std::alloc::Global;
+use std::cmp::Ordering;
+
+/// A row that a scan found, and its document, lent by a shard. Hits are ordered by key, then by the bytes of the id.
+#[derive(Clone, Copy, Drop)]
+pub struct Hit<'a> {
+    pub(crate) key: &'a [Json],
+    pub(crate) document: &'a Document,
+    pub(crate) form: &'a Json,
+    pub(crate) text: &'a [u8],
+}
+
+impl<'a> Hit<'a> {
+    /// The row's key. Takes no memory.
+    pub fn key(&self) -> &'a [Json]
+        ensures { items_view result.now ≡ (hit_row self.now).0 }
+    {
+        self.key
+    }
+
+    /// The id of its document. Takes no memory.
+    pub fn id(&self) -> &'a str
+        ensures { result.now ≡ (hit_row self.now).1 }
+    {
+        self.document.id()
+    }
+
+    /// Its document. Takes no memory.
+    pub fn document(&self) -> &'a Document
+        ensures { result.now ≡ hit_document self.now }
+    {
+        self.document
+    }
+
+    /// The form in which the document is served. Takes no memory.
+    pub fn form(&self) -> &'a Json
+        ensures { view result.now ≡ hit_form self.now }
+    {
+        self.form
+    }
+
+    /// The compact text of that form. Takes no memory.
+    pub fn text(&self) -> &'a [u8]
+        ensures { result.now ≡ hit_text self.now }
+    {
+        self.text
+    }
+
+    /// A row of its own. Errors: `NoMemory` where a growth was refused. Cost: the size of the row.
+    pub fn row(&self, alloc: Global) -> Result<Row, NoMemory>
+        ensures { IfOk result (λ row. row_view row ≡ hit_row self.now) }
+    {
+        Ok(Row {
+            key: copy_items(alloc, self.key)?,
+            id: String::from_str(alloc, self.document.id())?,
+        })
+    }
+}
+
+impl<'a> PartialEq for Hit<'a> {
+    ghost use Rattle.std.specs.Ordering.{eq_by_cmp};
+    ghost use Rattle.mg_scan.specs.Hit.{hit_order, hit_eq_laws};
+
+    ghost eq = { eq_by_cmp hit_order };
+
+    ghost laws = { hit_eq_laws };
+
+    fn eq(&self, other: &Hit<'a>) -> bool {
+        self.cmp(other) == Ordering::Equal
+    }
+}
+
+impl<'a> Eq for Hit<'a> {
+    ghost use Rattle.mg_scan.specs.Hit.{hit_equivalence};
+
+    ghost laws = { hit_equivalence };
+}
+
+impl<'a> PartialOrd for Hit<'a> {
+    ghost use Rattle.std.specs.Ordering.{as_partial_cmp};
+    ghost use Rattle.mg_scan.specs.Hit.{hit_order, hit_partial_laws};
+
+    ghost partial_cmp = { as_partial_cmp hit_order };
+
+    ghost laws = { hit_partial_laws };
+
+    fn partial_cmp(&self, other: &Hit<'a>) -> Option<Ordering> {
+        Some(self.cmp(other))
+    }
+}
+
+impl<'a> Ord for Hit<'a> {
+    ghost use Rattle.std.proofs.Common.{refl};
+    ghost use Rattle.mg_scan.specs.Hit.{hit_order, hit_order_total};
+
+    ghost cmp = { hit_order };
+
+    ghost total = { hit_order_total };
+
+    ghost matches_partial_cmp = { λ _ _. refl };
+
+    ghost matches_eq = { λ _ _. refl };
+
+    fn cmp(&self, other: &Hit<'a>) -> Ordering {
+        compare_keys(self.key, other.key).then(self.document.id().cmp(other.document.id()))
+    }
+}
+
+impl<'a> Ranked for Hit<'a> {
+    ghost row_of = { hit_row };
+
+    fn order(&self, other: &Hit<'a>) -> Ordering {
+        self.cmp(other)
+    }
+}

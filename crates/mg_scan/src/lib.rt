@@ -1,0 +1,18 @@
+//! Scans: what shards have in an index within a range of keys, and indexes built over shards, by scoped workers.
+#![tactic(auto)]
+
+mod begin;
+mod building;
+pub mod gate;
+mod hit;
+mod scanning;
+mod search;
+mod shard;
+pub mod target;
+mod workers;
+
+pub use building::build;
+pub use gate::{Gate, NoGate, Place};
+pub use hit::Hit;
+pub use scanning::{scan, scan_lent};
+pub use target::Target;

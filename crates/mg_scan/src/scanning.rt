@@ -1,0 +1,109 @@
+//! Scans of shards by scoped workers.
+ghost use Rattle.std.specs.Prelude.{◌≡◌, ◌<◌, ◌≤◌, map, option_map, IfOk};
+ghost use Rattle.std.specs.List.{AllZip};
+ghost use Rattle.mg_collate.specs.Row.{row_view, rows_view};
+ghost use Rattle.mg_scan.specs.Found.{asked, found_in, shards_seen};
+ghost use Rattle.mg_scan.specs.Hit.{AreHitsOf, hit_rows};
+
+use crate::gate::Gate;
+use crate::hit::Hit;
+use crate::search::Search;
+use crate::target::Target;
+use crate::workers::{finish, gather, work};
+use mg_collate::{Direction, Row};
+use mg_normal::Normal;
+use mg_range::KeyRange;
+use mg_shard::Shard;
+use mg_value::NoMemory;
+use std::alloc::Global;
+use std::sync::Arc;
+use std::sync::atomic::AtomicU64;
+use std::thread;
+use std::thread::Threads;
+
+/// The hits of each shard, in the order of the shards: in the target's rows that the direction lists strictly after the row, if one is
+/// named, those whose key is in the range and of whose document the selector holds, the first `take` of them, in the direction's order.
+/// What they are is the same for every number of workers, from 1 to 32, and for every gate. One worker, or one shard, starts no thread.
+///
+/// The gate is passed before a shard's first row is read and after its last.
+/// Errors: `NoMemory` where a growth was refused. Cost: in each shard one look-up of where to begin, then for each row that is
+/// read a look-up of its document and the selector on it; the hits, which are lent.
+pub fn scan_lent<'a, R: Threads + Sync, G: Gate + Sync>(
+    rt: &R,
+    alloc: Global,
+    shards: &'a [Arc<Shard>],
+    target: Target<'_>,
+    normal: &Normal,
+    range: &KeyRange,
+    after: Option<&Row>,
+    take: usize,
+    direction: Direction,
+    workers: usize,
+    gate: &G,
+) -> Result<Vec<Vec<Hit<'a>>>, NoMemory>
+    requires { (0 < workers) × (workers ≤ 32) }
+    ensures rows { IfOk result (λ lists. map (λ hits. hit_rows hits.items) lists.items
+        ≡ map (found_in target.entry (asked normal.now range.now (option_map (λ r. row_view r.now) after.entry) take direction)) (shards_seen shards.now)) }
+    ensures hits { IfOk result (λ lists. AllZip (λ s hits. AreHitsOf s.documents hits.items) (shards_seen shards.now) lists.items) }
+{
+    let search = Search {
+        target,
+        normal,
+        range,
+        after,
+        take,
+        direction,
+    };
+    let next = AtomicU64::new(0);
+    let given = thread::map_indices(
+        rt,
+        alloc,
+        workers.min(shards.len()),
+        &|_worker| work(alloc, shards, search, &next, gate),
+    )?;
+    let slots = gather(alloc, given, shards, search)?;
+    let lists = finish(alloc, slots, shards, search, gate)?;
+    Ok(lists)
+}
+
+/// The same rows, copied.
+///
+/// Errors: `NoMemory` where a growth was refused. Cost: as of `scan_lent`, and the size of the rows.
+pub fn scan<R: Threads + Sync, G: Gate + Sync>(
+    rt: &R,
+    alloc: Global,
+    shards: &[Arc<Shard>],
+    target: Target<'_>,
+    normal: &Normal,
+    range: &KeyRange,
+    after: Option<&Row>,
+    take: usize,
+    direction: Direction,
+    workers: usize,
+    gate: &G,
+) -> Result<Vec<Vec<Row>>, NoMemory>
+    requires { (0 < workers) × (workers ≤ 32) }
+    ensures { IfOk result (λ lists. map (λ rows. rows_view rows.items) lists.items
+        ≡ map (found_in target.entry (asked normal.now range.now (option_map (λ r. row_view r.now) after.entry) take direction)) (shards_seen shards.now)) }
+{
+    let found = scan_lent(
+        rt, alloc, shards, target, normal, range, after, take, direction, workers, gate,
+    )?;
+    let mut lists = Vec::with_capacity(alloc, found.len())?;
+    for hits in &found {
+        let rows = rows_of(alloc, hits)?;
+        lists.push(rows)?;
+    }
+    Ok(lists)
+}
+
+// Copies of the rows of hits.
+fn rows_of(alloc: Global, hits: &[Hit<'_>]) -> Result<Vec<Row>, NoMemory>
+    ensures { IfOk result (λ rows. rows_view rows.items ≡ hit_rows hits.now) }
+{
+    let mut rows = Vec::with_capacity(alloc, hits.len())?;
+    for hit in hits {
+        rows.push(hit.row(alloc)?)?;
+    }
+    Ok(rows)
+}

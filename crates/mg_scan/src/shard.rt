@@ -1,0 +1,166 @@
+//! The search of one shard.
+ghost use Rattle.std.specs.Prelude.{◌≡◌, ◌||◌, ◌++◌, [], nat_le, false, Some, None, map, option_map, string_bytes, IfOk, IfSome, OnOk, if◌then◌else◌};
+ghost use Rattle.std.specs.FinMap.{get};
+ghost use Rattle.std.specs.List.{AllByRecursion};
+ghost use Rattle.std.specs.Option.{option_map_or};
+ghost use Rattle.mg_collate.specs.Row.{row_view, rows_view};
+ghost use Rattle.mg_normal.specs.Normal.{normal_holds};
+ghost use Rattle.mg_range.specs.Place.{place_of};
+ghost use Rattle.mg_value.specs.View.{items_view, view};
+ghost use Rattle.mg_index.specs.Catalog.{definition_at};
+ghost use Rattle.mg_shard.specs.Documents.{KeptDocuments, docs_of, entry_of, form_of, id_of, kept_of};
+ghost use Rattle.mg_shard.specs.Own.{all_columns};
+ghost use Rattle.mg_scan.specs.Hit.{AreHitsOf, IsHitOf, hit_row, hit_rows};
+ghost use Rattle.mg_scan.specs.Scan.{scanned};
+ghost use Rattle.mg_scan.specs.Search.{asked_by, entry_rows, walked_by};
+ghost use Rattle.mg_scan.specs.Walked.{holds_at, is_late as stands_late, listed};
+ghost use Rattle.mg_scan.specs.Worked.{Gives};
+
+use crate::begin::Begin;
+use crate::hit::Hit;
+use crate::search::{Search, is_late};
+use crate::target::Target;
+use mg_collate::Row;
+use mg_normal::Normal;
+use mg_shard::{Document, Documents, Rows, Shard};
+use mg_value::{Json, NoMemory};
+use std::alloc::Global;
+
+// The hit of a document at a key, if it is served and the selector holds of it.
+fn hit_of<'a>(key: &'a [Json], document: &'a Document, normal: &Normal) -> Option<Hit<'a>>
+    ensures row { option_map hit_row result
+        ≡ if option_map_or (λ form. normal_holds normal.now (Some form)) (form_of document.now) false then Some (items_view key.now, id_of document.now) else None }
+    ensures lent { (ds : KeptDocuments) → get ds (id_of document.now) ≡ Some (kept_of document.now) → IfSome result (IsHitOf ds) }
+{
+    let form = document.form()?;
+    let text = document.text()?;
+    if !normal.holds(form) {
+        return None;
+    }
+    Some(Hit {
+        key,
+        document,
+        form,
+        text,
+    })
+}
+
+// The hit of a row, if the selector holds of its document.
+fn hit_at<'a>(shard: &'a Shard, row: &'a Row, normal: &Normal) -> Option<Hit<'a>>
+    ensures row { option_map hit_row result ≡ if holds_at normal.now shard.now.documents (string_bytes row.now.id) then Some (row_view row.now) else None }
+    ensures lent { IfSome result (IsHitOf shard.now.documents) }
+{
+    let document = shard.document(&row.id)?;
+    hit_of(&row.key, document, normal)
+}
+
+// Whether a search that has found so many looks no further than a row of this key.
+fn is_over(search: Search<'_>, found: usize, key: &[Json]) -> bool
+    ensures { result ≡ nat_le search.entry.take found || stands_late search.entry.direction (place_of search.entry.range.now (map view key.now)) }
+{
+    found >= search.take || is_late(search.direction, search.range.place(key))
+}
+
+// Puts a hit behind the others, if there is one.
+fn push_if<'a>(hits: &mut Vec<Hit<'a>>, hit: Option<Hit<'a>>) -> Result<(), NoMemory>
+    ensures { OnOk result (hits.new.items ≡ hits.old.items ++ listed hit.entry) }
+{
+    if let Some(hit) = hit {
+        hits.push(hit)?;
+    }
+    Ok(())
+}
+
+// The hits among rows of an index that begin where the search does.
+fn hits_of_rows<'a>(
+    alloc: Global,
+    shard: &'a Shard,
+    rows: Rows<'a>,
+    search: Search<'_>,
+) -> Result<Vec<Hit<'a>>, NoMemory>
+    ensures rows { IfOk result (λ v. hit_rows v.items ≡ walked_by search.entry shard.now.documents search.entry.take (rows_view rows.entry)) }
+    ensures documents { IfOk result (λ v. AreHitsOf shard.now.documents v.items) }
+{
+    let mut hits = Vec::new(alloc);
+    for row in rows {
+        if is_over(search, hits.len(), &row.key) {
+            return Ok(hits);
+        }
+        push_if(&mut hits, hit_at(shard, row, search.normal))?;
+    }
+    Ok(hits)
+}
+
+// The hits among documents that begin where the search does.
+fn hits_of_documents<'a>(
+    alloc: Global,
+    shard: &'a Shard,
+    documents: Documents<'a>,
+    search: Search<'_>,
+) -> Result<Vec<Hit<'a>>, NoMemory>
+    requires { AllByRecursion (λ d. get shard.now.documents (id_of d) ≡ Some (kept_of d)) documents }
+    ensures rows { IfOk result (λ v. hit_rows v.items ≡ walked_by search.entry shard.now.documents search.entry.take (entry_rows (map entry_of documents.entry))) }
+    ensures documents { IfOk result (λ v. AreHitsOf shard.now.documents v.items) }
+{
+    let _ = shard;
+    let mut hits = Vec::new(alloc);
+    for document in documents {
+        let Some(key) = document.id_key() else {
+            continue;
+        };
+        if is_over(search, hits.len(), key) {
+            return Ok(hits);
+        }
+        push_if(&mut hits, hit_of(key, document, search.normal))?;
+    }
+    Ok(hits)
+}
+
+// What the search of all documents finds in a shard.
+fn hits_of_all<'a>(
+    alloc: Global,
+    shard: &'a Shard,
+    search: Search<'_>,
+) -> Result<Vec<Hit<'a>>, NoMemory>
+    ensures rows { IfOk result (λ v. hit_rows v.items ≡ scanned (asked_by search.entry all_columns) (docs_of shard.now.documents)) }
+    ensures documents { IfOk result (λ v. AreHitsOf shard.now.documents v.items) }
+{
+    shard.ids_are_own();
+    let documents = shard.documents_beyond(&Begin { search }, search.direction);
+    Ok(hits_of_documents(alloc, shard, documents, search)?)
+}
+
+// What the search of an index finds in a shard, and nothing where the shard has no such index.
+fn hits_of_index<'a>(
+    alloc: Global,
+    shard: &'a Shard,
+    ddoc: &str,
+    name: &str,
+    search: Search<'_>,
+) -> Result<Vec<Hit<'a>>, NoMemory>
+    ensures rows { IfOk result (λ v. hit_rows v.items
+        ≡ option_map_or (λ d. scanned (asked_by search.entry d.columns) (docs_of shard.now.documents)) (definition_at ddoc.now name.now shard.now.definitions) []) }
+    ensures documents { IfOk result (λ v. AreHitsOf shard.now.documents v.items) }
+{
+    match shard.rows_beyond(ddoc, name, &Begin { search }, search.direction) {
+        Some(rows) => Ok(hits_of_rows(alloc, shard, rows, search)?),
+        None => Ok(Vec::new(alloc)),
+    }
+}
+
+/// What the search finds in a shard.
+///
+/// Errors: `NoMemory` where a growth was refused. Cost: one look-up of where to begin, then for each row a look-up of its document, and
+/// the selector on it.
+pub(crate) fn hits_in<'a>(
+    alloc: Global,
+    shard: &'a Shard,
+    search: Search<'_>,
+) -> Result<Vec<Hit<'a>>, NoMemory>
+    ensures { IfOk result (λ v. Gives search.entry shard.now v.items) }
+{
+    match search.target {
+        Target::AllDocs => Ok(hits_of_all(alloc, shard, search)?),
+        Target::Index { ddoc, name } => Ok(hits_of_index(alloc, shard, ddoc, name, search)?),
+    }
+}

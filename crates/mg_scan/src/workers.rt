@@ -1,0 +1,178 @@
+//! Workers that claim shards, and what is made of what they hand over: the same for any claims.
+ghost use Rattle.std.specs.Prelude.{◌≡◌, ◌<◌, length, vec_len, All, IfOk, IfSome};
+ghost use Rattle.std.specs.List.{AllZip};
+ghost use Rattle.mg_scan.specs.Found.{shards_seen};
+ghost use Rattle.mg_scan.specs.Worked.{AllDone, AllSlots, Answers, Gives};
+
+use crate::gate::{Gate, Place};
+use crate::hit::Hit;
+use crate::search::Search;
+use crate::shard::hits_in;
+use mg_shard::Shard;
+use mg_value::NoMemory;
+use std::alloc::Global;
+use std::sync::Arc;
+use std::sync::atomic::{AtomicU64, Ordering};
+
+/// The hits of one shard.
+#[derive(Drop)]
+pub(crate) struct Done<'a> {
+    pub(crate) shard: usize,
+    pub(crate) hits: Vec<Hit<'a>>,
+}
+
+// The hits of the i-th shard, between two passes of the gate.
+fn one<'a, G: Gate>(
+    alloc: Global,
+    shards: &'a [Arc<Shard>],
+    search: Search<'_>,
+    i: usize,
+    gate: &G,
+) -> Result<Vec<Hit<'a>>, NoMemory>
+    requires { i < length shards.now }
+    ensures { IfOk result (λ v. Answers search.entry (shards_seen shards.now) i v.items) }
+{
+    gate.at(Place::ShardBegun(i));
+    let shard: &Shard = &shards[i];
+    let hits = hits_in(alloc, shard, search)?;
+    gate.at(Place::ShardDone(i));
+    Ok(hits)
+}
+
+/// Claims shards until none is left, and hands over the hits of each.
+pub(crate) fn work<'a, G: Gate>(
+    alloc: Global,
+    shards: &'a [Arc<Shard>],
+    search: Search<'_>,
+    next: &AtomicU64,
+    gate: &G,
+) -> Result<Vec<Done<'a>>, NoMemory>
+    ensures { IfOk result (λ v. AllDone search.entry (shards_seen shards.now) v.items) }
+{
+    let mut all = Vec::new(alloc);
+    for _turn in 0..shards.len() {
+        let claimed = next.fetch_add(1, Ordering::SeqCst);
+        if claimed >= shards.len() as u64 {
+            break;
+        }
+        let shard = claimed as usize;
+        let hits = one(alloc, shards, search, shard, gate)?;
+        all.push(Done { shard, hits })?;
+    }
+    Ok(all)
+}
+
+// Puts the hits of each piece of work into the slot of its shard. A second list of a shard takes the place of the first.
+fn fill<'a>(
+    slots: &mut Vec<Option<Vec<Hit<'a>>>>,
+    given: Vec<Done<'a>>,
+    shards: &[Arc<Shard>],
+    search: Search<'_>,
+)
+    requires given { AllDone search (shards_seen shards.now) given.items }
+    requires slots { AllSlots search (shards_seen shards.now) slots.old.items }
+    ensures slots { AllSlots search.entry (shards_seen shards.now) slots.new.items }
+    ensures len { vec_len slots.new ≡ vec_len slots.old }
+{
+    let _ = (shards.len(), search.take);
+    let mut given = given;
+    while let Some(Done { shard, hits }) = given.pop() {
+        if shard < slots.len() {
+            slots[shard] = Some(hits);
+        }
+    }
+}
+
+// Empty slots, one for each shard.
+fn empty_slots<'a>(
+    alloc: Global,
+    shards: &[Arc<Shard>],
+    search: Search<'_>,
+) -> Result<Vec<Option<Vec<Hit<'a>>>>, NoMemory>
+    ensures slots { IfOk result (λ v. AllSlots search.entry (shards_seen shards.now) v.items) }
+    ensures len { IfOk result (λ v. vec_len v ≡ length shards.now) }
+{
+    let _ = search.take;
+    let mut slots = Vec::new(alloc);
+    for _slot in 0..shards.len() {
+        slots.push(None)?;
+    }
+    Ok(slots)
+}
+
+/// The slots that the workers filled, one for each shard.
+pub(crate) fn gather<'a>(
+    alloc: Global,
+    given: Vec<Result<Vec<Done<'a>>, NoMemory>>,
+    shards: &[Arc<Shard>],
+    search: Search<'_>,
+) -> Result<Vec<Option<Vec<Hit<'a>>>>, NoMemory>
+    requires { All (λ r. IfOk r (λ v. AllDone search (shards_seen shards.now) v.items)) given.items }
+    ensures slots { IfOk result (λ v. AllSlots search.entry (shards_seen shards.now) v.items) }
+    ensures len { IfOk result (λ v. vec_len v ≡ length shards.now) }
+{
+    let mut slots = empty_slots(alloc, shards, search)?;
+    let mut given = given;
+    while let Some(done) = given.pop() {
+        fill(&mut slots, done?, shards, search);
+    }
+    Ok(slots)
+}
+
+// What stands in a slot, which is then empty.
+fn taken<'a>(
+    slots: &mut Vec<Option<Vec<Hit<'a>>>>,
+    i: usize,
+    shards: &[Arc<Shard>],
+    search: Search<'_>,
+) -> Option<Vec<Hit<'a>>>
+    requires inside { i < vec_len slots.old }
+    requires slots { AllSlots search (shards_seen shards.now) slots.old.items }
+    ensures hits { IfSome result (λ v. Answers search.entry (shards_seen shards.now) i v.items) }
+    ensures slots { AllSlots search.entry (shards_seen shards.now) slots.new.items }
+    ensures len { vec_len slots.new ≡ vec_len slots.old }
+{
+    let _ = (shards.len(), search.take);
+    slots[i].take()
+}
+
+// The hits that a worker gave, or else those that are found here.
+fn or_scan<'a, G: Gate>(
+    alloc: Global,
+    found: Option<Vec<Hit<'a>>>,
+    shards: &'a [Arc<Shard>],
+    search: Search<'_>,
+    i: usize,
+    gate: &G,
+) -> Result<Vec<Hit<'a>>, NoMemory>
+    requires inside { i < length shards.now }
+    requires found { IfSome found (λ v. Answers search (shards_seen shards.now) i v.items) }
+    ensures { IfOk result (λ v. Answers search.entry (shards_seen shards.now) i v.items) }
+{
+    match found {
+        Some(hits) => Ok(hits),
+        None => one(alloc, shards, search, i, gate),
+    }
+}
+
+/// The hits of all shards, in their order. A shard that no worker gave is searched here.
+pub(crate) fn finish<'a, G: Gate>(
+    alloc: Global,
+    slots: Vec<Option<Vec<Hit<'a>>>>,
+    shards: &'a [Arc<Shard>],
+    search: Search<'_>,
+    gate: &G,
+) -> Result<Vec<Vec<Hit<'a>>>, NoMemory>
+    requires slots { AllSlots search (shards_seen shards.now) slots.items }
+    requires len { vec_len slots ≡ length shards.now }
+    ensures { IfOk result (λ lists. AllZip (λ s v. Gives search.entry s v.items) (shards_seen shards.now) lists.items) }
+{
+    let mut slots = slots;
+    let mut all = Vec::new(alloc);
+    for i in 0..shards.len() {
+        let found = taken(&mut slots, i, shards, search);
+        let hits = or_scan(alloc, found, shards, search, i, gate)?;
+        all.push(hits)?;
+    }
+    Ok(all)
+}

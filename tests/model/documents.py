@@ -1,0 +1,64 @@
+"""Documents by the revisions of their edits, as CouchDB's replication and conflict model has them."""
+import hashlib
+
+from model.values import compact
+
+
+def text_of(revision):
+    return f"{revision[0]}-{revision[1]}"
+
+
+class Document:
+    """The revisions of a document: the parent of each that is known (none for a root), and what those of paths' fronts hold."""
+
+    def __init__(self):
+        self.parents = {}
+        self.held = {}
+
+    def leaves(self):
+        """Best first: one that is not deleted, then the higher position, then the greater id."""
+        inner = set(self.parents.values())
+        leaves = [revision for revision in self.parents if revision not in inner]
+        return sorted(leaves, key=lambda revision: (not self.held[revision][0], revision), reverse=True)
+
+    def merge(self, path, deleted, body):
+        """Takes in a path, newest first, unless it gives a known revision another parent."""
+        steps = list(zip(path, path[1:]))
+        if any(self.parents.get(child) not in (None, parent) for child, parent in steps):
+            return False
+        for revision in path:
+            self.parents.setdefault(revision, None)
+        self.parents.update(steps)
+        self.held.setdefault(path[0], (deleted, body))
+        return True
+
+    def edit(self, given, deleted, body):
+        """The new revision, none where the edit is a conflict."""
+        leaves = self.leaves()
+        if given is None and leaves and not self.held[leaves[0]][0]:
+            return None
+        parent = given or (leaves[0] if leaves else None)
+        if parent and parent not in leaves:
+            return None
+        digest = hashlib.md5(compact([deleted, parent and text_of(parent), body]).encode()).hexdigest()
+        made = (parent[0] + 1 if parent else 1, digest)
+        if made in self.parents:
+            return None
+        self.merge([made, parent] if parent else [made], deleted, body)
+        return made
+
+    def chain(self, revision):
+        found = []
+        while revision:
+            found.append(revision)
+            revision = self.parents[revision]
+        return found
+
+    def served(self, id, conflicts=False):
+        """The document that is served, none where it is deleted."""
+        winner, *others = self.leaves()
+        deleted, body = self.held[winner]
+        if deleted:
+            return None
+        losers = [text_of(revision) for revision in others if not self.held[revision][0]]
+        return {**body, "_id": id, "_rev": text_of(winner), **({"_conflicts": losers} if conflicts and losers else {})}
