@@ -5,4 +5,4 @@ use Rattle.mg_live.proofs.interleave.are_at.Given as goal
 
 -- the events so far are at these seats
 abbrev pub invariant-loop-event : goal.invariant-loop-event
-invariant-loop-event g l = AreAt l.seats (events_seen (take l.event-index l.events))
+invariant-loop-event l = AreAt l.seats (events_seen (take l.event-index l.events))
