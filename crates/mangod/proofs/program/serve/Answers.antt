@@ -2,9 +2,9 @@ use Rattle.std.proofs.Common.{inl}
 use Rattle.mg_engine.specs.World.{empty_world}
 use Rattle.mangod.proofs.program.serve.Goals as goal
 
-pub returns : goal.returns
-returns g c =
-    let held = c.serve.ensures.talk (empty_world c.args.settings.db.now) c.in-Ok.ensures.stands in
+pub returns-in-Ok : goal.returns-in-Ok
+returns-in-Ok g c =
+    let held = c.serve.ensures.talk (empty_world c.args.settings.db.now) c.in-Ok.ensures in
     inl (record {
       bytes = held.0;
       written = held.1;
