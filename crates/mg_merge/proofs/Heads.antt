@@ -9,7 +9,7 @@ use Rattle.std.proofs.lemmas.List.{get_or-map, length-map, map-set}
 use Rattle.mg_collate.specs.Sorted.{inserted, sorted}
 use Rattle.mg_collate.proofs.Sorting.{NoneBelow, Rises, times, all_of_each, all_weaker, all_append, rises, in_order, sorted_least}
 use Rattle.mg_merge.specs.Merged.{joined}
-use Rattle.mg_merge.specs.Rests.{rests_of, begin_order, BeginsFirst}
+use Rattle.mg_merge.specs.Rests.{lent_of, rests_of, begin_order, BeginsFirst}
 use borrow.Author.Count.{below_more}
 
 -- ---- which list begins first
@@ -96,7 +96,7 @@ all_set P [] i y p h = h
 all_set P (x ∷ xs) zero y p h = (p, h.1)
 all_set P (x ∷ xs) (suc i) y p h = (h.0, all_set P xs i y p h.1)
 
-all_at : {X : Type 0} (P : X → Type 0) (xs : List X) (i : ℕ) (d : X) → i < length xs → AllByRecursion P xs → P (get_or xs i d)
+pub all_at : {X : Type 0} (P : X → Type 0) (xs : List X) (i : ℕ) (d : X) → i < length xs → AllByRecursion P xs → P (get_or xs i d)
 all_at P [] i d k h = absurd (omega arith)
 all_at P (x ∷ xs) zero d k h = h.0
 all_at P (x ∷ xs) (suc i) d k h = all_at P xs i d (omega arith) h.1
@@ -171,7 +171,7 @@ rest_at {X} rests i rest h e = ap (λ (r : Bor (List X)). r.now) e ∙ sym (get_
 pub rests_size : {X : Type 0} (rests : List (Bor (List X))) → length (rests_of rests) ≡ length rests
 rests_size {X} rests = length-map rests (λ (r : Bor (List X)). r.now)
 
-rests_of-set : {X : Type 0} (rests : List (Bor (List X))) (place : ℕ) (left : Bor (List X)) → rests_of (set rests place left) ≡ set (rests_of rests) place left.now
+pub rests_of-set : {X : Type 0} (rests : List (Bor (List X))) (place : ℕ) (left : Bor (List X)) → rests_of (set rests place left) ≡ set (rests_of rests) place left.now
 rests_of-set {X} rests place left = map-set (λ (r : Bor (List X)). r.now) rests place left
 
 within : {X : Type 0} (rests : List (Bor (List X))) (place : ℕ) → place < length rests → place < length (rests_of rests)
@@ -198,3 +198,8 @@ pub rest_order : {X : Type 0} (order : X → X → Ordering) → IsTotalOrder or
     → place < length rests → rest ≡ get_or rests place rest → rest.now ≡ x ∷ left.now → All (IsSorted order) (rests_of (set rests place left))
 rest_order order o rests place rest x left ordered k e h =
     subst (All (IsSorted order)) (sym (rests_of-set rests place left)) (order_kept order o (rests_of rests) place x left.now ordered (within rests place k) (sym (rest_at rests place rest k e) ∙ h))
+
+-- one more is lent
+pub lent_more : {X : Type 0} (lent : List (Bor X)) (item : Bor X) (ys : List X) → lent_of lent ++ item.now ∷ ys ≡ lent_of (lent ++ item ∷ []) ++ ys
+lent_more [] item ys = refl
+lent_more (x ∷ lent) item ys = ap (λ zs. x.now ∷ zs) (lent_more lent item ys)

@@ -4,6 +4,7 @@ ghost use Rattle.mg_collate.specs.Sorted.{IsInOrder};
 ghost use Rattle.mg_merge.specs.Merged.{IsInOrderBy, contents_of, lists_view, merged, merged_by};
 ghost use Rattle.mg_merge.specs.Rests.{lent_of};
 
+use crate::queue::queue_of;
 use crate::ranked::Ranked;
 use crate::rests::{take_first, whole_lists};
 use crate::work::Work;
@@ -17,8 +18,9 @@ use std::alloc::Global;
 /// empty.
 ///
 /// Errors: `NoMemory` where a growth was refused.
-/// Cost: for each row handed out a copy of it and a comparison of the first rows left of each list.
-/// Of the rows beyond the first `take` only these heads are looked at, and none is copied.
+/// Cost: for each row handed out a copy of it and a number of comparisons that grows with the
+/// logarithm of the number of lists; with one list there is none. Of the rows beyond the first `take`
+/// only the first one left of each list is looked at, and none is copied.
 pub fn merge(
     alloc: Global,
     lists: &[Vec<Row>],
@@ -43,8 +45,9 @@ pub fn merge(
 /// result. Each list has to be in that order, which `all_are_in_order` tests; it may be empty.
 ///
 /// Errors: `NoMemory` where a growth was refused.
-/// Cost: for each one handed out a comparison of what comes first in the rest of each list. No row is
-/// copied. Takes room for what is found, however large `take` is.
+/// Cost: for each one handed out a number of comparisons that grows with the logarithm of the number
+/// of lists; with one list there is none. No row is copied. Takes room for what is found and for a
+/// number for each list, however large `take` is.
 pub fn merge_all<T: Ranked + Copy>(
     alloc: Global,
     lists: &[Vec<T>],
@@ -75,9 +78,10 @@ fn first_lent<'a, T: Ranked>(
         (λ lent. lent_of lent.items ≡ merged_by T.row_of direction take (contents_of lists.now)) }
 {
     let mut rests = whole_lists(alloc, lists)?;
+    let mut queue = queue_of(alloc, &rests, direction)?;
     let mut lent = Vec::new(alloc);
     while lent.len() < take {
-        match take_first(&mut rests, direction) {
+        match take_first(&mut rests, &mut queue, direction)? {
             Some(item) => lent.push(item)?,
             None => return Ok(lent),
         }
