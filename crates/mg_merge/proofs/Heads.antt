@@ -1,14 +1,14 @@
 -- Taking what comes first off lists that are in order.
-use Rattle.std.proofs.Common.{◌≡◌, ℕ, zero, suc, ◌+◌, ◌<◌, List, [], ◌∷◌, ◌++◌, length, get_or, set, All, Bool, true, false, cond, if◌then◌else◌, Ordering, Less, Equal, Greater, is_eq, is_gt, Bor, refl, sym, ap, ◌∙◌, subst, arith}
+use Rattle.std.proofs.Common.{◌≡◌, ℕ, zero, suc, ◌+◌, ◌<◌, List, [], ◌∷◌, ◌++◌, length, get_or, set, take, All, Vec, Global, Bool, true, false, cond, if◌then◌else◌, Ordering, Less, Equal, Greater, is_eq, is_gt, Bor, refl, sym, ap, ◌∙◌, subst, arith}
 use Rattle.std.specs.Cmp.{IsTotalOrder}
 use Rattle.std.specs.List.{AllByRecursion}
 use Rattle.std.specs.List.Sorted.{IsSorted}
 use Rattle.std.specs.Ordering.{ordering_reverse}
 use Rattle.std.proofs.lemmas.Cmp.{upto, tied_itself, alike_right}
-use Rattle.std.proofs.lemmas.List.{get_or-map, length-map, map-set}
+use Rattle.std.proofs.lemmas.List.{append-nil, get_or-map, length-map, map-set}
 use Rattle.mg_collate.specs.Sorted.{inserted, sorted}
 use Rattle.mg_collate.proofs.Sorting.{NoneBelow, Rises, times, all_of_each, all_weaker, all_append, rises, in_order, sorted_least}
-use Rattle.mg_merge.specs.Merged.{joined}
+use Rattle.mg_merge.specs.Merged.{contents_of, joined}
 use Rattle.mg_merge.specs.Rests.{lent_of, rests_of, begin_order, BeginsFirst}
 use borrow.Author.Count.{below_more}
 
@@ -199,7 +199,26 @@ pub rest_order : {X : Type 0} (order : X → X → Ordering) → IsTotalOrder or
 rest_order order o rests place rest x left ordered k e h =
     subst (All (IsSorted order)) (sym (rests_of-set rests place left)) (order_kept order o (rests_of rests) place x left.now ordered (within rests place k) (sym (rest_at rests place rest k e) ∙ h))
 
--- one more is lent
-pub lent_more : {X : Type 0} (lent : List (Bor X)) (item : Bor X) (ys : List X) → lent_of lent ++ item.now ∷ ys ≡ lent_of (lent ++ item ∷ []) ++ ys
+lent_more : {X : Type 0} (lent : List (Bor X)) (item : Bor X) (ys : List X) → lent_of lent ++ item.now ∷ ys ≡ lent_of (lent ++ item ∷ []) ++ ys
 lent_more [] item ys = refl
 lent_more (x ∷ lent) item ys = ap (λ zs. x.now ∷ zs) (lent_more lent item ys)
+
+-- what was lent and what is left stay the whole when one more is lent
+pub one_more_lent : {X : Type 0} (order : X → X → Ordering) (all : List X) (lent more : List (Bor X)) (item : Bor X) (rests seen left : List (Bor (List X))) → all ≡ lent_of lent ++ sorted order (joined (rests_of rests)) → seen ≡ rests
+    → sorted order (joined (rests_of seen)) ≡ item.now ∷ sorted order (joined (rests_of left)) → more ≡ lent ++ item ∷ [] → all ≡ lent_of more ++ sorted order (joined (rests_of left))
+one_more_lent order all lent more item rests seen left e same first m =
+    e ∙ ap (λ rs. lent_of lent ++ sorted order (joined (rests_of rs))) (sym same) ∙ ap (λ ys. lent_of lent ++ ys) first ∙ lent_more lent item (sorted order (joined (rests_of left)))
+    ∙ ap (λ l. lent_of l ++ sorted order (joined (rests_of left))) (sym m)
+
+-- ---- one list alone
+
+sorted_risen : {X : Type 0} (order : X → X → Ordering) (xs : List X) → Rises order xs → sorted order xs ≡ xs
+sorted_risen order [] h = refl
+sorted_risen order (x ∷ xs) h = sorted_least order x xs h.0 ∙ ap (λ ys. x ∷ ys) (sorted_risen order xs h.1)
+
+pub one_list : {X : Type 0} (order : X → X → Ordering) → IsTotalOrder order → (lists : List (Vec X Global)) (list : Vec X Global) (count : ℕ) → length lists ≡ 1 → list ≡ get_or lists 0 list → All (IsSorted order) (contents_of lists)
+    → take count list.items ≡ take count (sorted order (joined (contents_of lists)))
+one_list order o [] list count one e h = absurd (omega (arith, one))
+one_list {X} order o (xs ∷ []) list count one e h =
+    ap (λ (l : Vec X Global). take count l.items) e ∙ sym (ap (take count) (ap (sorted order) (append-nil xs.items) ∙ sorted_risen order xs.items (rises order o xs.items (h 0 [] (omega arith)))))
+one_list order o (xs ∷ ys ∷ lists) list count one e h = absurd (omega (arith, one))

@@ -9,7 +9,6 @@ use Rattle.std.proofs.lemmas.List.{get_or-set_other, length-set}
 use Rattle.std.proofs.lemmas.Cmp.{on_total, nat_cmp_total, upto, tied_itself}
 use Rattle.mg_collate.specs.Sorted.{inserted}
 use Rattle.mg_collate.proofs.Sorting.{all_weaker}
-use Rattle.mg_merge.specs.Merged.{joined}
 use Rattle.mg_merge.specs.Rests.{AreInTurn, BeginsFirst, Climbs, begin_order, is_in, rests_of, turn_order}
 use Rattle.mg_merge.proofs.Heads.{all_at, begin_total, rests_of-set, rests_size}
 use borrow.Author.Count.{below_more}
@@ -69,6 +68,10 @@ placed o x d (y ∷ ys) zero k after before = ap (λ b. if b then y ∷ inserted
 placed o x d (y ∷ ys) (suc place) k after before =
     ap (λ zs. y ∷ zs) (placed o x d ys place (omega arith) (λ i l. after (suc i) (omega arith)) (λ i l m. before (suc i) (omega arith) (omega arith)))
     ∙ ap (λ b. if b then y ∷ inserted o x ys else x ∷ y ∷ ys) (sym (after 0 (omega arith)))
+
+-- what a test told of a turn
+pub told : (a r : Ordering) (b c : Bool) → r ≡ a → b ≡ is_gt r → b ≡ c → is_gt a ≡ c
+told a r b c e f h = sym (ap is_gt e) ∙ sym f ∙ h
 
 -- ---- a queue that one more number entered
 
@@ -166,13 +169,9 @@ begins_first order o lists size p queue h = record {
   before = λ k l. let low = h.within.0 in turn_before order lists p k queue h.climbs.0 (h.each k (omega (arith, low, l))) l;
 }
 
-pub no_turns : {X : Type 0} (order : X → X → Ordering) (lists : List (List X)) (size : ℕ) → size ≡ length lists → AreInTurn order lists size [] → joined lists ≡ []
-no_turns order [] size e h = refl
-no_turns order (xs ∷ lists) size e h = absurd (let wrong : false ≡ true = h.each 0 (omega (arith, e)) in cc)
-
 -- ---- the first of a queue enters it again, when something was taken off its list
 
-pub first_is : (queue : List ℕ) (p : ℕ) → 0 < length queue → p ≡ get_or queue 0 p → queue ≡ p ∷ remove queue 0
+first_is : (queue : List ℕ) (p : ℕ) → 0 < length queue → p ≡ get_or queue 0 p → queue ≡ p ∷ remove queue 0
 first_is [] p h e = absurd (omega arith)
 first_is (n ∷ queue) p h e = ap (λ m. m ∷ queue) (sym e)
 
@@ -213,9 +212,9 @@ first_enters order o lists size p queue rest h =
 
 -- ---- the same of the rests themselves
 
-pub rests_end : {X : Type 0} (order : X → X → Ordering) (rests : List (Bor (List X))) (queue : List ℕ) → length queue ≡ 0 → AreInTurn order (rests_of rests) (length rests) queue → joined (rests_of rests) ≡ []
-rests_end order rests [] e h = no_turns order (rests_of rests) (length rests) (sym (rests_size rests)) h
-rests_end order rests (n ∷ queue) e h = absurd (omega (arith, e))
+pub rests_first : {X : Type 0} (order : X → X → Ordering) (rests : List (Bor (List X))) (queue others : List ℕ) (p : ℕ) → 0 < length queue → p ≡ get_or queue 0 p → others ≡ remove queue 0
+    → AreInTurn order (rests_of rests) (length rests) queue → AreInTurn order (rests_of rests) (length rests) (p ∷ others)
+rests_first order rests queue others p l e same h = subst (AreInTurn order (rests_of rests) (length rests)) (first_is queue p l e ∙ ap (λ ns. p ∷ ns) (sym same)) h
 
 pub rests_begin : {X : Type 0} (order : X → X → Ordering) → IsTotalOrder order → (rests : List (Bor (List X))) (p : ℕ) (queue : List ℕ) → AreInTurn order (rests_of rests) (length rests) (p ∷ queue)
     → BeginsFirst order (rests_of rests) (length (rests_of rests)) p

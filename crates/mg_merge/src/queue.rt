@@ -1,4 +1,7 @@
 //! The numbers of the lists, in the order in which the lists are taken from.
+//!
+//! When a row was taken, only its list has another turn: its place is found by halving, at one
+//! comparison of rows for each step, and at most the numbers of the other lists move.
 ghost use Rattle.std.specs.Prelude.{◌≡◌, ◌<◌, ◌≤◌, length, All, IfOk, OnOk};
 ghost use Rattle.std.specs.List.{insert};
 ghost use Rattle.mg_collate.specs.Sorted.{inserted};
@@ -40,7 +43,7 @@ pub(crate) fn enter<T: Ranked>(
     requires list { list < length rests.now }
     ensures { OnOk result (queue.new.items
         ≡ inserted (turn_order (order_by T.row_of direction) (rests_of rests.now)) list
-            queue.old.items) }
+        queue.old.items) }
 {
     let place = place_of(queue, rests, list, direction);
     queue.insert(place, list)?;
@@ -48,12 +51,7 @@ pub(crate) fn enter<T: Ranked>(
 }
 
 // The place at which the number keeps the queue in order, by halving.
-fn place_of<T: Ranked>(
-    queue: &[usize],
-    rests: &[&[T]],
-    list: usize,
-    direction: Direction,
-) -> usize
+fn place_of<T: Ranked>(queue: &[usize], rests: &[&[T]], list: usize, direction: Direction) -> usize
     requires within { All (λ other. other < length rests.now) queue.now }
     requires climbs { Climbs (turn_order (order_by T.row_of direction) (rests_of rests.now))
         queue.now }

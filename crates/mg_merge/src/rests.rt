@@ -37,7 +37,7 @@ pub(crate) fn take_first<'a, T: Ranked>(
     ensures order { OnOk result (All (IsInOrderBy T.row_of direction) (rests_of rests.new)) }
     ensures queue { IfOk result (λ taken. IfSome taken
         (λ item. AreInTurn (order_by T.row_of direction) (rests_of rests.new)
-            (length rests.new) queue.new.items)) }
+        (length rests.new) queue.new.items)) }
     ensures first { IfOk result (λ taken. IfSome taken
         (λ item. sorted (order_by T.row_of direction) (joined (rests_of rests.old))
         ≡ item.now ∷ sorted (order_by T.row_of direction) (joined (rests_of rests.new)))) }
