@@ -4,13 +4,12 @@ use Rattle.std.specs.Cmp.{IsTotalOrder}
 use Rattle.std.specs.List.{AllByRecursion}
 use Rattle.std.specs.List.Sorted.{IsSorted}
 use Rattle.std.specs.Ordering.{ordering_reverse}
-use Rattle.std.proofs.lemmas.Cmp.{upto, tied_itself, alike_right}
+use Rattle.std.proofs.lemmas.Cmp.{upto, alike_right}
 use Rattle.std.proofs.lemmas.List.{append-nil, get_or-map, length-map, map-set}
 use Rattle.mg_collate.specs.Sorted.{inserted, sorted}
 use Rattle.mg_collate.proofs.Sorting.{NoneBelow, Rises, times, all_of_each, all_weaker, all_append, rises, in_order, sorted_least}
 use Rattle.mg_merge.specs.Merged.{contents_of, joined}
 use Rattle.mg_merge.specs.Rests.{lent_of, rests_of, begin_order, BeginsFirst}
-use borrow.Author.Count.{below_more}
 
 -- ---- which list begins first
 
@@ -47,37 +46,6 @@ below_next : {X : Type 0} (order : X → X → Ordering) → IsTotalOrder order 
 below_next order o x y z Less e h k = o.trans x y z h e
 below_next order o x y z Equal e h k = sym (alike_right o y z x e) ∙ h
 below_next order o x y z Greater e h k = absurd cc
-
-not_greater : (a b : Ordering) → a ≡ ordering_reverse b → (b ≡ Less → ⊥) → is_gt a ≡ false
-not_greater a Less e h = absurd (h refl)
-not_greater a Equal e h = ap is_gt e
-not_greater a Greater e h = ap is_gt e
-
--- ---- the place of the first list that begins no later than any other
-
-pub first_of_one : {X : Type 0} (order : X → X → Ordering) → IsTotalOrder order → (lists : List (List X)) → BeginsFirst order lists 1 0
-first_of_one order o lists = record {
-  least = λ k h. let e : 0 ≡ k = omega arith in subst (λ i. NoneBegins order (get_or lists 0 []) (get_or lists i [])) e (ap is_gt (tied_itself (begin_total order o) (get_or lists 0 [])));
-  before = λ k h. absurd (omega arith);
-}
-
-pub first_moves : {X : Type 0} (order : X → X → Ordering) → IsTotalOrder order → (lists : List (List X)) (place first : ℕ) → begin_order order (get_or lists place []) (get_or lists first []) ≡ Less
-    → BeginsFirst order lists place first → BeginsFirst order lists (place + 1) place
-first_moves order o lists place first h before =
-    let b = begin_total order o in
-    let here = get_or lists place [] in
-    record {
-      least = below_more (λ k. NoneBegins order here (get_or lists k [])) place (λ k l. upto b here (get_or lists first []) (get_or lists k []) (ap is_gt h) (before.least k l)) (ap is_gt (tied_itself b here));
-      before = λ k l. below_next (begin_order order) b here (get_or lists first []) (get_or lists k []) (begin_order order (get_or lists first []) (get_or lists k [])) refl h (before.least k l);
-    }
-
-pub first_stays : {X : Type 0} (order : X → X → Ordering) → IsTotalOrder order → (lists : List (List X)) (place first : ℕ) → (begin_order order (get_or lists place []) (get_or lists first []) ≡ Less → ⊥)
-    → BeginsFirst order lists place first → BeginsFirst order lists (place + 1) first
-first_stays order o lists place first h before = record {
-  least = below_more (λ k. NoneBegins order (get_or lists first []) (get_or lists k [])) place before.least
-      (not_greater (begin_order order (get_or lists first []) (get_or lists place [])) (begin_order order (get_or lists place []) (get_or lists first [])) (begin_antisymm order o (get_or lists first []) (get_or lists place [])) h);
-  before = before.before;
-}
 
 -- ---- how often an element stands in two lists
 
