@@ -1,16 +1,15 @@
 -- Taking what comes first off lists that are in order.
-use Rattle.std.proofs.Common.{◌≡◌, ℕ, zero, suc, ◌+◌, ◌<◌, List, [], ◌∷◌, ◌++◌, length, get_or, set, All, Bool, true, false, cond, if◌then◌else◌, Ordering, Less, Equal, Greater, is_eq, is_gt, Bor, refl, sym, ap, ◌∙◌, subst, arith}
+use Rattle.std.proofs.Common.{◌≡◌, ℕ, zero, suc, ◌+◌, ◌<◌, List, [], ◌∷◌, ◌++◌, length, get_or, set, take, All, Vec, Global, Bool, true, false, cond, if◌then◌else◌, Ordering, Less, Equal, Greater, is_eq, is_gt, Bor, refl, sym, ap, ◌∙◌, subst, arith}
 use Rattle.std.specs.Cmp.{IsTotalOrder}
 use Rattle.std.specs.List.{AllByRecursion}
 use Rattle.std.specs.List.Sorted.{IsSorted}
 use Rattle.std.specs.Ordering.{ordering_reverse}
-use Rattle.std.proofs.lemmas.Cmp.{upto, tied_itself, alike_right}
-use Rattle.std.proofs.lemmas.List.{get_or-map, length-map, map-set}
+use Rattle.std.proofs.lemmas.Cmp.{upto, alike_right}
+use Rattle.std.proofs.lemmas.List.{append-nil, get_or-map, length-map, map-set}
 use Rattle.mg_collate.specs.Sorted.{inserted, sorted}
 use Rattle.mg_collate.proofs.Sorting.{NoneBelow, Rises, times, all_of_each, all_weaker, all_append, rises, in_order, sorted_least}
-use Rattle.mg_merge.specs.Merged.{joined}
-use Rattle.mg_merge.specs.Rests.{rests_of, begin_order, BeginsFirst}
-use borrow.Author.Count.{below_more}
+use Rattle.mg_merge.specs.Merged.{contents_of, joined}
+use Rattle.mg_merge.specs.Rests.{lent_of, rests_of, begin_order, BeginsFirst}
 
 -- ---- which list begins first
 
@@ -48,37 +47,6 @@ below_next order o x y z Less e h k = o.trans x y z h e
 below_next order o x y z Equal e h k = sym (alike_right o y z x e) ∙ h
 below_next order o x y z Greater e h k = absurd cc
 
-not_greater : (a b : Ordering) → a ≡ ordering_reverse b → (b ≡ Less → ⊥) → is_gt a ≡ false
-not_greater a Less e h = absurd (h refl)
-not_greater a Equal e h = ap is_gt e
-not_greater a Greater e h = ap is_gt e
-
--- ---- the place of the first list that begins no later than any other
-
-pub first_of_one : {X : Type 0} (order : X → X → Ordering) → IsTotalOrder order → (lists : List (List X)) → BeginsFirst order lists 1 0
-first_of_one order o lists = record {
-  least = λ k h. let e : 0 ≡ k = omega arith in subst (λ i. NoneBegins order (get_or lists 0 []) (get_or lists i [])) e (ap is_gt (tied_itself (begin_total order o) (get_or lists 0 [])));
-  before = λ k h. absurd (omega arith);
-}
-
-pub first_moves : {X : Type 0} (order : X → X → Ordering) → IsTotalOrder order → (lists : List (List X)) (place first : ℕ) → begin_order order (get_or lists place []) (get_or lists first []) ≡ Less
-    → BeginsFirst order lists place first → BeginsFirst order lists (place + 1) place
-first_moves order o lists place first h before =
-    let b = begin_total order o in
-    let here = get_or lists place [] in
-    record {
-      least = below_more (λ k. NoneBegins order here (get_or lists k [])) place (λ k l. upto b here (get_or lists first []) (get_or lists k []) (ap is_gt h) (before.least k l)) (ap is_gt (tied_itself b here));
-      before = λ k l. below_next (begin_order order) b here (get_or lists first []) (get_or lists k []) (begin_order order (get_or lists first []) (get_or lists k [])) refl h (before.least k l);
-    }
-
-pub first_stays : {X : Type 0} (order : X → X → Ordering) → IsTotalOrder order → (lists : List (List X)) (place first : ℕ) → (begin_order order (get_or lists place []) (get_or lists first []) ≡ Less → ⊥)
-    → BeginsFirst order lists place first → BeginsFirst order lists (place + 1) first
-first_stays order o lists place first h before = record {
-  least = below_more (λ k. NoneBegins order (get_or lists first []) (get_or lists k [])) place before.least
-      (not_greater (begin_order order (get_or lists first []) (get_or lists place [])) (begin_order order (get_or lists place []) (get_or lists first [])) (begin_antisymm order o (get_or lists first []) (get_or lists place [])) h);
-  before = before.before;
-}
-
 -- ---- how often an element stands in two lists
 
 one_more : (b : Bool) (m n k : ℕ) → m ≡ n + k → cond b (1 + m) m ≡ cond b (1 + n) n + k
@@ -96,7 +64,7 @@ all_set P [] i y p h = h
 all_set P (x ∷ xs) zero y p h = (p, h.1)
 all_set P (x ∷ xs) (suc i) y p h = (h.0, all_set P xs i y p h.1)
 
-all_at : {X : Type 0} (P : X → Type 0) (xs : List X) (i : ℕ) (d : X) → i < length xs → AllByRecursion P xs → P (get_or xs i d)
+pub all_at : {X : Type 0} (P : X → Type 0) (xs : List X) (i : ℕ) (d : X) → i < length xs → AllByRecursion P xs → P (get_or xs i d)
 all_at P [] i d k h = absurd (omega arith)
 all_at P (x ∷ xs) zero d k h = h.0
 all_at P (x ∷ xs) (suc i) d k h = all_at P xs i d (omega arith) h.1
@@ -171,7 +139,7 @@ rest_at {X} rests i rest h e = ap (λ (r : Bor (List X)). r.now) e ∙ sym (get_
 pub rests_size : {X : Type 0} (rests : List (Bor (List X))) → length (rests_of rests) ≡ length rests
 rests_size {X} rests = length-map rests (λ (r : Bor (List X)). r.now)
 
-rests_of-set : {X : Type 0} (rests : List (Bor (List X))) (place : ℕ) (left : Bor (List X)) → rests_of (set rests place left) ≡ set (rests_of rests) place left.now
+pub rests_of-set : {X : Type 0} (rests : List (Bor (List X))) (place : ℕ) (left : Bor (List X)) → rests_of (set rests place left) ≡ set (rests_of rests) place left.now
 rests_of-set {X} rests place left = map-set (λ (r : Bor (List X)). r.now) rests place left
 
 within : {X : Type 0} (rests : List (Bor (List X))) (place : ℕ) → place < length rests → place < length (rests_of rests)
@@ -198,3 +166,27 @@ pub rest_order : {X : Type 0} (order : X → X → Ordering) → IsTotalOrder or
     → place < length rests → rest ≡ get_or rests place rest → rest.now ≡ x ∷ left.now → All (IsSorted order) (rests_of (set rests place left))
 rest_order order o rests place rest x left ordered k e h =
     subst (All (IsSorted order)) (sym (rests_of-set rests place left)) (order_kept order o (rests_of rests) place x left.now ordered (within rests place k) (sym (rest_at rests place rest k e) ∙ h))
+
+lent_more : {X : Type 0} (lent : List (Bor X)) (item : Bor X) (ys : List X) → lent_of lent ++ item.now ∷ ys ≡ lent_of (lent ++ item ∷ []) ++ ys
+lent_more [] item ys = refl
+lent_more (x ∷ lent) item ys = ap (λ zs. x.now ∷ zs) (lent_more lent item ys)
+
+-- what was lent and what is left stay the whole when one more is lent
+pub one_more_lent : {X : Type 0} (order : X → X → Ordering) (all : List X) (lent more : List (Bor X)) (item : Bor X) (rests seen left : List (Bor (List X))) → all ≡ lent_of lent ++ sorted order (joined (rests_of rests)) → seen ≡ rests
+    → sorted order (joined (rests_of seen)) ≡ item.now ∷ sorted order (joined (rests_of left)) → more ≡ lent ++ item ∷ [] → all ≡ lent_of more ++ sorted order (joined (rests_of left))
+one_more_lent order all lent more item rests seen left e same first m =
+    e ∙ ap (λ rs. lent_of lent ++ sorted order (joined (rests_of rs))) (sym same) ∙ ap (λ ys. lent_of lent ++ ys) first ∙ lent_more lent item (sorted order (joined (rests_of left)))
+    ∙ ap (λ l. lent_of l ++ sorted order (joined (rests_of left))) (sym m)
+
+-- ---- one list alone
+
+sorted_risen : {X : Type 0} (order : X → X → Ordering) (xs : List X) → Rises order xs → sorted order xs ≡ xs
+sorted_risen order [] h = refl
+sorted_risen order (x ∷ xs) h = sorted_least order x xs h.0 ∙ ap (λ ys. x ∷ ys) (sorted_risen order xs h.1)
+
+pub one_list : {X : Type 0} (order : X → X → Ordering) → IsTotalOrder order → (lists : List (Vec X Global)) (list : Vec X Global) (count : ℕ) → length lists ≡ 1 → list ≡ get_or lists 0 list → All (IsSorted order) (contents_of lists)
+    → take count list.items ≡ take count (sorted order (joined (contents_of lists)))
+one_list order o [] list count one e h = absurd (omega (arith, one))
+one_list {X} order o (xs ∷ []) list count one e h =
+    ap (λ (l : Vec X Global). take count l.items) e ∙ sym (ap (take count) (ap (sorted order) (append-nil xs.items) ∙ sorted_risen order xs.items (rises order o xs.items (h 0 [] (omega arith)))))
+one_list order o (xs ∷ ys ∷ lists) list count one e h = absurd (omega (arith, one))

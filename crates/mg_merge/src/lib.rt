@@ -4,6 +4,7 @@
 pub mod laws;
 mod merging;
 mod order;
+mod queue;
 mod ranked;
 mod rests;
 mod work;

@@ -1,9 +1,10 @@
-ghost use Rattle.std.specs.Prelude.{◌≡◌, All, IfOk, length, map};
+ghost use Rattle.std.specs.Prelude.{◌≡◌, All, IfOk, length, map, take};
 ghost use Rattle.mg_collate.specs.Row.{rows_view};
 ghost use Rattle.mg_collate.specs.Sorted.{IsInOrder};
 ghost use Rattle.mg_merge.specs.Merged.{IsInOrderBy, contents_of, lists_view, merged, merged_by};
 ghost use Rattle.mg_merge.specs.Rests.{lent_of};
 
+use crate::queue::queue_of;
 use crate::ranked::Ranked;
 use crate::rests::{take_first, whole_lists};
 use crate::work::Work;
@@ -17,8 +18,9 @@ use std::alloc::Global;
 /// empty.
 ///
 /// Errors: `NoMemory` where a growth was refused.
-/// Cost: for each row handed out a copy of it and a comparison of the first rows left of each list.
-/// Of the rows beyond the first `take` only these heads are looked at, and none is copied.
+/// Cost: for each row handed out a copy of it, and for it and for each list a number of comparisons
+/// that grows with the logarithm of the number of lists; with one list there is none. Of the rows
+/// beyond the first `take` only the first one left of each list is looked at, and none is copied.
 pub fn merge(
     alloc: Global,
     lists: &[Vec<Row>],
@@ -43,8 +45,9 @@ pub fn merge(
 /// result. Each list has to be in that order, which `all_are_in_order` tests; it may be empty.
 ///
 /// Errors: `NoMemory` where a growth was refused.
-/// Cost: for each one handed out a comparison of what comes first in the rest of each list. No row is
-/// copied. Takes room for what is found, however large `take` is.
+/// Cost: for each one handed out, and for each list, a number of comparisons that grows with the
+/// logarithm of the number of lists; with one list there is none. No row is copied. Takes room for
+/// what is found, however large `take` is, and for a slice and a number for each list.
 pub fn merge_all<T: Ranked + Copy>(
     alloc: Global,
     lists: &[Vec<T>],
@@ -74,13 +77,29 @@ fn first_lent<'a, T: Ranked>(
     ensures { IfOk result
         (λ lent. lent_of lent.items ≡ merged_by T.row_of direction take (contents_of lists.now)) }
 {
+    if lists.len() == 1 {
+        return first_of_one(alloc, lists[0].as_slice(), take);
+    }
     let mut rests = whole_lists(alloc, lists)?;
+    let mut queue = queue_of(alloc, &rests, direction)?;
     let mut lent = Vec::new(alloc);
     while lent.len() < take {
-        match take_first(&mut rests, direction) {
+        match take_first(&mut rests, &mut queue, direction)? {
             Some(item) => lent.push(item)?,
             None => return Ok(lent),
         }
+    }
+    Ok(lent)
+}
+
+// What one list begins with: there is nothing to compare.
+fn first_of_one<'a, T>(alloc: Global, list: &'a [T], count: usize) -> Result<Vec<&'a T>, NoMemory>
+    ensures { IfOk result (λ lent. lent_of lent.items ≡ take count list.now) }
+{
+    let count = count.min(list.len());
+    let mut lent = Vec::with_capacity(alloc, count)?;
+    for place in 0..count {
+        lent.push(&list[place])?;
     }
     Ok(lent)
 }

@@ -41,7 +41,7 @@ fn is_in_order<T: Ranked>(items: &[T], direction: Direction) -> bool
 }
 
 // Whether the direction lists the row of the one before that of the other.
-pub(crate) fn comes_before<T: Ranked>(item: &T, other: &T, direction: Direction) -> bool
+fn comes_before<T: Ranked>(item: &T, other: &T, direction: Direction) -> bool
     ensures { IsTrue result ↔ (order_by T.row_of direction item.now other.now ≡ Ordering.Less) }
 {
     direction.apply(item.order(other)) == Ordering::Less

@@ -1,15 +1,14 @@
 //! What is left of the lists while they are merged.
-ghost use Rattle.std.specs.Prelude.{◌≡◌, ◌<◌, ◌∷◌, ◌↔◌, [], length, All, IfOk, IfSome, IfNone, IsTrue};
+ghost use Rattle.std.specs.Prelude.{◌≡◌, ◌∷◌, [], length, All, IfOk, IfSome, IfNone, OnOk};
 ghost use Rattle.mg_collate.specs.Sorted.{sorted};
 ghost use Rattle.mg_merge.specs.Merged.{IsInOrderBy, joined, contents_of, order_by};
-ghost use Rattle.mg_merge.specs.Rests.{BeginsFirst, begin_order, rests_of};
+ghost use Rattle.mg_merge.specs.Rests.{AreInTurn, rests_of};
 
-use crate::order::comes_before;
+use crate::queue::enter;
 use crate::ranked::Ranked;
 use mg_collate::Direction;
 use mg_value::NoMemory;
 use std::alloc::Global;
-use std::cmp::Ordering;
 
 // All of the lists.
 pub(crate) fn whole_lists<'a, T>(
@@ -25,46 +24,35 @@ pub(crate) fn whole_lists<'a, T>(
     Ok(rests)
 }
 
-// Takes what the direction lists first off the first rest that begins with it.
+// Takes what the direction lists first off the rest whose number is first in the queue, and puts
+// that number where its turn is now.
 pub(crate) fn take_first<'a, T: Ranked>(
     rests: &mut [&'a [T]],
+    queue: &mut Vec<usize>,
     direction: Direction,
-) -> Option<&'a T>
-    requires { All (IsInOrderBy T.row_of direction) (rests_of rests.old) }
-    ensures order { All (IsInOrderBy T.row_of direction) (rests_of rests.new) }
-    ensures first { IfSome result
+) -> Result<Option<&'a T>, NoMemory>
+    requires order { All (IsInOrderBy T.row_of direction) (rests_of rests.old) }
+    requires queue { AreInTurn (order_by T.row_of direction) (rests_of rests.old)
+        (length rests.old) queue.old.items }
+    ensures order { OnOk result (All (IsInOrderBy T.row_of direction) (rests_of rests.new)) }
+    ensures queue { IfOk result (λ taken. IfSome taken
+        (λ item. AreInTurn (order_by T.row_of direction) (rests_of rests.new)
+        (length rests.new) queue.new.items)) }
+    ensures first { IfOk result (λ taken. IfSome taken
         (λ item. sorted (order_by T.row_of direction) (joined (rests_of rests.old))
-        ≡ item.now ∷ sorted (order_by T.row_of direction) (joined (rests_of rests.new))) }
-    ensures end { IfNone result (joined (rests_of rests.old) ≡ []) }
+        ≡ item.now ∷ sorted (order_by T.row_of direction) (joined (rests_of rests.new)))) }
+    ensures end { IfOk result (λ taken. IfNone taken (joined (rests_of rests.old) ≡ [])) }
 {
-    let place = first_rest(rests, direction);
-    let (item, rest) = rests.get(place)?.split_first()?;
-    rests[place] = rest;
-    Some(item)
-}
-
-// The place of the first rest that begins no later than any other, or 0 where there is none.
-fn first_rest<T: Ranked>(rests: &[&[T]], direction: Direction) -> usize
-    ensures within { 0 < length rests.now → result < length rests.now }
-    ensures first { BeginsFirst (order_by T.row_of direction) (rests_of rests.now)
-        (length (rests_of rests.now)) result }
-{
-    let mut first = 0;
-    for place in 1..rests.len() {
-        if begins_before(rests[place], rests[first], direction) {
-            first = place;
-        }
+    if queue.is_empty() {
+        return Ok(None);
     }
-    first
-}
-
-// Whether the rest begins with an earlier row than the other; one at its end begins after all others.
-fn begins_before<T: Ranked>(rest: &[T], other: &[T], direction: Direction) -> bool
-    ensures { IsTrue result
-        ↔ (begin_order (order_by T.row_of direction) rest.now other.now ≡ Ordering.Less) }
-{
-    match (rest.first(), other.first()) {
-        (Some(item), Some(than)) => comes_before(item, than, direction),
-        (first, _) => first.is_some(),
+    let list = queue.remove(0);
+    match rests[list].split_first() {
+        None => Ok(None),
+        Some((item, rest)) => {
+            rests[list] = rest;
+            enter(queue, rests, list, direction)?;
+            Ok(Some(item))
+        }
     }
 }

@@ -1,0 +1,37 @@
+use Rattle.std.proofs.Common.{◌≡◌, ◌∷◌, ◌++◌, IfOk, IfSome, All, length, take, drop, ap, subst, sym, ◌∙◌, arith}
+use Rattle.std.proofs.Math.Seq.{take-append_seam}
+use Rattle.mg_collate.specs.Sorted.{sorted}
+use Rattle.mg_merge.specs.Merged.{IsInOrderBy, contents_of, joined, order_by}
+use Rattle.mg_merge.specs.Rests.{AreInTurn, lent_of, rests_of}
+use Rattle.mg_merge.proofs.Heads.{one_list, one_more_lent}
+use Rattle.mg_merge.proofs.Rows.{by_total}
+use Rattle.mg_merge.proofs.merging.first_lent.Goals as goal
+
+pub returns-then-lists-eq1 : goal.returns-then-lists-eq1
+returns-then-lists-eq1 g c =
+    subst (λ items. IfOk c.first_of_one.result (λ lent. lent_of lent.items ≡ items))
+    (ap (take c.args.take) c.as_slice.ensures.value ∙ one_list (order_by g.T.Ranked.row_of c.args.direction) (by_total g.T.Ranked.row_of c.args.direction) c.args.lists.now c.index-lists-0.result c.args.take (omega arith) c.index-lists-0.is c.requires) c.first_of_one.ensures
+
+pub loop-direction-init : goal.loop-direction-init
+loop-direction-init g c = record {
+  within = omega arith;
+  order = subst (All (IsInOrderBy g.T.Ranked.row_of c.args.direction)) (sym c.in_ok-rests.ensures) c.requires;
+  queue = rw (sym c.deref.ensures.value) c.in_ok-queue.ensures;
+  rest = rw c.new-lent.ensures.items (ap (λ lists. sorted (order_by g.T.Ranked.row_of c.args.direction) (joined lists)) (sym c.in_ok-rests.ensures));
+}
+
+pub loop-direction-preserved : goal.loop-direction-preserved
+loop-direction-preserved g c =
+    let rests = c.take_first.new.rests in
+    let size : length rests ≡ c.loop-direction.rests.len = omega arith in
+    let written : take c.loop-direction.rests.len (rests ++ drop (length rests) c.loop-direction.rests.items) ≡ rests =
+    subst (λ n. take n (rests ++ drop (length rests) c.loop-direction.rests.items) ≡ rests) size (take-append_seam rests (drop (length rests) c.loop-direction.rests.items)) in
+    let order = order_by g.T.Ranked.row_of c.args.direction in
+    let first = subst (λ taken. IfSome taken (λ item. sorted order (joined (rests_of c.deref_mut.result.now)) ≡ item.now ∷ sorted order (joined (rests_of rests)))) c.in-Some.is c.in_ok-item.ensures.first in
+    rw written (record {
+      within = omega arith;
+      order = c.in_ok-item.ensures.order;
+      queue = subst (λ taken. IfSome taken (λ item. AreInTurn order (rests_of rests) (length rests) c.take_first.new.queue.items)) c.in-Some.is c.in_ok-item.ensures.queue;
+      rest = one_more_lent order (sorted order (joined (contents_of c.args.lists.now))) c.loop-direction.lent.items c.push.new.self.items c.in-Some.item c.loop-direction.rests.items c.deref_mut.result.now rests c.loop-direction.invariant.rest
+          c.deref_mut.ensures.value first c.in_ok-push-in-Some.ensures.items;
+    })
