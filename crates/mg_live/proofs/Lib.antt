@@ -4,3 +4,6 @@ mod Commits
 mod Points
 mod Replies
 mod Sessions
+mod Fronts
+mod Adding
+mod Publishing
