@@ -1,7 +1,7 @@
 #!/usr/bin/env python3
 """Runs the conversations of tests/conversations/*.txt through the program and compares the replies.
 
-usage: conversations.py --program PATH [--shards 1,2,7,64] [--workers 1] [--only NAME ..] [--folder FOLDER]
+usage: conversations.py --program PATH [--shards 1,2,7,64] [--workers 1,2,32] [--only NAME ..] [--folder FOLDER]
 
 A conversation is run by one process `PATH db SHARDS WORKERS 1 -` for each number of shards and of workers; its database
 has no document at first, and all its messages are sent at once. In a file:
@@ -307,7 +307,7 @@ def main():
     parser = argparse.ArgumentParser()
     parser.add_argument("--program", required=True, type=Path)
     parser.add_argument("--shards", type=numbers, default=[1, 2, 7, 64])
-    parser.add_argument("--workers", type=numbers, default=[1])
+    parser.add_argument("--workers", type=numbers, default=[1, 2, 32])
     parser.add_argument("--only", nargs="+", default=[])
     parser.add_argument("--folder", type=Path, default=Path(__file__).resolve().parent / "conversations")
     options = parser.parse_args()

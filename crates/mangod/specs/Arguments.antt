@@ -28,10 +28,14 @@ pub record Settings : Type 0 where
   pub sessions : ℕ
   pub addr : List ℕ
 
--- the settings of a name, an address and three numbers, if all are right; for now the address is `-`
+-- whether standard input and output are meant, by the address `-`, and not TCP
+abbrev pub is_standard : List ℕ → Bool
+is_standard addr = bytes_eq addr (codes "-")
+
+-- the settings of a name, an address, which may be any text, and three numbers, if all are right
 abbrev pub settings_with : List ℕ → List ℕ → Option ℕ → Option ℕ → Option ℕ → Option Settings
 settings_with db addr (Some shards) (Some workers) (Some sessions) =
-    if is_database_name db && bytes_eq addr (codes "-")
+    if is_database_name db
     then Some (record { db = db; shards = shards; workers = workers; sessions = sessions; addr = addr }) else None
 settings_with db addr shards workers sessions = None
 

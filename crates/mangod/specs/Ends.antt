@@ -25,3 +25,11 @@ wrong_words = record { status = 2; line = codes "mangod: usage: mangod DB SHARDS
 -- the ending where the start is refused memory
 abbrev pub no_memory : Ending
 no_memory = record { status = 1; line = codes "mangod: out of memory" }
+
+-- the ending where the address cannot be listened at
+abbrev pub cannot_listen : Ending
+cannot_listen = record { status = 1; line = codes "mangod: cannot listen" }
+
+-- the ending where no more clients can be accepted
+abbrev pub stopped : Ending
+stopped = record { status = 1; line = [] }

@@ -1,10 +1,10 @@
 -- What the program does for its words, over an input and an output. `read` and `wrote` say which bytes were read and written.
-use Rattle.std.specs.Prelude.{◌≡◌, ℕ, ◌⊎◌, List, [], Option, Some, None}
+use Rattle.std.specs.Prelude.{◌≡◌, ℕ, ◌⊎◌, List, [], Option, Some, None, MatchBool}
 use Rattle.mg_engine.specs.World.{World, empty_world}
 use Rattle.mg_http.specs.Talk.{Talks}
 use Rattle.mg_http.specs.declared.sessions.SessionEnd.{SessionEnd}
-use Rattle.mangod.specs.Arguments.{Settings, settings_of}
-use Rattle.mangod.specs.Ends.{Ending, ending_of, wrong_words, no_memory}
+use Rattle.mangod.specs.Arguments.{Settings, is_standard}
+use Rattle.mangod.specs.Ends.{Ending, cannot_listen, ending_of, no_memory, stopped, wrong_words}
 
 -- one session was held: what was written is the talk of the empty world of this database for what was read
 pub record HoldsSession (db : List ℕ) (read wrote : List ℕ → Type 0) (ending : Ending) : Type 0 where
@@ -21,11 +21,19 @@ pub record HoldsSession (db : List ℕ) (read wrote : List ℕ → Type 0) (endi
 abbrev pub EndsAtOnce : (List ℕ → Type 0) → (List ℕ → Type 0) → Ending → Ending → Type 0
 EndsAtOnce read wrote why ending = read [] × wrote [] × (ending ≡ why)
 
--- what right words ask for: a session, unless the start was refused memory
+-- what right words with the address `-` ask for: a session, unless the start was refused memory
 abbrev pub Serves : List ℕ → (List ℕ → Type 0) → (List ℕ → Type 0) → Ending → Type 0
 Serves db read wrote ending = HoldsSession db read wrote ending ⊎ EndsAtOnce read wrote no_memory ending
 
--- wrong words end it at once
+-- how the program ends that was to listen
+abbrev pub IsEndOfListening : Ending → Type 0
+IsEndOfListening ending = (ending ≡ no_memory) ⊎ ((ending ≡ cannot_listen) ⊎ (ending ≡ stopped))
+
+-- what right words with another address ask for: to listen there, with nothing read from the input and nothing written to the output
+abbrev pub Listens : (List ℕ → Type 0) → (List ℕ → Type 0) → Ending → Type 0
+Listens read wrote ending = read [] × wrote [] × IsEndOfListening ending
+
+-- what the program does; wrong words end it at once
 abbrev pub RunsWith : Option Settings → (List ℕ → Type 0) → (List ℕ → Type 0) → Ending → Type 0
 RunsWith None read wrote ending = EndsAtOnce read wrote wrong_words ending
-RunsWith (Some s) read wrote ending = Serves s.db read wrote ending
+RunsWith (Some s) read wrote ending = MatchBool (is_standard s.addr) (Serves s.db read wrote ending) (Listens read wrote ending)

@@ -14,7 +14,7 @@ const SESSIONS: usize = 1;
 
 /// The settings of `DB SHARDS WORKERS SESSIONS ADDR`, none for wrong arguments. Takes no memory.
 ///
-/// SHARDS is 1 to 64, and WORKERS is 1 to 32. For now SESSIONS is 1, and ADDR is `-`.
+/// SHARDS is 1 to 64, and WORKERS is 1 to 32. For now SESSIONS is 1. ADDR is any text.
 pub(crate) fn settings(words: &[String]) -> Option<Settings<'_>>
     ensures { option_map settings_seen result ≡ settings_of (map (λ w. string_bytes w) words.now) }
 {
@@ -42,7 +42,7 @@ fn checked<'a>(
 {
     match (shards, workers, sessions) {
         (Some(shards), Some(workers), Some(sessions)) => {
-            if !is_database_name(db) || addr != "-" {
+            if !is_database_name(db) {
                 return None;
             }
             Some(Settings {

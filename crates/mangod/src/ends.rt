@@ -22,6 +22,18 @@ pub(crate) const NO_MEMORY: Ending = Ending {
     line: "mangod: out of memory",
 };
 
+/// The end where the address cannot be listened at.
+pub(crate) const CANNOT_LISTEN: Ending = Ending {
+    status: 1,
+    line: "mangod: cannot listen",
+};
+
+/// The end where no more clients can be accepted.
+pub(crate) const STOPPED: Ending = Ending {
+    status: 1,
+    line: "",
+};
+
 impl Ending {
     ghost use Rattle.mangod.specs.View.{ending_seen};
 

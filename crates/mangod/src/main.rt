@@ -1,8 +1,9 @@
-//! `mangod DB SHARDS WORKERS SESSIONS ADDR`: the database, over standard input and output.
+//! `mangod DB SHARDS WORKERS SESSIONS ADDR`: the database, over standard input and output or over TCP.
 #![tactic(auto)]
 
 mod arguments;
 mod config;
+mod connections;
 mod ends;
 mod program;
 

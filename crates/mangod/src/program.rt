@@ -1,28 +1,39 @@
-//! What the program does for its words, over an input and an output.
-ghost use Rattle.std.specs.Prelude.{◌≡◌, ◌≤◌, false, map, string_bytes};
+//! What the program does for its words, over an input and an output or over TCP.
+ghost use Rattle.std.specs.Prelude.{◌≡◌, ◌≤◌, IfOk, false, map, string_bytes};
 ghost use Rattle.std.specs.Io.KnownBytes.{Appends, Consumes};
 ghost use Rattle.mg_http.specs.Device.{inner_of, has_failed};
 ghost use Rattle.mangod.specs.Arguments.{settings_of};
-ghost use Rattle.mangod.specs.Program.{RunsWith, Serves};
+ghost use Rattle.mg_engine.specs.Stands.{Stands};
+ghost use Rattle.mg_engine.specs.World.{empty_world};
+ghost use Rattle.mg_shard.specs.Placement.{md5_place};
+ghost use Rattle.mangod.specs.Program.{IsEndOfListening, RunsWith, Serves};
 ghost use Rattle.mangod.specs.View.{ending_seen};
 
 use crate::arguments::settings;
 use crate::config::Settings;
-use crate::ends::{Ending, NO_MEMORY, WRONG_WORDS};
+use crate::connections::serve_connections;
+use crate::ends::{CANNOT_LISTEN, Ending, NO_MEMORY, STOPPED, WRONG_WORDS};
 use mg_engine::Engine;
 use mg_http::{Device, Solo};
 use mg_shard::Md5Placement;
-use std::io::{Read, Write};
+use mg_value::NoMemory;
+use std::io::{Eprint, Read, Write};
+use std::net::{Net, TcpListener, TcpStream};
 use std::sync::Wait;
 use std::thread::Threads;
 
-/// Does what the words ask for: one session over the input and the output, if they are right.
-pub(crate) fn run<H: Wait + Threads + Sync + AllocGlobal, R: Read, W: Write>(
-    rt: &H,
-    words: &[String],
-    reader: &mut Device<R>,
-    writer: &mut Device<W>,
-) -> Ending
+/// Does what the words ask for, if they are right: one session over the input and the output where the address is `-`, and else
+/// sessions with the clients that connect to the address.
+pub(crate) fn run<
+    H: Wait
+        + Threads
+        + Sync
+        + AllocGlobal
+        + Eprint
+        + Net<Listener = TcpListener, Stream = TcpStream>,
+    R: Read,
+    W: Write,
+>(rt: &H, words: &[String], reader: &mut Device<R>, writer: &mut Device<W>) -> Ending
     requires reading { has_failed reader.old ≡ false }
     requires writing { has_failed writer.old ≡ false }
     ensures { RunsWith (settings_of (map (λ w. string_bytes w) words.now))
@@ -30,7 +41,8 @@ pub(crate) fn run<H: Wait + Threads + Sync + AllocGlobal, R: Read, W: Write>(
         (Appends (W.contents (inner_of writer.old)) (W.contents (inner_of writer.new))) (ending_seen result) }
 {
     match settings(words) {
-        Some(settings) => serve(rt, settings, reader, writer),
+        Some(settings) if settings.addr == "-" => serve(rt, settings, reader, writer),
+        Some(settings) => listen(rt, settings),
         None => WRONG_WORDS,
     }
 }
@@ -50,13 +62,45 @@ fn serve<H: Wait + Threads + Sync + AllocGlobal, R: Read, W: Write>(
         (Consumes (R.remaining (inner_of reader.old)) (R.remaining (inner_of reader.new)))
         (Appends (W.contents (inner_of writer.old)) (W.contents (inner_of writer.new))) (ending_seen result) }
 {
-    let alloc = rt.alloc();
-    let Ok(engine) = Engine::new(alloc, settings.db, Md5Placement, settings.shards) else {
+    match solo(rt, &settings) {
+        Ok(mut service) => {
+            Ending::after(service.serve(rt, rt.alloc(), settings.db, reader, writer))
+        }
+        Err(NoMemory) => NO_MEMORY,
+    }
+}
+
+// Serves the clients that connect, one after another, over a database that is empty at first.
+fn listen<
+    H: Wait
+        + Threads
+        + Sync
+        + AllocGlobal
+        + Eprint
+        + Net<Listener = TcpListener, Stream = TcpStream>,
+>(rt: &H, settings: Settings<'_>) -> Ending
+    requires shards { (1 ≤ settings.shards) × (settings.shards ≤ 64) }
+    requires workers { (1 ≤ settings.workers) × (settings.workers ≤ 32) }
+    ensures { IsEndOfListening (ending_seen result) }
+{
+    let Ok(mut service) = solo(rt, &settings) else {
         return NO_MEMORY;
     };
-    let mut service = Solo {
-        engine,
-        workers: settings.workers,
+    let Ok(listener) = TcpListener::bind(rt, settings.addr) else {
+        return CANNOT_LISTEN;
     };
-    Ending::after(service.serve(rt, alloc, settings.db, reader, writer))
+    let _ = eprintln!(rt; "mangod: listening");
+    serve_connections(rt, rt.alloc(), settings.db, &listener, &mut service, None);
+    STOPPED
+}
+
+// The service of a database that is empty at first.
+fn solo<H: AllocGlobal>(rt: &H, settings: &Settings<'_>) -> Result<Solo<Md5Placement>, NoMemory>
+    requires shards { (1 ≤ settings.now.shards) × (settings.now.shards ≤ 64) }
+    requires workers { (1 ≤ settings.now.workers) × (settings.now.workers ≤ 32) }
+    ensures { IfOk result (λ solo. Stands (λ p id shards. md5_place id shards) solo.engine (empty_world settings.now.db.now)) }
+{
+    let engine = Engine::new(rt.alloc(), settings.db, Md5Placement, settings.shards)?;
+    let workers = settings.workers;
+    Ok(Solo { engine, workers })
 }

@@ -13,7 +13,8 @@ use Rattle.mg_engine.specs.Stands.{definitions_of}
 use Rattle.std.specs.Arc.{arc_value}
 use Rattle.std.specs.declared.alloc.Global.{Global}
 use Rattle.std.specs.declared.sync.Arc.{Arc}
-use Rattle.mg_engine.specs.StateView.{AllLeave, Leaves, before, fresh, shards_seen}
+use Rattle.mg_engine.specs.StateView.{AllLeave, Leaves, before, fresh}
+use Rattle.mg_scan.specs.Found.{shards_seen}
 
 -- ---- one place of a list
 

@@ -19,7 +19,8 @@ use Rattle.mg_engine.specs.declared.fault.Fault.{Fault}
 use Rattle.mg_engine.specs.declared.fault.Fault.TheVariants.{Refused, NoMemory as want}
 use Rattle.mg_engine.specs.declared.refusal.Refusal.{Refusal}
 use Rattle.mg_engine.specs.declared.refusal.Refusal.TheVariants.{WrongShape, MixedSort}
-use Rattle.mg_engine.specs.Settled.{shard_with, shard_without, state_with, state_without}
+use Rattle.mg_engine.specs.Settled.{shard_without, state_with, state_without}
+use Rattle.mg_scan.specs.Built.{with_index}
 use Rattle.mg_engine.specs.Stands.{HaveRows, Holds, Shown, definitions_of}
 use Rattle.mg_engine.specs.StateView.{empty_shard}
 
@@ -55,8 +56,8 @@ changed_rows f g ds [] e h k x lt = absurd (omega arith)
 changed_rows f g ds (s ∷ ss) e h zero x lt = e s ∙ ap g (h zero [] (omega arith))
 changed_rows f g ds (s ∷ ss) e h (suc k) x lt = changed_rows f g ds ss e (λ k x lt. h (suc k) x (omega arith)) k x (omega arith)
 
-pub rows_with : (d : IndexDefinition) (ds : List IndexDefinition) (ss : List ShardView) → HaveRows ds ss → HaveRows (with_definition d ds) (map (shard_with d) ss)
-rows_with d ds ss h = changed_rows (shard_with d) (with_definition d) ds ss (λ s. refl) h
+pub rows_with : (d : IndexDefinition) (ds : List IndexDefinition) (ss : List ShardView) → HaveRows ds ss → HaveRows (with_definition d ds) (map (with_index d) ss)
+rows_with d ds ss h = changed_rows (with_index d) (with_definition d) ds ss (λ s. refl) h
 
 pub rows_without : (ddoc name : List ℕ) (ds : List IndexDefinition) (ss : List ShardView) → HaveRows ds ss → HaveRows (without_definition ddoc name ds) (map (shard_without ddoc name) ss)
 rows_without ddoc name ds ss h = changed_rows (shard_without ddoc name) (without_definition ddoc name) ds ss (λ s. refl) h
@@ -95,7 +96,7 @@ still_dealt place f ss hs same st =
 pub holds_with : (place : Placing) (d : IndexDefinition) (s : Shown) (w : World) → Holds place s w → Holds place (state_with d s) (record w { indexes = with_definition d w.indexes })
 holds_with place d s w h = record {
   name = h.name;
-  documents = still_dealt place (shard_with d) s.shards w.docs (λ _. refl) h.documents;
+  documents = still_dealt place (with_index d) s.shards w.docs (λ _. refl) h.documents;
   indexes = ap (with_definition d) h.indexes;
   rows = rows_with d w.indexes s.shards h.rows;
   counter = h.counter;

@@ -4,6 +4,7 @@ use Rattle.std.specs.Option.{option_map_or}
 use Rattle.mg_index.specs.Catalog.{with_definition, without_definition}
 use Rattle.mg_index.specs.Definition.{IndexDefinition}
 use Rattle.mg_shard.specs.Shard.{ShardView}
+use Rattle.mg_scan.specs.Built.{with_index}
 use Rattle.mg_engine.specs.Commands.{Answer}
 use Rattle.mg_engine.specs.Stands.{Shown}
 use Rattle.mg_engine.specs.View.{said}
@@ -22,17 +23,13 @@ accepts r = option_map_or is_accepted (said r) false
 abbrev pub IsSettled : {X : Type 0} → Reply → Option X → Type 0
 IsSettled r next = is_some next ≡ accepts r
 
--- a shard with an index
-abbrev pub shard_with : IndexDefinition → ShardView → ShardView
-shard_with d s = record s { definitions = with_definition d s.definitions }
-
 -- a shard without one
 abbrev pub shard_without : List ℕ → List ℕ → ShardView → ShardView
 shard_without ddoc name s = record s { definitions = without_definition ddoc name s.definitions }
 
 -- a state with an index over all its shards
 abbrev pub state_with : IndexDefinition → Shown → Shown
-state_with d s = record s { catalog = with_definition d s.catalog; shards = map (shard_with d) s.shards }
+state_with d s = record s { catalog = with_definition d s.catalog; shards = map (with_index d) s.shards }
 
 -- a state without one
 abbrev pub state_without : List ℕ → List ℕ → Shown → Shown

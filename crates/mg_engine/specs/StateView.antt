@@ -2,19 +2,14 @@
 use Rattle.std.specs.Prelude.{◌≡◌, ◌<◌, ℕ, List, [], ◌∷◌, length, map, string_bytes}
 use Rattle.std.specs.Arc.{arc_value}
 use Rattle.std.specs.FinMap as finite
-use Rattle.std.specs.declared.alloc.Global.{Global}
-use Rattle.std.specs.declared.sync.Arc.{Arc}
 use Rattle.mg_index.specs.Definition.{IndexDefinition}
 use Rattle.mg_shard.specs.Documents.{StandFor}
 use Rattle.mg_shard.specs.Draft.{DraftStandsFor, DraftView}
 use Rattle.mg_shard.specs.Histories.{Histories}
 use Rattle.mg_shard.specs.Shard.{ShardView}
+use Rattle.mg_scan.specs.Found.{shards_seen}
 use Rattle.mg_engine.specs.Stands.{HaveRows, Shown}
 use Rattle.mg_engine.specs.declared.state.State.TheInside.{Inside}
-
--- the shards of the code
-abbrev pub shards_seen : List (Arc ShardView Global) → List ShardView
-shards_seen shards = map (λ (s : Arc ShardView Global). arc_value s) shards
 
 -- the name, the catalog, the shards and the number that a state holds
 abbrev pub state_shown : Inside → Shown

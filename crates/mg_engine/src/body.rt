@@ -10,12 +10,20 @@ use std::alloc::Global;
 pub(crate) fn line(alloc: Global, value: &Json) -> Result<Vec<u8>, NoMemory>
     ensures { IfOk result (λ b. b.items ≡ line_of (view value.now)) }
 {
-    let mut text = write(alloc, value)?;
-    text.push(b'\n')?;
-    Ok(text)
+    let text = write(alloc, value)?;
+    with_line_feed(text)
 }
 
-/// A text and a line feed.
+/// A text that was made, and a line feed behind it.
+pub(crate) fn with_line_feed(text: Vec<u8>) -> Result<Vec<u8>, NoMemory>
+    ensures { IfOk result (λ b. b.items ≡ text.items ++ 10 ∷ []) }
+{
+    let mut line = text;
+    line.push(b'\n')?;
+    Ok(line)
+}
+
+/// A copy of a text, and a line feed.
 pub(crate) fn text_line(alloc: Global, text: &[u8]) -> Result<Vec<u8>, NoMemory>
     ensures { IfOk result (λ b. b.items ≡ text.now ++ 10 ∷ []) }
 {

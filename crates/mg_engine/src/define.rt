@@ -5,9 +5,10 @@ ghost use Rattle.mg_index.specs.Definition.{listed_all_docs, listed_of};
 ghost use Rattle.mg_index.specs.Catalog.{definition_at, with_definition};
 ghost use Rattle.mg_engine.specs.Bodies.{done_value, index_value, line_of, indexes_value};
 ghost use Rattle.mg_engine.specs.Commands.{create_index, created, drop_index, list_indexes, next, reply_of, world_defined};
-ghost use Rattle.mg_engine.specs.Settled.{IsSettled, accepts, shard_with, shard_without, state_with, state_without};
+ghost use Rattle.mg_engine.specs.Settled.{IsSettled, accepts, shard_without, state_with, state_without};
+ghost use Rattle.mg_scan.specs.Built.{with_index};
 ghost use Rattle.mg_engine.specs.Stands.{Holds};
-ghost use Rattle.mg_engine.specs.StateView.{shards_seen};
+ghost use Rattle.mg_scan.specs.Found.{shards_seen};
 ghost use Rattle.mg_engine.specs.View.{said};
 ghost use Rattle.mg_engine.specs.World.{World};
 ghost use Rattle.mg_shard.specs.Dealt.{Placing};
@@ -220,7 +221,7 @@ fn all_with<R: Threads + Sync>(
 ) -> Result<Vec<Arc<Shard>>, NoMemory>
     requires some { 1 ≤ workers }
     requires most { workers ≤ 32 }
-    ensures { IfOk result (λ v. shards_seen v.items ≡ map (shard_with definition.now) (shards_seen shards.now)) }
+    ensures { IfOk result (λ v. shards_seen v.items ≡ map (with_index definition.now) (shards_seen shards.now)) }
 {
     let built = build(rt, alloc, shards, definition, workers, &NoGate)?;
     shared(alloc, built)

@@ -1,5 +1,5 @@
 //! Queries, and how they would be answered.
-ghost use Rattle.std.specs.Prelude.{◌≡◌, ◌≤◌, ◌++◌, ◌∷◌, [], All, IfOk, Ok, Some};
+ghost use Rattle.std.specs.Prelude.{◌≡◌, ◌≤◌, All, IfOk, Ok, Some};
 ghost use Rattle.mg_value.specs.View.{view};
 ghost use Rattle.mg_shard.specs.Dealt.{Placing, ShardsStandFor};
 ghost use Rattle.mg_query.specs.Page.{candidates_of};
@@ -8,12 +8,12 @@ ghost use Rattle.mg_query.specs.Seen.{query_seen};
 ghost use Rattle.mg_query.specs.Served.{AreWhole};
 ghost use Rattle.mg_engine.specs.Commands.{Answer, explain as explain_command, explained as explained_of, find, found, reply_of};
 ghost use Rattle.mg_engine.specs.Stands.{Holds};
-ghost use Rattle.mg_engine.specs.StateView.{shards_seen};
+ghost use Rattle.mg_scan.specs.Found.{shards_seen};
 ghost use Rattle.mg_engine.specs.Told.{Tells};
 ghost use Rattle.mg_engine.specs.View.{said};
 ghost use Rattle.mg_engine.specs.World.{World};
 
-use crate::body::line;
+use crate::body::{line, with_line_feed};
 use crate::fault::Fault;
 use crate::reply::Reply;
 use crate::state::State;
@@ -107,15 +107,6 @@ fn answer_line<R: Threads + Sync, G: Gate + Sync>(
         }
         Err(fault) => Err(Fault::from(fault)),
     }
-}
-
-// A text and a line feed.
-fn with_line_feed(text: Vec<u8>) -> Result<Vec<u8>, NoMemory>
-    ensures { IfOk result (λ b. b.items ≡ text.items ++ 10 ∷ []) }
-{
-    let mut line = text;
-    line.push(b'\n')?;
-    Ok(line)
 }
 
 // The line that explains a query in a database of this name, over the indexes of the catalog.

@@ -37,8 +37,8 @@ impl Reply {
         }
     }
 
-    // The reply that refuses a command.
-    pub(crate) fn refusing(alloc: Global, refusal: Refusal) -> Result<Reply, NoMemory>
+    /// The reply that refuses a command. Errors: `NoMemory` where a growth was refused. Cost: its text.
+    pub fn refusing(alloc: Global, refusal: Refusal) -> Result<Reply, NoMemory>
         ensures { IfOk result (λ r. said r ≡ Some (refused refusal)) }
     {
         let body = Vec::from_slice(alloc, refusal.body().as_bytes())?;

@@ -5,7 +5,8 @@ use Rattle.std.specs.List.{cons_option}
 use Rattle.mg_engine.specs.declared.refusal.Refusal.TheVariants.{TooLarge}
 use Rattle.mg_engine.specs.World.{World}
 use Rattle.mg_engine.specs.Commands.{Asked, Answer, is_write, next, refused, reply_of, replies_of, world_after}
-use Rattle.mg_live.specs.Machine.{Commit, Event, publish, enter, answer, told, Machine, commands_of, world_of, are_full, is_accepted, write_reply, written, happens, machine_after}
+use Rattle.mg_live.specs.Machine.{Commit, Event, publish, enter, answer, told, Machine, commands_of, world_of, are_full, write_reply, written, happens, machine_after}
+use Rattle.mg_engine.specs.Settled.{is_accepted}
 use Rattle.mg_live.specs.Laws.{if_accepted, accepted_of, all_accepted}
 use Rattle.mg_live.proofs.Beginnings.{two}
 

@@ -5,7 +5,8 @@ use Rattle.std.proofs.lemmas.Option.{unwrap_or-slice_get}
 use mathlib.Core.Logic.{dite}
 use native.Mathlib.Decide.{ℕ_discrete}
 use Rattle.mg_engine.specs.Commands.{Asked, is_write}
-use Rattle.mg_live.specs.Machine.{Commit, Event, publish, enter, answer, told, Machine, opened, seen_by, with_seen, after_write, is_accepted, write_reply, longer_of, happens, machine_after}
+use Rattle.mg_live.specs.Machine.{Commit, Event, publish, enter, answer, told, Machine, opened, seen_by, with_seen, after_write, write_reply, longer_of, happens, machine_after}
+use Rattle.mg_engine.specs.Settled.{is_accepted}
 use Rattle.mg_live.specs.Laws.{AreAt, Grows, IsAt, IsApart, AreApart, IsPrefix}
 use Rattle.mg_live.proofs.Beginnings.{two, itself, in_turn, longer_left, longer_right, longer_within}
 

@@ -11,7 +11,8 @@ use Rattle.mg_engine.specs.Stands.{Shown, Stands}
 use Rattle.mg_engine.specs.View.{said}
 use Rattle.mg_engine.specs.declared.reply.Reply.{Reply}
 use Rattle.mg_shard.specs.declared.placement.Md5Placement.{Md5Placement}
-use Rattle.mg_live.specs.Machine.{Commit, Machine, after_write, are_full, entered, is_accepted, longer_of, seen_by, with_seen, world_of, write_reply}
+use Rattle.mg_live.specs.Machine.{Commit, Machine, after_write, are_full, entered, longer_of, seen_by, with_seen, world_of, write_reply}
+use Rattle.mg_engine.specs.Settled.{is_accepted}
 use Rattle.mg_live.specs.Points.{AreAfter, Follow, IsAfter, place}
 use Rattle.mg_live.specs.declared.point.Point.{Point}
 use Rattle.mg_live.specs.declared.seats.Seats.{Seats}

@@ -5,14 +5,14 @@ use Rattle.std.proofs.lemmas.Bool.Decides.{nat_tests}
 use Rattle.std.specs.Arc.{arc_value}
 use Rattle.logbook.specs.Pages.{Book}
 use Rattle.mg_engine.specs.Commands.{Asked, Answer, refused}
-use Rattle.mg_engine.specs.Settled.{accepts}
+use Rattle.mg_engine.specs.Settled.{accepts, is_accepted}
 use Rattle.mg_engine.specs.Stands.{Shown}
 use Rattle.mg_engine.specs.View.{asked, said}
 use Rattle.mg_engine.specs.declared.command.Command.{Command}
 use Rattle.mg_engine.specs.declared.refusal.Refusal.TheVariants.{TooLarge}
 use Rattle.mg_engine.specs.declared.reply.Reply.{Reply}
 use Rattle.mg_shard.specs.declared.placement.Md5Placement.{Md5Placement}
-use Rattle.mg_live.specs.Machine.{Commit, after_write, are_full, is_accepted, write_reply}
+use Rattle.mg_live.specs.Machine.{Commit, after_write, are_full, write_reply}
 use Rattle.mg_live.specs.Points.{IsAfter}
 use Rattle.mg_live.specs.Published.{IsOf, Nexts, Publishes, commits_of}
 use Rattle.mg_live.specs.Sitting.{Sitting, Writes}

@@ -29,6 +29,15 @@ item_at seats (e ∷ es) (suc n) d at here = item_at seats es n d at.1 (omega (a
 pub event_at : (seats : ℕ) (es : List code.Event) (i : ℕ) (e : code.Event) → AreAt seats (events_seen es) → i < length es → e ≡ get_or es i e → IsAt seats (event_seen e)
 event_at seats es i e at here is = subst (λ (x : code.Event). IsAt seats (event_seen x)) (sym is) (item_at seats es i e at here)
 
+at_both : (seats : ℕ) (es : List Event) (e : Event) → AreAt seats es → IsAt seats e → AreAt seats (es ++ e ∷ [])
+at_both seats [] e at here = (here, tt)
+at_both seats (d ∷ es) e at here = (at.0, at_both seats es e at.1 here)
+
+-- one more is at one of the seats
+pub at_more : (seats : ℕ) (es : List code.Event) (i : ℕ) (e : code.Event) → i < length es → e ≡ get_or es i e
+    → AreAt seats (events_seen (take i es)) → IsAt seats (event_seen e) → AreAt seats (events_seen (take (i + 1) es))
+at_more seats es i e below is at here = subst (AreAt seats) (sym (seen_more es i e below is)) (at_both seats (events_seen (take i es)) (event_seen e) at here)
+
 -- ---- one event more
 
 -- what is told at an event after others

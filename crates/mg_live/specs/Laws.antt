@@ -3,7 +3,8 @@ use Rattle.std.specs.Prelude.{◌≡◌, ◌≢◌, ◌<◌, ℕ, List, [], ◌�
 use Rattle.std.specs.List.{cons_option}
 use Rattle.mg_engine.specs.World.{empty_world}
 use Rattle.mg_engine.specs.Commands.{Asked, Answer, is_write, reply_of, replies_of}
-use Rattle.mg_live.specs.Machine.{Commit, Event, publish, enter, answer, told, Machine, opened, seen_by, commands_of, world_of, is_accepted, happens, machine_after}
+use Rattle.mg_live.specs.Machine.{Commit, Event, publish, enter, answer, told, Machine, opened, seen_by, commands_of, world_of, happens, machine_after}
+use Rattle.mg_engine.specs.Settled.{is_accepted}
 
 -- the seats of an event are among so many, which are numbered from 0
 abbrev pub IsAt : ℕ → Event → Type 0

@@ -1,10 +1,11 @@
 -- The live machine: one database and several seats, at each of which a session reads and writes while the others do.
 -- There is one list of commits, the writes that were accepted, in order; and each seat has seen a beginning of it.
 -- A write is answered at the end of that list, a read by what its seat has seen.
-use Rattle.std.specs.Prelude.{ℕ, ◌==◌, List, [], ◌∷◌, ◌++◌, Bool, ◌||◌, Option, Some, None, if◌then◌else◌, length, map, nat_lt, replicate, slice_get, slice_set, unwrap_or}
+use Rattle.std.specs.Prelude.{ℕ, ◌==◌, List, [], ◌∷◌, ◌++◌, Bool, Option, Some, None, if◌then◌else◌, length, map, nat_lt, replicate, slice_get, slice_set, unwrap_or}
 use Rattle.mg_engine.specs.declared.refusal.Refusal.TheVariants.{TooLarge}
 use Rattle.mg_engine.specs.World.{World, empty_world}
 use Rattle.mg_engine.specs.Commands.{Asked, Answer, is_write, refused, reply_of, world_after}
+use Rattle.mg_engine.specs.Settled.{is_accepted}
 
 -- a commit: the number of the seat that made it, and the write command
 abbrev pub Commit : Type 0
@@ -51,10 +52,6 @@ are_full cs = length cs == 18446744073709551615
 -- the reply to a write after these commits: that there can be no more comes before any other refusal
 abbrev pub write_reply : List ℕ → List Commit → Asked → Answer
 write_reply name cs c = if are_full cs then refused TooLarge else reply_of (world_of name cs) c
-
--- whether a reply accepts the command
-abbrev pub is_accepted : Answer → Bool
-is_accepted a = a.status == 200 || a.status == 201
 
 -- the commits after a write of a seat: one more where it is accepted
 abbrev pub after_write : List ℕ → List Commit → ℕ → Asked → List Commit

@@ -3,9 +3,10 @@ use Rattle.std.specs.Prelude.{◌≡◌, ◌++◌, ◌∷◌, [], ℕ, List, tru
 use Rattle.std.specs.Arc.{arc_value}
 use Rattle.logbook.specs.Pages.{Book}
 use Rattle.mg_engine.specs.Commands.{Asked, Answer}
+use Rattle.mg_engine.specs.Settled.{is_accepted}
 use Rattle.mg_engine.specs.Stands.{Shown}
 use Rattle.mg_live.specs.Laws.{IsPrefix}
-use Rattle.mg_live.specs.Machine.{Commit, after_write, is_accepted, write_reply}
+use Rattle.mg_live.specs.Machine.{Commit, after_write, write_reply}
 use Rattle.mg_live.specs.Points.{IsAfter}
 use Rattle.mg_live.specs.Rules.{commits_seen}
 use Rattle.mg_live.specs.Sitting.{tally_after}

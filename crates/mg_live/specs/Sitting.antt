@@ -3,9 +3,10 @@ use Rattle.std.specs.Prelude.{◌≡◌, ◌+◌, ℕ, zero, suc, List, [], ◌�
 use Rattle.std.specs.Coded.{Coded, code_by, coded×, coded_ℕ}
 use Rattle.std.specs.List.{sum_by}
 use Rattle.mg_engine.specs.Commands.{Asked, Answer, is_write, reply_of}
+use Rattle.mg_engine.specs.Settled.{is_accepted}
 use Rattle.mg_live.specs.Code.{commits_code}
 use Rattle.mg_live.specs.Laws.{IsPrefix}
-use Rattle.mg_live.specs.Machine.{Commit, after_write, is_accepted, longer_of, world_of, write_reply}
+use Rattle.mg_live.specs.Machine.{Commit, after_write, longer_of, world_of, write_reply}
 
 -- a seat: its number, the commits that it has seen, oldest first, and how many commits it has made
 pub record Sitting : Type 0 where

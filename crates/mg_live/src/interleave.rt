@@ -1,5 +1,5 @@
 //! Sessions that run side by side, one event after another.
-ghost use Rattle.std.specs.Prelude.{◌≡◌, ℕ, List, IfOk, is_some, map, option_and_then, vec_len};
+ghost use Rattle.std.specs.Prelude.{◌≡◌, ◌↔◌, ℕ, List, IfOk, IsTrue, is_some, map, option_and_then, vec_len};
 ghost use Rattle.mg_engine.specs.View.{said};
 ghost use Rattle.mg_live.specs.Laws.{AreAt, IsAt};
 ghost use Rattle.mg_live.specs.Machine.{Machine, happens, opened, replies_of_events};
@@ -28,8 +28,32 @@ pub enum Event {
     Told { seat: usize, by: usize },
 }
 
+/// Whether each of these events is at one of so many seats, as `replay` asks of its caller. Takes no memory. Cost: the events.
+pub fn are_at(seats: usize, events: &[Event]) -> bool
+    ensures { IsTrue result ↔ AreAt seats (events_seen events.now) }
+{
+    for event in events {
+        if !is_at(seats, event) {
+            return false;
+        }
+    }
+    true
+}
+
+// Whether an event is at one of so many seats.
+fn is_at(seats: usize, event: &Event) -> bool
+    ensures { IsTrue result ↔ IsAt seats (event_seen event.now) }
+{
+    match event {
+        Event::Publish { seat, command: _ } => *seat < seats,
+        Event::Enter { seat } => *seat < seats,
+        Event::Answer { seat, command: _ } => *seat < seats,
+        Event::Told { seat, by } => *seat < seats && *by < seats,
+    }
+}
+
 /// The replies to events at so many seats, over one shard and with one worker, by this thread alone: of `Publish` and `Answer`
-/// the reply to the command, whole, and none of `Enter` and `Told`.
+/// the reply to the command, whole, and none of `Enter` and `Told`. Each event has to be at one of these seats, which `are_at` tests.
 ///
 /// Errors: `NoMemory` where a growth was refused anywhere; so no reply is a want of memory. After 18,446,744,073,709,551,615
 /// commits a write is refused by 413 `too_large`. Cost: that of each command, as of `Engine::step`, and the number of seats;

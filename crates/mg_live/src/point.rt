@@ -1,7 +1,6 @@
 //! Points of a database's history.
 ghost use Rattle.std.specs.Prelude.{◌≡◌, ◌<◌, ◌≤◌, ℕ, List, [], IfOk, Some, true, false, is_some};
-ghost use Rattle.mg_engine.specs.declared.refusal.Refusal.TheVariants.{TooLarge};
-ghost use Rattle.mg_engine.specs.Commands.{is_write, refused, reply_of};
+ghost use Rattle.mg_engine.specs.Commands.{is_write, reply_of};
 ghost use Rattle.mg_engine.specs.Settled.{accepts};
 ghost use Rattle.mg_engine.specs.View.{asked, said};
 ghost use Rattle.mg_live.specs.Machine.{Commit, after_write, world_of, write_reply};
@@ -80,7 +79,8 @@ impl Point {
             × IsAfter name r.1 (after_write name cs seat (asked command.now))) }
     {
         if self.commits == u64::MAX {
-            return Ok((too_large(alloc)?, self.again()?));
+            let reply = Reply::refusing(alloc, Refusal::TooLarge)?;
+            return Ok((reply, self.again()?));
         }
         self.commit(rt, alloc, command, workers)
     }
@@ -126,17 +126,6 @@ fn whole(reply: Reply) -> Result<Reply, NoMemory>
         Reply::NoMemory => Err(NoMemory),
         Reply::Full { status, body } => Ok(Reply::Full { status, body }),
     }
-}
-
-// The reply to a write where there can be no more commits.
-fn too_large(alloc: Global) -> Result<Reply, NoMemory>
-    ensures { IfOk result (λ r. said r ≡ Some (refused TooLarge)) }
-{
-    let body = Vec::from_slice(alloc, Refusal::TooLarge.body().as_bytes())?;
-    Ok(Reply::Full {
-        status: Refusal::TooLarge.status(),
-        body,
-    })
 }
 
 // Whether a reply accepts its command.

@@ -11,6 +11,8 @@ mod doc_tests;
 #[cfg(test)]
 mod engine_tests;
 #[cfg(test)]
+mod events_tests;
+#[cfg(test)]
 mod http_tests;
 #[cfg(test)]
 mod index_tests;

@@ -1,7 +1,8 @@
 use Rattle.std.proofs.Common.{◌≡◌, ◌++◌, List, drop, length}
 use Rattle.std.specs.Vec.Iter.{into_iter_items}
 use Rattle.mg_shard.specs.Shard.{ShardView}
-use Rattle.mg_engine.specs.StateView.{AllLeave, before, shards_seen}
+use Rattle.mg_engine.specs.StateView.{AllLeave, before}
+use Rattle.mg_scan.specs.Found.{shards_seen}
 use Rattle.mg_engine.proofs.edits.finished.Given as goal
 
 -- what is left decides

@@ -5,7 +5,7 @@ use Rattle.mg_shard.specs.Histories.{Histories}
 use Rattle.mg_shard.specs.Shard.{ShardView}
 use Rattle.mg_engine.specs.Bulk.{last_number, numbered}
 use Rattle.mg_engine.specs.Stands.{Holds, Shown, definitions_of}
-use Rattle.mg_engine.specs.StateView.{shards_seen}
+use Rattle.mg_scan.specs.Found.{shards_seen}
 use Rattle.mg_engine.proofs.Indexes.{have_same}
 use Rattle.mg_engine.proofs.Whole.{still_objects}
 use Rattle.mg_engine.proofs.state.State.accept.Goals as goal

@@ -6,7 +6,7 @@ use Rattle.mg_shard.specs.Shard.{ShardView}
 use Rattle.mg_value.specs.View.{view}
 use Rattle.mg_engine.specs.Commands.{found}
 use Rattle.mg_engine.specs.Stands.{Shown}
-use Rattle.mg_engine.specs.StateView.{shards_seen}
+use Rattle.mg_scan.specs.Found.{shards_seen}
 use Rattle.mg_engine.proofs.Whole.{are_whole}
 use Rattle.mg_engine.proofs.state.State.find.Goals as goal
 

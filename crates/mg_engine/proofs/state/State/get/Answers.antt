@@ -5,7 +5,7 @@ use Rattle.mg_shard.specs.Dealt.{ShardsStandFor}
 use Rattle.mg_shard.specs.Documents.{StandsAt}
 use Rattle.mg_shard.specs.Shard.{ShardView}
 use Rattle.mg_engine.specs.Stands.{Shown}
-use Rattle.mg_engine.specs.StateView.{shards_seen}
+use Rattle.mg_scan.specs.Found.{shards_seen}
 use Rattle.mg_engine.proofs.state.State.get.Goals as goal
 
 pub returns : goal.returns

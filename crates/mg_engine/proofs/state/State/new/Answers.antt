@@ -5,7 +5,8 @@ use Rattle.std.specs.declared.sync.Arc.{Arc}
 use Rattle.mg_index.specs.Definition.{IndexDefinition}
 use Rattle.mg_shard.specs.Shard.{ShardView}
 use Rattle.mg_engine.specs.Stands.{HaveRows}
-use Rattle.mg_engine.specs.StateView.{empty_shard, shards_seen}
+use Rattle.mg_engine.specs.StateView.{empty_shard}
+use Rattle.mg_scan.specs.Found.{shards_seen}
 use Rattle.mg_engine.proofs.Indexes.{each_empty, no_rows}
 use Rattle.mg_engine.proofs.Whole.{none_at_first}
 use Rattle.mg_engine.proofs.state.State.new.Goals as goal

@@ -4,7 +4,7 @@ use Rattle.std.specs.declared.sync.Arc.{Arc}
 use Rattle.mg_index.specs.Definition.{IndexDefinition}
 use Rattle.mg_shard.specs.Shard.{ShardView}
 use Rattle.mg_engine.specs.Stands.{HaveRows, Shown}
-use Rattle.mg_engine.specs.StateView.{shards_seen}
+use Rattle.mg_scan.specs.Found.{shards_seen}
 use Rattle.mg_engine.proofs.Indexes.{each_has}
 use Rattle.mg_engine.proofs.state.State.whole_shards.Goals as goal
 
