@@ -7,3 +7,4 @@ mod Sessions
 mod Fronts
 mod Adding
 mod Publishing
+pub mod Crossing

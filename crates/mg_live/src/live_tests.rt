@@ -29,6 +29,7 @@ fn work<D: Database, C: Ends, R: Wait + Threads + Sync>(
     seat
 }
 
+#[tactic(auto, using(crate::proofs::Crossing::snapshot_send, crate::proofs::Crossing::snapshot_sync))]
 fn hundred<D: Database + Send + Sync, R: Threads + Wait + Abort + Sync + Send + Drop + Copy>(
     rt: R,
     alloc: Global,
