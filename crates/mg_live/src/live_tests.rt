@@ -1,20 +1,75 @@
 ghost use Rattle.std.specs.Prelude.{◌≡◌, string_bytes};
 
-use crate::{CloseError, Database, History, Live, Waiting};
+use crate::{CloseError, Database, Ends, History, Live, Seat, Waiting};
 use mg_engine::Reply;
 use mg_value::read;
 use std::alloc::Global;
 use std::marker::Brand;
 use std::process::Abort;
-use std::str;
 use std::sync::Wait;
 use std::sync::ledger::Blank;
 use std::test::Fail;
 use std::thread::Threads;
+use std::{str, thread};
+
+// A seat that makes 25 bulks of one document.
+fn work<D: Database, C: Ends, R: Wait + Threads + Sync>(
+    rt: &R,
+    alloc: Global,
+    seat: Seat<D, C>,
+) -> Seat<D, C> {
+    let mut seat = seat;
+    let Ok(body) = read(alloc, b"{\"docs\":[{\"a\":7}]}") else {
+        return seat;
+    };
+    for _ in 0..25u32 {
+        let _ = seat.bulk(rt, &body, 2);
+    }
+    seat
+}
+
+fn hundred<D: Database + Send + Sync, R: Threads + Wait + Abort + Sync + Send + Drop + Copy>(
+    rt: R,
+    alloc: Global,
+    blank: Blank,
+    history: History,
+    db: String,
+) -> Result<(), Fail>
+    requires name { string_bytes db ≡ D.db }
+    requires history { history ≡ D.history }
+    requires ledger { (blank.name ≡ D.name) × (blank.parts ≡ D.parts) }
+    requires parts { blank.parts ≡ 4 }
+{
+    let (live, seats) = Live::<D, Waiting<R>>::open(
+        Waiting(rt),
+        alloc,
+        blank,
+        history,
+        db.as_str(),
+        3,
+        4,
+    )?;
+    let seats = thread::map_vec(&rt, seats, &|seat| work(&rt, alloc, seat))?;
+    match live.close(&rt, seats) {
+        Ok(closed) => assert_eq!(rt; closed.commits(), 100),
+        Err(_) => return Err("it is closed".into()),
+    }
+    Ok(())
+}
+
+#[test]
+fn four_seats_make_a_hundred_commits(rt: HostRuntime) -> Result<(), Fail> {
+    let alloc = rt.alloc();
+    let db = String::from_str(alloc, "db")?;
+    hundred::<Brand, _>(rt, alloc, Blank::new(4), History::new(), db)
+}
 
 // The status and the body of a reply.
 fn said(reply: &Reply) -> (u16, &str) {
-    (reply.status(), str::from_utf8(reply.body()).unwrap_or("no text"))
+    (
+        reply.status(),
+        str::from_utf8(reply.body()).unwrap_or("no text"),
+    )
 }
 
 fn two<D: Database + Send + Sync, R: Threads + Wait + Abort + Sync + Send + Drop + Copy>(
@@ -47,7 +102,10 @@ fn two<D: Database + Send + Sync, R: Threads + Wait + Abort + Sync + Send + Drop
     assert_eq!(rt; said(&b.get(&rt, "l1", false)).0, 404);
     assert_eq!(rt; said(&a.bulk(&rt, &bulk, 1)), (201, "[]\n"));
     b.learn(&a.share(&rt)?);
-    assert_eq!(rt; said(&b.get(&rt, "l1", false)), (200, "{\"_id\":\"l1\",\"_rev\":\"1-a\"}\n"));
+    assert_eq!(rt;
+        said(&b.get(&rt, "l1", false)),
+        (200, "{\"_id\":\"l1\",\"_rev\":\"1-a\"}\n")
+    );
     assert_eq!(rt; said(&b.drop_index(&rt, "x", "ia", 1)).0, 404);
     assert_eq!(rt; a.snapshot()?.shards().len(), 1);
     seats.push(a)?;
