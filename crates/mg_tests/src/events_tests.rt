@@ -117,6 +117,11 @@ struct Seen {
 }
 
 impl Seen {
+    // How many commits there are.
+    fn all(&self) -> usize {
+        self.commits.len()
+    }
+
     fn count(&self, seat: u64) -> usize {
         match self.counts.get(seat as usize) {
             Some(count) => *count,
@@ -128,6 +133,12 @@ impl Seen {
         if let Some(place) = self.counts.get_mut(seat as usize) {
             *place = count;
         }
+    }
+
+    // The seat has then seen all commits.
+    fn look(&mut self, seat: u64) {
+        let all = self.all();
+        self.set(seat, all);
     }
 
     // The reply to a command after the first commits, so many: the last one of a plain run.
@@ -157,13 +168,13 @@ impl Seen {
     ) -> Result<Option<Reply>, Fail> {
         let writes = command_of(alloc, draw.command)?.is_write();
         if writes || draw.kind < 2 {
-            self.set(draw.seat, self.commits.len());
+            self.look(draw.seat);
         }
         let reply = self.reply(rt, alloc, self.count(draw.seat), draw.command)?;
         if let Some(made) = &reply {
             if writes && made.status() < 300 {
                 self.commits.push(draw.command)?;
-                self.set(draw.seat, self.commits.len());
+                self.look(draw.seat);
             }
         }
         Ok(reply)
@@ -179,7 +190,7 @@ impl Seen {
         match draw.kind {
             0 | 1 | 2 | 3 => self.command(rt, alloc, draw),
             4 => {
-                self.set(draw.seat, self.commits.len());
+                self.look(draw.seat);
                 Ok(None)
             }
             _ => {
@@ -227,7 +238,7 @@ fn differences<R: Threads + Sync>(
         .zip(expected.iter())
         .filter(|pair| are_equal(pair.0, pair.1))
         .count();
-    Ok((expected.len().wrapping_sub(equal), seen.commits.len()))
+    Ok((expected.len().wrapping_sub(equal), seen.all()))
 }
 
 #[test]

@@ -1,4 +1,4 @@
-use mg_collate::Direction;
+use mg_collate::{Direction, Row};
 use mg_doc::Edit;
 use mg_index::IndexDef;
 use mg_normal::Normal;
@@ -12,6 +12,7 @@ use std::alloc::Global;
 use std::sync::Arc;
 use std::sync::atomic::{AtomicU64, Ordering};
 use std::test::Fail;
+use std::thread::Threads;
 
 // Holds the first shard that begins until the second is seen, and counts what comes out of turn: a shard that begins twice, that is done
 // before it began, or that is done twice.
@@ -161,53 +162,67 @@ fn two_shards_begun_by_a_build(rt: HostRuntime) -> Result<(), Fail> {
     Ok(())
 }
 
-// An index is scanned from the highest key down, from the row after the one that is named.
-#[test]
-fn descending_after_a_row(rt: HostRuntime) -> Result<(), Fail> {
-    let alloc = rt.alloc();
+// Both shards with an index on n.
+fn with_index<R: Threads + Sync>(rt: &R, alloc: Global) -> Result<Vec<Arc<Shard>>, Fail> {
     let shards = two_shards(alloc)?;
     let definition = definition_of(alloc)?;
-    let built = build(&rt, alloc, &shards, &definition, 1, &NoGate)?;
     let mut shared = Vec::new(alloc);
-    for shard in &built {
-        shared.push(Arc::new(alloc, shard.share(alloc)?)?)?;
+    for shard in build(rt, alloc, &shards, &definition, 1, &NoGate)? {
+        shared.push(Arc::new(alloc, shard)?)?;
     }
+    Ok(shared)
+}
+
+// Of each shard the row of the greatest n below 4 that comes after a row from the end, where one is named.
+fn greatest<R: Threads + Sync>(
+    rt: &R,
+    alloc: Global,
+    shards: &[Arc<Shard>],
+    after: Option<&Row>,
+) -> Result<Vec<Vec<Row>>, Fail> {
     let normal = normal_of(alloc, r#"{"n":{"$lt":4}}"#)?;
     let range = range_of(alloc, "n", &normal)?;
     let target = Target::Index {
         ddoc: "_design/d",
         name: "n",
     };
-    let first = scan(
-        &rt,
+    let lists = scan(
+        rt,
         alloc,
-        &shared,
+        shards,
         target,
         &normal,
         &range,
-        None,
+        after,
         1,
         Direction::Desc,
         1,
         &NoGate,
     )?;
-    assert_eq!(rt; first[0][0].id.as_str(), "c");
-    assert_eq!(rt; first[1][0].id.as_str(), "b");
-    let next = scan(
-        &rt,
-        alloc,
-        &shared,
-        target,
-        &normal,
-        &range,
-        Some(&first[0][0]),
-        1,
-        Direction::Desc,
-        1,
-        &NoGate,
-    )?;
-    assert_eq!(rt; next[0].len(), 1);
-    assert_eq!(rt; next[0][0].id.as_str(), "a");
-    assert_eq!(rt; next[1][0].id.as_str(), "b");
+    Ok(lists)
+}
+
+// The first row of a shard's list, if it has one.
+fn first_of(lists: &[Vec<Row>], shard: usize) -> Option<&Row> {
+    lists.get(shard)?.first()
+}
+
+// Its id.
+fn first_id(lists: &[Vec<Row>], shard: usize) -> Option<&str> {
+    let row = first_of(lists, shard)?;
+    Some(row.id.as_str())
+}
+
+// An index is scanned from the highest key down, from the row after the one that is named.
+#[test]
+fn descending_after_a_row(rt: HostRuntime) -> Result<(), Fail> {
+    let alloc = rt.alloc();
+    let shards = with_index(&rt, alloc)?;
+    let first = greatest(&rt, alloc, &shards, None)?;
+    assert_eq!(rt; first_id(&first, 0), Some("c"));
+    assert_eq!(rt; first_id(&first, 1), Some("b"));
+    let next = greatest(&rt, alloc, &shards, first_of(&first, 0))?;
+    assert_eq!(rt; first_id(&next, 0), Some("a"));
+    assert_eq!(rt; first_id(&next, 1), Some("b"));
     Ok(())
 }
