@@ -1,5 +1,5 @@
 -- Points of a run: what stands after which commits, and the seats that follow a machine.
-use Rattle.std.proofs.Common.{◌≡◌, ◌+◌, ◌<◌, ℕ, zero, suc, true, false, List, [], ◌∷◌, ◌++◌, All, Option, Some, None, is_some, length, get_or, slice_get, slice_set, replicate, unwrap_or, refl, ap, sym, ◌∙◌, subst, arith, nat_lt, ◌≤◌, length-append}
+use Rattle.std.proofs.Common.{◌≡◌, ◌+◌, ◌<◌, ℕ, zero, suc, true, false, List, [], ◌∷◌, ◌++◌, All, IfSome, Option, Some, None, is_some, length, get_or, slice_get, slice_set, replicate, unwrap_or, refl, ap, sym, ◌∙◌, subst, arith, nat_lt, ◌≤◌, length-append}
 use Rattle.std.proofs.lemmas.Bool.Decides.{nat_tests}
 use Rattle.std.specs.Arc.{arc_value}
 use Rattle.std.specs.Option.{option_map_or}
@@ -17,6 +17,13 @@ use Rattle.mg_live.specs.Points.{AreAfter, Follow, IsAfter, place}
 use Rattle.mg_live.specs.declared.point.Point.{Point}
 use Rattle.mg_live.specs.declared.seats.Seats.{Seats}
 use Rattle.mg_live.proofs.Commits.{world_of-one}
+
+-- ---- one read
+
+-- an answer that was given is the one that it has to be
+pub said_is : (o : Option Answer) (a : Answer) → is_some o ≡ true → IfSome o (λ x. x ≡ a) → o ≡ Some a
+said_is None a some is = absurd cc
+said_is (Some x) a some is = ap Some is
 
 -- ---- one write
 

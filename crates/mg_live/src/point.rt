@@ -1,12 +1,13 @@
 //! Points of a database's history.
-ghost use Rattle.std.specs.Prelude.{◌≡◌, ◌<◌, ℕ, List, [], IfOk, Some, true, false, is_some};
+ghost use Rattle.std.specs.Prelude.{◌≡◌, ◌<◌, ◌≤◌, ℕ, List, [], IfOk, Some, true, false, is_some};
 ghost use Rattle.mg_engine.specs.Commands.{is_write, reply_of};
+ghost use Rattle.mg_engine.specs.Settled.{accepts};
 ghost use Rattle.mg_engine.specs.View.{asked, said};
 ghost use Rattle.mg_live.specs.Machine.{Commit, after_write, world_of, write_reply};
 ghost use Rattle.mg_live.specs.Points.{IsAfter};
 
 use mg_engine::{Command, Engine, Refusal, Reply};
-use mg_scan::NoGate;
+use mg_scan::Gate;
 use mg_shard::Md5Placement;
 use mg_value::NoMemory;
 use std::alloc::Global;
@@ -21,11 +22,13 @@ pub(crate) struct Point {
 }
 
 impl Point {
-    /// The point before the first commit to a database of this name, over one shard. Cost: the name.
-    pub(crate) fn first(alloc: Global, db: &str) -> Result<Point, NoMemory>
+    /// The point before the first commit to a database of this name, over so many shards. Cost: their number, and the name.
+    pub(crate) fn first(alloc: Global, db: &str, shards: usize) -> Result<Point, NoMemory>
+        requires some { 1 ≤ shards }
+        requires most { shards ≤ 64 }
         ensures { IfOk result (λ p. IsAfter db.now p []) }
     {
-        let engine = Engine::new(alloc, db, Md5Placement, 1)?;
+        let engine = Engine::new(alloc, db, Md5Placement, shards)?;
         let engine = Arc::new(alloc, engine)?;
         Ok(Point { engine, commits: 0 })
     }
@@ -41,18 +44,22 @@ impl Point {
         })
     }
 
-    /// The reply to a command that reads. Cost: that of the engine's reply.
-    pub(crate) fn read<R: Threads + Sync>(
+    /// The reply to a command that reads, for every gate. Cost: that of the engine's reply.
+    pub(crate) fn read<R: Threads + Sync, G: Gate + Sync>(
         &self,
         rt: &R,
         alloc: Global,
         command: &Command,
+        workers: usize,
+        gate: &G,
     ) -> Result<Reply, NoMemory>
-        requires { is_write (asked command.now) ≡ false }
+        requires read { is_write (asked command.now) ≡ false }
+        requires some { 1 ≤ workers }
+        requires most { workers ≤ 32 }
         ensures { IfOk result (λ r. (name : List ℕ) (cs : List Commit) → IsAfter name self.now cs
             → said r ≡ Some (reply_of (world_of name cs) (asked command.now))) }
     {
-        whole(self.engine.answer(rt, alloc, command, 1, &NoGate))
+        whole(self.engine.answer(rt, alloc, command, workers, gate))
     }
 
     /// The reply to a write, and the point after it, which is one commit more where it is accepted, and else the same once more.
@@ -62,8 +69,11 @@ impl Point {
         rt: &R,
         alloc: Global,
         command: &Command,
+        workers: usize,
     ) -> Result<(Reply, Point), NoMemory>
-        requires { is_write (asked command.now) ≡ true }
+        requires write { is_write (asked command.now) ≡ true }
+        requires some { 1 ≤ workers }
+        requires most { workers ≤ 32 }
         ensures { IfOk result (λ r. (name : List ℕ) (cs : List Commit) (seat : ℕ) → IsAfter name self.now cs
             → (said r.0 ≡ Some (write_reply name cs (asked command.now)))
             × IsAfter name r.1 (after_write name cs seat (asked command.now))) }
@@ -72,7 +82,7 @@ impl Point {
             let reply = Reply::refusing(alloc, Refusal::TooLarge)?;
             return Ok((reply, self.again()?));
         }
-        self.commit(rt, alloc, command)
+        self.commit(rt, alloc, command, workers)
     }
 
     // The same where there can be one commit more.
@@ -81,14 +91,17 @@ impl Point {
         rt: &R,
         alloc: Global,
         command: &Command,
+        workers: usize,
     ) -> Result<(Reply, Point), NoMemory>
         requires write { is_write (asked command.now) ≡ true }
+        requires some { 1 ≤ workers }
+        requires most { workers ≤ 32 }
         requires room { self.now.commits < 18446744073709551615 }
         ensures { IfOk result (λ r. (name : List ℕ) (cs : List Commit) (seat : ℕ) → IsAfter name self.now cs
             → (said r.0 ≡ Some (write_reply name cs (asked command.now)))
             × IsAfter name r.1 (after_write name cs seat (asked command.now))) }
     {
-        let (reply, engine) = self.engine.commit(rt, alloc, command, 1);
+        let (reply, engine) = self.engine.commit(rt, alloc, command, workers);
         let reply = whole(reply)?;
         match engine {
             Some(engine) => {
@@ -112,5 +125,15 @@ fn whole(reply: Reply) -> Result<Reply, NoMemory>
     match reply {
         Reply::NoMemory => Err(NoMemory),
         Reply::Full { status, body } => Ok(Reply::Full { status, body }),
+    }
+}
+
+// Whether a reply accepts its command.
+pub(crate) fn accepts(reply: &Reply) -> bool
+    ensures { result ≡ accepts reply.now }
+{
+    match reply {
+        Reply::Full { status, body: _ } => *status == 200 || *status == 201,
+        Reply::NoMemory => false,
     }
 }

@@ -7,6 +7,7 @@ ghost use Rattle.mg_live.specs.Points.{Follow, IsAfter};
 
 use crate::point::Point;
 use mg_engine::{Command, Reply};
+use mg_scan::NoGate;
 use mg_value::NoMemory;
 use std::alloc::Global;
 use std::thread::Threads;
@@ -24,7 +25,7 @@ impl Seats {
         ensures follow { IfOk result (λ s. Follow db.now s (opened seats)) }
         ensures number { IfOk result (λ s. vec_len s.each ≡ seats) }
     {
-        let latest = Point::first(alloc, db)?;
+        let latest = Point::first(alloc, db, 1)?;
         let each = copies(alloc, &latest, seats)?;
         Ok(Seats { latest, each })
     }
@@ -110,7 +111,7 @@ impl Seats {
             → said r ≡ (read name m seat (asked command.now)).1) }
     {
         let seen = &self.each[seat];
-        let reply = seen.read(rt, alloc, command)?;
+        let reply = seen.read(rt, alloc, command, 1, &NoGate)?;
         Ok(reply)
     }
 
@@ -129,7 +130,7 @@ impl Seats {
             × Follow name self.new (written name m seat (asked command.now)).0) }
         ensures number { vec_len self.new.each ≡ vec_len self.old.each }
     {
-        let (reply, next) = self.latest.write(rt, alloc, command)?;
+        let (reply, next) = self.latest.write(rt, alloc, command, 1)?;
         self.latest = next;
         self.enter(seat)?;
         Ok(reply)

@@ -1,6 +1,6 @@
 //! A count that is shared out: several threads add units under one lock, each by a share of its own, and whoever has all
 //! shares joined knows that the count is the sum of what each added.
-ghost use Rattle.std.specs.Prelude.{◌≡◌, ℕ, ◌+◌, ◌<◌, false, true};
+ghost use Rattle.std.specs.Prelude.{◌≡◌, ◌≢◌, ℕ, ◌+◌, ◌<◌, false, true};
 
 use std::marker::Model;
 use std::sync::ledger::{Blank, Book, Ledger, Share};
@@ -33,7 +33,8 @@ pub fn open<L: Ledger>(blank: Blank) -> (Tally<L>, Share<L>)
 
 /// Splits one part off a share, as a share that has added nothing yet.
 pub fn split<L: Ledger>(share: &mut Share<L>) -> Share<L>
-    requires parts { 1 < share.old.parts }
+    requires parts { 0 < share.old.parts }
+    requires backed { share.old.parts ≡ 1 → share.old.amount ≡ 0 }
     ensures one { (result.parts ≡ 1) × (result.amount ≡ 0) }
     ensures rest { (share.new.parts + 1 ≡ share.old.parts) × (share.new.amount ≡ share.old.amount) }
 {
@@ -59,7 +60,7 @@ impl<L: Ledger> Tally<L> {
 
     /// Adds a unit by a share.
     pub fn add(&mut self, share: &mut Share<L>)
-        requires room { self.old < 18446744073709551615 }
+        requires room { self.old ≢ 18446744073709551615 }
         requires part { 0 < share.old.parts }
         ensures book { self.new ≡ self.old + 1 }
         ensures share { (share.new.amount ≡ share.old.amount + 1) × (share.new.parts ≡ share.old.parts) }
@@ -71,6 +72,7 @@ impl<L: Ledger> Tally<L> {
     /// The number of units, for whoever has all shares joined: what they added together.
     pub fn total(&mut self, all: &mut Share<L>) -> u64
         requires { all.old.parts ≡ L.parts }
+        ensures count { result ≡ self.old }
         ensures sum { result ≡ all.old.amount }
         ensures kept { (self.new ≡ self.old) × (all.new.amount ≡ all.old.amount) × (all.new.parts ≡ all.old.parts) }
     {

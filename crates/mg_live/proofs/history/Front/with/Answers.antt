@@ -1,0 +1,20 @@
+use Rattle.std.proofs.Common.{sym, ◌∙◌, ap}
+use Rattle.mg_live.specs.Rules.{entry_of}
+use Rattle.mg_live.proofs.Adding.{adds_moves}
+use Rattle.mg_live.proofs.history.Front.with.Goals as goal
+
+pub compare_exchange-found-requires : goal.compare_exchange-found-requires
+compare_exchange-found-requires c =
+    let h = c.requires.head in
+    let s = c.args.self.now in
+    let again = c.again-seen.ensures in
+    let offer = c.plain-offer.ensures in
+    let pen = c.no_pen-pen.ensures in
+    let write = c.args.write.now in
+    let book = ap (λ s. s.book) again ∙ sym (ap (λ w. w.book) h) in (
+      ap (λ w. w.tracked) h,
+      book,
+      pen.0 ∙ book,
+      offer.0,
+      rw (ap (λ w. w.key) h, pen.1, offer.1, offer.3, ap (λ s. s.log) again) (adds_moves s.seen.log (entry_of write.seat write.command.now) s.count (sym s.counted)),
+    )

@@ -1,0 +1,12 @@
+use Rattle.std.proofs.Common.{◌≡◌, ◌+◌}
+use Rattle.mg_live.specs.Sitting.{new_seats}
+use Rattle.mg_live.proofs.live.Live.open.Given as goal
+
+-- so many seats have a part each, and the others are left
+abbrev pub invariant-loop-number : goal.invariant-loop-number
+invariant-loop-number g l =
+    record {
+      parts : l.all.parts + l.number ≡ l.seats;
+      amount : l.all.amount ≡ 0;
+      each : l.each.items ≡ new_seats l.number;
+    }

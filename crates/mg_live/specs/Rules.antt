@@ -1,0 +1,31 @@
+-- For private clauses: the rule of the history, and what its steps tell.
+use Rattle.std.specs.Prelude.{ℕ, ◌≡◌, ◌==◌, true, List, [], ◌∷◌, ◌++◌, length, map, MatchBool}
+use Rattle.logbook.specs.Pages.{Book, Cell, Named, Step, View}
+use Rattle.mg_engine.specs.View.{asked}
+use Rattle.mg_engine.specs.declared.command.Command.{Command}
+use Rattle.mg_live.specs.Machine.{Commit}
+use Rattle.mg_live.specs.declared.history.Entry.{Entry}
+
+-- the first word is the length of the history; a book has two words, of which this one leaves the second at 0
+abbrev pub IsKept : List Cell → List Entry → Type 0
+IsKept cells log = cells ≡ (length log, true) ∷ (0, true) ∷ []
+
+-- the word that counts
+abbrev pub head_of : Book → Named
+head_of b = record { tracked = true; key = 0; book = b }
+
+-- the entry was added to all that had been seen; or the history was longer, and was seen
+abbrev pub Adds : Step Entry → View Entry ℕ → ℕ → View Entry ℕ → Type 0
+Adds s v found w = MatchBool (found == s.old) (w.0 ≡ v.0 ++ s.ask ∷ []) (length w.0 ≡ found)
+
+-- the entry of a seat's command
+abbrev pub entry_of : ℕ → Command → Entry
+entry_of seat c = record { seat = seat; command = c }
+
+-- the commit that an entry is
+abbrev pub commit_seen : Entry → Commit
+commit_seen e = (e.seat, asked e.command)
+
+-- what all of them are, in order
+abbrev pub commits_seen : List Entry → List Commit
+commits_seen es = map commit_seen es

@@ -1,0 +1,85 @@
+-- What the calls of a seat do, by what clauses see of seats: the number, the commits that were seen, and the tally of those that were made.
+use Rattle.std.specs.Prelude.{◌≡◌, ◌+◌, ℕ, zero, suc, List, [], ◌∷◌, ◌++◌, All, length, Option, Some, None, MatchBool, if◌then◌else◌, refl}
+use Rattle.std.specs.Coded.{Coded, code_by, coded×, coded_ℕ}
+use Rattle.std.specs.List.{sum_by}
+use Rattle.mg_engine.specs.Commands.{Asked, Answer, is_write, reply_of}
+use Rattle.mg_engine.specs.Settled.{is_accepted}
+use Rattle.mg_live.specs.Code.{commits_code}
+use Rattle.mg_live.specs.Laws.{IsPrefix}
+use Rattle.mg_live.specs.Machine.{Commit, after_write, longer_of, world_of, write_reply}
+
+-- a seat: its number, the commits that it has seen, oldest first, and how many commits it has made
+pub record Sitting : Type 0 where
+  pub number : ℕ
+  pub seen : List Commit
+  pub tally : ℕ
+
+abbrev pub sitting_code : Coded Sitting
+sitting_code = code_by (ℕ × (List Commit × ℕ)) (coded× coded_ℕ (coded× commits_code coded_ℕ)) (λ s. (s.number, (s.seen, s.tally))) (λ p. record { number = p.0; seen = p.1.0; tally = p.1.1 }) (λ _. refl)
+
+-- a seat that has seen nothing and made no commit
+abbrev pub at_first : ℕ → Sitting
+at_first n = record { number = n; seen = []; tally = 0 }
+
+-- so many of them, which are numbered from 0
+abbrev pub new_seats : ℕ → List Sitting
+new_seats zero = []
+new_seats (suc n) = new_seats n ++ at_first n ∷ []
+
+-- the same seat with the same tally, which has seen what it had seen, or more
+pub record IsLater (old new : Sitting) : Type 0 where
+  pub number : new.number ≡ old.number
+  pub seen : IsPrefix old.seen new.seen
+  pub tally : new.tally ≡ old.tally
+
+-- ---- reading
+
+-- the seat looks, and is answered by what it has then seen; or memory was refused
+abbrev pub Reads : List ℕ → Sitting → Asked → Option Answer → Sitting → Type 0
+Reads name old c None new = IsLater old new
+Reads name old c (Some a) new = IsLater old new × (a ≡ reply_of (world_of name new.seen) c)
+
+-- ---- writing
+
+-- the tally after an answer
+abbrev pub tally_after : ℕ → Answer → ℕ
+tally_after tally a = if is_accepted a then tally + 1 else tally
+
+-- There is a list of commits, which begins with what the seat had seen, after which the write is answered. The seat has then seen
+-- that list, with its commit at the end where that was accepted, which its tally counts.
+pub record Written (name : List ℕ) (old : Sitting) (c : Asked) (a : Answer) (new : Sitting) : Type 0 where
+  pub commits : List Commit
+  pub later : IsPrefix old.seen commits
+  pub answer : a ≡ write_reply name commits c
+  pub seen : new.seen ≡ after_write name commits old.number c
+  pub tally : new.tally ≡ tally_after old.tally a
+  pub number : new.number ≡ old.number
+
+-- the write is answered; or memory was refused, and the seat is as it was
+abbrev pub Writes : List ℕ → Sitting → Asked → Option Answer → Sitting → Type 0
+Writes name old c None new = new ≡ old
+Writes name old c (Some a) new = Written name old c a new
+
+-- ---- both
+
+-- the command decides what is done
+abbrev pub Answered : List ℕ → Sitting → Asked → Option Answer → Sitting → Type 0
+Answered name old c o new = MatchBool (is_write c) (Writes name old c o new) (Reads name old c o new)
+
+-- ---- telling
+
+-- the seat has learned a list of commits: it has then seen the longer of both, with which both begin
+pub record Told (old : Sitting) (heard : List Commit) (new : Sitting) : Type 0 where
+  pub longer : new.seen ≡ longer_of old.seen heard
+  pub own : IsPrefix old.seen new.seen
+  pub told : IsPrefix heard new.seen
+  pub number : new.number ≡ old.number
+  pub tally : new.tally ≡ old.tally
+
+-- ---- closing
+
+-- the commits of all seats: what each has seen begins them, and their number is the sum of the tallies
+pub record AreAll (commits : List Commit) (seats : List Sitting) (n : ℕ) : Type 0 where
+  pub begin : All (λ s. IsPrefix s.seen commits) seats
+  pub number : n ≡ length commits
+  pub sum : n ≡ sum_by (λ s. s.tally) seats

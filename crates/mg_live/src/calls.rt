@@ -1,0 +1,122 @@
+//! The calls of a seat, each for one kind of command.
+ghost use Rattle.std.specs.Prelude.{◌≤◌};
+ghost use Rattle.mg_value.specs.View.{view};
+ghost use Rattle.mg_engine.specs.Commands.{bulk, create_index, drop_index, explain, find, get, list_indexes};
+ghost use Rattle.mg_engine.specs.View.{said};
+ghost use Rattle.mg_live.specs.Sitting.{Reads, Writes};
+
+use crate::database::{Database, Ends};
+use crate::seat::Seat;
+use mg_engine::{Command, Reply};
+use mg_scan::{Gate, NoGate};
+use mg_value::Json;
+use std::sync::Wait;
+use std::thread::Threads;
+
+// Each is answered as `Seat::answer` answers the command.
+impl<D: Database, C: Ends> Seat<D, C> {
+    /// The page of a query, by 1 to 32 workers.
+    pub fn find<R: Threads + Sync>(&mut self, rt: &R, body: &Json, workers: usize) -> Reply
+        requires some { 1 ≤ workers }
+        requires most { workers ≤ 32 }
+        ensures { Reads D.db self.old (find (view body.now)) (said result) self.new }
+    {
+        self.find_with(rt, body, workers, &NoGate)
+    }
+
+    /// The same, for every gate: it passes `Snapshot` right after its snapshot, and then what the engine's query passes. From its
+    /// snapshot on it holds no lock.
+    pub fn find_with<R: Threads + Sync, G: Gate + Sync>(
+        &mut self,
+        rt: &R,
+        body: &Json,
+        workers: usize,
+        gate: &G,
+    ) -> Reply
+        requires some { 1 ≤ workers }
+        requires most { workers ≤ 32 }
+        ensures { Reads D.db self.old (find (view body.now)) (said result) self.new }
+    {
+        match body.copy(self.alloc) {
+            Ok(body) => self.read(rt, &Command::Find(body), workers, gate),
+            Err(_) => Reply::NoMemory,
+        }
+    }
+
+    /// Which index serves a query, and which of its keys.
+    pub fn explain<R: Threads + Sync>(&mut self, rt: &R, body: &Json) -> Reply
+        ensures { Reads D.db self.old (explain (view body.now)) (said result) self.new }
+    {
+        match body.copy(self.alloc) {
+            Ok(body) => self.read(rt, &Command::Explain(body), 1, &NoGate),
+            Err(_) => Reply::NoMemory,
+        }
+    }
+
+    /// The list of the indexes.
+    pub fn list_indexes<R: Threads + Sync>(&mut self, rt: &R) -> Reply
+        ensures { Reads D.db self.old list_indexes (said result) self.new }
+    {
+        self.read(rt, &Command::ListIndexes, 1, &NoGate)
+    }
+
+    /// The document of an id, with its conflicts where they are asked for.
+    pub fn get<R: Threads + Sync>(&mut self, rt: &R, id: &str, conflicts: bool) -> Reply
+        ensures { Reads D.db self.old (get id.now conflicts) (said result) self.new }
+    {
+        match String::from_str(self.alloc, id) {
+            Ok(id) => self.read(rt, &Command::Get { id, conflicts }, 1, &NoGate),
+            Err(_) => Reply::NoMemory,
+        }
+    }
+
+    /// Applies a bulk of edits, by 1 to 32 workers.
+    pub fn bulk<R: Wait + Threads + Sync>(&mut self, rt: &R, body: &Json, workers: usize) -> Reply
+        requires some { 1 ≤ workers }
+        requires most { workers ≤ 32 }
+        ensures { Writes D.db self.old (bulk (view body.now)) (said result) self.new }
+    {
+        match body.copy(self.alloc) {
+            Ok(body) => self.write(rt, &Command::Bulk(body), workers),
+            Err(_) => Reply::NoMemory,
+        }
+    }
+
+    /// Creates an index, by 1 to 32 workers.
+    pub fn create_index<R: Wait + Threads + Sync>(
+        &mut self,
+        rt: &R,
+        body: &Json,
+        workers: usize,
+    ) -> Reply
+        requires some { 1 ≤ workers }
+        requires most { workers ≤ 32 }
+        ensures { Writes D.db self.old (create_index (view body.now)) (said result) self.new }
+    {
+        match body.copy(self.alloc) {
+            Ok(body) => self.write(rt, &Command::CreateIndex(body), workers),
+            Err(_) => Reply::NoMemory,
+        }
+    }
+
+    /// Drops the index of a design document and a name, by 1 to 32 workers.
+    pub fn drop_index<R: Wait + Threads + Sync>(
+        &mut self,
+        rt: &R,
+        ddoc: &str,
+        name: &str,
+        workers: usize,
+    ) -> Reply
+        requires some { 1 ≤ workers }
+        requires most { workers ≤ 32 }
+        ensures { Writes D.db self.old (drop_index ddoc.now name.now) (said result) self.new }
+    {
+        let Ok(ddoc) = String::from_str(self.alloc, ddoc) else {
+            return Reply::NoMemory;
+        };
+        match String::from_str(self.alloc, name) {
+            Ok(name) => self.write(rt, &Command::DropIndex { ddoc, name }, workers),
+            Err(_) => Reply::NoMemory,
+        }
+    }
+}

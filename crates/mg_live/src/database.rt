@@ -1,0 +1,42 @@
+//! Which database it is, and what ends it.
+use crate::published::Writes;
+use std::marker::Brand;
+use std::sync::Wait;
+use std::sync::ledger::Ledger;
+
+/// Which database it is: its name, the history of its commits, and the ledger of its tallies. A function over it is called with
+/// `Brand`, where a proof picks it; such a function has no `&str` in its own signature.
+pub trait Database: Ledger {
+    ghost use Rattle.logbook.specs.Pages.{Book};
+    ghost use Rattle.std.specs.Prelude.{ℕ, List};
+
+    // the history of its commits
+    ghost history: { Book };
+
+    // its name
+    ghost db: { List ℕ };
+}
+
+impl Database for Brand {
+    ghost use Rattle.std.specs.Prelude.{[]};
+
+    ghost history = { record { number = 0; log_name = 0; cells_name = 0 } };
+
+    ghost db = { [] };
+}
+
+/// What ends the writer of a database that is let go.
+pub trait Ends: Drop {
+    /// Ends it, and may wait for readers.
+    fn end<D: Database>(&self, writer: Writes<D>);
+}
+
+/// Ends a writer by waiting for its readers.
+#[derive(Drop)]
+pub struct Waiting<R: Drop>(pub R);
+
+impl<R: Wait + Drop> Ends for Waiting<R> {
+    fn end<D: Database>(&self, writer: Writes<D>) {
+        drop(writer.take(&self.0));
+    }
+}

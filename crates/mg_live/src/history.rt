@@ -1,0 +1,179 @@
+//! The history of a database: its commits, each added in one step. It takes no memory but its length.
+ghost use Rattle.std.specs.Prelude.{◌≡◌, ◌≢◌, ◌≤◌, ◌<◌, ◌++◌, ◌∷◌, [], length, MatchBool, IfSome};
+ghost use Rattle.mg_live.specs.Laws.{IsPrefix};
+ghost use Rattle.mg_live.specs.Rules.{commits_seen, entry_of, head_of};
+
+use logbook::{Gain, Offer, Plain, Play, Rule, Seen, Start, Word};
+use mg_engine::Command;
+use std::marker::Model;
+
+/// An entry of the history: the seat that made the commit, and its command. No value of it is made.
+pub struct Entry {
+    pub seat: usize,
+    pub command: Command,
+}
+
+/// A write that a seat asks for, with so many workers.
+#[derive(Clone, Copy)]
+pub(crate) struct Write<'a> {
+    pub(crate) seat: usize,
+    pub(crate) command: &'a Command,
+    pub(crate) workers: usize,
+}
+
+/// The rule of the history.
+pub struct Law;
+
+impl Rule<Entry, u64> for Law {
+    ghost use Rattle.std.specs.Prelude.{[]};
+    ghost use base.Fml.{ftrue};
+    ghost use Rattle.mg_live.specs.Rules.{IsKept};
+
+    ghost holds = { λ cells log. IsKept cells log };
+
+    ghost first = { [] };
+
+    ghost hinted = { λ n log. Unit {0} };
+
+    ghost shows = { λ log. [] };
+
+    ghost keeps = { λ names log. ftrue };
+
+    ghost moves = { λ ask before after answer. Unit {0} };
+}
+
+/// Seats trade nothing.
+pub(crate) struct Nothing;
+
+impl Gain<Entry, u64> for Nothing {
+    ghost use base.Fml.{ftrue};
+
+    ghost after = { λ names about answer. ftrue };
+}
+
+/// A step that adds an entry.
+pub(crate) struct Add;
+
+impl Play<Entry, u64> for Add {
+    ghost use Rattle.mg_live.specs.Rules.{Adds};
+
+    ghost then = { Adds };
+}
+
+impl<'a> Plain<Write<'a>, Entry, u64> for Add {
+    ghost use Rattle.std.specs.Prelude.{None};
+    ghost use Rattle.mg_live.specs.Rules.{entry_of};
+
+    ghost ask = { λ write. entry_of write.seat write.command.now };
+
+    ghost state = { λ write. None };
+}
+
+/// The word that counts the entries.
+#[derive(Drop)]
+pub struct Head {
+    word: Word<Entry, u64, Law>,
+}
+
+/// A beginning of the history that was seen.
+#[derive(Drop)]
+pub struct Front {
+    count: u64,
+    pub(crate) seen: Seen<Entry, u64, Law>,
+    ghost counted: { count ≡ length seen.log },
+}
+
+/// A new history, which is empty. It takes no memory.
+#[derive(Drop)]
+pub struct History {
+    pub(crate) head: Head,
+    pub(crate) front: Front,
+}
+
+impl Model for History {
+    ghost use Rattle.std.specs.Prelude.{◌≡◌, []};
+    ghost use Rattle.logbook.specs.Pages.{Book};
+
+    ghost Value = { Book };
+
+    ghost use Rattle.mg_live.specs.Rules.{head_of};
+
+    ghost view = { λ h. h.front.seen.book };
+
+    ghost invariant = { λ h. (h.head.word ≡ head_of h.front.seen.book) × (h.front.seen.log ≡ []) };
+}
+
+impl History {
+    /// A history of no database yet.
+    pub fn new() -> History {
+        let (seen, mut first, _second) = Seen::open(Start::alone(), 0, 0);
+        let word = Word::tracked(0, &mut first);
+        History {
+            head: Head { word },
+            front: Front { count: 0, seen },
+        }
+    }
+
+    // Its word, and its beginning without an entry.
+    pub(crate) fn parts(self) -> (Head, Front)
+        ensures head { result.0.word ≡ head_of self }
+        ensures front { (result.1.seen.book ≡ self) × (result.1.seen.log ≡ []) }
+    {
+        let History { head, front } = self;
+        (head, front)
+    }
+}
+
+impl Front {
+    /// The number of its commits.
+    pub(crate) fn len(&self) -> u64
+        ensures { result ≡ length self.now.seen.log }
+    {
+        self.count
+    }
+
+    /// The same once more.
+    pub(crate) fn again(&self) -> Front
+        ensures { result ≡ self.now }
+    {
+        Front {
+            count: self.count,
+            seen: self.seen.again(),
+        }
+    }
+
+    /// Whether this beginning is no longer than the other. The shorter of two begins the longer.
+    pub(crate) fn begins(&self, other: &Front) -> bool
+        requires { self.now.seen.book ≡ other.now.seen.book }
+        ensures begins { MatchBool result (IsPrefix (commits_seen self.now.seen.log) (commits_seen other.now.seen.log)) (IsPrefix (commits_seen other.now.seen.log) (commits_seen self.now.seen.log)) }
+        ensures shorter { MatchBool result (length self.now.seen.log ≤ length other.now.seen.log) (length other.now.seen.log < length self.now.seen.log) }
+    {
+        let mut both = self.seen.again();
+        both.learn(&other.seen);
+        self.count <= other.count
+    }
+
+    /// The beginning with one more commit, which the history then has. None where the history is longer.
+    pub(crate) fn with(&self, head: &Head, write: &Write<'_>) -> Option<Front>
+        requires head { head.now.word ≡ head_of self.now.seen.book }
+        requires room { length self.now.seen.log ≢ 18446744073709551615 }
+        ensures { IfSome result (λ f. (f.seen.log ≡ self.now.seen.log ++ entry_of write.now.seat write.now.command.now ∷ []) × (f.seen.book ≡ self.now.seen.book)) }
+    {
+        let mut seen = self.seen.again();
+        let mut offer: Offer<Entry, u64, Law, Nothing> = seen.plain::<Nothing, Write<'_>, Add>(
+            write,
+        );
+        let mut pen = seen.no_pen();
+        let count = self.count;
+        let found = head
+            .word
+            .compare_exchange::<Add, Nothing>(count, count + 1, &mut seen, &mut offer, &mut pen);
+        if found == count {
+            return Some(Front {
+                count: count + 1,
+                seen,
+            });
+        }
+        None
+    }
+}

@@ -1,0 +1,235 @@
+//! Opens a database with seats, and closes it.
+ghost use Rattle.std.specs.Prelude.{◌≡◌, ◌≢◌, ◌≤◌, ◌+◌, [], List, All, IfErr, IfOk, MatchBool, OnOk, vec_len};
+ghost use Rattle.std.specs.List.{sum_by};
+ghost use Rattle.mg_live.specs.Laws.{IsPrefix};
+ghost use Rattle.mg_live.specs.Machine.{Commit};
+ghost use Rattle.mg_live.specs.Sitting.{AreAll, new_seats};
+ghost use Rattle.mg_live.specs.declared.live.CloseError.TheVariants.{Missing};
+
+use crate::database::{Database, Ends};
+use crate::desk::Desk;
+use crate::history::{Front, Head, History};
+use crate::point::Point;
+use crate::published::{Ours, Writes};
+use crate::seat::{Named, Seat, Shared};
+use crate::snapshot::Snapshot;
+use crate::tally;
+use left_right::reader::Factory;
+use left_right::writer::Writer;
+use mg_value::NoMemory;
+use std::alloc::Global;
+use std::marker::{Model, PhantomData};
+use std::sync::ledger::{Blank, Share};
+use std::sync::{Arc, Mutex, Wait};
+
+/// An open database. Contracts see the number of its seats.
+#[derive(Drop)]
+pub struct Live<D: Database, C: Ends> {
+    shared: Arc<Shared<D, C>>,
+    rest: Share<D>,
+    seats: usize,
+}
+
+impl<D: Database, C: Ends> Model for Live<D, C> {
+    ghost use Rattle.std.specs.Prelude.{◌≡◌, ℕ};
+
+    ghost Value = { ℕ };
+
+    ghost view = { λ l. l.seats };
+
+    ghost invariant = { λ l. (l.rest.parts ≡ 0) × (l.rest.amount ≡ 0) };
+}
+
+/// A database that was closed. Contracts see the number of its commits.
+#[derive(Debug, Drop)]
+pub struct Closed {
+    commits: u64,
+}
+
+impl Model for Closed {
+    ghost use Rattle.std.specs.Prelude.{ℕ};
+
+    ghost Value = { ℕ };
+
+    ghost view = { λ c. c.commits };
+}
+
+/// Why a database was not closed.
+#[derive(Clone, Copy, PartialEq, Eq, Debug, Drop)]
+pub enum CloseError {
+    /// Not all seats were given back.
+    Missing,
+    /// A seat has seen more than was published.
+    Ahead,
+}
+
+// What a database begins with: what its seats share, what makes their readers, what they have seen, and all parts of the ledger.
+struct Start<D: Database, C: Ends> {
+    shared: Shared<D, C>,
+    factory: Factory<Snapshot, (), Ours<D>>,
+    front: Front,
+    all: Share<D>,
+}
+
+impl Closed {
+    /// The number of commits. Takes no memory.
+    pub fn commits(&self) -> u64
+        ensures { result ≡ self.now }
+    {
+        self.commits
+    }
+}
+
+// What a database of this name begins with.
+fn begin<D: Database, C: Ends>(
+    ends: C,
+    alloc: Global,
+    blank: Blank,
+    history: History,
+    db: &str,
+    shards: usize,
+    seats: usize,
+) -> Result<Start<D, C>, NoMemory>
+    requires name { db.now ≡ D.db }
+    requires history { history ≡ D.history }
+    requires ledger { (blank.name ≡ D.name) × (blank.parts ≡ D.parts) }
+    requires shards { (1 ≤ shards) × (shards ≤ 64) }
+    requires seats { (1 ≤ seats) × (seats ≤ 16) }
+    ensures all { IfOk result (λ s. (s.all.parts ≡ D.parts) × (s.all.amount ≡ 0)) }
+    ensures front { IfOk result (λ s. (s.front.seen.book ≡ D.history) × (s.front.seen.log ≡ [])) }
+{
+    let (head, front) = history.parts();
+    let (tally, all) = tally::open::<D>(blank);
+    let first = Snapshot {
+        point: Point::first(alloc, db, shards)?,
+        front: front.again(),
+    };
+    let second = first.again()?;
+    let writer: Writes<D> = Writer::new(alloc, first, second, seats)?;
+    let factory = writer.factory().another();
+    let desk = Desk::new(ends, writer, tally);
+    let shared = Shared {
+        named: Named {
+            head,
+            of: PhantomData,
+        },
+        desk: Mutex::new(Some(desk)),
+    };
+    Ok(Start {
+        shared,
+        factory: factory?,
+        front,
+        all,
+    })
+}
+
+// Whether what each seat has seen begins what is published.
+fn all_begin<D: Database, C: Ends>(desk: &Desk<D, C>, seats: &[Seat<D, C>]) -> bool
+    ensures { MatchBool result (All (λ s. IsPrefix s.seen desk.now) seats.now) (Unit {0}) }
+{
+    for seat in seats {
+        if !desk.is_begun_by(&seat.front) {
+            return false;
+        }
+    }
+    true
+}
+
+// Joins the parts of all seats.
+fn join_all<D: Database, C: Ends>(rest: Share<D>, seats: Vec<Seat<D, C>>) -> Share<D>
+    requires { (rest.parts ≡ 0) × (rest.amount ≡ 0) }
+    ensures parts { result.parts ≡ vec_len seats }
+    ensures amount { result.amount ≡ sum_by (λ s. s.tally) seats.items }
+{
+    let mut all = rest;
+    for seat in seats {
+        let Seat { share, .. } = seat;
+        tally::join(&mut all, share);
+    }
+    all
+}
+
+impl<D: Database, C: Ends> Live<D, C> {
+    /// Opens an empty database of this name, over 1 to 64 shards and with 1 to 16 seats, which are numbered from 0. The ledger has
+    /// a part for each seat. `ends` ends the database once all of it was let go.
+    ///
+    /// Errors: `NoMemory` where a growth was refused. Cost: the number of shards and of seats, and the name.
+    pub fn open(
+        ends: C,
+        alloc: Global,
+        blank: Blank,
+        history: History,
+        db: &str,
+        shards: usize,
+        seats: usize,
+    ) -> Result<(Live<D, C>, Vec<Seat<D, C>>), NoMemory>
+        requires name { db.now ≡ D.db }
+        requires history { history ≡ D.history }
+        requires ledger { (blank.name ≡ D.name) × (blank.parts ≡ D.parts) }
+        requires parts { blank.parts ≡ seats }
+        requires shards { (1 ≤ shards) × (shards ≤ 64) }
+        requires seats { (1 ≤ seats) × (seats ≤ 16) }
+        ensures live { IfOk result (λ t. t.0 ≡ seats) }
+        ensures seats { IfOk result (λ t. t.1.items ≡ new_seats seats) }
+    {
+        let Start {
+            shared,
+            factory,
+            front,
+            mut all,
+        } = begin(ends, alloc, blank, history, db, shards, seats)?;
+        let shared = Arc::new(alloc, shared)?;
+        let mut each = Vec::new(alloc);
+        for number in 0..seats {
+            let seat = Seat {
+                number,
+                alloc,
+                front: front.again(),
+                share: tally::split(&mut all),
+                reader: Some(factory.reader()?),
+                shared: Arc::try_clone(&shared)?,
+            };
+            each.push(seat)?;
+        }
+        let live = Live {
+            shared,
+            rest: all,
+            seats,
+        };
+        Ok((live, each))
+    }
+
+    /// Closes the database, once all seats were given back.
+    ///
+    /// Errors, with all that was given: `Missing` where a seat is absent, and `Ahead` where one has seen more than was published.
+    pub fn close<R: Wait>(
+        self,
+        rt: &R,
+        seats: Vec<Seat<D, C>>,
+    ) -> Result<Closed, (Live<D, C>, Vec<Seat<D, C>>, CloseError)>
+        requires { self ≡ D.parts }
+        ensures closed { IfOk result (λ c. (commits : List Commit) × AreAll commits seats.items c) }
+        ensures whole { OnOk result (vec_len seats ≡ self) }
+        ensures back { IfErr result (λ r. (r.0 ≡ self) × (r.1 ≡ seats)) }
+        ensures missing { IfErr result (λ r. r.2 ≡ Missing → vec_len seats ≢ self) }
+    {
+        if seats.len() != self.seats {
+            return Err((self, seats, CloseError::Missing));
+        }
+        let mut guard = self.shared.desk.lock(rt);
+        let Some(mut desk) = guard.take() else {
+            drop(guard);
+            return Err((self, seats, CloseError::Ahead));
+        };
+        if !all_begin(&desk, seats.as_slice()) {
+            *guard = Some(desk);
+            drop(guard);
+            return Err((self, seats, CloseError::Ahead));
+        }
+        drop(guard);
+        let Live { rest, .. } = self;
+        let mut all = join_all(rest, seats);
+        let commits = desk.settle(&mut all);
+        Ok(Closed { commits })
+    }
+}

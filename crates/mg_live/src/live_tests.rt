@@ -1,0 +1,125 @@
+ghost use Rattle.std.specs.Prelude.{◌≡◌, string_bytes};
+
+use crate::{CloseError, Database, Ends, History, Live, Seat, Waiting};
+use mg_engine::Reply;
+use mg_value::read;
+use std::alloc::Global;
+use std::marker::Brand;
+use std::process::Abort;
+use std::str;
+use std::sync::Wait;
+use std::sync::ledger::Blank;
+use std::test::Fail;
+use std::thread;
+use std::thread::Threads;
+
+// A seat that makes 25 bulks of one document.
+fn work<D: Database, C: Ends, R: Wait + Threads + Sync>(
+    rt: &R,
+    alloc: Global,
+    seat: Seat<D, C>,
+) -> Seat<D, C> {
+    let mut seat = seat;
+    let Ok(body) = read(alloc, b"{\"docs\":[{\"a\":7}]}") else {
+        return seat;
+    };
+    for _ in 0..25u32 {
+        let _ = seat.bulk(rt, &body, 2);
+    }
+    seat
+}
+
+#[tactic(auto, using(crate::proofs::Crossing::snapshot_send, crate::proofs::Crossing::snapshot_sync))]
+fn hundred<D: Database + Send + Sync, R: Threads + Wait + Abort + Sync + Send + Drop + Copy>(
+    rt: R,
+    alloc: Global,
+    blank: Blank,
+    history: History,
+    db: String,
+) -> Result<(), Fail>
+    requires name { string_bytes db ≡ D.db }
+    requires history { history ≡ D.history }
+    requires ledger { (blank.name ≡ D.name) × (blank.parts ≡ D.parts) }
+    requires parts { blank.parts ≡ 4 }
+{
+    let (live, seats) = Live::<D, Waiting<R>>::open(
+        Waiting(rt),
+        alloc,
+        blank,
+        history,
+        db.as_str(),
+        3,
+        4,
+    )?;
+    let seats = thread::map_vec(&rt, seats, &|seat| work(&rt, alloc, seat))?;
+    match live.close(&rt, seats) {
+        Ok(closed) => assert_eq!(rt; closed.commits(), 100),
+        Err(_) => return Err("it is closed".into()),
+    }
+    Ok(())
+}
+
+#[test]
+fn four_seats_make_a_hundred_commits(rt: HostRuntime) -> Result<(), Fail> {
+    let alloc = rt.alloc();
+    let db = String::from_str(alloc, "db")?;
+    hundred::<Brand, _>(rt, alloc, Blank::new(4), History::new(), db)
+}
+
+// The status and the body of a reply.
+fn said(reply: &Reply) -> (u16, &str) {
+    (reply.status(), str::from_utf8(reply.body()).unwrap_or("no text"))
+}
+
+fn two<D: Database + Send + Sync, R: Threads + Wait + Abort + Sync + Send + Drop + Copy>(
+    rt: R,
+    alloc: Global,
+    blank: Blank,
+    history: History,
+    db: String,
+) -> Result<(), Fail>
+    requires name { string_bytes db ≡ D.db }
+    requires history { history ≡ D.history }
+    requires ledger { (blank.name ≡ D.name) × (blank.parts ≡ D.parts) }
+    requires parts { blank.parts ≡ 2 }
+{
+    let (live, mut seats) = Live::<D, Waiting<R>>::open(
+        Waiting(rt),
+        alloc,
+        blank,
+        history,
+        db.as_str(),
+        1,
+        2,
+    )?;
+    let mut b = seats.pop().ok_or("a seat")?;
+    let mut a = seats.pop().ok_or("a seat")?;
+    let bulk = read(
+        alloc,
+        b"{\"docs\":[{\"_id\":\"l1\",\"_rev\":\"1-a\"}],\"new_edits\":false}",
+    )?;
+    assert_eq!(rt; said(&b.get(&rt, "l1", false)).0, 404);
+    assert_eq!(rt; said(&a.bulk(&rt, &bulk, 1)), (201, "[]\n"));
+    b.learn(&a.share(&rt)?);
+    assert_eq!(rt; said(&b.get(&rt, "l1", false)), (200, "{\"_id\":\"l1\",\"_rev\":\"1-a\"}\n"));
+    assert_eq!(rt; said(&b.drop_index(&rt, "x", "ia", 1)).0, 404);
+    assert_eq!(rt; a.snapshot()?.shards().len(), 1);
+    seats.push(a)?;
+    let (live, mut seats) = match live.close(&rt, seats) {
+        Err((live, seats, CloseError::Missing)) => (live, seats),
+        _ => return Err("a seat is absent".into()),
+    };
+    seats.push(b)?;
+    match live.close(&rt, seats) {
+        Ok(closed) => assert_eq!(rt; closed.commits(), 1),
+        Err(_) => return Err("it is closed".into()),
+    }
+    Ok(())
+}
+
+#[test]
+fn two_seats_tell_each_other_and_close(rt: HostRuntime) -> Result<(), Fail> {
+    let alloc = rt.alloc();
+    let db = String::from_str(alloc, "db")?;
+    two::<Brand, _>(rt, alloc, Blank::new(2), History::new(), db)
+}

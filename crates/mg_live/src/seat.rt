@@ -1,0 +1,216 @@
+//! Seats: at each a session reads and writes.
+ghost use Rattle.std.specs.Prelude.{◌≡◌, ◌≤◌, true, false, MatchBool, IfOk};
+ghost use Rattle.mg_engine.specs.Commands.{is_write};
+ghost use Rattle.mg_engine.specs.View.{asked, said};
+ghost use Rattle.mg_live.specs.Published.{IsAt};
+ghost use Rattle.mg_live.specs.Rules.{head_of};
+ghost use Rattle.mg_live.specs.Sitting.{Answered, IsLater, Reads, Told, Writes};
+
+use crate::database::{Database, Ends};
+use crate::desk::Desk;
+use crate::history::{Front, Head, Write};
+use crate::published::{Reads, look};
+use crate::snapshot::Snapshot;
+use mg_engine::{Command, Reply};
+use mg_scan::{Gate, NoGate, Place};
+use mg_value::NoMemory;
+use std::alloc::Global;
+use std::marker::{Model, PhantomData};
+use std::sync::ledger::Share;
+use std::sync::{Arc, Mutex, Wait};
+use std::thread::Threads;
+
+/// What all seats share: the word of the history, and the desk under the writer's lock.
+#[derive(Drop)]
+pub(crate) struct Shared<D: Database, C: Ends> {
+    pub(crate) named: Named<D>,
+    pub(crate) desk: Mutex<Option<Desk<D, C>>>,
+}
+
+/// The word of this database's history.
+#[derive(Drop)]
+pub(crate) struct Named<D: Database> {
+    pub(crate) head: Head,
+    pub(crate) of: PhantomData<D>,
+    ghost is: { head.word ≡ head_of D.history },
+}
+
+/// A seat at a database. Contracts see its number, the commits that it has seen, and the tally of those that it has made.
+#[derive(Drop)]
+pub struct Seat<D: Database, C: Ends> {
+    pub(crate) number: usize,
+    pub(crate) alloc: Global,
+    pub(crate) front: Front,
+    pub(crate) share: Share<D>,
+    pub(crate) reader: Option<Reads<D>>,
+    pub(crate) shared: Arc<Shared<D, C>>,
+}
+
+impl<D: Database, C: Ends> Model for Seat<D, C> {
+    ghost use Rattle.std.specs.Prelude.{◌≡◌};
+    ghost use Rattle.mg_live.specs.Sitting.{Sitting, sitting_code};
+
+    ghost Value = { Sitting };
+
+    ghost coded = { sitting_code };
+
+    ghost use Rattle.mg_live.specs.Rules.{commits_seen};
+
+    ghost view = { λ s. record { number = s.number; seen = commits_seen s.front.seen.log; tally = s.share.amount } };
+
+    ghost invariant = { λ s. (s.front.seen.book ≡ D.history) × (s.share.parts ≡ 1) };
+}
+
+/// What a seat has seen, for another one to learn.
+#[derive(Drop)]
+pub struct Seen<D: Database> {
+    front: Front,
+    of: PhantomData<D>,
+}
+
+impl<D: Database> Model for Seen<D> {
+    ghost use Rattle.std.specs.Prelude.{◌≡◌, List};
+    ghost use Rattle.mg_live.specs.Code.{commits_code};
+    ghost use Rattle.mg_live.specs.Machine.{Commit};
+
+    ghost Value = { List Commit };
+
+    ghost coded = { commits_code };
+
+    ghost use Rattle.mg_live.specs.Rules.{commits_seen};
+
+    ghost view = { λ s. commits_seen s.front.seen.log };
+
+    ghost invariant = { λ s. s.front.seen.book ≡ D.history };
+}
+
+impl<D: Database, C: Ends> Seat<D, C> {
+    /// The database as it is now, by what is published. It waits for nobody.
+    ///
+    /// Errors: `NoMemory` where the snapshot was not given. Cost: the same for any documents.
+    pub fn snapshot(&mut self) -> Result<Snapshot, NoMemory>
+        ensures later { IsLater self.old self.new }
+        ensures snapshot { IfOk result (λ s. IsAt D.db s self.new.seen) }
+    {
+        let Some(reader) = self.reader.take() else {
+            return Err(NoMemory);
+        };
+        let (reader, snapshot) = look(reader);
+        self.reader = Some(reader);
+        let snapshot = snapshot?;
+        if !self.front.begins(&snapshot.front) {
+            return Err(NoMemory);
+        }
+        self.front = snapshot.front.again();
+        Ok(snapshot)
+    }
+
+    /// The reply to a command, by 1 to 32 workers. A command that reads is answered over one snapshot, and waits for nobody. A write is
+    /// answered after all commits; one that is accepted is one commit more.
+    ///
+    /// Where memory was refused, a write is no commit. Cost: that of the engine's reply.
+    pub fn answer<R: Wait + Threads + Sync>(
+        &mut self,
+        rt: &R,
+        command: &Command,
+        workers: usize,
+    ) -> Reply
+        requires some { 1 ≤ workers }
+        requires most { workers ≤ 32 }
+        ensures { Answered D.db self.old (asked command.now) (said result) self.new }
+    {
+        if command.is_write() {
+            self.write(rt, command, workers)
+        } else {
+            self.read(rt, command, workers, &NoGate)
+        }
+    }
+
+    // The reply to a command that reads, over one snapshot.
+    pub(crate) fn read<R: Threads + Sync, G: Gate + Sync>(
+        &mut self,
+        rt: &R,
+        command: &Command,
+        workers: usize,
+        gate: &G,
+    ) -> Reply
+        requires read { is_write (asked command.now) ≡ false }
+        requires some { 1 ≤ workers }
+        requires most { workers ≤ 32 }
+        ensures { Reads D.db self.old (asked command.now) (said result) self.new }
+    {
+        let Ok(snapshot) = self.snapshot() else {
+            return Reply::NoMemory;
+        };
+        gate.at(Place::Snapshot);
+        match snapshot.point.read(rt, self.alloc, command, workers, gate) {
+            Ok(reply) => reply,
+            Err(_) => Reply::NoMemory,
+        }
+    }
+
+    // The reply to a write, after all commits.
+    pub(crate) fn write<R: Wait + Threads + Sync>(
+        &mut self,
+        rt: &R,
+        command: &Command,
+        workers: usize,
+    ) -> Reply
+        requires write { is_write (asked command.now) ≡ true }
+        requires some { 1 ≤ workers }
+        requires most { workers ≤ 32 }
+        ensures { Writes D.db self.old (asked command.now) (said result) self.new }
+    {
+        let Seat {
+            number,
+            alloc,
+            front,
+            share,
+            shared,
+            ..
+        } = self;
+        let write = Write {
+            seat: *number,
+            command,
+            workers,
+        };
+        let mut guard = shared.desk.lock(rt);
+        match guard.take() {
+            None => Reply::NoMemory,
+            Some(desk) => {
+                let (desk, reply) = desk.write(rt, *alloc, &shared.named.head, &write, share, front);
+                *guard = Some(desk);
+                reply
+            }
+        }
+    }
+
+    /// Sees all commits, and tells it. It looks under the writer's lock.
+    ///
+    /// Errors: `NoMemory` where nothing was told.
+    pub fn share<R: Wait>(&mut self, rt: &R) -> Result<Seen<D>, NoMemory>
+        ensures later { IsLater self.old self.new }
+        ensures seen { IfOk result (λ s. s ≡ self.new.seen) }
+    {
+        let guard = self.shared.desk.lock(rt);
+        let Some(desk) = &*guard else {
+            return Err(NoMemory);
+        };
+        if !desk.tell(&mut self.front) {
+            return Err(NoMemory);
+        }
+        Ok(Seen {
+            front: self.front.again(),
+            of: PhantomData,
+        })
+    }
+
+    /// Learns what another seat has seen, and has then seen the longer of both. Takes no memory.
+    pub fn learn(&mut self, seen: &Seen<D>)
+        ensures { Told self.old seen.now self.new }
+    {
+        if self.front.begins(&seen.front) {
+            self.front = seen.front.again();
+        }
+    }
+}

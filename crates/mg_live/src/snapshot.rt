@@ -1,0 +1,101 @@
+//! Snapshots: a database as it stood after some of its commits.
+ghost use Rattle.std.specs.Prelude.{◌≡◌, ◌≤◌, true, All, IfOk, IfSome, option_map};
+ghost use Rattle.std.specs.Arc.{arc_value};
+ghost use Rattle.mg_engine.specs.Commands.{is_write};
+ghost use Rattle.mg_engine.specs.View.{asked, said};
+ghost use Rattle.mg_live.specs.Published.{IsOf, Nexts, commits_of, shards_seen, shown_of};
+ghost use Rattle.mg_live.specs.Rules.{head_of};
+
+use crate::database::Database;
+use crate::history::{Front, Head, Write};
+use crate::point::{Point, accepts};
+use left_right::Absorb;
+use mg_engine::{Engine, Reply};
+use mg_index::Catalog;
+use mg_shard::{Md5Placement, Shard};
+use std::alloc::{AllocError, Global};
+use std::sync::Arc;
+use std::thread::Threads;
+
+/// A database as it stood after some of its commits: nothing changes it.
+#[derive(Drop)]
+pub struct Snapshot {
+    pub(crate) point: Point,
+    pub(crate) front: Front,
+}
+
+impl Snapshot {
+    /// The catalog of its indexes. Takes no memory.
+    pub fn catalog(&self) -> &Catalog
+        ensures { result.now ≡ (shown_of self.now).catalog }
+    {
+        self.point.engine.catalog()
+    }
+
+    /// Its shards, each of which has the rows of exactly the indexes of the catalog. Takes no memory.
+    pub fn shards(&self) -> &[Arc<Shard>]
+        ensures shards { shards_seen result.now ≡ (shown_of self.now).shards }
+        ensures rows { All (λ s. s.definitions ≡ (shown_of self.now).catalog) (shards_seen result.now) }
+    {
+        self.point.engine.shards()
+    }
+
+    // The same snapshot once more, over the same engine.
+    pub(crate) fn again(&self) -> Result<Snapshot, AllocError>
+        ensures front { IfOk result (λ s. s.front ≡ self.now.front) }
+        ensures point { IfOk result (λ s. (arc_value s.point.engine ≡ arc_value self.now.point.engine) × (s.point.commits ≡ self.now.point.commits)) }
+    {
+        let engine = self.point.engine.clone()?;
+        let commits = self.point.commits;
+        Ok(Snapshot {
+            point: Point { engine, commits },
+            front: self.front.again(),
+        })
+    }
+
+    // The reply to a write, and the snapshot after it where it is accepted: its commit then stands in the history.
+    pub(crate) fn next<D: Database, R: Threads + Sync>(
+        &self,
+        rt: &R,
+        alloc: Global,
+        head: &Head,
+        write: &Write<'_>,
+    ) -> (Reply, Option<Snapshot>)
+        requires write { is_write (asked write.now.command.now) ≡ true }
+        requires some { 1 ≤ write.now.workers }
+        requires most { write.now.workers ≤ 32 }
+        requires head { head.now.word ≡ head_of D.history }
+        requires here { IsOf D.history D.db self.now }
+        ensures next { Nexts D.db (commits_of self.now) write.now.seat (asked write.now.command.now) (said result.0) (option_map commits_of result.1) }
+        ensures there { IfSome result.1 (λ s. IsOf D.history D.db s) }
+    {
+        let Ok((reply, point)) = self.point.write(rt, alloc, write.command, write.workers) else {
+            return (Reply::NoMemory, None);
+        };
+        if !accepts(&reply) {
+            return (reply, None);
+        }
+        let Some(front) = self.front.with(head, write) else {
+            return (Reply::NoMemory, None);
+        };
+        (reply, Some(Snapshot { point, front }))
+    }
+}
+
+impl Absorb<Snapshot> for Snapshot {
+    type State = (Engine<Md5Placement>, u64, Front);
+
+    ghost state = { λ s. (arc_value s.point.engine, s.point.commits, s.front) };
+
+    ghost applied = { λ s next. (arc_value next.point.engine, next.point.commits, next.front) };
+
+    fn absorb_first(&mut self, operation: &Snapshot, _other: &Snapshot) -> Result<(), AllocError> {
+        *self = operation.again()?;
+        Ok(())
+    }
+
+    fn absorb_second(&mut self, operation: Snapshot, _other: &Snapshot) -> Result<(), Snapshot> {
+        *self = operation;
+        Ok(())
+    }
+}
