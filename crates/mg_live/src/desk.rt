@@ -103,7 +103,14 @@ impl<D: Database, C: Ends> Desk<D, C> {
         } = self;
         let now = writer.published();
         if !front.begins(&now.front) {
-            return (Desk { writer, tally, ends }, Reply::NoMemory);
+            return (
+                Desk {
+                    writer,
+                    tally,
+                    ends,
+                },
+                Reply::NoMemory,
+            );
         }
         let (reply, next) = now.next::<D, R>(rt, alloc, head, write);
         let seen = now.front.again();
@@ -112,12 +119,26 @@ impl<D: Database, C: Ends> Desk<D, C> {
                 Reply::NoMemory => {}
                 Reply::Full { .. } => *front = seen,
             }
-            return (Desk { writer, tally, ends }, reply);
+            return (
+                Desk {
+                    writer,
+                    tally,
+                    ends,
+                },
+                reply,
+            );
         };
         *front = next.front.again();
         tally.add(share);
         let writer = show(rt, writer, next);
-        (Desk { writer, tally, ends }, reply)
+        (
+            Desk {
+                writer,
+                tally,
+                ends,
+            },
+            reply,
+        )
     }
 
     // A seat sees what is published. False where it is ahead.

@@ -6,12 +6,11 @@ use mg_value::read;
 use std::alloc::Global;
 use std::marker::Brand;
 use std::process::Abort;
-use std::str;
 use std::sync::Wait;
 use std::sync::ledger::Blank;
 use std::test::Fail;
-use std::thread;
 use std::thread::Threads;
+use std::{str, thread};
 
 // A seat that makes 25 bulks of one document.
 fn work<D: Database, C: Ends, R: Wait + Threads + Sync>(
@@ -29,7 +28,6 @@ fn work<D: Database, C: Ends, R: Wait + Threads + Sync>(
     seat
 }
 
-#[tactic(auto, using(crate::proofs::Crossing::snapshot_send, crate::proofs::Crossing::snapshot_sync))]
 fn hundred<D: Database + Send + Sync, R: Threads + Wait + Abort + Sync + Send + Drop + Copy>(
     rt: R,
     alloc: Global,
@@ -68,7 +66,10 @@ fn four_seats_make_a_hundred_commits(rt: HostRuntime) -> Result<(), Fail> {
 
 // The status and the body of a reply.
 fn said(reply: &Reply) -> (u16, &str) {
-    (reply.status(), str::from_utf8(reply.body()).unwrap_or("no text"))
+    (
+        reply.status(),
+        str::from_utf8(reply.body()).unwrap_or("no text"),
+    )
 }
 
 fn two<D: Database + Send + Sync, R: Threads + Wait + Abort + Sync + Send + Drop + Copy>(
@@ -101,7 +102,10 @@ fn two<D: Database + Send + Sync, R: Threads + Wait + Abort + Sync + Send + Drop
     assert_eq!(rt; said(&b.get(&rt, "l1", false)).0, 404);
     assert_eq!(rt; said(&a.bulk(&rt, &bulk, 1)), (201, "[]\n"));
     b.learn(&a.share(&rt)?);
-    assert_eq!(rt; said(&b.get(&rt, "l1", false)), (200, "{\"_id\":\"l1\",\"_rev\":\"1-a\"}\n"));
+    assert_eq!(rt;
+        said(&b.get(&rt, "l1", false)),
+        (200, "{\"_id\":\"l1\",\"_rev\":\"1-a\"}\n")
+    );
     assert_eq!(rt; said(&b.drop_index(&rt, "x", "ia", 1)).0, 404);
     assert_eq!(rt; a.snapshot()?.shards().len(), 1);
     seats.push(a)?;

@@ -72,11 +72,7 @@ fn turn<D: Database, R: Wait>(rt: &R, writer: Writes<D>, front: &Front) -> Write
 }
 
 /// Publishes a snapshot, in one step.
-pub(crate) fn show<D: Database, R: Wait>(
-    rt: &R,
-    writer: Writes<D>,
-    snapshot: Snapshot,
-) -> Writes<D>
+pub(crate) fn show<D: Database, R: Wait>(rt: &R, writer: Writes<D>, snapshot: Snapshot) -> Writes<D>
     requires here { IsOf D.history D.db snapshot }
     requires nothing { drop writer.behind writer.log.items ≡ [] }
     ensures nothing { drop result.behind result.log.items ≡ [] }

@@ -178,7 +178,14 @@ impl<D: Database, C: Ends> Seat<D, C> {
         match guard.take() {
             None => Reply::NoMemory,
             Some(desk) => {
-                let (desk, reply) = desk.write(rt, *alloc, &shared.named.head, &write, share, front);
+                let (desk, reply) = desk.write(
+                    rt,
+                    *alloc,
+                    &shared.named.head,
+                    &write,
+                    share,
+                    front,
+                );
                 *guard = Some(desk);
                 reply
             }

@@ -6,7 +6,7 @@ pub publish_as-next-requires : goal.publish_as-next-requires
 publish_as-next-requires g c =
     let i = c.loop.invariant.2 in
     λ next same views here at.
-        let is = absorbed g.D.Database.history g.D.Database.db c.loop.writer.desk.shown.value i.0 next _ i.1 i.3 same in (tt, is, is)
+    let is = absorbed g.D.Database.history g.D.Database.db c.loop.writer.desk.shown.value i.0 next _ i.1 i.3 same in (tt, is, is)
 
 pub loop-preserved : goal.loop-preserved
 loop-preserved g c =
