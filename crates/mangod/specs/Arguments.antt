@@ -39,8 +39,17 @@ settings_with db addr (Some shards) (Some workers) (Some sessions) =
     then Some (record { db = db; shards = shards; workers = workers; sessions = sessions; addr = addr }) else None
 settings_with db addr shards workers sessions = None
 
--- the settings of five words, none where they are wrong: 1 to 64 shards, 1 to 32 workers, and for now one session
+-- the settings of five words, none where they are wrong: 1 to 64 shards, 1 to 32 workers, 1 to 16 sessions
 abbrev pub settings_of : List (List ℕ) → Option Settings
 settings_of (db ∷ shards ∷ workers ∷ sessions ∷ addr ∷ []) =
-    settings_with db addr (number_of shards 64) (number_of workers 32) (number_of sessions 1)
+    settings_with db addr (number_of shards 64) (number_of workers 32) (number_of sessions 16)
 settings_of words = None
+
+-- the name of the database that is asked for, and the number of sessions; no name and one session where the words are wrong
+abbrev pub name_in : Option Settings → List ℕ
+name_in None = []
+name_in (Some s) = s.db
+
+abbrev pub sessions_in : Option Settings → ℕ
+sessions_in None = 1
+sessions_in (Some s) = s.sessions

@@ -9,12 +9,12 @@ use crate::config::Settings;
 const SHARDS: usize = 64;
 /// The most workers.
 const WORKERS: usize = 32;
-/// The most sessions, for now.
-const SESSIONS: usize = 1;
+/// The most sessions.
+const SESSIONS: usize = 16;
 
 /// The settings of `DB SHARDS WORKERS SESSIONS ADDR`, none for wrong arguments. Takes no memory.
 ///
-/// SHARDS is 1 to 64, and WORKERS is 1 to 32. For now SESSIONS is 1. ADDR is any text.
+/// SHARDS is 1 to 64, WORKERS is 1 to 32, and SESSIONS is 1 to 16. ADDR is any text.
 pub(crate) fn settings(words: &[String]) -> Option<Settings<'_>>
     ensures { option_map settings_seen result ≡ settings_of (map (λ w. string_bytes w) words.now) }
 {

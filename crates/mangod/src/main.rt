@@ -6,20 +6,26 @@ mod config;
 mod connections;
 mod ends;
 mod program;
+mod seats;
 
 use crate::ends::{NO_MEMORY, WRONG_WORDS};
-use crate::program::run;
+use crate::program::{run, sessions};
 use mg_http::Device;
+use mg_live::History;
 use std::env;
 use std::io::ErrorKind;
+use std::marker::Brand;
 use std::process::ExitCode;
+use std::sync::ledger::Blank;
 
 fn main(rt: HostRuntime) -> ExitCode {
     let ending = match env::args(&rt) {
         Ok(args) => match args.skip(1).collect::<Vec<String>>(rt.alloc()) {
-            Ok(words) => run(
-                &rt,
+            Ok(words) => run::<Brand, _, _, _>(
+                rt,
                 &words,
+                Blank::new(sessions(&words) as u64),
+                History::new(),
                 &mut Device::new(rt.stdin()),
                 &mut Device::new(rt.stdout()),
             ),

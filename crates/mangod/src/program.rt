@@ -2,7 +2,7 @@
 ghost use Rattle.std.specs.Prelude.{◌≡◌, ◌≤◌, IfOk, false, map, string_bytes};
 ghost use Rattle.std.specs.Io.KnownBytes.{Appends, Consumes};
 ghost use Rattle.mg_http.specs.Device.{inner_of, has_failed};
-ghost use Rattle.mangod.specs.Arguments.{settings_of};
+ghost use Rattle.mangod.specs.Arguments.{name_in, sessions_in, settings_of};
 ghost use Rattle.mg_engine.specs.Stands.{Stands};
 ghost use Rattle.mg_engine.specs.World.{empty_world};
 ghost use Rattle.mg_shard.specs.Placement.{md5_place};
@@ -11,29 +11,46 @@ ghost use Rattle.mangod.specs.View.{ending_seen};
 
 use crate::arguments::settings;
 use crate::config::Settings;
-use crate::connections::serve_connections;
 use crate::ends::{CANNOT_LISTEN, Ending, NO_MEMORY, STOPPED, WRONG_WORDS};
+use crate::seats::{serve_seats, services};
 use mg_engine::Engine;
 use mg_http::{Device, Solo};
+use mg_live::{Database, History, Live, Waiting};
 use mg_shard::Md5Placement;
 use mg_value::NoMemory;
 use std::io::{Eprint, Read, Write};
 use std::net::{Net, TcpListener, TcpStream};
 use std::sync::Wait;
+use std::sync::ledger::Blank;
 use std::thread::Threads;
 
 /// Does what the words ask for, if they are right: one session over the input and the output where the address is `-`, and else
-/// sessions with the clients that connect to the address.
+/// sessions with the clients that connect to the address. The history and the ledger are those of the database `D`.
 pub(crate) fn run<
+    D: Database + Send + Sync,
     H: Wait
         + Threads
+        + Send
         + Sync
+        + Copy
+        + Drop
         + AllocGlobal
         + Eprint
         + Net<Listener = TcpListener, Stream = TcpStream>,
     R: Read,
     W: Write,
->(rt: &H, words: &[String], reader: &mut Device<R>, writer: &mut Device<W>) -> Ending
+>(
+    rt: H,
+    words: &[String],
+    blank: Blank,
+    history: History,
+    reader: &mut Device<R>,
+    writer: &mut Device<W>,
+) -> Ending
+    requires name { D.db ≡ name_in (settings_of (map (λ w. string_bytes w) words.now)) }
+    requires history { history ≡ D.history }
+    requires ledger { (blank.name ≡ D.name) × (blank.parts ≡ D.parts) }
+    requires parts { blank.parts ≡ sessions_in (settings_of (map (λ w. string_bytes w) words.now)) }
     requires reading { has_failed reader.old ≡ false }
     requires writing { has_failed writer.old ≡ false }
     ensures { RunsWith (settings_of (map (λ w. string_bytes w) words.now))
@@ -41,9 +58,19 @@ pub(crate) fn run<
         (Appends (W.contents (inner_of writer.old)) (W.contents (inner_of writer.new))) (ending_seen result) }
 {
     match settings(words) {
-        Some(settings) if settings.addr == "-" => serve(rt, settings, reader, writer),
-        Some(settings) => listen(rt, settings),
+        Some(settings) if settings.addr == "-" => serve(&rt, settings, reader, writer),
+        Some(settings) => listen::<D, H>(rt, settings, blank, history),
         None => WRONG_WORDS,
+    }
+}
+
+/// How many sessions the words ask for, one where they are wrong.
+pub(crate) fn sessions(words: &[String]) -> usize
+    ensures { result ≡ sessions_in (settings_of (map (λ w. string_bytes w) words.now)) }
+{
+    match settings(words) {
+        Some(settings) => settings.sessions,
+        None => 1,
     }
 }
 
@@ -70,28 +97,54 @@ fn serve<H: Wait + Threads + Sync + AllocGlobal, R: Read, W: Write>(
     }
 }
 
-// Serves the clients that connect, one after another, over a database that is empty at first.
+// Serves the clients that connect, each session at a seat of a database that is empty at first.
 fn listen<
+    D: Database + Send + Sync,
     H: Wait
         + Threads
+        + Send
         + Sync
+        + Copy
+        + Drop
         + AllocGlobal
         + Eprint
         + Net<Listener = TcpListener, Stream = TcpStream>,
->(rt: &H, settings: Settings<'_>) -> Ending
+>(rt: H, settings: Settings<'_>, blank: Blank, history: History) -> Ending
+    requires name { settings.db.now ≡ D.db }
+    requires history { history ≡ D.history }
+    requires ledger { (blank.name ≡ D.name) × (blank.parts ≡ D.parts) }
+    requires parts { blank.parts ≡ settings.sessions }
+    requires sessions { (1 ≤ settings.sessions) × (settings.sessions ≤ 16) }
     requires shards { (1 ≤ settings.shards) × (settings.shards ≤ 64) }
     requires workers { (1 ≤ settings.workers) × (settings.workers ≤ 32) }
     ensures { IsEndOfListening (ending_seen result) }
 {
-    let Ok(mut service) = solo(rt, &settings) else {
+    let alloc = rt.alloc();
+    let opened = Live::<D, Waiting<H>>::open(
+        Waiting(rt),
+        alloc,
+        blank,
+        history,
+        settings.db,
+        settings.shards,
+        settings.sessions,
+    );
+    let Ok((live, seats)) = opened else {
         return NO_MEMORY;
     };
-    let Ok(listener) = TcpListener::bind(rt, settings.addr) else {
+    let Ok(services) = services(alloc, seats, settings.workers) else {
+        return NO_MEMORY;
+    };
+    let Ok(listener) = TcpListener::bind(&rt, settings.addr) else {
         return CANNOT_LISTEN;
     };
     let _ = eprintln!(rt; "mangod: listening");
-    serve_connections(rt, rt.alloc(), settings.db, &listener, &mut service, None);
-    STOPPED
+    let served = serve_seats(&rt, alloc, settings.db, &listener, services, None);
+    drop(live);
+    match served {
+        Ok(_) => STOPPED,
+        Err(NoMemory) => NO_MEMORY,
+    }
 }
 
 // The service of a database that is empty at first.

@@ -20,5 +20,5 @@ pub mod target;
 mod text;
 
 pub use device::Device;
-pub use service::{Service, Solo};
+pub use service::{SeatService, Service, Solo};
 pub use sessions::{SessionEnd, session};

@@ -3,8 +3,10 @@ ghost use Rattle.std.specs.Prelude.{◌≡◌, ◌≤◌, Option, IfNone};
 ghost use Rattle.mg_engine.specs.Commands.{Asked, Answer};
 ghost use Rattle.mg_engine.specs.View.{asked, said};
 ghost use Rattle.mg_http.specs.Solo.{Steps};
+ghost use Rattle.mg_live.specs.Sitting.{Answered};
 
 use mg_engine::{Command, Engine, Reply};
+use mg_live::{Database, Ends, Seat};
 use mg_shard::Placement;
 use std::alloc::Global;
 use std::sync::Wait;
@@ -38,5 +40,25 @@ impl<P: Placement + Drop> Service for Solo<P> {
 
     fn ask<H: Wait + Threads + Sync>(&mut self, rt: &H, alloc: Global, command: &Command) -> Reply {
         self.engine.step(rt, alloc, command, self.workers)
+    }
+}
+
+/// A seat at a database that other sessions use too, and the number of workers, 1 to 32, with which it answers.
+#[derive(Drop)]
+pub struct SeatService<D: Database, C: Ends> {
+    pub seat: Seat<D, C>,
+    pub workers: usize,
+    ghost some_worker: { 1 ≤ workers },
+    ghost most_workers: { workers ≤ 32 },
+}
+
+impl<D: Database, C: Ends> Service for SeatService<D, C> {
+    // The answer is the seat's: of a read by what it has then seen, of a write after a list of commits that begins with what it had
+    // seen.
+    ghost answers = { λ old command answer new. Answered D.db old.seat command answer new.seat };
+
+    fn ask<H: Wait + Threads + Sync>(&mut self, rt: &H, alloc: Global, command: &Command) -> Reply {
+        let _ = alloc;
+        self.seat.answer(rt, command, self.workers)
     }
 }

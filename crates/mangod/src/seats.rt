@@ -1,0 +1,63 @@
+//! Clients at the seats of a database, each seat with a thread of its own.
+ghost use Rattle.std.specs.Prelude.{◌≤◌};
+
+use crate::connections::serve_connections;
+use mg_http::SeatService;
+use mg_live::{Database, Ends, Seat, Waiting};
+use mg_value::NoMemory;
+use std::alloc::Global;
+use std::net::TcpListener;
+use std::sync::Wait;
+use std::thread;
+use std::thread::Threads;
+
+/// A service for each seat, by so many workers.
+pub(crate) fn services<D: Database, C: Ends>(
+    alloc: Global,
+    seats: Vec<Seat<D, C>>,
+    workers: usize,
+) -> Result<Vec<SeatService<D, C>>, NoMemory>
+    requires some { 1 ≤ workers }
+    requires most { workers ≤ 32 }
+{
+    let mut services = Vec::with_capacity(alloc, seats.len())?;
+    for seat in seats {
+        services.push(SeatService { seat, workers })?;
+    }
+    Ok(services)
+}
+
+/// Serves connections at each seat, on a thread of its own, one connection after another, at most so many a seat where a number is
+/// given, and else until the listener fails. It gives the services back once all have ended. Where a thread cannot be started, its
+/// seat waits until another has ended.
+///
+/// Errors: `NoMemory` where a growth was refused.
+pub(crate) fn serve_seats<D: Database + Send + Sync, H: Wait + Threads + Send + Sync + Copy + Drop>(
+    rt: &H,
+    alloc: Global,
+    db: &str,
+    listener: &TcpListener,
+    services: Vec<SeatService<D, Waiting<H>>>,
+    turns: Option<u64>,
+) -> Result<Vec<SeatService<D, Waiting<H>>>, NoMemory> {
+    let services = thread::map_vec(
+        rt,
+        services,
+        &|service| attend(rt, alloc, db, listener, service, turns),
+    )?;
+    Ok(services)
+}
+
+// Serves the connections of one seat.
+fn attend<D: Database, C: Ends, H: Wait + Threads + Sync>(
+    rt: &H,
+    alloc: Global,
+    db: &str,
+    listener: &TcpListener,
+    service: SeatService<D, C>,
+    turns: Option<u64>,
+) -> SeatService<D, C> {
+    let mut service = service;
+    serve_connections(rt, alloc, db, listener, &mut service, turns);
+    service
+}
