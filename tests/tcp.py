@@ -197,9 +197,9 @@ def curl(port, tally):
         print("curl is not here: its part was left out")
         return
     url = f"http://127.0.0.1:{port}/db"
-    command = ["curl", "-s", "-m", str(SECONDS), f"{url}/_bulk_docs", "-d", BODY, "--next", "-s", f"{url}/d1", "--next", "-s", "-I", f"{url}/d1"]
+    command = ["curl", "-s", "-m", str(SECONDS), f"{url}/_bulk_docs", "-d", BODY, "--next", "-s", "-i", f"{url}/d1"]
     done = subprocess.run(command, capture_output=True, timeout=SECONDS)
-    wanted = '[]\n{"_id":"d1","_rev":"1-a","v":1}\n' + HEAD.format("200 OK", 33)
+    wanted = "[]\n" + HEAD.format("200 OK", 32) + '{"_id":"d1","_rev":"1-a","v":1}\n'
     tally.expect("curl", (done.returncode, done.stdout.decode()), (0, wanted))
 
 
