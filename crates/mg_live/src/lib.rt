@@ -4,6 +4,8 @@
 mod calls;
 mod database;
 mod desk;
+#[cfg(test)]
+mod gate_tests;
 mod history;
 pub mod interleave;
 pub mod laws;

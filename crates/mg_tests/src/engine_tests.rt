@@ -26,10 +26,10 @@ impl Placement for ByNumber {
 }
 
 // d4, d1 and d2 stand on three of four shards.
-const DOCUMENTS: &str =
+pub(crate) const DOCUMENTS: &str =
     r#"{"docs":[{"_id":"d4","_rev":"1-a"},{"_id":"d1","_rev":"1-a"},{"_id":"d2","_rev":"1-a"}],"new_edits":false}"#;
 
-const PAGE: &str =
+pub(crate) const PAGE: &str =
     "{\"bookmark\":\"W251bGwsIl9hbGxfZG9jcyIsImFzYyIsWyJkNCJdLCJkNCJd\",\"docs\":[{\"_id\":\"d1\"},{\"_id\":\"d2\"},{\"_id\":\"d4\"}]}\n";
 
 #[test]

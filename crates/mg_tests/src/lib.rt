@@ -35,6 +35,8 @@ mod revtree_tests;
 #[cfg(test)]
 mod scan_tests;
 #[cfg(test)]
+mod seat_tests;
+#[cfg(test)]
 mod selector_tests;
 #[cfg(test)]
 mod shard_tests;
