@@ -1,7 +1,7 @@
 -- Beginnings of one history.
 use Rattle.std.proofs.lemmas.Bool.{leb-true, leb-false}
 use Rattle.std.proofs.lemmas.List.{get_or_read, map-append}
-use Rattle.std.proofs.Common.{Bool, true, false, leb, MatchBool, ◌<◌, ◌⊎◌, ◌+◌, ⊎_elim, inl, inr, subst, get_or, ◌≡◌, ℕ, zero, suc, ◌≤◌, List, [], ◌∷◌, ◌++◌, length, Some, slice_get, refl, ap, sym, ◌∙◌, arith, append_assoc, length-append}
+use Rattle.std.proofs.Common.{Bool, true, false, leb, MatchBool, ◌<◌, ◌⊎◌, ◌+◌, ⊎_elim, inl, inr, subst, get_or, ◌≡◌, ℕ, ◌≤◌, List, [], ◌∷◌, length, refl, ap, sym, ◌∙◌, arith}
 use mathlib.Core.List.{IsPrefix}
 use mathlib.Core.Logic.{dite}
 use native.Mathlib.Decide.{ℕ_discrete}

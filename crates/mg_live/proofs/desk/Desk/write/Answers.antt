@@ -1,4 +1,4 @@
-use Rattle.std.proofs.Common.{◌≡◌, ◌+◌, ◌∷◌, [], Some, length, length-append, ap, sym, ◌∙◌, arith}
+use Rattle.std.proofs.Common.{◌≡◌, ◌∷◌, [], Some, length, length-append, ap, sym, ◌∙◌, arith}
 use Rattle.mg_engine.specs.View.{asked, said}
 use Rattle.mg_live.specs.Published.{Nexts, commits_of}
 use Rattle.mg_live.specs.Rules.{commits_seen}

@@ -1,4 +1,4 @@
-use Rattle.std.proofs.Common.{ap, subst, List, leb, refl}
+use Rattle.std.proofs.Common.{ap, subst, List, refl}
 use mathlib.Core.List.{IsPrefix}
 use Rattle.mg_live.specs.declared.history.Entry.{Entry}
 use Rattle.mg_live.proofs.Fronts.{compared}
