@@ -16,7 +16,7 @@ PAGE = b'HTTP/1.1 200 OK\r\nContent-Type: application/json\r\nContent-Length: 29
 USAGE = b"mangod: usage: mangod DB SHARDS WORKERS SESSIONS ADDR\n"
 
 RIGHT = ["db 1 1 1 -", "a 1 1 1 -", "z9_$()+-a 1 1 1 -", "db 01 1 001 -", "db 2 1 1 -", "db 64 1 1 -", "db 064 1 1 -",
-         "db 1 2 1 -", "db 1 32 1 -", "db 64 032 1 -"]
+         "db 1 2 1 -", "db 1 32 1 -", "db 64 032 1 -", "db 1 1 2 -", "db 64 32 016 -"]
 
 # one word a field, cut at `|`
 WRONG = [
