@@ -281,7 +281,7 @@ def faults(words, tally):
 
 # how many sessions the program has, and what is done with it
 CONVERSATIONS = [(1, [one_after_another, cut_messages, a_client_that_waits]), (1, [clients_that_go]), (1, [python_client]), (1, [curl]),
-                 (16, [sixteen_writers]), (4, [whole_bulks]), (2, [more_clients_than_seats, clients_that_go])]
+                 (2, [one_after_another]), (16, [sixteen_writers]), (4, [whole_bulks]), (2, [more_clients_than_seats, clients_that_go])]
 
 
 def main():
