@@ -1,13 +1,10 @@
 -- For private clauses: what is published, and what a write makes of it.
-use Rattle.std.specs.Prelude.{◌≡◌, ◌++◌, ◌∷◌, [], ℕ, List, true, false, Option, Some, None, map}
+use Rattle.std.specs.Prelude.{◌≡◌, ◌++◌, ◌∷◌, [], ℕ, List, true, false, Option, Some, None}
 use Rattle.std.specs.Arc.{arc_value}
-use Rattle.std.specs.declared.alloc.Global.{Global}
-use Rattle.std.specs.declared.sync.Arc.{Arc}
 use Rattle.logbook.specs.Pages.{Book}
 use Rattle.mg_engine.specs.Commands.{Asked, Answer}
 use Rattle.mg_engine.specs.Settled.{is_accepted}
 use Rattle.mg_engine.specs.Stands.{Shown}
-use Rattle.mg_shard.specs.Shard.{ShardView}
 use Rattle.mg_live.specs.Laws.{IsPrefix}
 use Rattle.mg_live.specs.Machine.{Commit, after_write, write_reply}
 use Rattle.mg_live.specs.Points.{IsAfter}
@@ -18,10 +15,6 @@ use Rattle.mg_live.specs.declared.snapshot.Snapshot.{Snapshot}
 -- the commits that a snapshot shows
 abbrev pub commits_of : Snapshot → List Commit
 commits_of s = commits_seen s.front.seen.log
-
--- the shards of the code
-abbrev pub shards_seen : List (Arc ShardView Global) → List ShardView
-shards_seen shards = map (λ (s : Arc ShardView Global). arc_value s) shards
 
 -- what the engine of a snapshot holds
 abbrev pub shown_of : Snapshot → Shown
