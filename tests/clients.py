@@ -16,6 +16,8 @@ import subprocess
 import sys
 import threading
 
+from common.tally import Tally
+
 SECONDS = 30
 
 
@@ -39,18 +41,6 @@ class Bridge:
             process = subprocess.Popen(self.command, stdin=connection, stdout=connection, stderr=subprocess.PIPE)
             _, line = process.communicate(timeout=SECONDS)
             self.ended.append((process.returncode, line))
-
-
-class Tally:
-    def __init__(self):
-        self.passed = self.failed = 0
-
-    def expect(self, name, got, wanted):
-        if got == wanted:
-            self.passed += 1
-        else:
-            self.failed += 1
-            print(f"{name}: {got!r}\n  wanted {wanted!r}")
 
 
 def python_client(bridge, tally):

@@ -18,6 +18,8 @@ import subprocess
 import sys
 import time
 
+from common.tally import Tally
+
 SECONDS = 30
 HEAD = "HTTP/1.1 {}\r\nContent-Type: application/json\r\nContent-Length: {}\r\n\r\n"
 
@@ -29,18 +31,6 @@ PAGE = (HEAD.format("200 OK", 105) + '{"bookmark":"W251bGwsIl9hbGxfZG9jcyIsImFzY
         '"docs":[{"_id":"d1","_rev":"1-a","v":1}]}\n').encode()
 EMPTY = (HEAD.format("200 OK", 29) + '{"bookmark":"nil","docs":[]}\n').encode()
 NO_HEAD = b"X\r\n\r\n"
-
-
-class Tally:
-    def __init__(self):
-        self.passed = self.failed = 0
-
-    def expect(self, name, got, wanted):
-        if got == wanted:
-            self.passed += 1
-        else:
-            self.failed += 1
-            print(f"{name}: {got!r}\n  wanted {wanted!r}")
 
 
 class Client:
