@@ -1,5 +1,5 @@
 //! Clients at the seats of a database, each seat with a thread of its own.
-ghost use Rattle.std.specs.Prelude.{◌≤◌};
+ghost use Rattle.std.specs.Prelude.{◌≡◌, ◌≤◌, IfOk, map};
 
 use crate::connections::serve_connections;
 use mg_http::SeatService;
@@ -19,6 +19,7 @@ pub(crate) fn services<D: Database, C: Ends>(
 ) -> Result<Vec<SeatService<D, C>>, NoMemory>
     requires some { 1 ≤ workers }
     requires most { workers ≤ 32 }
+    ensures { IfOk result (λ services. map (λ service. service.seat) services.items ≡ seats.items) }
 {
     let mut services = Vec::with_capacity(alloc, seats.len())?;
     for seat in seats {
