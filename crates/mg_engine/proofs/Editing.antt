@@ -7,14 +7,13 @@ use Rattle.mg_shard.specs.Dealt.{Placing, DraftsStandFor, ShardStandsFor, Shards
 use Rattle.mg_shard.specs.Draft.{DraftStandsFor, DraftView}
 use Rattle.mg_shard.specs.Histories.{Histories}
 use Rattle.mg_shard.specs.Laws.{DraftsBecomeShards, ShardsBecomeDrafts}
-use Rattle.mg_shard.specs.Shard.{ShardView}
+use Rattle.mg_shard.specs.Shard.{ShardView, shards_seen}
 use Rattle.mg_shard.proofs.Touched.{untouched}
 use Rattle.mg_engine.specs.Stands.{definitions_of}
 use Rattle.std.specs.Arc.{arc_value}
 use Rattle.std.specs.declared.alloc.Global.{Global}
 use Rattle.std.specs.declared.sync.Arc.{Arc}
 use Rattle.mg_engine.specs.StateView.{AllLeave, Leaves, before, fresh}
-use Rattle.mg_scan.specs.Found.{shards_seen}
 
 -- ---- one place of a list
 

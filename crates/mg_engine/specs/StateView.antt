@@ -6,8 +6,7 @@ use Rattle.mg_index.specs.Definition.{IndexDefinition}
 use Rattle.mg_shard.specs.Documents.{StandFor}
 use Rattle.mg_shard.specs.Draft.{DraftStandsFor, DraftView}
 use Rattle.mg_shard.specs.Histories.{Histories}
-use Rattle.mg_shard.specs.Shard.{ShardView}
-use Rattle.mg_scan.specs.Found.{shards_seen}
+use Rattle.mg_shard.specs.Shard.{ShardView, shards_seen}
 use Rattle.mg_engine.specs.Stands.{HaveRows, Shown}
 use Rattle.mg_engine.specs.declared.state.State.TheInside.{Inside}
 

@@ -8,7 +8,7 @@ ghost use Rattle.mg_engine.specs.Commands.{create_index, created, drop_index, li
 ghost use Rattle.mg_engine.specs.Settled.{IsSettled, accepts, shard_without, state_with, state_without};
 ghost use Rattle.mg_scan.specs.Built.{with_index};
 ghost use Rattle.mg_engine.specs.Stands.{Holds};
-ghost use Rattle.mg_scan.specs.Found.{shards_seen};
+ghost use Rattle.mg_shard.specs.Shard.{shards_seen};
 ghost use Rattle.mg_engine.specs.View.{said};
 ghost use Rattle.mg_engine.specs.World.{World};
 ghost use Rattle.mg_shard.specs.Dealt.{Placing};

@@ -5,7 +5,7 @@ ghost use Rattle.mg_shard.specs.Edits.{after_edit, after_edits, outcome_in, outc
 ghost use Rattle.mg_shard.specs.Histories.{Histories};
 ghost use Rattle.mg_engine.specs.Stands.{definitions_of};
 ghost use Rattle.mg_engine.specs.StateView.{AllLeave, Leaves, before, fresh};
-ghost use Rattle.mg_scan.specs.Found.{shards_seen};
+ghost use Rattle.mg_shard.specs.Shard.{shards_seen};
 ghost use Rattle.std.specs.Arc.{arc_value};
 
 use mg_doc::Edit;

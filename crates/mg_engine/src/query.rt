@@ -8,7 +8,7 @@ ghost use Rattle.mg_query.specs.Seen.{query_seen};
 ghost use Rattle.mg_query.specs.Served.{AreWhole};
 ghost use Rattle.mg_engine.specs.Commands.{Answer, explain as explain_command, explained as explained_of, find, found, reply_of};
 ghost use Rattle.mg_engine.specs.Stands.{Holds};
-ghost use Rattle.mg_scan.specs.Found.{shards_seen};
+ghost use Rattle.mg_shard.specs.Shard.{shards_seen};
 ghost use Rattle.mg_engine.specs.Told.{Tells};
 ghost use Rattle.mg_engine.specs.View.{said};
 ghost use Rattle.mg_engine.specs.World.{World};

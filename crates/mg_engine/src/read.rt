@@ -10,7 +10,7 @@ ghost use Rattle.mg_shard.specs.Documents.{StandsAt, form_at};
 ghost use Rattle.mg_engine.specs.Bodies.{line_of};
 ghost use Rattle.mg_engine.specs.Commands.{got};
 ghost use Rattle.mg_engine.specs.Stands.{Holds};
-ghost use Rattle.mg_scan.specs.Found.{shards_seen};
+ghost use Rattle.mg_shard.specs.Shard.{shards_seen};
 ghost use Rattle.mg_engine.specs.View.{said};
 ghost use Rattle.mg_engine.specs.World.{World};
 

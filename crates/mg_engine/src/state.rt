@@ -4,7 +4,7 @@ ghost use Rattle.std.specs.Prelude.{replicate};
 ghost use Rattle.mg_engine.specs.World.{empty_world};
 ghost use Rattle.mg_engine.specs.Stands.{HaveRows, Holds};
 ghost use Rattle.mg_engine.specs.StateView.{empty_shard};
-ghost use Rattle.mg_scan.specs.Found.{shards_seen};
+ghost use Rattle.mg_shard.specs.Shard.{shards_seen};
 ghost use Rattle.mg_shard.specs.Dealt.{Placing};
 
 use mg_index::Catalog;

@@ -3,7 +3,7 @@ ghost use Rattle.std.specs.Prelude.{◌≡◌, ◌+◌, ◌<◌, ◌≤◌, All,
 ghost use Rattle.std.specs.List.{AllZip};
 ghost use Rattle.mg_collate.specs.Row.{row_view};
 ghost use Rattle.mg_normal.specs.Normal.{IsNormalOf};
-ghost use Rattle.mg_scan.specs.Found.{shards_seen};
+ghost use Rattle.mg_shard.specs.Shard.{shards_seen};
 ghost use Rattle.mg_scan.specs.Hit.{AreHitsOf, hit_rows};
 ghost use Rattle.mg_selector.specs.View.{selector_of};
 ghost use Rattle.mg_shard.specs.Dealt.{Placing, ShardsStandFor};

@@ -8,11 +8,10 @@ use Rattle.mg_collate.specs.Row.{rows_view}
 use Rattle.mg_collate.specs.declared.row.Row.{Row}
 use Rattle.mg_index.specs.Definition.{IndexDefinition}
 use Rattle.mg_scan.specs.Built.{AreRowsAt, AreRowsFrom, HasRowsAt, with_index}
-use Rattle.mg_scan.specs.Found.{shards_seen}
+use Rattle.mg_shard.specs.Shard.{shards_seen, ShardView}
 use Rattle.mg_scan.proofs.Maps.{get-map, get-set, some_is}
 use Rattle.mg_shard.specs.Documents.{docs_of}
 use Rattle.mg_shard.specs.Rows.{rows_of}
-use Rattle.mg_shard.specs.Shard.{ShardView}
 use Rattle.mg_value.specs.declared.error.NoMemory.{NoMemory}
 
 abbrev Extracted : Type 0

@@ -6,13 +6,12 @@ use Rattle.std.specs.declared.sync.Arc.{Arc}
 use Rattle.std.specs.declared.vec.Vec.{Vec}
 use Rattle.std.specs.declared.alloc.Global.{Global}
 use Rattle.mg_collate.specs.Row.{RowValue}
-use Rattle.mg_scan.specs.Found.{shards_seen}
+use Rattle.mg_shard.specs.Shard.{shards_seen, ShardView}
 use Rattle.mg_scan.specs.Hit.{AreHitsOf, hit_rows}
 use Rattle.mg_scan.specs.Search.{found_by}
 use Rattle.mg_scan.specs.Worked.{AllSlots, Answers, Gives}
 use Rattle.mg_scan.specs.declared.hit.Hit.{Hit}
 use Rattle.mg_scan.specs.declared.search.Search.{Search}
-use Rattle.mg_shard.specs.Shard.{ShardView}
 
 pub get-map : {A B : Type 0} (f : A → B) (xs : List A) (i : ℕ) (x : A) → i < length xs → x ≡ get_or xs i x → slice_get (map f xs) i ≡ Some (f x)
 get-map f [] i x less is = absurd (omega arith)

@@ -1,9 +1,6 @@
 -- What is searched in a shard, and what a scan of shards finds in each.
-use Rattle.std.specs.Prelude.{ℕ, List, [], Option, Some, option_map, map}
-use Rattle.std.specs.Arc.{arc_value}
+use Rattle.std.specs.Prelude.{ℕ, List, [], Option, Some, option_map}
 use Rattle.std.specs.Option.{option_map_or}
-use Rattle.std.specs.declared.alloc.Global.{Global}
-use Rattle.std.specs.declared.sync.Arc.{Arc}
 use Rattle.mg_collate.specs.Row.{RowValue, row_view}
 use Rattle.mg_collate.specs.declared.direction.Direction.{Direction}
 use Rattle.mg_collate.specs.declared.row.Row.{Row}
@@ -31,7 +28,3 @@ asked normal range after count direction columns =
 -- what a scan finds in a shard, by the columns of its target; nothing where the shard has no such index
 abbrev pub found_in : Target → (List Steps → Request) → ShardView → List RowValue
 found_in target request s = option_map_or (λ columns. scanned (request columns) (docs_of s.documents)) (columns_of target s.definitions) []
-
--- the shards that are shared
-abbrev pub shards_seen : List (Arc ShardView Global) → List ShardView
-shards_seen shards = map arc_value shards

@@ -2,7 +2,8 @@
 ghost use Rattle.std.specs.Prelude.{◌≡◌, ◌<◌, ◌≤◌, map, option_map, IfOk};
 ghost use Rattle.std.specs.List.{AllZip};
 ghost use Rattle.mg_collate.specs.Row.{row_view, rows_view};
-ghost use Rattle.mg_scan.specs.Found.{asked, found_in, shards_seen};
+ghost use Rattle.mg_scan.specs.Found.{asked, found_in};
+ghost use Rattle.mg_shard.specs.Shard.{shards_seen};
 ghost use Rattle.mg_scan.specs.Hit.{AreHitsOf, hit_rows};
 
 use crate::gate::Gate;

@@ -1,7 +1,7 @@
 //! Workers that claim shards, and what is made of what they hand over: the same for any claims.
 ghost use Rattle.std.specs.Prelude.{◌≡◌, ◌<◌, length, vec_len, All, IfOk, IfSome};
 ghost use Rattle.std.specs.List.{AllZip};
-ghost use Rattle.mg_scan.specs.Found.{shards_seen};
+ghost use Rattle.mg_shard.specs.Shard.{shards_seen};
 ghost use Rattle.mg_scan.specs.Worked.{AllDone, AllSlots, Answers, Gives};
 
 use crate::gate::{Gate, Place};

@@ -1,7 +1,10 @@
 -- What clauses see of a shard.
-use Rattle.std.specs.Prelude.{ℕ, List, Option, option_map, refl}
+use Rattle.std.specs.Prelude.{ℕ, List, Option, map, option_map, refl}
+use Rattle.std.specs.Arc.{arc_value}
 use Rattle.std.specs.Coded.{Coded, code_by, coded×, coded_ℕ, coded_list, coded_option}
 use Rattle.std.specs.FinMap as finite
+use Rattle.std.specs.declared.alloc.Global.{Global}
+use Rattle.std.specs.declared.sync.Arc.{Arc}
 use Rattle.mg_value.specs.Code.{value_code}
 use Rattle.mg_revtree.specs.Tree.{tree_code}
 use Rattle.mg_collate.specs.Row.{RowValue}
@@ -29,3 +32,7 @@ shard_code =
 -- the rows of the index of this design document and name, if there is one
 abbrev pub rows_at : List ℕ → List ℕ → ShardView → Option (List RowValue)
 rows_at ddoc name s = option_map (λ d. rows_of d.columns (docs_of s.documents)) (definition_at ddoc name s.definitions)
+
+-- the shards that are shared
+abbrev pub shards_seen : List (Arc ShardView Global) → List ShardView
+shards_seen shards = map arc_value shards

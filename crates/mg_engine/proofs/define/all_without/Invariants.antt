@@ -1,6 +1,6 @@
 use Rattle.std.proofs.Common.{◌≡◌, ◌++◌, drop, map}
 use Rattle.mg_engine.specs.Settled.{shard_without}
-use Rattle.mg_scan.specs.Found.{shards_seen}
+use Rattle.mg_shard.specs.Shard.{shards_seen}
 use Rattle.mg_engine.proofs.define.all_without.Given as goal
 
 -- what is left decides

@@ -1,6 +1,6 @@
 use Rattle.std.proofs.Common.{◌≡◌, ◌++◌}
 use Rattle.std.specs.Vec.Iter.{into_iter_items}
-use Rattle.mg_scan.specs.Found.{shards_seen}
+use Rattle.mg_shard.specs.Shard.{shards_seen}
 use Rattle.mg_engine.proofs.define.shared.Given as goal
 
 -- what is left decides

@@ -3,7 +3,7 @@ use Rattle.mg_shard.specs.Dealt.{DraftsStandFor}
 use Rattle.mg_shard.specs.Draft.{DraftView}
 use Rattle.mg_engine.specs.Stands.{definitions_of}
 use Rattle.mg_engine.specs.StateView.{AllLeave, before}
-use Rattle.mg_scan.specs.Found.{shards_seen}
+use Rattle.mg_shard.specs.Shard.{shards_seen}
 use Rattle.mg_engine.proofs.Editing.{before-fresh, fresh_stand, left_definitions, left_stand, same_number, written}
 use Rattle.mg_engine.proofs.edits.edited.Goals as goal
 

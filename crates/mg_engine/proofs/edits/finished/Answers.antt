@@ -1,9 +1,8 @@
 use Rattle.std.proofs.Common.{◌≡◌, List, [], sym, ◌∙◌, subst, append-nil}
 use Rattle.std.specs.Vec.Iter.{into_iter_items}
 use Rattle.mg_shard.specs.Draft.{DraftView}
-use Rattle.mg_shard.specs.Shard.{ShardView}
+use Rattle.mg_shard.specs.Shard.{ShardView, shards_seen}
 use Rattle.mg_engine.specs.StateView.{AllLeave}
-use Rattle.mg_scan.specs.Found.{shards_seen}
 use Rattle.mg_engine.proofs.Editing.{nothing}
 use Rattle.mg_engine.proofs.edits.finished.Goals as goal
 

@@ -1,8 +1,7 @@
 use Rattle.std.proofs.Common.{◌≡◌, ◌++◌, List, drop, length}
 use Rattle.std.specs.Vec.Iter.{into_iter_items}
-use Rattle.mg_shard.specs.Shard.{ShardView}
+use Rattle.mg_shard.specs.Shard.{ShardView, shards_seen}
 use Rattle.mg_engine.specs.StateView.{AllLeave, before}
-use Rattle.mg_scan.specs.Found.{shards_seen}
 use Rattle.mg_engine.proofs.edits.finished.Given as goal
 
 -- what is left decides

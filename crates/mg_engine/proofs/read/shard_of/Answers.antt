@@ -2,8 +2,7 @@ use Rattle.std.proofs.Common.{◌≡◌, Some, Global, length, slice_get, sym, a
 use Rattle.std.proofs.lemmas.List.{length-map}
 use Rattle.std.specs.Arc.{arc_value}
 use Rattle.std.specs.declared.sync.Arc.{Arc}
-use Rattle.mg_shard.specs.Shard.{ShardView}
-use Rattle.mg_scan.specs.Found.{shards_seen}
+use Rattle.mg_shard.specs.Shard.{ShardView, shards_seen}
 use Rattle.mg_engine.proofs.Editing.{shard_at}
 use Rattle.mg_engine.proofs.read.shard_of.Goals as goal
 

@@ -1,6 +1,6 @@
 use Rattle.std.proofs.Common.{◌≡◌, replicate}
 use Rattle.mg_engine.specs.StateView.{empty_shard}
-use Rattle.mg_scan.specs.Found.{shards_seen}
+use Rattle.mg_shard.specs.Shard.{shards_seen}
 use Rattle.mg_engine.proofs.state.empty_shards.Given as goal
 
 -- so many shards without a document

@@ -1,5 +1,5 @@
 use Rattle.std.proofs.Common.{◌≡◌, ◌++◌, drop}
-use Rattle.mg_scan.specs.Found.{shards_seen}
+use Rattle.mg_shard.specs.Shard.{shards_seen}
 use Rattle.mg_engine.proofs.state.shares.Given as goal
 
 -- what is left decides

@@ -3,7 +3,7 @@ use Rattle.std.specs.Arc.{arc_value}
 use Rattle.std.proofs.lemmas.List.{length-map}
 use Rattle.mg_merge.specs.Merged.{IsInOrderBy, contents_of}
 use Rattle.mg_normal.specs.Atoms.{atoms_of}
-use Rattle.mg_scan.specs.Found.{shards_seen}
+use Rattle.mg_shard.specs.Shard.{shards_seen}
 use Rattle.mg_scan.specs.Hit.{hit_row}
 use Rattle.mg_scan.specs.declared.hit.Hit.{Hit}
 use Rattle.mg_query.specs.Page.{candidates_of, columns_of, page_rows}

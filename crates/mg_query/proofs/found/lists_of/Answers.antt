@@ -4,7 +4,8 @@ use Rattle.std.proofs.lemmas.List.Elements.{All-weaker}
 use denote.Ref.{Bor}
 use Rattle.mg_collate.specs.Row.{RowValue, row_view}
 use Rattle.mg_collate.specs.declared.row.Row.{Row}
-use Rattle.mg_scan.specs.Found.{columns_of as columns_at, shards_seen}
+use Rattle.mg_scan.specs.Found.{columns_of as columns_at}
+use Rattle.mg_shard.specs.Shard.{shards_seen}
 use Rattle.mg_scan.specs.Hit.{hit_rows}
 use Rattle.mg_query.specs.Page.{columns_of}
 use Rattle.mg_query.specs.Seen.{query_seen}

@@ -2,7 +2,7 @@ use denote.Param.Send.{sendable}
 use Rattle.std.proofs.Common.{sym, ◌∙◌}
 use Rattle.std.proofs.Crossing.{crosses}
 use Rattle.std.proofs.MapsCrossing.{crosses as maps}
-use Rattle.mg_scan.specs.Found.{shards_seen}
+use Rattle.mg_shard.specs.Shard.{shards_seen}
 use Rattle.mg_scan.proofs.Builds.{rows-called}
 use Rattle.mg_scan.proofs.Crossing.{row_send}
 use Rattle.mg_scan.proofs.Lent.{build_sync}

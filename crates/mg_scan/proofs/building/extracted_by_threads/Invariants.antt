@@ -1,6 +1,6 @@
 use Rattle.std.proofs.Common.{◌≡◌, ◌≤◌, ◌-◌, length, vec_len}
 use Rattle.mg_scan.specs.Built.{AreRowsAt}
-use Rattle.mg_scan.specs.Found.{shards_seen}
+use Rattle.mg_shard.specs.Shard.{shards_seen}
 use Rattle.mg_scan.proofs.building.extracted_by_threads.Given as goal
 
 abbrev pub invariant-loop-alloc : goal.invariant-loop-alloc

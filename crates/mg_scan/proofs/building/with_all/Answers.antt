@@ -1,6 +1,6 @@
 use Rattle.std.proofs.Common.{map, ◌∙◌}
 use Rattle.mg_scan.specs.Built.{with_index}
-use Rattle.mg_scan.specs.Found.{shards_seen}
+use Rattle.mg_shard.specs.Shard.{shards_seen}
 use Rattle.mg_scan.proofs.Builds.{built-more}
 use Rattle.mg_scan.proofs.building.with_all.Goals as goal
 

@@ -1,6 +1,6 @@
 use Rattle.std.proofs.Common.{◌≡◌, vec_len, length, map, take}
 use Rattle.mg_scan.specs.Built.{AreRowsAt, with_index}
-use Rattle.mg_scan.specs.Found.{shards_seen}
+use Rattle.mg_shard.specs.Shard.{shards_seen}
 use Rattle.mg_scan.proofs.building.with_all.Given as goal
 
 -- what is left of the rows, and the shards so far

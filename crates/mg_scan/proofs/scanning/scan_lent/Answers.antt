@@ -1,7 +1,7 @@
 use denote.Param.Send.{sendable}
 use Rattle.std.proofs.Crossing.{crosses}
 use Rattle.std.proofs.MapsCrossing.{crosses as maps}
-use Rattle.mg_scan.specs.Found.{shards_seen}
+use Rattle.mg_shard.specs.Shard.{shards_seen}
 use Rattle.mg_scan.proofs.Crossing.{document_sync}
 use Rattle.mg_scan.proofs.Lent.{scan_sync}
 use Rattle.mg_scan.proofs.Maps.{zip_documents, zip_rows}

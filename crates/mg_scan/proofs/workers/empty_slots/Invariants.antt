@@ -1,5 +1,5 @@
 use Rattle.std.proofs.Common.{◌≡◌, vec_len}
-use Rattle.mg_scan.specs.Found.{shards_seen}
+use Rattle.mg_shard.specs.Shard.{shards_seen}
 use Rattle.mg_scan.specs.Worked.{AllSlots}
 use Rattle.mg_scan.proofs.workers.empty_slots.Given as goal
 

@@ -1,6 +1,6 @@
 use Rattle.std.proofs.Common.{◌≡◌, vec_len, take, length}
 use Rattle.std.specs.List.{AllZip}
-use Rattle.mg_scan.specs.Found.{shards_seen}
+use Rattle.mg_shard.specs.Shard.{shards_seen}
 use Rattle.mg_scan.specs.Worked.{AllSlots, Gives}
 use Rattle.mg_scan.proofs.workers.finish.Given as goal
 

@@ -1,4 +1,4 @@
-use Rattle.mg_scan.specs.Found.{shards_seen}
+use Rattle.mg_shard.specs.Shard.{shards_seen}
 use Rattle.mg_scan.proofs.Maps.{slots-unset}
 use Rattle.mg_scan.proofs.workers.taken.Goals as goal
 

@@ -1,5 +1,5 @@
 use Rattle.mg_collate.proofs.Sorting.{all_append}
-use Rattle.mg_scan.specs.Found.{shards_seen}
+use Rattle.mg_shard.specs.Shard.{shards_seen}
 use Rattle.mg_scan.specs.Worked.{Answers}
 use Rattle.mg_scan.proofs.workers.work.Goals as goal
 

@@ -1,4 +1,4 @@
-use Rattle.mg_scan.specs.Found.{shards_seen}
+use Rattle.mg_shard.specs.Shard.{shards_seen}
 use Rattle.mg_scan.specs.Worked.{AllDone}
 use Rattle.mg_scan.proofs.workers.work.Given as goal
 

@@ -2,10 +2,9 @@ use Rattle.std.proofs.Common.{◌≡◌, List, sym, ap, ◌∙◌, subst}
 use Rattle.mg_shard.specs.Dealt.{ShardsStandFor}
 use Rattle.mg_shard.specs.Edits.{after_edits}
 use Rattle.mg_shard.specs.Histories.{Histories}
-use Rattle.mg_shard.specs.Shard.{ShardView}
+use Rattle.mg_shard.specs.Shard.{ShardView, shards_seen}
 use Rattle.mg_engine.specs.Bulk.{last_number, numbered}
 use Rattle.mg_engine.specs.Stands.{Holds, Shown, definitions_of}
-use Rattle.mg_scan.specs.Found.{shards_seen}
 use Rattle.mg_engine.proofs.Indexes.{have_same}
 use Rattle.mg_engine.proofs.Whole.{still_objects}
 use Rattle.mg_engine.proofs.state.State.accept.Goals as goal

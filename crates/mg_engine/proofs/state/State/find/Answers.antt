@@ -2,11 +2,10 @@ use Rattle.std.proofs.Common.{◌≡◌, All, List, sym, ap, ◌∙◌, subst}
 use Rattle.mg_index.specs.Definition.{IndexDefinition}
 use Rattle.mg_query.specs.Query.{query_of}
 use Rattle.mg_shard.specs.Dealt.{ShardsStandFor}
-use Rattle.mg_shard.specs.Shard.{ShardView}
+use Rattle.mg_shard.specs.Shard.{ShardView, shards_seen}
 use Rattle.mg_value.specs.View.{view}
 use Rattle.mg_engine.specs.Commands.{found}
 use Rattle.mg_engine.specs.Stands.{Shown}
-use Rattle.mg_scan.specs.Found.{shards_seen}
 use Rattle.mg_engine.proofs.Whole.{are_whole}
 use Rattle.mg_engine.proofs.state.State.find.Goals as goal
 

@@ -3,9 +3,8 @@ use Rattle.std.specs.FinMap.{get}
 use Rattle.std.specs.Prelude.{option_and_then}
 use Rattle.mg_shard.specs.Dealt.{ShardsStandFor}
 use Rattle.mg_shard.specs.Documents.{StandsAt}
-use Rattle.mg_shard.specs.Shard.{ShardView}
+use Rattle.mg_shard.specs.Shard.{ShardView, shards_seen}
 use Rattle.mg_engine.specs.Stands.{Shown}
-use Rattle.mg_scan.specs.Found.{shards_seen}
 use Rattle.mg_engine.proofs.state.State.get.Goals as goal
 
 pub returns : goal.returns

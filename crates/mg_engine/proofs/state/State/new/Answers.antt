@@ -3,10 +3,9 @@ use Rattle.std.proofs.lemmas.List.{length-map, length-replicate}
 use Rattle.std.specs.Arc.{arc_value}
 use Rattle.std.specs.declared.sync.Arc.{Arc}
 use Rattle.mg_index.specs.Definition.{IndexDefinition}
-use Rattle.mg_shard.specs.Shard.{ShardView}
+use Rattle.mg_shard.specs.Shard.{ShardView, shards_seen}
 use Rattle.mg_engine.specs.Stands.{HaveRows}
 use Rattle.mg_engine.specs.StateView.{empty_shard}
-use Rattle.mg_scan.specs.Found.{shards_seen}
 use Rattle.mg_engine.proofs.Indexes.{each_empty, no_rows}
 use Rattle.mg_engine.proofs.Whole.{none_at_first}
 use Rattle.mg_engine.proofs.state.State.new.Goals as goal

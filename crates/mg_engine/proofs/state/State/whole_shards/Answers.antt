@@ -2,9 +2,8 @@ use Rattle.std.proofs.Common.{◌≡◌, All, Global, List, sym, ap, subst}
 use Rattle.std.specs.Arc.{arc_value}
 use Rattle.std.specs.declared.sync.Arc.{Arc}
 use Rattle.mg_index.specs.Definition.{IndexDefinition}
-use Rattle.mg_shard.specs.Shard.{ShardView}
+use Rattle.mg_shard.specs.Shard.{ShardView, shards_seen}
 use Rattle.mg_engine.specs.Stands.{HaveRows, Shown}
-use Rattle.mg_scan.specs.Found.{shards_seen}
 use Rattle.mg_engine.proofs.Indexes.{each_has}
 use Rattle.mg_engine.proofs.state.State.whole_shards.Goals as goal
 

@@ -2,10 +2,9 @@ use Rattle.std.proofs.Common.{◌≡◌, List, map, sym, ap, ◌∙◌, subst}
 use Rattle.std.specs.Arc.{arc_value}
 use Rattle.mg_index.specs.Catalog.{without_definition}
 use Rattle.mg_index.specs.Definition.{IndexDefinition}
-use Rattle.mg_shard.specs.Shard.{ShardView}
+use Rattle.mg_shard.specs.Shard.{ShardView, shards_seen}
 use Rattle.mg_engine.specs.Settled.{shard_without}
 use Rattle.mg_engine.specs.Stands.{HaveRows}
-use Rattle.mg_scan.specs.Found.{shards_seen}
 use Rattle.mg_engine.proofs.Indexes.{rows_without}
 use Rattle.mg_engine.proofs.state.State.without_index.Goals as goal
 
