@@ -1,5 +1,5 @@
 -- What each command answers and which world it leaves: the whole behaviour of the database, for one caller.
-use Rattle.std.specs.Prelude.{ℕ, List, [], ◌∷◌, Bool, true, false, codes, Option, Some, None, is_some, option_map, Result, Ok, Err, if◌then◌else◌}
+use Rattle.std.specs.Prelude.{ℕ, List, [], ◌∷◌, Bool, true, false, codes, Option, Some, None, is_some, option_map, unwrap_or, Result, Ok, Err, if◌then◌else◌}
 use Rattle.std.specs.FinMap as finite
 use Rattle.std.specs.Option.{option_map_or}
 use Rattle.mg_value.specs.Value.{Value, list}
@@ -24,10 +24,12 @@ use Rattle.mg_engine.specs.declared.refusal.Refusal.TheVariants.{WrongShape, Inv
 use Rattle.mg_engine.specs.Refusals.{status_of, refusal_body}
 use Rattle.mg_engine.specs.World.{World}
 use Rattle.mg_engine.specs.Bulk.{Bulk, bulk_of, edits_read, numbered, last_number, entries_of}
+use Rattle.mg_engine.specs.Reshard.{shards_asked}
 use Rattle.mg_engine.specs.Bodies.{line_of, done_value, index_value, indexes_value}
 
 -- a command: the body of a `_bulk_docs`; the body of an `_index` that creates one; the design document and name of one to be dropped;
--- the list of indexes; the body of a `_find` or of an `_explain`; or a document's id and whether its conflicts are asked for
+-- the list of indexes; the body of a `_find` or of an `_explain`; a document's id and whether its conflicts are asked for; or the body
+-- of a `_placement`, which asks for another number of shards
 pub data Asked : Type 0 where
   bulk : Value → Asked
   create_index : Value → Asked
@@ -36,8 +38,9 @@ pub data Asked : Type 0 where
   find : Value → Asked
   explain : Value → Asked
   get : List ℕ → Bool → Asked
+  reshard : Value → Asked
 
--- whether a command may leave another world
+-- whether a command is one of the writes, of which each that is accepted is a commit
 abbrev pub is_write : Asked → Bool
 is_write (bulk v) = true
 is_write (create_index v) = true
@@ -46,6 +49,7 @@ is_write list_indexes = false
 is_write (find v) = false
 is_write (explain v) = false
 is_write (get id conflicts) = false
+is_write (reshard v) = true
 
 -- a reply: its status and the bytes of its body
 pub record Answer : Type 0 where
@@ -152,6 +156,18 @@ abbrev pub got : List ℕ → Bool → Option History → Answer
 got id conflicts (Some h) = shown_or_deleted (option_map (with_asked conflicts h) (served_of id h))
 got id conflicts None = refused Missing
 
+-- ---- `_placement`
+
+-- the answer to a number of shards that was read, or to a body of another shape
+abbrev pub resharded : Option ℕ → Answer
+resharded (Some n) = done done_value
+resharded None = refused WrongShape
+
+-- how many shards there are after a command
+abbrev pub shards_after : ℕ → Asked → ℕ
+shards_after n (reshard v) = unwrap_or (shards_asked v) n
+shards_after n c = n
+
 -- ---- all commands
 
 -- what a command answers
@@ -163,8 +179,9 @@ reply_of w list_indexes = done (indexes_value w.indexes)
 reply_of w (find v) = found w (query_of v)
 reply_of w (explain v) = explained w (query_of v)
 reply_of w (get id conflicts) = got id conflicts (finite.get w.docs id)
+reply_of w (reshard v) = resharded (shards_asked v)
 
--- the world that a command leaves: one that is refused, or that reads, leaves it as it is
+-- the world that a command leaves: one that is refused, that reads, or that asks for other shards leaves it as it is
 abbrev pub next : World → Asked → World
 next w (bulk v) = world_with w (edits_read (bulk_of v))
 next w (create_index v) = world_defined w (definition_of v)
@@ -173,6 +190,7 @@ next w list_indexes = w
 next w (find v) = w
 next w (explain v) = w
 next w (get id conflicts) = w
+next w (reshard v) = w
 
 -- the answers to commands, in order
 abbrev pub replies_of : World → List Asked → List Answer
@@ -183,3 +201,8 @@ replies_of w (c ∷ cs) = reply_of w c ∷ replies_of (next w c) cs
 abbrev pub world_after : World → List Asked → World
 world_after w [] = w
 world_after w (c ∷ cs) = world_after (next w c) cs
+
+-- how many shards there are after commands
+abbrev pub shards_after_all : ℕ → List Asked → ℕ
+shards_after_all n [] = n
+shards_after_all n (c ∷ cs) = shards_after_all (shards_after n c) cs

@@ -1,9 +1,9 @@
 -- What the program's commands and replies stand for.
 use Rattle.std.specs.Prelude.{Option, Some, None, string_bytes}
 use Rattle.mg_value.specs.View.{view}
-use Rattle.mg_engine.specs.Commands.{Asked, bulk, create_index, drop_index, list_indexes, find, explain, get, Answer, refused}
+use Rattle.mg_engine.specs.Commands.{Asked, bulk, create_index, drop_index, list_indexes, find, explain, get, reshard, Answer, refused}
 use Rattle.mg_engine.specs.declared.command.Command.{Command}
-use Rattle.mg_engine.specs.declared.command.Command.TheVariants.{Bulk, CreateIndex, DropIndex, ListIndexes, Find, Explain, Get}
+use Rattle.mg_engine.specs.declared.command.Command.TheVariants.{Bulk, CreateIndex, DropIndex, ListIndexes, Find, Explain, Get, Reshard}
 use Rattle.mg_engine.specs.declared.reply.Reply.{Reply}
 use Rattle.mg_engine.specs.declared.reply.Reply.TheVariants.{Full, NoMemory}
 use Rattle.mg_engine.specs.declared.refusal.Refusal.TheVariants.{OutOfMemory}
@@ -17,6 +17,7 @@ asked ListIndexes = list_indexes
 asked (Find body) = find (view body)
 asked (Explain body) = explain (view body)
 asked (Get id conflicts) = get (string_bytes id) conflicts
+asked (Reshard body) = reshard (view body)
 
 -- a reply that was made whole, and none where memory was refused
 abbrev pub said : Reply → Option Answer

@@ -21,10 +21,13 @@ pub enum Command {
     Explain(Json),
     /// The document of an id, with its conflicts where they are asked for.
     Get { id: String, conflicts: bool },
+    /// Another number of shards, from 1 to 64: `{"shards":..}`.
+    Reshard(Json),
 }
 
 impl Command {
-    /// Whether the command may change the database: a bulk, and an index that is created or dropped. Takes no memory.
+    /// Whether the command may change the database: a bulk, an index that is created or dropped, and another
+    /// number of shards. Takes no memory.
     pub fn is_write(&self) -> bool
         ensures { result ≡ is_write (asked self.now) }
     {
@@ -39,6 +42,7 @@ impl Command {
                 id: _,
                 conflicts: _,
             } => false,
+            Command::Reshard(_) => true,
         }
     }
 }

@@ -4,7 +4,7 @@ use Rattle.std.specs.Prelude.{ℕ, Bool, true, false, ◌&&◌, ◌==◌, List, 
 use Rattle.std.specs.List.{list_any, filter_map, slice_split}
 use Rattle.std.specs.Option.{option_map}
 use Rattle.percent_encoding.specs.Percent.{percent_decode}
-use Rattle.mg_http.specs.declared.routes.Endpoint.TheVariants.{BulkDocs, Find, Explain, CreateIndex}
+use Rattle.mg_http.specs.declared.routes.Endpoint.TheVariants.{BulkDocs, Find, Explain, CreateIndex, Reshard}
 use Rattle.mg_http.specs.declared.routes.Action.{Action}
 use Rattle.mg_http.specs.declared.routes.Action.TheVariants.{Body, Document, ListIndexes, DropIndex, DropDesignIndex}
 
@@ -26,6 +26,7 @@ routes =
     ∷ record { method = codes "POST"; path = literal (codes "_explain") ∷ []; asks = Body Explain }
     ∷ record { method = codes "POST"; path = literal (codes "_find") ∷ []; asks = Body Find }
     ∷ record { method = codes "POST"; path = literal (codes "_index") ∷ []; asks = Body CreateIndex }
+    ∷ record { method = codes "POST"; path = literal (codes "_placement") ∷ []; asks = Body Reshard }
     ∷ record { method = codes "GET"; path = literal (codes "_index") ∷ []; asks = ListIndexes }
     ∷ record {
       method = codes "DELETE";

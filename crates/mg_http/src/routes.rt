@@ -14,6 +14,8 @@ pub enum Endpoint {
     Explain,
     /// An index that is to be created.
     CreateIndex,
+    /// Another number of shards.
+    Reshard,
 }
 
 /// What a route asks for.
@@ -49,7 +51,7 @@ pub struct Route {
 }
 
 /// The table. A route is a row here, and the same row of the definition.
-const ROUTES: [Route; 8] = [
+const ROUTES: [Route; 9] = [
     Route {
         method: b"POST",
         path: &[Part::Literal(b"_bulk_docs")],
@@ -69,6 +71,11 @@ const ROUTES: [Route; 8] = [
         method: b"POST",
         path: &[Part::Literal(b"_index")],
         action: Action::Body(Endpoint::CreateIndex),
+    },
+    Route {
+        method: b"POST",
+        path: &[Part::Literal(b"_placement")],
+        action: Action::Body(Endpoint::Reshard),
     },
     Route {
         method: b"GET",

@@ -1,0 +1,27 @@
+-- What holds of resharding, for every world and every list of commands.
+use Rattle.std.specs.Prelude.{◌≡◌, List, [], ◌∷◌, Bool, true, false, if◌then◌else◌}
+use Rattle.mg_engine.specs.World.{World}
+use Rattle.mg_engine.specs.Commands.{Asked, Answer, bulk, create_index, drop_index, list_indexes, find, explain, get, reshard, replies_of, world_after}
+
+-- whether a command asks for another number of shards
+abbrev pub is_reshard : Asked → Bool
+is_reshard (reshard v) = true
+is_reshard c = false
+
+-- the commands without those
+abbrev pub without_reshards : List Asked → List Asked
+without_reshards [] = []
+without_reshards (c ∷ cs) = if is_reshard c then without_reshards cs else c ∷ without_reshards cs
+
+-- the answers to commands, one each, without those to reshards
+abbrev pub other_answers : List Asked → List Answer → List Answer
+other_answers (c ∷ cs) (a ∷ as) = if is_reshard c then other_answers cs as else a ∷ other_answers cs as
+other_answers cs as = []
+
+-- reshards change no other reply: it is the one that is given where no reshard is asked for
+abbrev pub ReshardsChangeNoReply : Type 0
+ReshardsChangeNoReply = (w : World) (cs : List Asked) → other_answers cs (replies_of w cs) ≡ replies_of w (without_reshards cs)
+
+-- and they leave the same world
+abbrev pub ReshardsChangeNoWorld : Type 0
+ReshardsChangeNoWorld = (w : World) (cs : List Asked) → world_after w cs ≡ world_after w (without_reshards cs)
