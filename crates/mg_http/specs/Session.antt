@@ -8,7 +8,7 @@ use Rattle.mg_engine.specs.declared.refusal.Refusal.{Refusal}
 use Rattle.mg_engine.specs.declared.refusal.Refusal.TheVariants.{InvalidJson}
 use Rattle.mg_engine.specs.Commands.{Asked, bulk, find, explain, create_index, Answer, refused}
 use Rattle.mg_http.specs.declared.routes.Endpoint.{Endpoint}
-use Rattle.mg_http.specs.declared.routes.Endpoint.TheVariants.{BulkDocs, Find, Explain, CreateIndex}
+use Rattle.mg_http.specs.declared.routes.Endpoint.TheVariants.{BulkDocs, Find, Explain, CreateIndex, Reshard}
 use Rattle.mg_http.specs.declared.sessions.SessionEnd.{SessionEnd}
 use Rattle.mg_http.specs.declared.sessions.SessionEnd.TheVariants.{Eof, Closed, Refused, ReadFault, WriteFault, Limit}
 use Rattle.mg_http.specs.Device.{IsPrefix}
@@ -23,6 +23,7 @@ asked_by BulkDocs v = bulk v
 asked_by Find v = find v
 asked_by Explain v = explain v
 asked_by CreateIndex v = create_index v
+asked_by Reshard v = reshard v
 
 -- The reply to a body: that of the service to the value that the body is, or that the body is none, or that memory was
 -- refused before the service was asked.
