@@ -1,6 +1,7 @@
 pub mod Refusals
 pub mod World
 pub mod Bulk
+pub mod Reshard
 pub mod Commands
 pub mod Bodies
 pub mod Before
@@ -13,3 +14,4 @@ pub mod Faults
 pub mod Told
 pub mod Settled
 pub mod Objects
+pub mod Laws

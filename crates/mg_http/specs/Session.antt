@@ -6,7 +6,7 @@ use Rattle.mg_value.specs.Value.{Value}
 use Rattle.mg_value.specs.Text.{Reads}
 use Rattle.mg_engine.specs.declared.refusal.Refusal.{Refusal}
 use Rattle.mg_engine.specs.declared.refusal.Refusal.TheVariants.{InvalidJson}
-use Rattle.mg_engine.specs.Commands.{Asked, bulk, find, explain, create_index, Answer, refused}
+use Rattle.mg_engine.specs.Commands.{Asked, bulk, find, explain, create_index, reshard, Answer, refused}
 use Rattle.mg_http.specs.declared.routes.Endpoint.{Endpoint}
 use Rattle.mg_http.specs.declared.routes.Endpoint.TheVariants.{BulkDocs, Find, Explain, CreateIndex, Reshard}
 use Rattle.mg_http.specs.declared.sessions.SessionEnd.{SessionEnd}

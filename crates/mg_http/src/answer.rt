@@ -31,6 +31,7 @@ fn command_of(endpoint: Endpoint, value: Json) -> Command
         Endpoint::Find => Command::Find(value),
         Endpoint::Explain => Command::Explain(value),
         Endpoint::CreateIndex => Command::CreateIndex(value),
+        Endpoint::Reshard => Command::Reshard(value),
     }
 }
 

@@ -152,6 +152,7 @@ fn look_up(alloc: Global, text: &str) -> Result<bool, InsertError>
     table.insert("_explain", ())?;
     table.insert("_find", ())?;
     table.insert("_index", ())?;
+    table.insert("_placement", ())?;
     match table.at(text) {
         Ok(_) => Ok(true),
         Err(_) => Ok(false),
