@@ -115,10 +115,11 @@ again false = refl
 
 -- the second segments that stand as they are: each text once, where the table of the routes may have it more often
 pub seconds : (text : List ℕ)
-    → (bytes_eq (codes "_bulk_docs") text || (bytes_eq (codes "_explain") text || (bytes_eq (codes "_find") text || (bytes_eq (codes "_index") text || false))))
+    → (bytes_eq (codes "_bulk_docs") text || (bytes_eq (codes "_explain") text || (bytes_eq (codes "_find") text || (bytes_eq (codes "_placement") text
+    || (bytes_eq (codes "_index") text || false)))))
     ≡ goes_on (literal text) routes
 seconds text =
-    ap (λ (b : Bool). bytes_eq (codes "_bulk_docs") text || (bytes_eq (codes "_explain") text || (bytes_eq (codes "_find") text || b))) (again (bytes_eq (codes "_index") text))
+    ap (λ (b : Bool). bytes_eq (codes "_bulk_docs") text || (bytes_eq (codes "_explain") text || (bytes_eq (codes "_find") text || (bytes_eq (codes "_placement") text || b)))) (again (bytes_eq (codes "_index") text))
 
 -- what is left of what each element shows
 pub filter_map-map : {X Y Z : Type 0} (h : Y → Option Z) (f : X → Y) (xs : List X) → filter_map h (map f xs) ≡ filter_map (λ x. h (f x)) xs

@@ -25,8 +25,8 @@ routes =
     record { method = codes "POST"; path = literal (codes "_bulk_docs") ∷ []; asks = Body BulkDocs }
     ∷ record { method = codes "POST"; path = literal (codes "_explain") ∷ []; asks = Body Explain }
     ∷ record { method = codes "POST"; path = literal (codes "_find") ∷ []; asks = Body Find }
-    ∷ record { method = codes "POST"; path = literal (codes "_index") ∷ []; asks = Body CreateIndex }
     ∷ record { method = codes "POST"; path = literal (codes "_placement") ∷ []; asks = Body Reshard }
+    ∷ record { method = codes "POST"; path = literal (codes "_index") ∷ []; asks = Body CreateIndex }
     ∷ record { method = codes "GET"; path = literal (codes "_index") ∷ []; asks = ListIndexes }
     ∷ record {
       method = codes "DELETE";

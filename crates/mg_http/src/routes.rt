@@ -69,13 +69,13 @@ const ROUTES: [Route; 9] = [
     },
     Route {
         method: b"POST",
-        path: &[Part::Literal(b"_index")],
-        action: Action::Body(Endpoint::CreateIndex),
+        path: &[Part::Literal(b"_placement")],
+        action: Action::Body(Endpoint::Reshard),
     },
     Route {
         method: b"POST",
-        path: &[Part::Literal(b"_placement")],
-        action: Action::Body(Endpoint::Reshard),
+        path: &[Part::Literal(b"_index")],
+        action: Action::Body(Endpoint::CreateIndex),
     },
     Route {
         method: b"GET",

@@ -1,7 +1,7 @@
 //! The calls of a seat, each for one kind of command.
 ghost use Rattle.std.specs.Prelude.{◌≤◌};
 ghost use Rattle.mg_value.specs.View.{view};
-ghost use Rattle.mg_engine.specs.Commands.{bulk, create_index, drop_index, explain, find, get, list_indexes};
+ghost use Rattle.mg_engine.specs.Commands.{bulk, create_index, drop_index, explain, find, get, list_indexes, reshard};
 ghost use Rattle.mg_engine.specs.View.{said};
 ghost use Rattle.mg_live.specs.Sitting.{Reads, Writes};
 
@@ -116,6 +116,23 @@ impl<D: Database, C: Ends> Seat<D, C> {
         };
         match String::from_str(self.alloc, name) {
             Ok(name) => self.write(rt, &Command::DropIndex { ddoc, name }, workers),
+            Err(_) => Reply::NoMemory,
+        }
+    }
+
+    /// Deals the documents to another number of shards, by 1 to 32 workers. No other reply changes.
+    pub fn reshard<R: Wait + Threads + Sync>(
+        &mut self,
+        rt: &R,
+        body: &Json,
+        workers: usize,
+    ) -> Reply
+        requires some { 1 ≤ workers }
+        requires most { workers ≤ 32 }
+        ensures { Writes D.db self.old (reshard (view body.now)) (said result) self.new }
+    {
+        match body.copy(self.alloc) {
+            Ok(body) => self.write(rt, &Command::Reshard(body), workers),
             Err(_) => Reply::NoMemory,
         }
     }

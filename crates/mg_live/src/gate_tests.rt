@@ -16,13 +16,15 @@ use std::thread::Threads;
 // How often a thread looks before it gives up.
 const TURNS: u64 = 100_000_000;
 
-// Holds a query at its snapshot until a bulk was answered.
+// Holds a query at its snapshot until a write was answered. The words: a query may begin, it is held, the write was answered, with
+// this status, the query's reply was the one that is expected, and how often a thread gave up.
 #[derive(Drop)]
 struct Held {
+    ready: AtomicU64,
     held: AtomicU64,
     answered: AtomicU64,
     status: AtomicU64,
-    length: AtomicU64,
+    same: AtomicU64,
     faults: AtomicU64,
 }
 
@@ -39,10 +41,11 @@ fn wait_for(word: &AtomicU64) -> bool {
 impl Held {
     fn new() -> Held {
         Held {
+            ready: AtomicU64::new(0),
             held: AtomicU64::new(0),
             answered: AtomicU64::new(0),
             status: AtomicU64::new(0),
-            length: AtomicU64::new(0),
+            same: AtomicU64::new(0),
             faults: AtomicU64::new(0),
         }
     }
@@ -63,40 +66,109 @@ impl Gate for Held {
     }
 }
 
-// The first seat asks for all documents, and is held; the second then makes a bulk.
+// What is written while a query is held.
+#[derive(Clone, Copy)]
+enum During {
+    Bulk,
+    Reshard,
+}
+
+impl During {
+    // The reply to the query, as it is without the write: a bulk comes into an empty database, a reshard behind a bulk.
+    fn page(self) -> &'static str {
+        match self {
+            During::Bulk => "{\"bookmark\":\"nil\",\"docs\":[]}\n",
+            During::Reshard => {
+                "{\"bookmark\":\"W251bGwsIl9hbGxfZG9jcyIsImFzYyIsWyJsMSJdLCJsMSJd\",\"docs\":[{\"_id\":\"l1\"}]}\n"
+            }
+        }
+    }
+
+    fn status(self) -> u64 {
+        match self {
+            During::Bulk => 201,
+            During::Reshard => 200,
+        }
+    }
+}
+
+// The first seat asks for the ids of all documents, and is held.
+fn ask<D: Database, C: Ends, R: Wait + Threads + Sync>(
+    rt: &R,
+    alloc: Global,
+    seat: Seat<D, C>,
+    gate: &Held,
+    during: During,
+) -> Seat<D, C> {
+    let mut seat = seat;
+    let Ok(body) = read(alloc, b"{\"selector\":{},\"fields\":[\"_id\"]}") else {
+        return seat;
+    };
+    gate.wait(&gate.ready);
+    let reply = seat.find_with(rt, &body, 1, gate);
+    let same = reply.body() == during.page().as_bytes();
+    gate.same.store(u64::from(same), Ordering::SeqCst);
+    seat
+}
+
+// The second one writes while the first is held.
+fn write<D: Database, C: Ends, R: Wait + Threads + Sync>(
+    rt: &R,
+    alloc: Global,
+    seat: Seat<D, C>,
+    gate: &Held,
+    during: During,
+) -> Seat<D, C> {
+    let mut seat = seat;
+    let Ok(bulk) = read(
+        alloc,
+        b"{\"docs\":[{\"_id\":\"l1\",\"_rev\":\"1-a\"}],\"new_edits\":false}",
+    ) else {
+        return seat;
+    };
+    let Ok(shards) = read(alloc, b"{\"shards\":7}") else {
+        return seat;
+    };
+    if let During::Reshard = during {
+        let _ = seat.bulk(rt, &bulk, 1);
+    }
+    gate.ready.store(1, Ordering::SeqCst);
+    gate.wait(&gate.held);
+    let reply = match during {
+        During::Bulk => seat.bulk(rt, &bulk, 1),
+        During::Reshard => seat.reshard(rt, &shards, 1),
+    };
+    gate.status
+        .store(u64::from(reply.status()), Ordering::SeqCst);
+    gate.answered.store(1, Ordering::SeqCst);
+    seat
+}
+
 fn act<D: Database, C: Ends, R: Wait + Threads + Sync>(
     rt: &R,
     alloc: Global,
     seat: Seat<D, C>,
     gate: &Held,
+    during: During,
 ) -> Seat<D, C> {
-    let mut seat = seat;
-    let text = if seat.number == 0 {
-        "{\"selector\":{}}"
-    } else {
-        "{\"docs\":[{\"a\":7}]}"
-    };
-    let Ok(body) = read(alloc, text.as_bytes()) else {
-        return seat;
-    };
     if seat.number == 0 {
-        let reply = seat.find_with(rt, &body, 1, gate);
-        gate.length
-            .store(reply.body().len() as u64, Ordering::SeqCst);
+        ask(rt, alloc, seat, gate, during)
     } else {
-        gate.wait(&gate.held);
-        let reply = seat.bulk(rt, &body, 1);
-        gate.status
-            .store(u64::from(reply.status()), Ordering::SeqCst);
-        gate.answered.store(1, Ordering::SeqCst);
+        write(rt, alloc, seat, gate, during)
     }
-    seat
 }
 
-fn bulk_during_query<
+fn write_during_query<
     D: Database + Send + Sync,
     R: Threads + Wait + Abort + Sync + Send + Drop + Copy,
->(rt: R, alloc: Global, blank: Blank, history: History, db: String) -> Result<(), Fail>
+>(
+    rt: R,
+    alloc: Global,
+    blank: Blank,
+    history: History,
+    db: String,
+    during: During,
+) -> Result<(), Fail>
     requires name { string_bytes db ≡ D.db }
     requires history { history ≡ D.history }
     requires ledger { (blank.name ≡ D.name) × (blank.parts ≡ D.parts) }
@@ -113,17 +185,32 @@ fn bulk_during_query<
         2,
     )?;
     let gate = Held::new();
-    let _seats = thread::map_vec(&rt, seats, &|seat| act(&rt, alloc, seat, &gate))?;
+    let _seats = thread::map_vec(&rt, seats, &|seat| act(&rt, alloc, seat, &gate, during))?;
     assert_eq!(rt; gate.faults.load(Ordering::SeqCst), 0);
-    assert_eq!(rt; gate.status.load(Ordering::SeqCst), 201);
-    assert_eq!(rt; gate.length.load(Ordering::SeqCst), 29);
+    assert_eq!(rt; gate.status.load(Ordering::SeqCst), during.status());
+    assert_eq!(rt; gate.same.load(Ordering::SeqCst), 1);
     Ok(())
 }
 
-// A bulk is answered while a query is held at its snapshot, which then finds no document: its page has 29 bytes.
+// A bulk is answered while a query is held at its snapshot, which then finds no document.
 #[test]
 fn a_bulk_is_answered_during_a_query(rt: HostRuntime) -> Result<(), Fail> {
     let alloc = rt.alloc();
     let db = String::from_str(alloc, "db")?;
-    bulk_during_query::<Brand, _>(rt, alloc, Blank::new(2), History::new(), db)
+    write_during_query::<Brand, _>(rt, alloc, Blank::new(2), History::new(), db, During::Bulk)
+}
+
+// So is a reshard, and the query's reply is the one that it gives without it.
+#[test]
+fn a_reshard_is_answered_during_a_query(rt: HostRuntime) -> Result<(), Fail> {
+    let alloc = rt.alloc();
+    let db = String::from_str(alloc, "db")?;
+    write_during_query::<Brand, _>(
+        rt,
+        alloc,
+        Blank::new(2),
+        History::new(),
+        db,
+        During::Reshard,
+    )
 }

@@ -72,6 +72,82 @@ fn said(reply: &Reply) -> (u16, &str) {
     )
 }
 
+// The reply to the ids of all documents.
+const L1: &str =
+    "{\"bookmark\":\"W251bGwsIl9hbGxfZG9jcyIsImFzYyIsWyJsMSJdLCJsMSJd\",\"docs\":[{\"_id\":\"l1\"}]}\n";
+
+const L1_AND_L2: &str =
+    "{\"bookmark\":\"W251bGwsIl9hbGxfZG9jcyIsImFzYyIsWyJsMiJdLCJsMiJd\",\"docs\":[{\"_id\":\"l1\"},{\"_id\":\"l2\"}]}\n";
+
+// What one seat writes, the other finds: after it was told, and with nothing told.
+fn find_what_the_other_wrote<D: Database, C: Ends, R: Wait + Threads + Sync>(
+    rt: &R,
+    alloc: Global,
+    a: &mut Seat<D, C>,
+    b: &mut Seat<D, C>,
+) -> Result<(), Fail> {
+    let all = read(alloc, b"{\"selector\":{},\"fields\":[\"_id\"]}")?;
+    let first = read(
+        alloc,
+        b"{\"docs\":[{\"_id\":\"l1\",\"_rev\":\"1-a\"}],\"new_edits\":false}",
+    )?;
+    assert_eq!(rt; said(&b.get(rt, "l1", false)).0, 404);
+    assert_eq!(rt; said(&a.bulk(rt, &first, 1)), (201, "[]\n"));
+    assert_eq!(rt; said(&a.find(rt, &all, 1)), (200, L1));
+    b.learn(&a.share(rt)?);
+    assert_eq!(rt; said(&b.find(rt, &all, 1)), (200, L1));
+    assert_eq!(rt;
+        said(&b.get(rt, "l1", false)),
+        (200, "{\"_id\":\"l1\",\"_rev\":\"1-a\"}\n")
+    );
+    let second = read(
+        alloc,
+        b"{\"docs\":[{\"_id\":\"l2\",\"_rev\":\"1-a\"}],\"new_edits\":false}",
+    )?;
+    assert_eq!(rt; said(&a.bulk(rt, &second, 1)), (201, "[]\n"));
+    assert_eq!(rt; said(&b.find(rt, &all, 1)), (200, L1_AND_L2));
+    Ok(())
+}
+
+// What the other seat is told of an index, and of the list of indexes.
+const EXPLAINED: &str =
+    "{\"dbname\":\"db\",\"fields\":\"all_fields\",\"index\":{\"ddoc\":\"_design/x\",\"def\":{\"fields\":[{\"a\":\"asc\"}]},\"name\":\"ia\",\"type\":\"json\"},\"limit\":25,\"range\":{\"equal\":[1],\"lower\":null,\"upper\":null},\"selector\":{\"a\":1},\"skip\":0}\n";
+
+const LISTED: &str =
+    "{\"indexes\":[{\"ddoc\":null,\"def\":{\"fields\":[{\"_id\":\"asc\"}]},\"name\":\"_all_docs\",\"type\":\"special\"},{\"ddoc\":\"_design/x\",\"def\":{\"fields\":[{\"a\":\"asc\"}]},\"name\":\"ia\",\"type\":\"json\"}],\"total_rows\":2}\n";
+
+// An index that one seat creates serves the other, until it is dropped.
+fn use_the_other_ones_index<D: Database, C: Ends, R: Wait + Threads + Sync>(
+    rt: &R,
+    alloc: Global,
+    a: &mut Seat<D, C>,
+    b: &mut Seat<D, C>,
+) -> Result<(), Fail> {
+    let index = read(
+        alloc,
+        b"{\"index\":{\"fields\":[\"a\"]},\"ddoc\":\"x\",\"name\":\"ia\"}",
+    )?;
+    let query = read(alloc, b"{\"selector\":{\"a\":1}}")?;
+    assert_eq!(rt; said(&b.drop_index(rt, "x", "ia", 1)).0, 404);
+    assert_eq!(rt;
+        said(&a.create_index(rt, &index, 1)),
+        (
+            200,
+            "{\"id\":\"_design/x\",\"name\":\"ia\",\"result\":\"created\"}\n"
+        )
+    );
+    assert_eq!(rt; said(&b.explain(rt, &query)), (200, EXPLAINED));
+    assert_eq!(rt; said(&b.list_indexes(rt)), (200, LISTED));
+    assert_eq!(rt;
+        said(&a.drop_index(rt, "x", "ia", 1)),
+        (200, "{\"ok\":true}\n")
+    );
+    let snapshot = b.snapshot()?;
+    assert_eq!(rt; snapshot.catalog().list().len(), 0);
+    assert_eq!(rt; snapshot.shards().len(), 1);
+    Ok(())
+}
+
 fn two<D: Database + Send + Sync, R: Threads + Wait + Abort + Sync + Send + Drop + Copy>(
     rt: R,
     alloc: Global,
@@ -95,19 +171,8 @@ fn two<D: Database + Send + Sync, R: Threads + Wait + Abort + Sync + Send + Drop
     )?;
     let mut b = seats.pop().ok_or("a seat")?;
     let mut a = seats.pop().ok_or("a seat")?;
-    let bulk = read(
-        alloc,
-        b"{\"docs\":[{\"_id\":\"l1\",\"_rev\":\"1-a\"}],\"new_edits\":false}",
-    )?;
-    assert_eq!(rt; said(&b.get(&rt, "l1", false)).0, 404);
-    assert_eq!(rt; said(&a.bulk(&rt, &bulk, 1)), (201, "[]\n"));
-    b.learn(&a.share(&rt)?);
-    assert_eq!(rt;
-        said(&b.get(&rt, "l1", false)),
-        (200, "{\"_id\":\"l1\",\"_rev\":\"1-a\"}\n")
-    );
-    assert_eq!(rt; said(&b.drop_index(&rt, "x", "ia", 1)).0, 404);
-    assert_eq!(rt; a.snapshot()?.shards().len(), 1);
+    find_what_the_other_wrote(&rt, alloc, &mut a, &mut b)?;
+    use_the_other_ones_index(&rt, alloc, &mut a, &mut b)?;
     seats.push(a)?;
     let (live, mut seats) = match live.close(&rt, seats) {
         Err((live, seats, CloseError::Missing)) => (live, seats),
@@ -115,7 +180,7 @@ fn two<D: Database + Send + Sync, R: Threads + Wait + Abort + Sync + Send + Drop
     };
     seats.push(b)?;
     match live.close(&rt, seats) {
-        Ok(closed) => assert_eq!(rt; closed.commits(), 1),
+        Ok(closed) => assert_eq!(rt; closed.commits(), 4),
         Err(_) => return Err("it is closed".into()),
     }
     Ok(())

@@ -11,7 +11,8 @@ returns-in-Ok c =
     let b = c.in_ok-insert-2.ensures in
     let d = c.in_ok-insert-3.ensures in
     let e = c.in_ok-insert-4.ensures in
-    let r = rw (e.1, d.1, b.1, a.1, c.new-table.ensures) at c.in-Ok.ensures.found in
+    let f = c.in_ok-insert-5.ensures in
+    let r = rw (f.1, e.1, d.1, b.1, a.1, c.new-table.ensures) at c.in-Ok.ensures.found in
     some_first _ c.args.text.now true refl (ap is_some r) ∙ seconds c.args.text.now
 
 pub returns : goal.returns
@@ -21,5 +22,6 @@ returns c =
     let b = c.in_ok-insert-2.ensures in
     let d = c.in_ok-insert-3.ensures in
     let e = c.in_ok-insert-4.ensures in
-    let r = rw (e.1, d.1, b.1, a.1, c.new-table.ensures) at c.in-Err.ensures.missing in
+    let f = c.in_ok-insert-5.ensures in
+    let r = rw (f.1, e.1, d.1, b.1, a.1, c.new-table.ensures) at c.in-Err.ensures.missing in
     some_first _ c.args.text.now false refl (ap is_some r) ∙ seconds c.args.text.now
