@@ -1,10 +1,11 @@
 #!/usr/bin/env python3
 """Runs the conversations of tests/conversations/*.txt through the program and compares the replies.
 
-usage: conversations.py --program PATH [--shards 1,2,7,64] [--workers 1,2,32] [--only NAME ..] [--folder FOLDER]
+usage: conversations.py --program PATH [--shards 1,2,7,64] [--workers 1,2,32] [--reshards 3 64,1,3] [--only NAME ..] [--folder FOLDER]
 
 A conversation is run by one process `PATH db SHARDS WORKERS 1 -` for each number of shards and of workers; its database
-has no document at first, and all its messages are sent at once. In a file:
+has no document at first, and all its messages are sent at once. For each list of --reshards it is run once more, with a
+`_placement` between every two messages that asks for these numbers of shards in turn, and the same replies. In a file:
 
   ## NAME: what it shows        begins a conversation
   + DOCUMENT DOCUMENT ..        a bulk of a replica, "_rev":"1-a" where a document gives none; the reply is 201 [] where no
@@ -20,10 +21,11 @@ has no document at first, and all its messages are sent at once. In a file:
   ! LINE                        the program ends with status 1 and the line `mangod: LINE`, and not with 0 and no line
 
 A line that begins with a blank goes on with the line before it; `#` and a blank begin a comment. `--only` takes names of
-conversations and of files. Prints each fault; a conversation passes or fails at each number of shards and workers. The
-last line is 'N passed, M failed', and the exit status is 0 where M is 0.
+conversations and of files. Prints each fault; a conversation passes or fails in each run. The last line is 'N passed, M
+failed', and the exit status is 0 where M is 0.
 """
 import argparse
+import itertools
 import json
 import re
 import subprocess
@@ -261,17 +263,31 @@ def replies_in(output):
         output = rest[int(parts[3]) :]
 
 
-def run(program, conversation, shards, workers):
+def with_reshards(exchanges, counts):
+    """The exchanges, with one between every two that are answered that asks for another number of shards."""
+    numbers = itertools.cycle(counts)
+    done = Expected('200 {"ok":true}', 200, b'{"ok":true}')
+    said = []
+    for before, after in itertools.pairwise(exchanges):
+        said.append(before)
+        if before.is_whole and after.is_whole:
+            body = '{"shards":%d}' % next(numbers)
+            said.append(Exchange(after.place, f"> POST _placement {body}", post("_placement", body.encode()), done))
+    return [*said, exchanges[-1]]
+
+
+def run(program, conversation, shards, workers, reshards=()):
     """Each fault: the line of the file, and what was wrong."""
     call = [program, "db", str(shards), str(workers), "1", "-"]
-    messages = b"".join(exchange.message for exchange in conversation.exchanges)
+    exchanges = with_reshards(conversation.exchanges, reshards) if reshards else conversation.exchanges
+    messages = b"".join(exchange.message for exchange in exchanges)
     try:
         done = subprocess.run(call, input=messages, capture_output=True, timeout=SECONDS)
     except subprocess.TimeoutExpired:
         return [(conversation.exchanges[0].place, f"the program did not end in {SECONDS} seconds")]
     replies, left = replies_in(done.stdout)
-    whole = [exchange for exchange in conversation.exchanges if exchange.is_whole]
-    last = conversation.exchanges[-1].place
+    whole = [exchange for exchange in exchanges if exchange.is_whole]
+    last = exchanges[-1].place
     faults = []
     for place, exchange in enumerate(whole):
         if place >= len(replies):
@@ -308,19 +324,21 @@ def main():
     parser.add_argument("--program", required=True, type=Path)
     parser.add_argument("--shards", type=numbers, default=[1, 2, 7, 64])
     parser.add_argument("--workers", type=numbers, default=[1, 2, 32])
+    parser.add_argument("--reshards", type=numbers, nargs="*", default=[[3], [64, 1, 3]])
     parser.add_argument("--only", nargs="+", default=[])
     parser.add_argument("--folder", type=Path, default=Path(__file__).resolve().parent / "conversations")
     options = parser.parse_args()
     passed = failed = 0
+    plain = [(shards, workers, ()) for shards in options.shards for workers in options.workers]
+    dealt = [(options.shards[0], options.workers[-1], counts) for counts in options.reshards]
     for conversation in chosen(options.folder, options.only):
-        for shards in options.shards:
-            for workers in options.workers:
-                faults = run(options.program.resolve(), conversation, shards, workers)
-                passed += not faults
-                failed += bool(faults)
-                for place, fault in faults:
-                    where = f"{conversation.file.name}:{place}, {conversation.name}"
-                    print(f"{where}, {shards} shards, {workers} workers: {fault}")
+        for shards, workers, reshards in plain + dealt:
+            faults = run(options.program.resolve(), conversation, shards, workers, reshards)
+            passed += not faults
+            failed += bool(faults)
+            for place, fault in faults:
+                where = f"{conversation.file.name}:{place}, {conversation.name}"
+                print(f"{where}, {shards} shards, {workers} workers, reshards {list(reshards)}: {fault}")
     if passed + failed == 0:
         sys.exit("the folder has no conversation")
     print(f"{passed} passed, {failed} failed")

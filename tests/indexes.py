@@ -47,6 +47,8 @@ class Talk:
                 self.query(self.next_page() if self.last and self.chance(0.3) else self.new_query())
             if self.chance(0.2):
                 self.get()
+            if self.chance(0.1):
+                self.say("POST", "_placement", {"shards": self.random.choice([1, 2, 3, 16, 64])}, 200, {"ok": True})
 
     def chance(self, share):
         return self.random.random() < share

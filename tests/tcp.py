@@ -217,8 +217,10 @@ def sixteen_writers(port, tally):
 
 
 def whole_bulks(port, tally):
-    """One client writes the same new value to ten documents in each bulk; three others see ten of one value on each page."""
+    """One client writes the same new value to ten documents in each bulk, and another asks for other numbers of shards; three others
+    see ten of one value on each page."""
     ids = [f"d{number}" for number in range(10)]
+    replies = []
 
     def write():
         client = Client(port)
@@ -230,6 +232,13 @@ def whole_bulks(port, tally):
         client.close()
         return status
 
+    def deal():
+        client = Client(port)
+        for turn in range(8):
+            replies.append(client.ask("POST", "/db/_placement", {"shards": [3, 64, 1, 16][turn % 4]}))
+            time.sleep(0.1)
+        client.close()
+
     def look():
         client = Client(port)
         pages = []
@@ -239,8 +248,9 @@ def whole_bulks(port, tally):
         client.close()
         return pages
 
-    status, *seen = side_by_side([write, look, look, look])
+    status, _, *seen = side_by_side([write, deal, look, look, look])
     tally.expect("the last bulk", status, 201)
+    tally.expect("reshards", replies, [(200, {"ok": True})] * 8)
     halves = [page for pages in seen for page in pages if len(page) not in (0, 10) or len(set(page)) > 1]
     tally.expect("pages with half of a bulk", halves, [])
     orders = [[page[0] for page in pages if page] for pages in seen]
@@ -271,7 +281,7 @@ def faults(words, tally):
 
 # how many sessions the program has, and what is done with it
 CONVERSATIONS = [(1, [one_after_another, cut_messages, a_client_that_waits]), (1, [clients_that_go]), (1, [python_client]), (1, [curl]),
-                 (2, [one_after_another]), (16, [sixteen_writers]), (4, [whole_bulks]), (2, [more_clients_than_seats, clients_that_go])]
+                 (2, [one_after_another]), (16, [sixteen_writers]), (5, [whole_bulks]), (2, [more_clients_than_seats, clients_that_go])]
 
 
 def main():
