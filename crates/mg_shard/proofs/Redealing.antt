@@ -1,10 +1,13 @@
 -- Documents that are dealt anew: one more document of a shard, one more shard, and what the shards stand for then.
 use lib.Dec.{T, eqb}
-use Rattle.std.proofs.Common.{◌≡◌, ℕ, zero, suc, ◌+◌, ◌<◌, Bool, true, false, List, [], ◌∷◌, ◌++◌, Ordering, Less, Equal, Greater, Option, Some, None, option_and_then, option_map, unwrap_or, length, map, set, slice_get, take, cond, is_eq, refl, ap, sym, ◌∙◌, subst, arith, length-set}
+use Rattle.std.proofs.Common.{◌≡◌, ℕ, zero, suc, ◌+◌, ◌<◌, Bool, true, false, List, [], ◌∷◌, ◌++◌, Ordering, Less, Equal, Greater, Option, Some, None, option_and_then, option_map, unwrap_or, length, get_or, map, set, slice_get, take, cond, is_eq, refl, ap, sym, ◌∙◌, subst, arith, length-set}
 use Rattle.std.proofs.lemmas.Bool.{eqb-true, eq-eqb}
 use Rattle.std.proofs.lemmas.Cmp.{nat_list_cmp_total, tied_itself}
 use Rattle.std.proofs.lemmas.List.{length-map}
 use Rattle.std.proofs.lemmas.Option.{slice_get-map}
+use Rattle.std.specs.Arc.{arc_value}
+use Rattle.std.specs.declared.alloc.Global.{Global}
+use Rattle.std.specs.declared.sync.Arc.{Arc}
 use Rattle.std.specs.FinMap.{empty, find, get, get-empty, get-from_entries, get-insert, insert, same_map}
 use Rattle.std.specs.List.{AllByRecursion, slice_index_or}
 use Rattle.std.specs.Option.{option_or}
@@ -18,7 +21,7 @@ use Rattle.mg_shard.specs.Dealt.{Placing, ShardsStandFor, histories_on, kept_at}
 use Rattle.mg_shard.specs.Documents.{Kept, KeptDocuments, StandsAt, entry_of, id_of, kept_of, shown}
 use Rattle.mg_shard.specs.Histories.{Histories}
 use Rattle.mg_shard.specs.Redealt.{AreRedealt, all_shown, documents_in, kept_in}
-use Rattle.mg_shard.specs.Shard.{ShardView}
+use Rattle.mg_shard.specs.Shard.{ShardView, shards_seen}
 use Rattle.mg_shard.specs.declared.document.Document.{Document}
 use Rattle.mg_shard.proofs.Catalogued.{all_get, total}
 use Rattle.mg_shard.proofs.Dealing.{get-kept, not_there, same_some, slice_get-set, slice_get-set_other, stands_at}
@@ -251,3 +254,10 @@ pub each_of_all : {X : Type 0} (P : X → Type 0) (xs : List X) → AllByRecursi
 each_of_all P [] h k d l = absurd (omega (arith, l))
 each_of_all P (x ∷ xs) h zero d l = h.0
 each_of_all P (x ∷ xs) h (suc k) d l = each_of_all P xs h.1 k d (omega (arith, l))
+
+-- the documents of one more shard
+pub documents_more : (shards : List (Arc ShardView Global)) (i : ℕ) (s : Arc ShardView Global) → i < length shards → s ≡ get_or shards i s
+    → documents_in (shards_seen (take (suc i) shards)) ≡ documents_in (shards_seen (take i shards)) ++ (arc_value s).documents ∷ []
+documents_more [] i s l e = absurd (omega arith)
+documents_more (x ∷ shards) zero s l e = ap (λ (a : Arc ShardView Global). (arc_value a).documents ∷ []) (sym e)
+documents_more (x ∷ shards) (suc i) s l e = ap (λ ms. (arc_value x).documents ∷ ms) (documents_more shards i s (omega arith) e)

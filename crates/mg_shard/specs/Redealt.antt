@@ -1,4 +1,4 @@
--- Documents that are dealt anew: what some shards keep, each document where a placement names its id among others.
+-- For private clauses: the documents of some shards, dealt to others by a placement of their ids.
 use Rattle.std.specs.Prelude.{◌≡◌, ℕ, ◌<◌, ◌==◌, List, [], ◌∷◌, length, map, cond, Option, Some, None, slice_get}
 use Rattle.std.specs.FinMap.{get}
 use Rattle.std.specs.Option.{option_or}
