@@ -1,6 +1,6 @@
 -- Documents that are dealt anew: one more document of a shard, one more shard, and what the shards stand for then.
 use lib.Dec.{T, eqb}
-use Rattle.std.proofs.Common.{◌≡◌, ℕ, zero, suc, ◌+◌, ◌<◌, Bool, true, false, List, [], ◌∷◌, ◌++◌, Ordering, Less, Equal, Greater, Option, Some, None, option_and_then, option_map, unwrap_or, length, get_or, map, set, slice_get, take, cond, is_eq, refl, ap, sym, ◌∙◌, subst, arith, length-set}
+use Rattle.std.proofs.Common.{◌≡◌, ℕ, zero, suc, ◌+◌, ◌<◌, Bool, true, false, List, [], ◌∷◌, ◌++◌, Ordering, Less, Equal, Greater, Option, Some, None, option_and_then, option_map, unwrap_or, length, get_or, map, set, slice_get, take, cond, is_eq, refl, ap, sym, ◌∙◌, subst, add-one, arith, length-set}
 use Rattle.std.proofs.lemmas.Bool.{eqb-true, eq-eqb}
 use Rattle.std.proofs.lemmas.Cmp.{nat_list_cmp_total, tied_itself}
 use Rattle.std.proofs.lemmas.List.{length-map}
@@ -9,7 +9,7 @@ use Rattle.std.specs.Arc.{arc_value}
 use Rattle.std.specs.declared.alloc.Global.{Global}
 use Rattle.std.specs.declared.sync.Arc.{Arc}
 use Rattle.std.specs.FinMap.{empty, find, get, get-empty, get-from_entries, get-insert, insert, same_map}
-use Rattle.std.specs.List.{AllByRecursion, slice_index_or}
+use Rattle.std.specs.List.{All, AllByRecursion, slice_index_or}
 use Rattle.std.specs.Option.{option_or}
 use Rattle.std.specs.Ordering.{eq_by_cmp, match_ordering, ordering_reverse}
 use Rattle.mg_index.specs.Catalog.{IsCatalog, definition_order, with_definition}
@@ -20,9 +20,11 @@ use Rattle.mg_revtree.specs.History.{History}
 use Rattle.mg_shard.specs.Dealt.{Placing, ShardsStandFor, histories_on, kept_at}
 use Rattle.mg_shard.specs.Documents.{Kept, KeptDocuments, StandsAt, entry_of, id_of, kept_of, shown}
 use Rattle.mg_shard.specs.Histories.{Histories}
+use Rattle.mg_shard.specs.Index.{definitions_of, indexes_seen}
 use Rattle.mg_shard.specs.Redealt.{AreRedealt, all_shown, documents_in, kept_in}
 use Rattle.mg_shard.specs.Shard.{ShardView, shards_seen}
 use Rattle.mg_shard.specs.declared.document.Document.{Document}
+use Rattle.mg_shard.specs.declared.index.IndexRows.{IndexRows}
 use Rattle.mg_shard.proofs.Catalogued.{all_get, total}
 use Rattle.mg_shard.proofs.Dealing.{get-kept, not_there, same_some, slice_get-set, slice_get-set_other, stands_at}
 use Rattle.mg_shard.proofs.Shown.{bytes_cmp, bytes_exact}
@@ -158,7 +160,11 @@ left_less d rest done q h =
     ∙ left_step e (kept_of d) o (get done q) (λ tie. ap (λ x. find bytes_cmp x (map entry_of rest)) (same_id q (id_of d) tie) ∙ absent_above d rest h.0)
     ∙ ap (λ x. option_or x (get done q)) (sym (shown_get (d ∷ rest) q))
 
-pub left_at_first : (q : List ℕ) (ds : KeptDocuments) → option_or (get ds q) (get empty q) ≡ get ds q
+-- at first none is dealt
+abbrev no_documents : KeptDocuments
+no_documents = empty
+
+pub left_at_first : (q : List ℕ) (ds : KeptDocuments) → option_or (get ds q) (get no_documents q) ≡ get ds q
 left_at_first q ds = ap (option_or (get ds q)) (get-empty bytes_cmp q) ∙ none_after (get ds q)
 
 -- where none is left, all are dealt
@@ -261,3 +267,30 @@ pub documents_more : (shards : List (Arc ShardView Global)) (i : ℕ) (s : Arc S
 documents_more [] i s l e = absurd (omega arith)
 documents_more (x ∷ shards) zero s l e = ap (λ (a : Arc ShardView Global). (arc_value a).documents ∷ []) (sym e)
 documents_more (x ∷ shards) (suc i) s l e = ap (λ ms. (arc_value x).documents ∷ ms) (documents_more shards i s (omega arith) e)
+
+-- ---- the indexes of the code
+
+taken_definitions : (i : ℕ) (xs : List IndexRows) → take i (definitions_of (indexes_seen xs)) ≡ definitions_of (indexes_seen (take i xs))
+taken_definitions zero [] = refl
+taken_definitions zero (x ∷ xs) = refl
+taken_definitions (suc i) [] = refl
+taken_definitions (suc i) (x ∷ xs) = ap (λ ds. arc_value x.definition ∷ ds) (taken_definitions i xs)
+
+definition_got : (xs : List IndexRows) (i : ℕ) (x : IndexRows) → i < length xs → x ≡ get_or xs i x → slice_get (definitions_of (indexes_seen xs)) i ≡ Some (arc_value x.definition)
+definition_got [] i x l e = absurd (omega arith)
+definition_got (y ∷ xs) zero x l e = ap (λ (z : IndexRows). Some (arc_value z.definition)) (sym e)
+definition_got (y ∷ xs) (suc i) x l e = definition_got xs i x (omega arith) e
+
+-- the definition of one more index
+pub next_index : (xs : List IndexRows) (i : ℕ) (x : IndexRows) → IsCatalog (definitions_of (indexes_seen xs)) → i < length xs → x ≡ get_or xs i x
+    → with_definition (arc_value x.definition) (definitions_of (indexes_seen (take i xs))) ≡ definitions_of (indexes_seen (take (i + 1) xs))
+next_index xs i x c l e =
+    ap (with_definition (arc_value x.definition)) (sym (taken_definitions i xs))
+    ∙ next_definition (definitions_of (indexes_seen xs)) i (arc_value x.definition) c (definition_got xs i x l e)
+    ∙ taken_definitions (suc i) xs ∙ ap (λ n. definitions_of (indexes_seen (take n xs))) (sym (add-one i))
+
+-- the definitions of the first shard are those that all have
+pub first_definitions : (shards : List ShardView) (ds those : List IndexDefinition) → ((s : ShardView) → slice_get shards 0 ≡ Some s → those ≡ s.definitions) → 0 < length shards
+    → All (λ s. s.definitions ≡ ds) shards → those ≡ ds
+first_definitions [] ds those first l all = absurd (omega (arith, l))
+first_definitions (s ∷ shards) ds those first l all = first s refl ∙ all 0 s (omega arith)
