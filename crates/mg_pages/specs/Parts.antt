@@ -9,10 +9,15 @@ use Rattle.std.specs.Arc.{arc_value}
 use Rattle.std.specs.List.{AllByRecursion, flat_map}
 use Rattle.std.specs.declared.alloc.Global.{Global}
 use Rattle.std.specs.declared.sync.Arc.{Arc}
+use denote.Ref.{Bor}
 
 -- what shared things are, one after another
 abbrev pub values : {X : Type 0} → List (Arc X Global) → List X
 values xs = map arc_value xs
+
+-- what a shared thing that is lent is
+abbrev pub shared : {X : Type 0} → Bor (Arc X Global) → X
+shared a = arc_value a.now
 
 -- x is the last of xs
 pub record IsLast {X : Type 0} (x : X) (xs : List X) : Type 0 where

@@ -3,7 +3,7 @@ ghost use Rattle.std.specs.Prelude.{◌≡◌, ◌<◌, ◌∷◌, List, length}
 ghost use Rattle.std.specs.Iterator.{at_most};
 ghost use Rattle.std.specs.Map.Iter.{TakesFirst, deref};
 ghost use Rattle.mg_pages.specs.Runs.{continued, continued_after};
-ghost use Rattle.mg_pages.specs.Parts.{values};
+ghost use Rattle.mg_pages.specs.Parts.{shared, values};
 
 use crate::keyed::Keyed;
 use crate::pages::Pages;
@@ -46,6 +46,18 @@ impl<'a, T: Keyed> Iter<'a, T> {
     {
         Iter { pages, run }
     }
+
+    /// The next element as the collection shares it, for a caller that shares it too. Takes no memory.
+    pub fn next_shared(&mut self) -> Option<&'a Arc<T>>
+        ensures { TakesFirst shared self.old result self.new }
+    {
+        let run = self.run;
+        if run.len() > 0 {
+            self.run = rest_of(self.pages, run);
+            return Some(&run[0]);
+        }
+        None
+    }
 }
 
 impl<'a, T: Keyed> Iterator for Iter<'a, T> {
@@ -56,11 +68,9 @@ impl<'a, T: Keyed> Iterator for Iter<'a, T> {
     ghost remaining = { λ s. at_most (length s) };
 
     fn next(&mut self) -> Option<&'a T> {
-        let run = self.run;
-        if run.len() > 0 {
-            self.run = rest_of(self.pages, run);
-            return Some(&run[0]);
+        match self.next_shared() {
+            Some(element) => Some(element),
+            None => None,
         }
-        None
     }
 }

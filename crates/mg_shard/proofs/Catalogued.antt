@@ -22,7 +22,7 @@ use Rattle.mg_shard.proofs.Standing.{tied}
 use Rattle.mg_shard.specs.Index.{AreIndexes, HasRows, Index, definitions_of, index_seen, indexes_seen}
 use Rattle.mg_shard.specs.declared.index.IndexRows.{IndexRows}
 
-total : IsTotalOrder definition_order
+pub total : IsTotalOrder definition_order
 total = then_total (on_total (λ (d : IndexDefinition). d.ddoc) nat_list_cmp_total) (on_total (λ (d : IndexDefinition). d.name) nat_list_cmp_total)
 
 abbrev AllAbove : IndexDefinition → List IndexDefinition → Type 0

@@ -22,19 +22,19 @@ use Rattle.mg_shard.proofs.Touched.{after_done, after_refused}
 
 -- ---- lists with one place changed
 
-slice_get-set : {X : Type 0} (xs : List X) (i : ℕ) (x : X) → i < length xs → slice_get (set xs i x) i ≡ Some x
+pub slice_get-set : {X : Type 0} (xs : List X) (i : ℕ) (x : X) → i < length xs → slice_get (set xs i x) i ≡ Some x
 slice_get-set [] i x l = absurd (omega arith)
 slice_get-set (y ∷ xs) zero x l = refl
 slice_get-set (y ∷ xs) (suc i) x l = slice_get-set xs i x (omega arith)
 
-slice_get-set_other : {X : Type 0} (xs : List X) (i j : ℕ) (x : X) → (j ≡ i → ⊥) → slice_get (set xs i x) j ≡ slice_get xs j
+pub slice_get-set_other : {X : Type 0} (xs : List X) (i j : ℕ) (x : X) → (j ≡ i → ⊥) → slice_get (set xs i x) j ≡ slice_get xs j
 slice_get-set_other [] i j x apart = refl
 slice_get-set_other (y ∷ xs) zero zero x apart = absurd (apart refl)
 slice_get-set_other (y ∷ xs) zero (suc j) x apart = refl
 slice_get-set_other (y ∷ xs) (suc i) zero x apart = refl
 slice_get-set_other (y ∷ xs) (suc i) (suc j) x apart = slice_get-set_other xs i j x (λ e. apart (ap suc e))
 
-same_some : {X : Type 0} (x y : X) → Some x ≡ Some y → x ≡ y
+pub same_some : {X : Type 0} (x y : X) → Some x ≡ Some y → x ≡ y
 same_some x y e = ap (λ o. unwrap_or o x) e
 
 -- ---- the histories of the ids that pass a test
@@ -122,7 +122,7 @@ put_here place n i hs e (Ok r) at is =
 put_here place n i hs e (Err x) at is =
     ap (λ m. histories_on place n i m) (after_refused hs e x is) ∙ sym (after_refused (histories_on place n i hs) e x (same_outcome place n i hs e at ∙ is))
 
-not_there : (a b : ℕ) → (a ≡ b → ⊥) → eqb a b ≡ false
+pub not_there : (a b : ℕ) → (a ≡ b → ⊥) → eqb a b ≡ false
 not_there a b h = decided (eqb a b) (λ e. h (eqb-true a b e))
   where
     decided : (b : Bool) → (b ≡ true → ⊥) → b ≡ false

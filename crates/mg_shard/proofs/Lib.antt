@@ -2,6 +2,7 @@ pub mod Shown
 pub mod Standing
 pub mod Touched
 pub mod Dealing
+pub mod Redealing
 pub mod Rows
 pub mod Catalogued
 pub mod Keys

@@ -5,6 +5,7 @@ pub mod Documents
 pub mod Shard
 pub mod Draft
 pub mod Dealt
+pub mod Redealt
 pub mod Rows
 pub mod Mended
 pub mod Index

@@ -19,7 +19,8 @@ ghost use Rattle.mg_shard.specs.Rows.{row_of, rows_of};
 ghost use Rattle.mg_shard.specs.Shard.{rows_at};
 ghost use Rattle.mg_collate.specs.Row.{RowValue, row_value_order, row_view, rows_view};
 ghost use Rattle.mg_value.specs.View.{items_view};
-ghost use Rattle.mg_index.specs.Catalog.{with_definition, without_definition};
+ghost use Rattle.mg_index.specs.Catalog.{IsCatalog, with_definition, without_definition};
+ghost use Rattle.mg_shard.specs.Index.{definitions_of, indexes_seen};
 ghost use Rattle.std.specs.List.{filter_map};
 
 use crate::docs::Docs;
@@ -166,6 +167,14 @@ impl Shard {
         ensures { (id : List ℕ) (form : Value) → form_at self.now.documents id ≡ Some form → HasOwnId id form }
     {
         let _ = &self.documents;
+    }
+
+    // Its indexes. Takes no memory.
+    pub(crate) fn indexes(&self) -> &[IndexRows]
+        ensures catalog { IsCatalog self.now.definitions }
+        ensures definitions { definitions_of (indexes_seen result.now) ≡ self.now.definitions }
+    {
+        &self.indexes
     }
 
     // The next shard, or a share of this one where there is none.
