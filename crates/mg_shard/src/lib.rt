@@ -1,6 +1,7 @@
 //! Shards: documents by their ids and rows of indexes, in shared pages; edits of them; and on which shard a document is kept.
 #![tactic(auto)]
 
+mod deal;
 mod docs;
 pub mod document;
 pub mod draft;
@@ -8,17 +9,16 @@ mod index;
 mod indexes;
 pub mod laws;
 pub mod placement;
-mod redeal;
 pub mod reply;
 mod served;
 pub mod shard;
 mod walk;
 
+pub use deal::redeal;
 pub use docs::Docs;
 pub use document::Document;
 pub use draft::Draft;
 pub use placement::{Md5Placement, Placement};
-pub use redeal::redeal;
 pub use reply::EditReply;
 pub use shard::Shard;
 pub use walk::{Documents, Rows, Walk};

@@ -28,6 +28,9 @@ pub fn redeal<P: Placement>(
     ensures indexes { IfOk result (λ v. (ds : List IndexDefinition) → 0 < length shards.now
         → All (λ s. s.definitions ≡ ds) (shards_seen shards.now) → All (λ s. s.definitions ≡ ds) v.items) }
 {
-    let _ = (alloc, shards.len(), placement, count);
+    let _ = alloc;
+    let _ = shards;
+    let _ = placement;
+    let _ = count;
     Err(NoMemory)
 }
