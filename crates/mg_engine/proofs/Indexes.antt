@@ -39,6 +39,11 @@ each_has ds [] h k x lt = absurd (omega arith)
 each_has ds (s ∷ ss) h zero x lt = h zero [] (omega arith)
 each_has ds (s ∷ ss) h (suc k) x lt = each_has ds ss (λ k x lt. h (suc k) x (omega arith)) k x (omega arith)
 
+pub have_rows : (ds : List IndexDefinition) (ss : List ShardView) → All (λ s. s.definitions ≡ ds) ss → HaveRows ds ss
+have_rows ds [] h k x lt = absurd (omega arith)
+have_rows ds (s ∷ ss) h zero x lt = h zero s (omega arith)
+have_rows ds (s ∷ ss) h (suc k) x lt = have_rows ds ss (λ k x lt. h (suc k) x (omega arith)) k x (omega arith)
+
 pub same_number_of : (ss ts : List ShardView) → definitions_of ss ≡ definitions_of ts → length ss ≡ length ts
 same_number_of [] [] e = refl
 same_number_of [] (t ∷ ts) e = absurd cc

@@ -2,6 +2,8 @@ pub mod Runs
 mod Collecting
 mod Editing
 mod Indexes
+mod Numbers
 mod Reading
+mod Resharding
 mod Telling
 pub mod Whole

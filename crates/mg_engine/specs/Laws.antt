@@ -15,8 +15,8 @@ without_reshards (c ∷ cs) = if is_reshard c then without_reshards cs else c �
 
 -- the answers to commands, one each, without those to reshards
 abbrev pub other_answers : List Asked → List Answer → List Answer
-other_answers (c ∷ cs) (a ∷ as) = if is_reshard c then other_answers cs as else a ∷ other_answers cs as
-other_answers cs as = []
+other_answers (c ∷ cs) (a ∷ answers) = if is_reshard c then other_answers cs answers else a ∷ other_answers cs answers
+other_answers cs answers = []
 
 -- reshards change no other reply: it is the one that is given where no reshard is asked for
 abbrev pub ReshardsChangeNoReply : Type 0

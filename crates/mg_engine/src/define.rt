@@ -170,8 +170,8 @@ fn has_index(catalog: &Catalog, ddoc: &str, name: &str) -> bool
     catalog.find(ddoc, name).is_some()
 }
 
-// The body of the reply to an index that was dropped.
-fn done_line(alloc: Global) -> Result<Vec<u8>, NoMemory>
+/// The body of a reply that tells no more than that the command is done.
+pub(crate) fn done_line(alloc: Global) -> Result<Vec<u8>, NoMemory>
     ensures { IfOk result (λ b. b.items ≡ line_of done_value) }
 {
     let mut done = Json::empty_object(alloc);
@@ -227,8 +227,8 @@ fn all_with<R: Threads + Sync>(
     shared(alloc, built)
 }
 
-// Shards that can be shared.
-fn shared(alloc: Global, shards: Vec<Shard>) -> Result<Vec<Arc<Shard>>, NoMemory>
+/// Shards that can be shared. Cost: their number.
+pub(crate) fn shared(alloc: Global, shards: Vec<Shard>) -> Result<Vec<Arc<Shard>>, NoMemory>
     ensures { IfOk result (λ v. shards_seen v.items ≡ shards.items) }
 {
     let mut all = Vec::with_capacity(alloc, shards.len())?;

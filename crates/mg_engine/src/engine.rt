@@ -1,11 +1,11 @@
 ghost use Rattle.std.specs.Prelude.{◌≡◌, ◌≤◌, All, IfOk, IfNone, IfSome, OnErr, false, map, true, unwrap_or};
-ghost use Rattle.mg_engine.specs.Commands.{is_write, reply_of};
+ghost use Rattle.mg_engine.specs.Commands.{is_write, reply_of, shards_after, shards_after_all};
 ghost use Rattle.mg_engine.specs.Settled.{IsSettled};
 ghost use Rattle.mg_engine.specs.World.{World, empty_world};
 ghost use Rattle.mg_engine.specs.View.{asked, said};
 ghost use Rattle.mg_engine.specs.Stands.{Stands, shard_count};
 ghost use Rattle.mg_shard.specs.Shard.{shards_seen};
-ghost use Rattle.mg_engine.specs.Run.{Answers, IsRun};
+ghost use Rattle.mg_engine.specs.Run.{Answers, IsRun, kept};
 
 use crate::command::Command;
 use crate::reply::Reply;
@@ -19,7 +19,7 @@ use std::marker::Model;
 use std::sync::Arc;
 use std::thread::Threads;
 
-/// A database for one caller: documents, placed on shards, indexes over them, and the commands on both. What an engine holds is
+/// A database for one caller: documents, placed on shards, indexes over them, and the commands on these. What an engine holds is
 /// shared with the one that a write makes of it.
 #[derive(Drop)]
 pub struct Engine<P> {
@@ -40,7 +40,7 @@ impl<P> Model for Engine<P> {
 }
 
 impl<P: Placement + Drop> Engine<P> {
-    /// A database of this name with no document, and 1 to 64 shards.
+    /// A database of this name with no document, and 1 to 64 shards at the start, which a command may change.
     ///
     /// Errors: `NoMemory` where a growth was refused. Cost: the number of shards, and the name.
     pub fn new(alloc: Global, db: &str, placement: P, shards: usize) -> Result<Engine<P>, NoMemory>
@@ -57,8 +57,8 @@ impl<P: Placement + Drop> Engine<P> {
     /// Answers one command. Where memory is refused, nothing has changed.
     ///
     /// A bulk costs its edits, each with its document and its rows; a query costs its page, where an index serves it, and else the
-    /// documents that it looks at until the page is found; an index that is created costs each document. Any number of workers, 1 to 32,
-    /// gives the same reply.
+    /// documents that it looks at until the page is found; an index that is created, and another number of shards, cost each document.
+    /// Any number of workers, 1 to 32, gives the same reply.
     pub fn step<R: Threads + Sync>(
         &mut self,
         rt: &R,
@@ -74,7 +74,7 @@ impl<P: Placement + Drop> Engine<P> {
         ensures answers { (w : World) → Stands P.place self.old w
             → Answers w (asked command.now) (said result) (Stands P.place self.new) }
         ensures refused { IfNone (said result) (self.new ≡ self.old) }
-        ensures shards { shard_count self.new ≡ shard_count self.old }
+        ensures shards { IfSome (said result) (λ _. shard_count self.new ≡ shards_after (shard_count self.old) (asked command.now)) }
     {
         let (reply, next) = self
             .state
@@ -121,7 +121,8 @@ impl<P: Placement + Drop> Engine<P> {
         ensures answers { (w : World) → Stands P.place self.now w
             → Answers w (asked command.now) (said result.0) (Stands P.place (unwrap_or result.1 self.now)) }
         ensures next { IsSettled result.0 result.1 }
-        ensures shards { shard_count (unwrap_or result.1 self.now) ≡ shard_count self.now }
+        ensures shards { IfSome (said result.0) (λ _. shard_count (unwrap_or result.1 self.now)
+            ≡ shards_after (shard_count self.now) (asked command.now)) }
     {
         let Ok(placement) = self.placement.clone() else {
             return (Reply::NoMemory, None);
@@ -166,7 +167,8 @@ impl<P: Placement + Drop> Engine<P> {
         ensures run { (w : World) → Stands P.place self.old w → IfOk result
             (λ replies. IsRun w (map asked commands.now) (map said replies.items) (Stands P.place self.new)) }
         ensures none_run { OnErr result (self.new ≡ self.old) }
-        ensures shards { shard_count self.new ≡ shard_count self.old }
+        ensures shards { IfOk result (λ replies. shard_count self.new
+            ≡ shards_after_all (shard_count self.old) (kept (map asked commands.now) (map said replies.items))) }
     {
         let mut replies = Vec::with_capacity(alloc, commands.len())?;
         for command in commands {

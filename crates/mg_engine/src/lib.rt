@@ -1,4 +1,4 @@
-//! The engine: commands on documents and indexes, answered as one thread would that keeps plain revision paths.
+//! The engine: commands on documents, indexes and shards, answered as one thread would that keeps plain revision paths.
 #![tactic(auto)]
 
 mod body;
@@ -14,6 +14,7 @@ mod query;
 mod read;
 pub mod refusal;
 pub mod reply;
+mod reshard;
 mod state;
 mod take;
 mod write;

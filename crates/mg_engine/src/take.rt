@@ -1,6 +1,6 @@
 //! One command on a state.
-ghost use Rattle.std.specs.Prelude.{◌≡◌, ◌≤◌, None, false, length, true, unwrap_or};
-ghost use Rattle.mg_engine.specs.Commands.{is_write};
+ghost use Rattle.std.specs.Prelude.{◌≡◌, ◌≤◌, IfSome, None, false, length, true, unwrap_or};
+ghost use Rattle.mg_engine.specs.Commands.{is_write, shards_after};
 ghost use Rattle.mg_engine.specs.Run.{Answers};
 ghost use Rattle.mg_engine.specs.Settled.{IsSettled, reply_made, settled_of};
 ghost use Rattle.mg_engine.specs.Stands.{Holds};
@@ -34,7 +34,8 @@ impl State {
             → Answers w (asked command.now) (said result.0) (Holds (P.place placement.now) (unwrap_or result.1 self.now)) }
         ensures write { is_write (asked command.now) ≡ true → IsSettled result.0 result.1 }
         ensures read { is_write (asked command.now) ≡ false → result.1 ≡ None }
-        ensures number { length (unwrap_or result.1 self.now).shards ≡ length self.now.shards }
+        ensures number { IfSome (said result.0) (λ _. length (unwrap_or result.1 self.now).shards
+            ≡ shards_after (length self.now.shards) (asked command.now)) }
     {
         match command {
             Command::Bulk(body) => settled(self.bulk(alloc, placement, body)),
@@ -44,6 +45,7 @@ impl State {
             Command::Find(body) => told(self.find(rt, alloc, body, workers, gate)),
             Command::Explain(body) => told(self.explain(alloc, body)),
             Command::Get { id, conflicts } => told(self.get(alloc, placement, id, *conflicts)),
+            Command::Reshard(body) => settled(self.reshard(alloc, placement, body)),
         }
     }
 }

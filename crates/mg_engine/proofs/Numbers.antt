@@ -1,0 +1,47 @@
+-- How many shards there are while commands are gone through from the front.
+use Rattle.std.proofs.Common.{◌≡◌, ℕ, ◌+◌, ◌<◌, ◌≤◌, List, [], ◌∷◌, ◌++◌, Option, Some, None, IfNone, IfSome, map, length, drop, get_or, refl, sym, ap, ◌∙◌, append_assoc, append-nil}
+use Rattle.std.proofs.Math.ListN.{drop_of_length-le}
+use Rattle.std.proofs.lemmas.List.{map-append}
+use Rattle.mg_engine.specs.Commands.{Asked, Answer, shards_after, shards_after_all}
+use Rattle.mg_engine.specs.Run.{kept}
+use Rattle.mg_engine.specs.View.{asked, said}
+use Rattle.mg_engine.specs.declared.command.Command.{Command}
+use Rattle.mg_engine.specs.declared.reply.Reply.{Reply}
+use Rattle.mg_engine.proofs.Runs.{drop_item}
+
+-- the number after one command, which is as it was where memory was refused
+abbrev pub number_then : ℕ → Asked → Option Answer → ℕ
+number_then n c None = n
+number_then n c (Some a) = shards_after n c
+
+pub is_number_then : {E : Type 0} (count : E → ℕ) (before after : E) (c : Asked) (r : Option Answer)
+    → IfNone r (after ≡ before) → IfSome r (λ _. count after ≡ shards_after (count before) c) → count after ≡ number_then (count before) c r
+is_number_then count before after c None h k = ap count h
+is_number_then count before after c (Some a) h k = k
+
+first_of : (n : ℕ) (c : Asked) (r : Option Answer) (cs : List Asked) (rs : List (Option Answer))
+    → shards_after_all (number_then n c r) (kept cs rs) ≡ shards_after_all n (kept (c ∷ cs) (r ∷ rs))
+first_of n c None cs rs = refl
+first_of n c (Some a) cs rs = refl
+
+-- the loop's step: what is left, from the number after the command, ends where all commands do from the first number
+pub number_after : (first now then : ℕ) (cs : List Command) (i : ℕ) (c : Command) (replies : List Reply) (r : Reply) (rs : List (Option Answer))
+    → i < length cs → c ≡ get_or cs i c → then ≡ number_then now (asked c) (said r)
+    → ((rs : List (Option Answer)) → shards_after_all now (kept (map asked (drop i cs)) rs) ≡ shards_after_all first (kept (map asked cs) (map said replies ++ rs)))
+    → shards_after_all then (kept (map asked (drop (i + 1) cs)) rs) ≡ shards_after_all first (kept (map asked cs) (map said (replies ++ r ∷ []) ++ rs))
+number_after first now then cs i c replies r rs h e did on =
+    let rest = map asked (drop (i + 1) cs) in
+    rw (map-append, append_assoc)
+    (ap (λ n. shards_after_all n (kept rest rs)) did
+    ∙ first_of now (asked c) (said r) rest rs
+    ∙ ap (λ ds. shards_after_all now (kept (map asked ds) (said r ∷ rs))) (sym (drop_item cs i c h e))
+    ∙ on (said r ∷ rs))
+
+-- what is left is nothing
+pub number_here : (first now : ℕ) (cs : List Command) (i : ℕ) (replies : List Reply) → length cs ≤ i
+    → ((rs : List (Option Answer)) → shards_after_all now (kept (map asked (drop i cs)) rs) ≡ shards_after_all first (kept (map asked cs) (map said replies ++ rs)))
+    → now ≡ shards_after_all first (kept (map asked cs) (map said replies))
+number_here first now cs i replies h on =
+    ap (λ ds. shards_after_all now (kept (map asked ds) [])) (sym (drop_of_length-le cs h))
+    ∙ on []
+    ∙ ap (λ rs. shards_after_all first (kept (map asked cs) rs)) (append-nil (map said replies))

@@ -1,0 +1,15 @@
+use Rattle.std.proofs.Common.{◌≡◌, List, sym, subst}
+use Rattle.mg_shard.specs.Dealt.{ShardsStandFor}
+use Rattle.mg_shard.specs.Shard.{ShardView, shards_seen}
+use Rattle.mg_engine.specs.Stands.{HaveRows}
+use Rattle.mg_engine.proofs.Indexes.{each_has, have_rows}
+use Rattle.mg_engine.proofs.reshard.dealt_anew.Goals as goal
+
+pub returns-clause-stands : goal.returns-clause-stands
+returns-clause-stands g c = λ hs h.
+    subst (λ (ss : List ShardView). ShardsStandFor (g.P.Placement.place c.args.placement.now) ss hs) (sym c.in_ok-shards.ensures) (c.in_ok-dealt.ensures.stands hs h)
+
+pub returns-clause-rows : goal.returns-clause-rows
+returns-clause-rows g c = λ ds some h.
+    let dealt = c.in_ok-dealt.ensures.indexes ds some (each_has ds (shards_seen c.args.shards.now) h) in
+    subst (λ (ss : List ShardView). HaveRows ds ss) (sym c.in_ok-shards.ensures) (have_rows ds c.in_ok-dealt.dealt.items dealt)

@@ -1,0 +1,119 @@
+//! Another number of shards.
+ghost use Rattle.std.specs.Prelude.{◌≡◌, ◌<◌, IfOk, IfSome, List, Some, length, option_map, unwrap_or};
+ghost use Rattle.mg_value.specs.Value.{whole};
+ghost use Rattle.mg_value.specs.View.{view};
+ghost use Rattle.mg_index.specs.Definition.{IndexDefinition};
+ghost use Rattle.mg_shard.specs.Dealt.{ShardsStandFor};
+ghost use Rattle.mg_shard.specs.Histories.{Histories};
+ghost use Rattle.mg_shard.specs.Shard.{shards_seen};
+ghost use Rattle.mg_engine.specs.Commands.{next, reply_of, reshard, shards_after};
+ghost use Rattle.mg_engine.specs.Reshard.{shard_number, shards_asked};
+ghost use Rattle.mg_engine.specs.Settled.{IsSettled};
+ghost use Rattle.mg_engine.specs.Stands.{HaveRows, Holds};
+ghost use Rattle.mg_engine.specs.View.{said};
+ghost use Rattle.mg_engine.specs.World.{World};
+
+use crate::define::{done_line, shared};
+use crate::refusal::Refusal;
+use crate::reply::Reply;
+use crate::state::State;
+use mg_shard::{Placement, Shard, redeal};
+use mg_value::{Json, NoMemory};
+use std::alloc::Global;
+use std::sync::Arc;
+
+impl State {
+    /// The reply to a body that asks for another number of shards, and the next state, if the number is a whole one from 1 to 64.
+    /// The documents, the indexes and the counter stay as they are. Cost: the shards where they are as many already; else each
+    /// document, to its place, and its row in each index.
+    pub(crate) fn reshard<P: Placement>(
+        &self,
+        alloc: Global,
+        placement: &P,
+        body: &Json,
+    ) -> Result<(Reply, Option<State>), NoMemory>
+        ensures does { IfOk result (λ r. (w : World) → Holds (P.place placement.now) self.now w
+            → (said r.0 ≡ Some (reply_of w (reshard (view body.now))))
+            × Holds (P.place placement.now) (unwrap_or r.1 self.now) (next w (reshard (view body.now)))) }
+        ensures settled { IfOk result (λ r. IsSettled r.0 r.1) }
+        ensures number { IfOk result (λ r. length (unwrap_or r.1 self.now).shards
+            ≡ shards_after (length self.now.shards) (reshard (view body.now))) }
+    {
+        let Some(count) = shards_asked(body) else {
+            return Ok((Reply::refusing(alloc, Refusal::WrongShape)?, None));
+        };
+        let body = done_line(alloc)?;
+        let next = self.over_shards(alloc, placement, count)?;
+        Ok((Reply::Full { status: 200, body }, Some(next)))
+    }
+
+    // The state over so many shards, all of it shared where they are as many already.
+    fn over_shards<P: Placement>(
+        &self,
+        alloc: Global,
+        placement: &P,
+        count: usize,
+    ) -> Result<State, NoMemory>
+        requires { 0 < count }
+        ensures stands { IfOk result (λ s. (w : World) → Holds (P.place placement.now) self.now w → Holds (P.place placement.now) s w) }
+        ensures number { IfOk result (λ s. length s.shards ≡ count) }
+    {
+        if count == self.shards.len() {
+            let state = self.share(alloc)?;
+            Ok(state)
+        } else {
+            let shards = dealt_anew(alloc, &self.shards, placement, count)?;
+            let state = self.with_shards(shards, self.counter)?;
+            Ok(state)
+        }
+    }
+}
+
+// So many shards with the documents of these, and the rows of the same indexes.
+fn dealt_anew<P: Placement>(
+    alloc: Global,
+    shards: &[Arc<Shard>],
+    placement: &P,
+    count: usize,
+) -> Result<Vec<Arc<Shard>>, NoMemory>
+    requires { 0 < count }
+    ensures number { IfOk result (λ v. length (shards_seen v.items) ≡ count) }
+    ensures stands { IfOk result (λ v. (hs : Histories) → ShardsStandFor (P.place placement.now) (shards_seen shards.now) hs
+        → ShardsStandFor (P.place placement.now) (shards_seen v.items) hs) }
+    ensures rows { IfOk result (λ v. (ds : List IndexDefinition) → 0 < length shards.now → HaveRows ds (shards_seen shards.now)
+        → HaveRows ds (shards_seen v.items)) }
+{
+    let dealt = redeal(alloc, shards, placement, count)?;
+    let shards = shared(alloc, dealt)?;
+    Ok(shards)
+}
+
+// The number of shards that a body asks for, if it has the shape of one that does.
+fn shards_asked(body: &Json) -> Option<usize>
+    ensures asked { result ≡ shards_asked (view body.now) }
+    ensures some { IfSome result (λ n. 0 < n) }
+{
+    shard_number(body.member("shards"))
+}
+
+fn shard_number(value: Option<&Json>) -> Option<usize>
+    ensures asked { result ≡ shard_number (option_map (λ j. view j.now) value.entry) }
+    ensures some { IfSome result (λ n. 0 < n) }
+{
+    match value {
+        Some(Json::Whole(count)) => shards_within(*count),
+        _ => None,
+    }
+}
+
+// A whole number, if it is one from 1 to 64.
+fn shards_within(count: i64) -> Option<usize>
+    ensures asked { result ≡ shard_number (Some (whole count)) }
+    ensures some { IfSome result (λ n. 0 < n) }
+{
+    if 1 <= count && count <= 64 {
+        Some(count as usize)
+    } else {
+        None
+    }
+}
