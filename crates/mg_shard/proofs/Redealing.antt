@@ -1,8 +1,8 @@
 -- Documents that are dealt anew: one more document of a shard, one more shard, and what the shards stand for then.
 use lib.Dec.{T, eqb}
-use Rattle.std.proofs.Common.{◌≡◌, ℕ, zero, suc, ◌+◌, ◌<◌, Bool, true, false, List, [], ◌∷◌, ◌++◌, Ordering, Less, Equal, Greater, Option, Some, None, option_and_then, option_map, unwrap_or, length, get_or, map, set, slice_get, take, cond, is_eq, refl, ap, sym, ◌∙◌, subst, add-one, arith, length-set}
+use Rattle.std.proofs.Common.{◌≡◌, ℕ, zero, suc, ◌+◌, ◌<◌, Bool, true, false, List, [], ◌∷◌, ◌++◌, Less, Greater, Option, Some, None, option_and_then, option_map, length, get_or, map, set, slice_get, take, cond, is_eq, refl, ap, sym, ◌∙◌, subst, add-one, arith, length-set}
 use Rattle.std.proofs.lemmas.Bool.{eqb-true, eq-eqb}
-use Rattle.std.proofs.lemmas.Cmp.{nat_list_cmp_total, tied_itself}
+use Rattle.std.proofs.lemmas.Cmp.{nat_list_cmp_total}
 use Rattle.std.proofs.lemmas.List.{length-map}
 use Rattle.std.proofs.lemmas.Option.{slice_get-map}
 use Rattle.std.specs.Arc.{arc_value}
@@ -17,7 +17,7 @@ use Rattle.mg_index.specs.Definition.{IndexDefinition}
 use Rattle.mg_pages.specs.Identified.{id_order}
 use Rattle.mg_pages.specs.Order.{Ascends}
 use Rattle.mg_revtree.specs.History.{History}
-use Rattle.mg_shard.specs.Dealt.{Placing, ShardsStandFor, histories_on, kept_at}
+use Rattle.mg_shard.specs.Dealt.{Placing, ShardsStandFor, histories_on}
 use Rattle.mg_shard.specs.Documents.{Kept, KeptDocuments, StandsAt, entry_of, id_of, kept_of, shown}
 use Rattle.mg_shard.specs.Histories.{Histories}
 use Rattle.mg_shard.specs.Index.{definitions_of, indexes_seen}

@@ -1,9 +1,6 @@
-use Rattle.std.proofs.Common.{◌≡◌, Some, get_or, length, slice_get, take, map, refl, sym, ap, ◌∙◌, subst, add-one}
-use Rattle.std.proofs.lemmas.Option.{slice_get_read, slice_get-map}
+use Rattle.std.proofs.Common.{ap, ◌∙◌}
 use Rattle.std.specs.Arc.{arc_value}
 use Rattle.mg_index.specs.Catalog.{with_definition}
-use Rattle.mg_index.specs.Definition.{IndexDefinition}
-use Rattle.mg_shard.specs.Index.{definitions_of, indexes_seen}
 use Rattle.mg_shard.specs.Shard.{ShardView}
 use Rattle.mg_shard.proofs.Redealing.{next_index}
 use Rattle.mg_shard.proofs.redealt.indexed.Goals as goal
