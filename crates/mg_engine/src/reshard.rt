@@ -23,9 +23,9 @@ use std::alloc::Global;
 use std::sync::Arc;
 
 impl State {
-    /// The reply to a body that asks for another number of shards, and the next state, if the number is a whole one from 1 to 64.
-    /// The documents, the indexes and the counter stay as they are. Cost: the shards where they are as many already; else each
-    /// document, to its place, and its row in each index.
+    /// The reply to a body that asks for a number of shards, and the next state, if that is a whole number from 1 to 64; any other
+    /// body is refused as of the wrong shape. The documents, the indexes and the counter stay as they are. Cost: the shards, where
+    /// they are as many already; else each document, to its place, and its row in each index.
     pub(crate) fn reshard<P: Placement>(
         &self,
         alloc: Global,
@@ -96,6 +96,7 @@ fn shards_asked(body: &Json) -> Option<usize>
     shard_number(body.member("shards"))
 }
 
+// The number of shards that a member asks for, if it is such a number.
 fn shard_number(value: Option<&Json>) -> Option<usize>
     ensures asked { result ≡ shard_number (option_map (λ j. view j.now) value.entry) }
     ensures some { IfSome result (λ n. 0 < n) }
