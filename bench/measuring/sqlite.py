@@ -1,0 +1,105 @@
+"""SQLite by Python's sqlite3, as a peer: a table of ids and JSON texts, with indexes on json_extract.
+
+One client is the process itself with a database in memory. For several clients the database is copied into a file, in /dev/shm
+where it has room, with a write-ahead log and without waits for a disk; each client is a process that opens the file. Processor time
+is that of the clients, with Python's share of each call.
+"""
+import os
+import shutil
+import sqlite3
+import tempfile
+import time
+
+from . import processes
+from .documents import INDEXES, PAGE, compact, name
+
+# spelled so that each is served by its index alone, without a sort; a comparison of row values would scan the index
+ROW = "SELECT id, body FROM docs WHERE "
+PRICE = "json_extract(body,'$.price')"
+KIND = "json_extract(body,'$.kind')"
+ASKED = {
+    "get": ROW + "id = ?",
+    "equality": ROW + f"json_extract(body,'$.group') = ? ORDER BY id LIMIT {PAGE}",
+    "falling": ROW + f"{PRICE} < ? ORDER BY {PRICE} DESC, id DESC LIMIT {PAGE}",
+    "two": ROW + f"{KIND} = ? AND {PRICE} >= ? ORDER BY {PRICE}, id LIMIT {PAGE}",
+    "deep": ROW + f"{PRICE} >= ?1 AND ({PRICE} > ?1 OR id > ?2) ORDER BY {PRICE}, id LIMIT {PAGE}",
+    "scan": ROW + f"json_extract(body,'$.text') = ? ORDER BY id LIMIT {PAGE}",
+    "commit": "INSERT INTO docs VALUES (?, ?)",
+}
+
+
+class Connection:
+    """A connection to the database, in memory or in a file."""
+
+    def __init__(self, database):
+        self.execute = database.execute
+
+    def prepare(self, request):
+        return ASKED[request.kind], request.about
+
+    def ask(self, message, answer):
+        cursor = self.execute(*message)
+        if answer is None:
+            right, found = cursor.rowcount == 1, cursor.rowcount
+        else:
+            found = cursor.fetchall()
+            right = len(found) == answer.count and found[0][0] == answer.first and found[-1][0] == answer.last
+        if not right:
+            raise ValueError(f"{message} was answered by {str(found)[:300]}, wanted {answer}")
+
+
+class SQLite:
+    name = "SQLite"
+    in_process = True
+
+    def __init__(self, corpus):
+        self.corpus, self.folder = corpus, None
+        self.database = sqlite3.connect(":memory:", isolation_level=None)
+        self.database.execute("CREATE TABLE docs (id TEXT PRIMARY KEY, body TEXT)")
+
+    def own_client(self):
+        return Connection(self.database)
+
+    def client(self):
+        database = sqlite3.connect(self.file, isolation_level=None, timeout=60)
+        database.execute("PRAGMA synchronous = OFF")
+        database.execute("PRAGMA cache_size = -500000")
+        return Connection(database)
+
+    def processor(self):
+        return time.process_time()
+
+    def size(self):
+        return processes.resident(os.getpid())
+
+    def prepare_bulk(self, numbers):
+        return [(name(i), compact(self.corpus.body(i))) for i in numbers]
+
+    def send_bulk(self, rows, count):
+        self.database.execute("BEGIN")
+        cursor = self.database.executemany(ASKED["commit"], rows)
+        self.database.execute("COMMIT")
+        if cursor.rowcount != count:
+            raise SystemExit(f"SQLite took {cursor.rowcount} of {count} documents")
+
+    def index(self, which):
+        columns = [f"json_extract(body,'$.{field}')" for field in INDEXES[which]]
+        self.database.execute(f"CREATE INDEX by_{which} ON docs ({', '.join(columns)}, id)")
+
+    def settle(self):
+        self.database.execute("ANALYZE")
+
+    def share(self):
+        """Copies the database into a file, for clients that are processes."""
+        room = "/dev/shm" if os.path.isdir("/dev/shm") and shutil.disk_usage("/dev/shm").free > 4e9 else None
+        self.folder = tempfile.TemporaryDirectory(prefix="bench-sqlite-", dir=room)
+        self.file = os.path.join(self.folder.name, "docs.db")
+        with sqlite3.connect(self.file) as copy:
+            self.database.backup(copy)
+            copy.execute("PRAGMA journal_mode = WAL")
+        copy.close()
+
+    def close(self):
+        self.database.close()
+        if self.folder:
+            self.folder.cleanup()
