@@ -1,0 +1,155 @@
+"""PostgreSQL as a peer: a table of ids and `jsonb`, with indexes on its members, and a small client of its wire protocol.
+
+A cluster of its own is made in a temporary folder, with a Unix socket alone, and without waits for a disk. As root it runs as the
+user postgres. Statements are prepared once a connection. Processor time is that of all its processes.
+"""
+import glob
+import os
+import shutil
+import socket
+import struct
+import subprocess
+import tempfile
+
+from . import processes
+from .documents import INDEXES, PAGE, compact, name
+
+SETTINGS = {
+    "listen_addresses": "''", "fsync": "off", "synchronous_commit": "off", "full_page_writes": "off", "autovacuum": "off",
+    "shared_buffers": "2GB", "maintenance_work_mem": "512MB", "max_wal_size": "8GB", "jit": "off",
+    "max_parallel_workers_per_gather": "0", "max_parallel_maintenance_workers": "0",
+}
+ROW = "SELECT id, body FROM docs WHERE "
+ASKED = {
+    "get": ROW + "id = $1",
+    "equality": ROW + f"body->'group' = $1 ORDER BY id LIMIT {PAGE}",
+    "falling": ROW + f"body->'price' < $1 ORDER BY body->'price' DESC, id DESC LIMIT {PAGE}",
+    "two": ROW + f"body->'kind' = $1 AND body->'price' >= $2 ORDER BY body->'kind', body->'price', id LIMIT {PAGE}",
+    "deep": ROW + f"(body->'price', id) > ($1, $2) ORDER BY body->'price', id LIMIT {PAGE}",
+    "scan": ROW + f"body->'text' = $1 ORDER BY id LIMIT {PAGE}",
+    "commit": "INSERT INTO docs VALUES ($1, $2)",
+}
+JSON_WORDS = {"equality": {0}, "falling": {0}, "two": {0, 1}, "deep": {0}, "scan": {0}}
+
+
+def programs():
+    """The folder of initdb and pg_ctl, none where PostgreSQL is not installed."""
+    found = shutil.which("initdb") or max(glob.glob("/usr/lib/postgresql/*/bin/initdb"), default=None)
+    return found and os.path.dirname(os.path.realpath(found))
+
+
+def part(kind, *pieces):
+    body = b"".join(pieces)
+    return kind + struct.pack("!i", len(body) + 4) + body
+
+
+class Connection:
+    """A connection with the statements prepared."""
+
+    def __init__(self, folder, prepared=True):
+        self.socket = socket.socket(socket.AF_UNIX)
+        self.socket.connect(os.path.join(folder, ".s.PGSQL.5432"))
+        self.rest = b""
+        words = b"user\0postgres\0database\0postgres\0\0"
+        self.exchange(struct.pack("!ii", len(words) + 8, 196608) + words)
+        for kind, statement in ASKED.items() if prepared else ():
+            self.exchange(part(b"P", kind.encode(), b"\0", statement.encode(), b"\0", struct.pack("!h", 0)) + part(b"S"))
+
+    def exchange(self, text, until=b"Z"):
+        """Sends a text, and gives the parts of the answer up to the one of that kind."""
+        self.socket.sendall(text)
+        data, at, parts = self.rest, 0, []
+        while True:
+            while len(data) < at + 5 or len(data) < (end := at + 1 + int.from_bytes(data[at + 1 : at + 5], "big")):
+                data += self.socket.recv(1 << 18)
+            kind = data[at : at + 1]
+            if kind == b"E":
+                raise OSError(f"PostgreSQL: {data[at + 5 : end]!r}")
+            parts.append((kind, data[at + 5 : end]))
+            at = end
+            if kind == until:
+                self.rest = data[at:]
+                return parts
+
+    def query(self, text):
+        return self.exchange(part(b"Q", text.encode(), b"\0"))
+
+    def prepare(self, request):
+        json_words = JSON_WORDS.get(request.kind, ())
+        words = [compact(word) if place in json_words else word for place, word in enumerate(request.about)]
+        values = b"".join(struct.pack("!i", len(word.encode())) + word.encode() for word in words)
+        bind = part(b"B", b"\0", request.kind.encode(), b"\0", struct.pack("!hh", 0, len(words)), values, struct.pack("!h", 0))
+        return bind + part(b"E", b"\0", struct.pack("!i", 0)) + part(b"S")
+
+    def ask(self, message, answer):
+        parts = self.exchange(message)
+        if answer is None:
+            right = any(kind == b"C" and text == b"INSERT 0 1\0" for kind, text in parts)
+        else:
+            ids = [text[6 : 6 + int.from_bytes(text[2:6], "big")].decode() for kind, text in parts if kind == b"D"]
+            right = len(ids) == answer.count and ids[0] == answer.first and ids[-1] == answer.last
+        if not right:
+            raise ValueError(f"{message[:300]!r} was answered by {str(parts)[:300]}, wanted {answer}")
+
+
+class PostgreSQL:
+    name = "PostgreSQL"
+    in_process = False
+
+    def __init__(self, corpus):
+        self.corpus = corpus
+        self.folder = tempfile.mkdtemp(prefix="bench-postgres-")
+        if os.getuid() == 0:
+            shutil.chown(self.folder, "postgres")
+        self.data = os.path.join(self.folder, "data")
+        self.call("initdb", "-D", self.data, "-A", "trust", "-U", "postgres", "--no-sync", "--locale=C", "-E", "UTF8")
+        with open(os.path.join(self.data, "postgresql.conf"), "a") as file:
+            file.writelines(f"{setting} = {value}\n" for setting, value in SETTINGS.items())
+            file.write(f"unix_socket_directories = '{self.folder}'\n")
+        self.call("pg_ctl", "-D", self.data, "-w", "-l", os.path.join(self.folder, "log"), "start")
+        with open(os.path.join(self.data, "postmaster.pid")) as file:
+            self.pid = int(file.readline())
+        self.connection = Connection(self.folder, prepared=False)
+        self.connection.query("CREATE TABLE docs (id text PRIMARY KEY, body jsonb)")
+
+    def call(self, program, *words):
+        front = ["runuser", "-u", "postgres", "--"] if os.getuid() == 0 else []
+        done = subprocess.run([*front, os.path.join(programs(), program), *words], stdin=subprocess.DEVNULL,
+                              stdout=subprocess.DEVNULL, stderr=subprocess.PIPE, cwd=self.folder, text=True)
+        if done.returncode:
+            raise SystemExit(f"{program}: {done.stderr}")
+
+    def client(self):
+        return Connection(self.folder)
+
+    def processor(self):
+        return processes.family_processor(self.pid)
+
+    def size(self):
+        """The bytes of its table and indexes: its processes share their memory, so theirs says little."""
+        parts = self.connection.query("SELECT pg_total_relation_size('docs')")
+        return int(next(text for kind, text in parts if kind == b"D")[6:])
+
+    def prepare_bulk(self, numbers):
+        return "".join(f"{name(i)}\t{compact(self.corpus.body(i))}\n" for i in numbers).encode()
+
+    def send_bulk(self, rows, count):
+        self.connection.exchange(part(b"Q", b"COPY docs FROM STDIN\0"), until=b"G")
+        parts = self.connection.exchange(part(b"d", rows) + part(b"c"))
+        if (b"C", f"COPY {count}\0".encode()) not in parts:
+            raise SystemExit(f"PostgreSQL took not all of {count} documents: {parts}")
+
+    def index(self, which):
+        columns = ", ".join(f"(body->'{field}')" for field in INDEXES[which])
+        self.connection.query(f"CREATE INDEX by_{which} ON docs ({columns}, id)")
+
+    def settle(self):
+        self.connection.query("VACUUM ANALYZE docs")
+
+    def share(self):
+        """Nothing is to be done before several clients come."""
+
+    def close(self):
+        self.connection.socket.close()
+        self.call("pg_ctl", "-D", self.data, "-m", "immediate", "-w", "stop")
+        shutil.rmtree(self.folder)

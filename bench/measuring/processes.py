@@ -1,0 +1,122 @@
+"""What a process has used, from /proc, and clients that run side by side."""
+import gc
+import multiprocessing
+import os
+import time
+
+TICK = os.sysconf("SC_CLK_TCK")
+
+
+def stat(pid):
+    """The fields of /proc/PID/stat after the name; the first is the state."""
+    with open(f"/proc/{pid}/stat") as file:
+        return file.read().rpartition(")")[2].split()
+
+
+def processor(pid):
+    """The seconds of processor time, user and system, of a process and all its threads."""
+    fields = stat(pid)
+    return (int(fields[11]) + int(fields[12])) / TICK
+
+
+def family_processor(pid):
+    """The seconds of a process, its children, and the children that have ended."""
+    fields = stat(pid)
+    total = sum(map(int, fields[11:15])) / TICK
+    for other in filter(str.isdigit, os.listdir("/proc")):
+        try:
+            if int(stat(other)[1]) == pid:
+                total += processor(other)
+        except OSError:
+            pass
+    return total
+
+
+def resident(pid):
+    """The bytes of a process that are in memory."""
+    with open(f"/proc/{pid}/status") as file:
+        return next(int(line.split()[1]) * 1024 for line in file if line.startswith("VmRSS"))
+
+
+class Use:
+    """What so many requests took: seconds of processor time of the server, and by the clock."""
+
+    def __init__(self, requests, processor, clock, clients=1):
+        self.requests, self.processor, self.clock, self.clients = requests, processor, clock, clients
+
+    def figures(self):
+        """Microseconds a request of processor time and as a client waits, and requests a second of all clients."""
+        return {
+            "requests": self.requests,
+            "processor_us": self.processor / self.requests * 1e6,
+            "wait_us": self.clock * self.clients / self.requests * 1e6,
+            "a_second": self.requests / self.clock,
+        }
+
+
+def run(client, prepared):
+    """Seconds of this process and by the clock, for all the requests."""
+    gc.collect()
+    gc.disable()
+    used, clock = time.process_time(), time.monotonic()
+    for message, answer in prepared:
+        client.ask(message, answer)
+    spent = time.process_time() - used, time.monotonic() - clock
+    gc.enable()
+    return spent
+
+
+def one_client(system, lists, pipe, number):
+    """A client's process: tells that it is ready, waits for the start, tells what it used, or its fault, and stays until that is read."""
+    try:
+        client = system.client()
+        prepared = [(client.prepare(request), request.answer) for request in lists[number]]
+        pipe.send("ready")
+        pipe.recv()
+        pipe.send(run(client, prepared))
+        pipe.recv()
+    except Exception as fault:
+        pipe.send(f"{system.name}: {type(fault).__name__}: {fault}")
+
+
+def told(pipe):
+    """What a client tells. Its fault ends the run."""
+    try:
+        word = pipe.recv()
+    except EOFError:
+        raise SystemExit("a client has ended without a word")
+    if isinstance(word, str) and word != "ready":
+        raise SystemExit(word)
+    return word
+
+
+def side_by_side(system, lists):
+    """What the requests took: a client, in a process of its own, for each list of requests."""
+    clients = []
+    for number in range(len(lists)):
+        ours, theirs = multiprocessing.Pipe()
+        process = multiprocessing.Process(target=one_client, args=(system, lists, theirs, number), daemon=True)
+        process.start()
+        theirs.close()
+        clients.append((process, ours))
+    for _, pipe in clients:
+        told(pipe)
+    before, clock = system.processor(), time.monotonic()
+    for _, pipe in clients:
+        pipe.send("start")
+    spent = [told(pipe) for _, pipe in clients]
+    clock = time.monotonic() - clock
+    used = sum(one[0] for one in spent) if system.in_process else system.processor() - before
+    for process, pipe in clients:
+        pipe.send("end")
+        process.join()
+    return Use(sum(map(len, lists)), used, clock, len(lists))
+
+
+def measured(system, lists):
+    """The same, but one client of a system that lives in this process is this process."""
+    if not (system.in_process and len(lists) == 1):
+        return side_by_side(system, lists)
+    client = system.own_client()
+    used, clock = run(client, [(client.prepare(request), request.answer) for request in lists[0]])
+    return Use(len(lists[0]), used, clock)

@@ -1,0 +1,123 @@
+"""The program that is measured, mangod, over TCP with connections that stay open."""
+import json
+import socket
+import subprocess
+
+from . import processes
+from .documents import INDEXES, PAGE, compact, name
+
+
+def free_port():
+    with socket.create_server(("127.0.0.1", 0)) as server:
+        return server.getsockname()[1]
+
+
+def message(method, target, body=None):
+    data = b"" if body is None else (body if isinstance(body, str) else compact(body)).encode()
+    return f"{method} /db/{target} HTTP/1.1\r\nContent-Length: {len(data)}\r\n\r\n".encode() + data
+
+
+class Connection:
+    """A connection that sends a message when it has read the reply to the one before."""
+
+    def __init__(self, port, corpus):
+        self.socket = socket.create_connection(("127.0.0.1", port), timeout=600)
+        self.socket.setsockopt(socket.IPPROTO_TCP, socket.TCP_NODELAY, 1)
+        self.corpus = corpus
+
+    def exchange(self, text):
+        """The status and the body of the reply."""
+        self.socket.sendall(text)
+        data = self.socket.recv(1 << 18)
+        while (end := data.find(b"\r\n\r\n")) < 0:
+            data += self.more()
+        at = data.index(b"Content-Length: ") + 16
+        whole = end + 4 + int(data[at : data.index(b"\r\n", at)])
+        if len(data) < whole:
+            pieces, have = [data], len(data)
+            while have < whole:
+                pieces.append(self.more())
+                have += len(pieces[-1])
+            data = b"".join(pieces)
+        return data[9:12], data[end + 4 :]
+
+    def more(self):
+        piece = self.socket.recv(1 << 18)
+        if not piece:
+            raise OSError("the program has closed the connection")
+        return piece
+
+    def prepare(self, request):
+        about = request.about
+        find = {
+            "equality": lambda: {"selector": {"group": about[0]}},
+            "falling": lambda: {"selector": {"price": {"$lt": about[0]}}, "sort": [{"price": "desc"}], "limit": PAGE},
+            "two": lambda: {"selector": {"kind": about[0], "price": {"$gte": about[1]}}, "sort": ["kind", "price"], "limit": PAGE},
+            "deep": lambda: {"selector": {"price": {"$gte": 0}}, "sort": ["price"], "limit": PAGE, "bookmark": self.corpus.bookmark(*about)},
+            "scan": lambda: {"selector": {"text": about[0]}},
+        }
+        if request.kind == "get":
+            return message("GET", about[0])
+        if request.kind == "commit":
+            return message("POST", "_bulk_docs", '{"docs":[{"_id":"%s",%s]}' % (about[0], about[1][1:]))
+        return message("POST", "_find", find[request.kind]())
+
+    def ask(self, text, answer):
+        """Sends a message, and compares the reply with the answer: the number of documents, the first and the last."""
+        status, body = self.exchange(text)
+        if answer is None:
+            right = status == b"201" and b'"ok":true' in body
+        else:
+            first, last = (f'{{"_id":"{one}"'.encode() for one in (answer.first, answer.last))
+            whole = body.startswith(first) if answer.count == 1 and body.startswith(b'{"_id"') else b'"docs":[' + first in body
+            right = status == b"200" and whole and last in body and body.count(b'"_id":"') == answer.count
+        if not right:
+            raise ValueError(f"{text[:300]!r} was answered by {status!r} {body[:300]!r}, wanted {answer}")
+
+
+class Program:
+    """The program with one database of the documents."""
+
+    in_process = False
+
+    def __init__(self, path, corpus, shards=1, workers=1, sessions=8):
+        self.name = "mangod" if shards == 1 else f"mangod, {shards} shards"
+        self.corpus, self.port = corpus, free_port()
+        words = [path, "db", str(shards), str(workers), str(sessions), f"127.0.0.1:{self.port}"]
+        self.process = subprocess.Popen(words, stdin=subprocess.DEVNULL, stderr=subprocess.PIPE)
+        if self.process.stderr.readline() != b"mangod: listening\n":
+            raise SystemExit(f"{path} does not listen")
+        self.connection = self.client()
+
+    def client(self):
+        return Connection(self.port, self.corpus)
+
+    def processor(self):
+        return processes.processor(self.process.pid)
+
+    def size(self):
+        return processes.resident(self.process.pid)
+
+    def prepare_bulk(self, numbers):
+        return message("POST", "_bulk_docs", {"docs": [{"_id": name(i), **self.corpus.body(i)} for i in numbers]})
+
+    def send_bulk(self, text, count):
+        status, body = self.connection.exchange(text)
+        if status != b"201" or body.count(b'"ok":true') != count:
+            raise SystemExit(f"a bulk was answered by {status} {body[:300]}")
+
+    def index(self, which):
+        asked = {"index": {"fields": INDEXES[which]}, "ddoc": "m", "name": which}
+        status, body = self.connection.exchange(message("POST", "_index", asked))
+        if status != b"200" or json.loads(body)["result"] != "created":
+            raise SystemExit(f"an index was answered by {status} {body}")
+
+    def settle(self):
+        """Nothing is left to do after a load."""
+
+    def share(self):
+        """Nothing is to be done before several clients come."""
+
+    def close(self):
+        self.process.kill()
+        self.process.wait()
