@@ -6,7 +6,7 @@ usage: refused_memory.py --program PATH [--full] [--only NAME ..]
 The messages are those of the conversations of tests/conversations named below, and after them some that ask for all that is
 then there: the indexes, each document with its conflicts, and the rows of each index that was made. Each conversation is held
 with 1 and 7 shards and 1 and 2 workers; the shim refuse/refuse.c refuses its nth request for memory, or that and all after it, for
-each n until a run meets no refusal (without --full only each seventh n of most). A run is right where
+each n until a run meets no refusal (without --full for a dozen n, spread over all). A run is right where
 - nothing was written and the program ended by `mangod: out of memory` (the session never began); or
 - each reply is `out_of_memory`, or the model's (the folder model/) to the list without the commands that were answered so;
   and the session ended at the end of input, or refused what came after a last reply `out_of_memory`.
@@ -30,7 +30,7 @@ NAMES = ["first-write-and-query", "type-order", "comparison-across-types", "miss
          "limit-and-skip", "choice-of-index", "bad-documents", "bad-queries", "refused-queries", "arrays", "bookmark-spelling",
          "five-shards-of-all-docs", "work", "conflicts", "paths", "sixty-five-rows"]
 SETTINGS = [("1", "1"), ("7", "1"), ("1", "2"), ("7", "2")]
-STEP = 7
+RUNS = 12
 
 
 def audit(messages):
@@ -114,14 +114,22 @@ def refuse_each(refusal, words, talk, onward, step, begin):
         first += step
 
 
+def requests(refusal, words, talk):
+    """How many requests for memory there are where none is refused."""
+    refusal.reset()
+    refusal.run(words, b"".join(talk.messages))
+    return refusal.calls("memory")
+
+
 def check(refusal, program, talk, full, tally):
     tally.expect(f"{talk.name}: the model", list(talk.model_faults()), [])
     for place, (shards, workers) in enumerate(SETTINGS):
         words = [program, "db", shards, workers, "1", "-"]
+        step = 1 if full else max(1, requests(refusal, words, talk) // RUNS)
         faults, seen = [], set()
         for onward in (False, True):
-            step = 1 if full else STEP * (2 if onward else 1)
-            found, refused = refuse_each(refusal, words, talk, onward, step, 1 if full else 1 + place)
+            begin = 1 if full else 1 + (2 * place + onward) * step // 8
+            found, refused = refuse_each(refusal, words, talk, onward, step, begin)
             faults += found
             seen |= refused
         tally.expect(f"{talk.name}, {shards} shards, {workers} workers", faults[:3], [])
