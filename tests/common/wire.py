@@ -45,6 +45,13 @@ class Wire:
         self.send(message)
         return self.reply()
 
+    def finish(self):
+        """Sends no more."""
+        try:
+            self.socket.shutdown(socket.SHUT_WR)
+        except OSError:
+            pass
+
     def rest(self):
         """All that comes until the connection ends."""
         while self.more():
