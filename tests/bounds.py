@@ -8,7 +8,7 @@ twice as large, at greater sizes. A shape passes where its larger input takes at
 processor time and of the memory: `times` that of the smaller one, or `times` squared where the documents name a product of two
 parts that both grow. Five hundredths of a second and 2 MiB on either side are not counted. The replies have to be right: they
 end in the bytes that the shape gives, and the next message is answered. A time that is too long is measured up to three times. Last,
-values and selectors as deep as a body may be go through the program with a stack of 256 KiB. The last line is 'N passed,
+values and selectors as deep as a body may be go through the program with a stack of 1 MiB. The last line is 'N passed,
 M failed'.
 """
 import argparse
@@ -26,7 +26,7 @@ from shapes import queries, values, writes
 SECONDS = 1800
 SLACK = 0.05
 ROOM = 2 << 20
-STACK = 256 << 10
+STACK = 1 << 20
 LAST = b"GET /db/%00 HTTP/1.1\r\n\r\n"
 LAST_REPLY = reply(404, {"error": "not_found", "reason": "missing"})
 

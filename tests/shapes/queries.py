@@ -135,11 +135,11 @@ def empty_shards(n):
     return find(b'{"a":1}') * n, NOTHING
 
 
-SHAPES = [Shape(in_arguments, 50_000, 100_000), Shape(nin_arguments, 50_000, 100_000), Shape(all_arguments, 50_000, 100_000),
-          Shape(or_arms, 20_000, 100_000), Shape(nor_arms, 20_000, 100_000), Shape(arguments_by_elements, 4_000, 20_000, 2),
+SHAPES = [Shape(in_arguments, 400_000, 900_000), Shape(nin_arguments, 400_000, 900_000), Shape(all_arguments, 1_000_000, 2_500_000),
+          Shape(or_arms, 40_000, 100_000), Shape(nor_arms, 40_000, 100_000), Shape(arguments_by_elements, 8_000, 40_000, 2),
           Shape(choices, 20_000, 100_000), Shape(negated_choices, 20_000, 100_000), Shape(deep_negations, 2_000, 12_000),
           Shape(steps_of_a_selector, 400_000, 1_000_000), Shape(steps_of_fields, 400_000, 1_000_000),
-          Shape(steps_of_a_sort, 400_000, 1_000_000), Shape(steps_of_an_index, 400_000, 1_000_000), Shape(arms_under_a_path, 16_000, 64_000),
-          Shape(many_fields, 100_000, 500_000), Shape(columns, 1_000, 4_000, 2), Shape(indexes, 800, 2_000, 2),
+          Shape(steps_of_a_sort, 400_000, 1_000_000), Shape(steps_of_an_index, 400_000, 1_000_000), Shape(arms_under_a_path, 64_000, 500_000),
+          Shape(many_fields, 400_000, 800_000), Shape(columns, 2_000, 8_000, 2), Shape(indexes, 800, 2_000, 2),
           Shape(queries_by_indexes, 2_000, 10_000), Shape(edits_under_indexes, 4_000, 20_000),
-          Shape(empty_shards, 1_000, 5_000, 1, "64", "32")]
+          Shape(empty_shards, 500, 5_000, 1, "64", "32")]

@@ -93,9 +93,9 @@ def encoded_ids(n):
     return b"GET /db/%s HTTP/1.1\r\n\r\n" % (b"%41" * 5000) * n, b'{"error":"not_found","reason":"missing"}\n'
 
 
-SHAPES = [Shape(open_arrays, 2_000_000, 8_000_000), Shape(open_objects, 2_000_000, 8_000_000), Shape(deep_arrays, 8_000, 34_000),
+SHAPES = [Shape(open_arrays, 2_000_000, 8_000_000), Shape(open_objects, 2_000_000, 8_000_000), Shape(deep_arrays, 4_000, 34_000),
           Shape(long_string, 8_000_000, 8_000_000), Shape(escapes, 4_000_000, 4_000_000), Shape(long_name, 4_000_000, 8_000_000),
-          Shape(long_id, 2_000_000, 5_000_000), Shape(repeated_name, 400_000, 1_300_000), Shape(members, 100_000, 700_000),
+          Shape(long_id, 2_000_000, 5_000_000), Shape(repeated_name, 400_000, 1_300_000), Shape(members, 60_000, 700_000),
           Shape(no_bookmark, 8_000_000, 8_000_000), Shape(long_bookmark, 1_500_000, 3_000_000),
           Shape(greatest_numbers, 40_000, 200_000), Shape(messages, 100_000, 800_000), Shape(fields_of_heads, 8_000, 40_000),
-          Shape(encoded_ids, 8_000, 40_000)]
+          Shape(encoded_ids, 4_000, 40_000)]

@@ -38,7 +38,8 @@ def leaves(n):
 
 
 def falling_leaves(n):
-    """n leaves of one document, in one bulk, the best one first."""
+    """n leaves of one document, in one bulk, the best one first: each new revision moves those above it, so a product of the
+    bulk's revisions and the document's."""
     return replicas([b'{"_id":"d","_rev":"1-%06x"}' % (n - i) for i in range(n)]), ADDED
 
 
@@ -103,7 +104,7 @@ def refused_at_the_end(n):
 
 
 SHAPES = [Shape(forked_paths, 400_000, 900_000), Shape(known_path, 400_000, 900_000), Shape(combed_paths, 20_000, 100_000),
-          Shape(leaves, 8_000, 10_000, 1), Shape(falling_leaves, 8_000, 10_000), Shape(leaves_one_by_one, 3_000, 10_000, 2),
-          Shape(conflicts, 8_000, 10_000), Shape(line_in_a_bulk, 40_000, 100_000), Shape(line_one_by_one, 3_000, 20_000, 2),
-          Shape(refused_edits, 16_000, 100_000), Shape(tiny_documents, 60_000, 1_000_000), Shape(documents_without_an_id, 40_000, 200_000),
+          Shape(leaves, 16_000, 20_000), Shape(falling_leaves, 8_000, 20_000, 2), Shape(leaves_one_by_one, 3_000, 10_000, 2),
+          Shape(conflicts, 16_000, 20_000), Shape(line_in_a_bulk, 40_000, 100_000), Shape(line_one_by_one, 3_000, 20_000, 2),
+          Shape(refused_edits, 40_000, 200_000), Shape(tiny_documents, 60_000, 1_000_000), Shape(documents_without_an_id, 40_000, 200_000),
           Shape(refused_at_the_end, 40_000, 200_000)]
