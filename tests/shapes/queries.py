@@ -96,6 +96,13 @@ def arms_under_a_path(n):
     return find(b'{"%s":{"$or":[%s]}}' % (steps, arms)), NOTHING
 
 
+def atoms_under_a_path(n):
+    """n operators below a path of n steps, all of which are asked: each has its whole path, so a product."""
+    steps = b".".join([b"s"] * n)
+    arms = b",".join(b'{"$gt":%d}' % i for i in range(n))
+    return find(b'{"%s":{"$and":[%s]}}' % (steps, arms)), NOTHING
+
+
 def many_fields(n):
     """n paths in the fields of a page."""
     fields = b'"fields":["_id",%s]' % b",".join(b'"f%d.g"' % i for i in range(n))
@@ -120,6 +127,11 @@ def indexes(n):
     return created(n), b'{"id":"_design/x","name":"i%04d","result":"created"}\n' % (n - 1)
 
 
+def indexes_on_64_shards(n):
+    """The same on 64 shards, each of which has them."""
+    return indexes(n)
+
+
 def queries_by_indexes(n):
     """A thousand indexes, and n queries that choose among them."""
     return created(1000) + find(b'{"f7":1,"f9":{"$gt":3}}') * n, NOTHING
@@ -140,6 +152,8 @@ SHAPES = [Shape(in_arguments, 400_000, 900_000), Shape(nin_arguments, 400_000, 9
           Shape(choices, 20_000, 100_000), Shape(negated_choices, 20_000, 100_000), Shape(deep_negations, 2_000, 12_000),
           Shape(steps_of_a_selector, 400_000, 1_000_000), Shape(steps_of_fields, 400_000, 1_000_000),
           Shape(steps_of_a_sort, 400_000, 1_000_000), Shape(steps_of_an_index, 400_000, 1_000_000), Shape(arms_under_a_path, 64_000, 500_000),
-          Shape(many_fields, 400_000, 800_000), Shape(columns, 2_000, 8_000, 2), Shape(indexes, 800, 2_000, 2),
+          Shape(atoms_under_a_path, 1_600, 4_000, 2),
+          Shape(many_fields, 400_000, 600_000), Shape(columns, 2_000, 8_000, 2), Shape(indexes, 800, 2_000, 2),
+          Shape(indexes_on_64_shards, 240, 1_000, 2, "64", "32"),
           Shape(queries_by_indexes, 8_000, 40_000), Shape(edits_under_indexes, 16_000, 100_000),
           Shape(empty_shards, 500, 5_000, 1, "64", "32")]

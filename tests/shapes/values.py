@@ -1,6 +1,9 @@
 """Bodies of many bytes: nesting, texts, names, members, bookmarks, and heads."""
+import itertools
+
 from shapes import ADDED, MOST, NO_JSON, NOTHING, Shape, document, find, page, post, replicas
 
+LETTERS = bytes(letter for letter in range(0x20, 0x7F) if letter not in b'"\\_')
 DEEP = b"[" * 120 + b"]" * 120
 NO_BOOKMARK = b'{"error":"invalid_bookmark","reason":"Invalid bookmark."}\n'
 
@@ -18,7 +21,7 @@ def open_objects(n):
 def deep_arrays(n):
     """Two documents of n arrays that are 120 deep, compared with each other and dropped."""
     value = b'"v":[%s]' % b",".join([DEEP] * n)
-    both = replicas([document(b"a", value), document(b"b", value)])
+    both = replicas([document(b"a", value)]) + replicas([document(b"b", value)])
     return both + find(b'{%s}' % value, b'"fields":["_id"]'), page(["a", "b"])
 
 
@@ -54,9 +57,12 @@ def repeated_name(n):
 
 def members(n):
     """A document of n members, and the document."""
-    inside = [b'"%06x":1' % i for i in range(n)]
-    served = b"{%s}\n" % b",".join(sorted([*inside, b'"_id":"a"', b'"_rev":"1-a"']))
-    return replicas([document(b"a", *inside)]) + b"GET /db/a HTTP/1.1\r\n\r\n", served
+    lengths = (itertools.product(LETTERS, repeat=length) for length in itertools.count(1))
+    names = itertools.islice(itertools.chain.from_iterable(lengths), n)
+    inside = [(bytes(name), b"1") for name in names]
+    served, sent = (b",".join(b'"%s":%s' % member for member in each)
+                    for each in (sorted([*inside, (b"_id", b'"a"'), (b"_rev", b'"1-a"')]), inside))
+    return replicas([document(b"a", sent)]) + b"GET /db/a HTTP/1.1\r\n\r\n", b"{%s}\n" % served
 
 
 def no_bookmark(n):
@@ -95,7 +101,7 @@ def encoded_ids(n):
 
 SHAPES = [Shape(open_arrays, 2_000_000, 8_000_000), Shape(open_objects, 2_000_000, 8_000_000), Shape(deep_arrays, 4_000, 34_000),
           Shape(long_string, 8_000_000, 8_000_000), Shape(escapes, 4_000_000, 4_000_000), Shape(long_name, 4_000_000, 8_000_000),
-          Shape(long_id, 2_000_000, 5_000_000), Shape(repeated_name, 400_000, 1_300_000), Shape(members, 60_000, 700_000),
+          Shape(long_id, 2_000_000, 5_000_000), Shape(repeated_name, 400_000, 1_300_000), Shape(members, 60_000, 1_000_000),
           Shape(no_bookmark, 8_000_000, 8_000_000), Shape(long_bookmark, 1_500_000, 3_000_000),
           Shape(greatest_numbers, 40_000, 200_000), Shape(messages, 100_000, 800_000), Shape(fields_of_heads, 8_000, 40_000),
           Shape(encoded_ids, 4_000, 40_000)]

@@ -1,6 +1,7 @@
 """Bulks of many documents, and documents of many revisions."""
 from shapes import ADDED, Shape, document, post, replicas, revision
 
+LETTERS = bytes.maketrans(b"0123456789abcdef", b"ghijklmnopqrstuv")
 CONFLICT = b'{"error":"conflict","id":"d","reason":"Document update conflict."}'
 
 
@@ -16,7 +17,7 @@ def of_path(ids):
 def forked_paths(n):
     """Two paths of n revisions that part at their middle."""
     one = [b"%x" % i for i in range(n, 0, -1)]
-    other = [b"f%x" % i for i in range(n, n // 2, -1)] + one[n - n // 2 :]
+    other = [i.translate(LETTERS) for i in one[: n - n // 2]] + one[n - n // 2 :]
     return replicas([of_path(one)]) + replicas([of_path(other)]), ADDED
 
 
@@ -41,6 +42,12 @@ def falling_leaves(n):
     """n leaves of one document, in one bulk, the best one first: each new revision moves those above it, so a product of the
     bulk's revisions and the document's."""
     return replicas([b'{"_id":"d","_rev":"1-%06x"}' % (n - i) for i in range(n)]), ADDED
+
+
+def low_leaves(n):
+    """A path of n revisions, and in one bulk n / 10 leaves of position 1, below all of these: a product of the two."""
+    low = [b'{"_id":"d","_rev":"1-z%x"}' % i for i in range(n // 10)]
+    return replicas([of_path([b"%x" % i for i in range(n, 0, -1)])]) + replicas(low), ADDED
 
 
 def leaves_one_by_one(n):
@@ -103,8 +110,9 @@ def refused_at_the_end(n):
     return replicas(every) * 4, b'{"error":"doc_validation","reason":"Bad document id."}\n'
 
 
-SHAPES = [Shape(forked_paths, 400_000, 900_000), Shape(known_path, 400_000, 900_000), Shape(combed_paths, 20_000, 100_000),
-          Shape(leaves, 16_000, 20_000), Shape(falling_leaves, 8_000, 20_000, 2), Shape(leaves_one_by_one, 3_000, 10_000, 2),
+SHAPES = [Shape(forked_paths, 300_000, 1_000_000), Shape(known_path, 300_000, 1_000_000), Shape(combed_paths, 12_000, 100_000),
+          Shape(leaves, 16_000, 20_000), Shape(falling_leaves, 8_000, 20_000, 2), Shape(low_leaves, 20_000, 40_000, 2),
+          Shape(leaves_one_by_one, 3_000, 10_000, 2),
           Shape(conflicts, 16_000, 20_000), Shape(line_in_a_bulk, 40_000, 100_000), Shape(line_one_by_one, 3_000, 20_000, 2),
           Shape(refused_edits, 40_000, 200_000), Shape(tiny_documents, 60_000, 1_000_000), Shape(documents_without_an_id, 40_000, 200_000),
           Shape(refused_at_the_end, 40_000, 200_000)]
