@@ -26,10 +26,15 @@ from model.talk import Database
 from refused_memory import FOLDER
 from tcp import listening
 
-NAMES = ["$lt", "$lte", "$eq", "$ne", "$gte", "$gt", "$exists", "$type", "$in", "$nin", "$size", "$mod", "$all", "$elemMatch", "$allMatch",
-         "$and", "$or", "$nor", "$not", "$regex", "selector", "limit", "skip", "sort", "fields", "use_index", "bookmark", "conflicts", "docs",
-         "new_edits", "_id", "_rev", "_revisions", "_deleted", "_foo", "start", "ids", "index", "ddoc", "name", "type", "a", "b", "a.b", "a..b", ""]
-VALUES = [None, True, False, 0, 1, -1, 2**63 - 1, -(2**63), "", "a", "1-a", "2-b", "nil", "\u0000", "\u00e9", "_x", "asc", "desc", "json", [], [[]], [1, 0], ["a"], {}, {"a": 1}, {"a": "desc"}, {"$gt": None}, {"start": 2, "ids": ["b", "a"]}]
+NAMES = [
+    "$lt", "$lte", "$eq", "$ne", "$gte", "$gt", "$exists", "$type", "$in", "$nin", "$size", "$mod", "$all", "$elemMatch", "$allMatch", "$and",
+    "$or", "$nor", "$not", "$regex", "selector", "limit", "skip", "sort", "fields", "use_index", "bookmark", "conflicts", "docs", "new_edits",
+    "_id", "_rev", "_revisions", "_deleted", "_foo", "start", "ids", "index", "ddoc", "name", "type", "a", "b", "a.b", "a..b", "",
+]
+VALUES = [
+    None, True, False, 0, 1, -1, 2**63 - 1, -(2**63), "", "a", "1-a", "2-b", "nil", "\u0000", "\u00e9", "_x", "asc", "desc", "json", [], [[]],
+    [1, 0], ["a"], {}, {"a": 1}, {"a": "desc"}, {"$gt": None}, {"start": 2, "ids": ["b", "a"]},
+]
 LAST_REFUSALS = {b"bad_head", b"head_too_large", b"length_required", b"too_large", b"not_found", b"method_not_allowed"}
 NO_VALUES = [2**63, -(2**63) - 1, 1.5, 1e300, float("nan"), "\ud800"]
 MESSAGES = 40

@@ -4,10 +4,10 @@
 usage: refused_seats.py --program PATH [--full]
 
 One client sends a command while the shim refuse/refuse.c refuses the nth request for memory that is made for it, or that and
-all after it, for each n until none is met (without --full not each). Its reply is `out_of_memory` or the model's (the folder model/); then the other client,
-for whom nothing is refused, sees all indexes and documents as the model has them: nothing of a command that was answered
-`out_of_memory`, and everything of one that was accepted. A connection may end after `out_of_memory`, and the next one is served.
-Then two clients write at once while requests are refused at random (seeded), and afterwards exactly what was accepted is found.
+all after it, for each n until none is met (without --full not each). Its reply is `out_of_memory` or the model's (the folder
+model/); then the other client, for whom nothing is refused, sees all indexes and documents as the model has them: nothing of a
+command that was answered `out_of_memory`, and everything of one that was accepted. A connection may end after `out_of_memory`,
+and the next one is served. Then two clients write at once while requests are refused at random (seeded), and afterwards exactly what was accepted is found.
 Last, threads are refused: workers that cannot be started change no reply, and a seat whose thread cannot be started leaves the
 other. The last line is 'N passed, M failed'; without a C compiler a line before it says that all is left out.
 """
