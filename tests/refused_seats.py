@@ -7,15 +7,18 @@ One client sends a command while the shim refuse/refuse.c refuses the nth reques
 all after it, for each n until none is met (without --full not each). Its reply is `out_of_memory` or the model's (the folder
 model/); then the other client, for whom nothing is refused, sees all indexes and documents as the model has them: nothing of a
 command that was answered `out_of_memory`, and everything of one that was accepted. A connection may end after `out_of_memory`,
-and the next one is served. Then two clients write at once while requests are refused at random (seeded), and afterwards exactly what was accepted is found.
-Last, threads are refused: workers that cannot be started change no reply, and a seat whose thread cannot be started leaves the
-other. The last line is 'N passed, M failed'; without a C compiler a line before it says that all is left out.
+and the next one is served. Then two clients write at once while requests are refused at random (seeded), and afterwards exactly
+what was accepted is found. The start is refused memory too: it ends by `mangod: out of memory`, or clients are served. Last,
+threads are refused: workers that cannot be started change no reply, and a seat whose thread cannot be started leaves the other.
+The last line is 'N passed, M failed'; without a C compiler a line before it says that all is left out.
 """
 import argparse
 import json
 import random
+import subprocess
 import sys
 import threading
+import time
 
 from common.refusal import ONWARD, refusals
 from common.tally import Tally
@@ -23,7 +26,7 @@ from common.wire import Wire
 from conversations import conversations_in, post
 from model.talk import OUT_OF_MEMORY, Database
 from refused_memory import FOLDER, Talk
-from tcp import listening
+from tcp import free_port, listening
 
 WORKER_SETTINGS = [("7", "2"), ("7", "32"), ("64", "3")]
 WRITES = 60
@@ -192,6 +195,45 @@ def at_once(port, refusal, label, seed, tally):
     client.close()
 
 
+def starts(refusal, words, tally):
+    """Each request for memory of the start is refused, alone or with all after it: the program says so and ends, or it serves."""
+    wanted, ended, served = Database().answer(LIST), 0, 0
+    for first in range(1, 80):
+        for last in (first, ONWARD):
+            refusal.reset()
+            refusal.refuse("memory", first, last)
+            port = free_port()
+            command = [words.program, "db", "7", "2", "2", f"127.0.0.1:{port}"]
+            program = subprocess.Popen(command, stdin=subprocess.DEVNULL, stderr=subprocess.PIPE, env=refusal.environment)
+            if got := first_reply(program, port, refusal):
+                tally.expect(f"served, request {first} of the start refused", got, wanted)
+                served += 1
+                program.kill()
+                program.wait()
+            else:
+                line = program.stderr.read().removeprefix(b"mangod: listening\n")
+                tally.expect(f"request {first} of the start refused", (program.wait(), line), (1, b"mangod: out of memory\n"))
+                ended += 1
+            program.stderr.close()
+    tally.expect("some starts ended and some served", ended > 20 and served > 20, True)
+
+
+def first_reply(program, port, refusal):
+    """The reply to a client of a program that starts, nothing where it ended before; a client ends what is refused."""
+    while program.poll() is None:
+        try:
+            client = Wire(port)
+        except ConnectionError:
+            time.sleep(0.002)
+            continue
+        refusal.reset()
+        got = client.ask(LIST)
+        client.close()
+        if got:
+            return got
+    return b""
+
+
 def no_workers(refusal, program, tally):
     """Threads that are refused, all or one of them, change no reply of a session."""
     found = {talk.name: talk for file in sorted(FOLDER.glob("*.txt")) for talk in conversations_in(file)}
@@ -242,6 +284,7 @@ def main():
                 with listening(words, 2, refusal.environment) as port:
                     at_once(port, refusal, f"{label}, seed {seed}", seed, tally)
         if refusal:
+            starts(refusal, words, tally)
             no_workers(refusal, words.program, tally)
             no_second_seat(refusal, words, tally)
     print(f"{tally.passed} passed, {tally.failed} failed")
