@@ -54,11 +54,11 @@ def free_port():
 
 
 @contextlib.contextmanager
-def listening(words, sessions):
+def listening(words, sessions, environment=None):
     """The port of a new program of so many sessions, which is ended afterwards."""
     port = free_port()
     command = [words.program, "db", str(words.shards), str(words.workers), str(sessions), f"127.0.0.1:{port}"]
-    program = subprocess.Popen(command, stdin=subprocess.DEVNULL, stdout=subprocess.PIPE, stderr=subprocess.PIPE)
+    program = subprocess.Popen(command, stdin=subprocess.DEVNULL, stdout=subprocess.PIPE, stderr=subprocess.PIPE, env=environment)
     try:
         if program.stderr.readline() != b"mangod: listening\n":
             sys.exit("the program does not listen")

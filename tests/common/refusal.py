@@ -1,0 +1,68 @@
+"""The shim refuse/refuse.c: compiled when a test begins, and told what to refuse through a file that it shares with the program."""
+import contextlib
+import mmap
+import os
+import shutil
+import struct
+import subprocess
+import tempfile
+from pathlib import Path
+
+SOURCE = Path(__file__).resolve().parent.parent / "refuse" / "refuse.c"
+KINDS = {"memory": 0, "threads": 3, "reads": 6, "writes": 9}
+PIECE, TAKES_NONE, WORDS = 12, 13, 14
+ONWARD = 2**62
+SECONDS = 120
+ENDS = {"Eof": (0, b""), "Refused": (1, b"mangod: refused\n"), "ReadFault": (1, b"mangod: read fault\n"),
+        "WriteFault": (1, b"mangod: write fault\n"), "Limit": (1, b"mangod: limit\n"), "start": (1, b"mangod: out of memory\n")}
+
+
+class Refusal:
+    """What a program that has the shim is refused from now on."""
+
+    def __init__(self, folder):
+        self.shim, self.file = folder / "refuse.so", folder / "words"
+        compiler = shutil.which("cc")
+        subprocess.run([compiler, "-O1", "-shared", "-fPIC", "-o", self.shim, SOURCE], check=True)
+        self.file.write_bytes(bytes(8 * WORDS))
+        with self.file.open("r+b") as file:
+            self.words = mmap.mmap(file.fileno(), 8 * WORDS)
+        self.environment = {**os.environ, "LD_PRELOAD": str(self.shim), "REFUSE": str(self.file)}
+
+    def put(self, word, value):
+        struct.pack_into("<q", self.words, 8 * word, value)
+
+    def calls(self, kind):
+        """How many calls of a kind there were."""
+        return struct.unpack_from("<q", self.words, 8 * KINDS[kind])[0]
+
+    def reset(self, piece=0, takes_none=False):
+        """Nothing was called, and nothing is refused."""
+        for word in range(PIECE):
+            self.put(word, 0)
+        self.put(PIECE, piece)
+        self.put(TAKES_NONE, int(takes_none))
+
+    def refuse(self, kind, first, last):
+        """Refuses the calls of a kind from the first to the last, counted from the last reset. A first of 0 refuses none."""
+        self.put(KINDS[kind] + 1, 0)
+        self.put(KINDS[kind] + 2, last)
+        self.put(KINDS[kind] + 1, first)
+
+    def run(self, words, given):
+        """What the program wrote, and how it ended."""
+        done = subprocess.run(words, input=given, capture_output=True, timeout=SECONDS, env=self.environment)
+        return done.stdout, (done.returncode, done.stderr)
+
+
+@contextlib.contextmanager
+def refusals():
+    """The shim, none where there is no C compiler."""
+    if not shutil.which("cc"):
+        yield None
+        return
+    folder = Path(tempfile.mkdtemp())
+    try:
+        yield Refusal(folder)
+    finally:
+        shutil.rmtree(folder)

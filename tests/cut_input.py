@@ -1,0 +1,232 @@
+#!/usr/bin/env python3
+"""Cuts what comes in, moves it byte by byte, and lets reads and writes fail at each call; checks the ends and what went out.
+
+usage: cut_input.py --program PATH [--full]
+
+Three conversations of tests/conversations: a bulk and a query, pages by an index over their bookmarks, and an index that goes. The
+replies are the model's (the folder model/), which has to give those of the files. Through the shim refuse/refuse.c
+- reads and writes move one byte, or a few: the same bytes go out;
+- the kth read fails: what went out is the replies that were due for the bytes before, and the end is a read fault;
+- the kth write fails, or takes no byte: what went out is what the writes before it took, and the end is a write fault.
+And without it: the input is cut at each byte, over standard input and over TCP; the output is a pipe that nobody reads, or reads
+late; a client over TCP sends byte by byte, or resets its connection at a byte, and the next one sees whole bulks or nothing of
+them. Without --full, each third byte or call is tried over TCP. The last line is 'N passed, M failed'; without a C compiler a
+line before it says that what needs the shim is left out.
+"""
+import argparse
+import os
+import subprocess
+import sys
+
+from common.refusal import ENDS, ONWARD, SECONDS, refusals
+from common.tally import Tally
+from common.wire import Wire
+from conversations import conversations_in
+from model.talk import Database
+from refused_memory import FOLDER, Talk
+from tcp import listening, reset
+
+NAMES = ["first-write-and-query", "ties-across-shards", "choice-of-index"]
+LIST = b"GET /db/_index HTTP/1.1\r\n\r\n"
+
+
+class Line:
+    """The bytes of a conversation, the replies to it, and where each is due."""
+
+    def __init__(self, conversation):
+        self.talk = Talk(conversation)
+        messages = [exchange.message for exchange in conversation.exchanges]
+        database, self.given, self.text, self.due = Database(), b"", b"", [(0, 0)]
+        for message in messages:
+            self.given += message
+            self.text += database.answer(message)
+            self.due.append((len(self.given), len(self.text)))
+
+    def written(self, count):
+        """What goes out for the first so many bytes."""
+        return self.text[: max(text for given, text in self.due if given <= count)]
+
+
+def plain(program, given):
+    done = subprocess.run([program, "db", "7", "2", "1", "-"], input=given, capture_output=True, timeout=SECONDS)
+    return done.stdout, (done.returncode, done.stderr)
+
+
+def cut(program, line, name, tally):
+    wrong = [place for place in range(len(line.given)) if plain(program, line.given[:place]) != (line.written(place), ENDS["Eof"])]
+    tally.expect(f"{name}, cut at each byte", wrong, [])
+
+
+def short(refusal, words, line, name, tally):
+    for piece in (1, 2, 3, 64):
+        refusal.reset(piece=piece)
+        tally.expect(f"{name}, {piece} bytes a call", refusal.run(words, line.given), (line.text, ENDS["Eof"]))
+        tally.expect(f"{name}, {piece} bytes a call: reads", refusal.calls("reads") > len(line.given) // piece, True)
+        tally.expect(f"{name}, {piece} bytes a call: writes", refusal.calls("writes") >= len(line.text) // piece, True)
+
+
+def failing_reads(refusal, words, line, name, piece, tally):
+    """The kth read fails, for each k; the last one is that of the end."""
+    wrong, call = [], 0
+    while True:
+        call += 1
+        refusal.reset(piece=piece)
+        refusal.refuse("reads", call, ONWARD)
+        found = refusal.run(words, line.given)
+        if refusal.calls("reads") < call:
+            tally.expect(f"{name}: no read failed", found, (line.text, ENDS["Eof"]))
+            break
+        if found != (line.written((call - 1) * piece), ENDS["ReadFault"]):
+            wrong.append((call, found))
+    tally.expect(f"{name}, reads of {piece} bytes that fail", wrong[:3], [])
+    tally.expect(f"{name}, reads of {piece} bytes", call, -(-len(line.given) // piece) + 2)
+
+
+def failing_writes(refusal, words, line, name, piece, takes_none, tally):
+    """The kth write fails or takes no byte, for each k."""
+    wrong, call = [], 0
+    while True:
+        call += 1
+        refusal.reset(piece=piece, takes_none=takes_none)
+        refusal.refuse("writes", call, ONWARD)
+        output, end = refusal.run(words, line.given)
+        if refusal.calls("writes") < call:
+            tally.expect(f"{name}: no write failed", (output, end), (line.text, ENDS["Eof"]))
+            break
+        is_front = line.text.startswith(output) and (len(output) == call - 1 if piece == 1 else len(output) < len(line.text))
+        if end != ENDS["WriteFault"] or not is_front:
+            wrong.append((call, output, end))
+    tally.expect(f"{name}, writes that {'take nothing' if takes_none else 'fail'}, {piece} bytes a call", wrong[:3], [])
+    tally.expect(f"{name}, writes", call > len(line.talk.exchanges) and (piece != 1 or call == len(line.text) + 1), True)
+
+
+def pipes(program, line, tally):
+    """An output that nobody reads, and one that is read late."""
+    words = [program, "db", "1", "1", "1", "-"]
+    out, into = os.pipe()
+    os.close(out)
+    done = subprocess.run(words, input=line.given, stdout=into, stderr=subprocess.PIPE, timeout=SECONDS)
+    os.close(into)
+    tally.expect("an output that nobody reads", (done.returncode, done.stderr), ENDS["WriteFault"])
+    many, wanted = LIST * 3000, Database().answer(LIST) * 3000
+    process = subprocess.Popen(words, stdin=subprocess.PIPE, stdout=subprocess.PIPE, stderr=subprocess.PIPE)
+    os.set_blocking(process.stdin.fileno(), False)
+    sent, ended = os.write(process.stdin.fileno(), many), process.poll()
+    os.set_blocking(process.stdin.fileno(), True)
+    output, error = process.communicate(many[sent:], timeout=SECONDS)
+    tally.expect("an output that is read late", (ended, output == wanted, process.returncode, error), (None, True, 0, b""))
+
+
+def reaches(port, given, length):
+    """What comes for bytes after which nothing more is sent."""
+    client = Wire(port)
+    client.send(given)
+    client.finish()
+    found = client.rest()
+    client.close()
+    return found[:length]
+
+
+def cut_over_tcp(words, line, name, step, tally):
+    """A program for each place, or its documents would be there already."""
+    wrong = []
+    for place in range(1, len(line.given), step):
+        with listening(words, 1) as port:
+            wanted = line.written(place)
+            if reaches(port, line.given[:place], len(line.text)) != wanted:
+                wrong.append(place)
+    tally.expect(f"{name} over TCP, cut", wrong, [])
+
+
+def byte_by_byte(words, line, name, tally):
+    with listening(words, 1) as port:
+        client = Wire(port)
+        for place in range(len(line.given)):
+            client.send(line.given[place : place + 1])
+        client.finish()
+        tally.expect(f"{name} over TCP, byte by byte", client.rest(), line.text)
+        client.close()
+
+
+def resets(words, line, step, tally):
+    """A client sends the front of a bulk of two documents and a query, and resets; another sees both documents or none."""
+    body = b'{"docs":[{"_id":"a"},{"_id":"b"}]}'
+    bulk = b"POST /db/_bulk_docs HTTP/1.1\r\nContent-Length: %d\r\n\r\n%s" % (len(body), body)
+    find = line.talk.messages[1]
+    none, both = Database(), Database()
+    both.answer(bulk)
+    wrong = []
+    for place in range(1, len(bulk + find), step):
+        with listening(words, 2) as port:
+            client = Wire(port)
+            client.send((bulk + find)[:place])
+            reset(client.socket)
+            other = Wire(port)
+            found = [other.ask(b"GET /db/%s HTTP/1.1\r\n\r\n" % name) for name in (b"b", b"a", b"b")]
+            other.close()
+        missing, there = ([world.answer(b"GET /db/%s HTTP/1.1\r\n\r\n" % name) for name in (b"b", b"a", b"b")] for world in (none, both))
+        turns = [missing[:turn] + there[turn:] for turn in range(4)]
+        if found not in (turns if place >= len(bulk) else turns[3:]):
+            wrong.append((place, found))
+    tally.expect("connections that are reset", wrong[:3], [])
+
+
+def failing_sockets(refusal, words, line, tally):
+    """Over TCP the kth read or write fails: the connection ends after a front of the replies, and the next client is served."""
+    for kind in ("reads", "writes"):
+        call, wrong = 0, []
+        while True:
+            call += 1
+            refusal.reset(piece=16)
+            with listening(words, 1, refusal.environment) as port:
+                refusal.refuse(kind, call, call)
+                found = reaches(port, line.given, len(line.text))
+                met = refusal.calls(kind) >= call
+                refusal.refuse(kind, 0, 0)
+                served = reaches(port, LIST, 17)
+            wanted = line.written((call - 1) * 16) if kind == "reads" else line.text[: len(found)]
+            whole = len(found) == len(line.text)
+            if found != wanted or (whole and kind == "writes" and met) or not (whole or met) or served != b"HTTP/1.1 200 OK\r\n":
+                wrong.append((call, found, served))
+            if not met:
+                break
+        tally.expect(f"{kind} of a socket that fail", wrong[:3], [])
+        tally.expect(f"{kind} of a socket were made", call > 10, True)
+
+
+def main():
+    parser = argparse.ArgumentParser(description=__doc__.split("\n")[0])
+    parser.add_argument("--program", required=True)
+    parser.add_argument("--full", action="store_true")
+    words = parser.parse_args()
+    words.shards, words.workers = "7", "2"
+    command = [words.program, "db", "7", "2", "1", "-"]
+    found = {talk.name: talk for file in sorted(FOLDER.glob("*.txt")) for talk in conversations_in(file)}
+    lines = {name: Line(found[name]) for name in NAMES}
+    first, tally = lines[NAMES[0]], Tally()
+    for name, line in lines.items():
+        tally.expect(f"{name}: the model", list(line.talk.model_faults()), [])
+        cut(words.program, line, name, tally)
+        byte_by_byte(words, line, name, tally)
+    pipes(words.program, first, tally)
+    for name, line in lines.items():
+        if words.full or line is first:
+            cut_over_tcp(words, line, name, 1 if words.full else 3, tally)
+    resets(words, first, 1 if words.full else 3, tally)
+    with refusals() as refusal:
+        if refusal is None:
+            print("no C compiler is here: reads and writes that fail are left out")
+        for name, line in lines.items() if refusal else []:
+            short(refusal, command, line, name, tally)
+            for piece in (1, 16) if words.full or line is first else (16,):
+                failing_reads(refusal, command, line, name, piece, tally)
+                failing_writes(refusal, command, line, name, piece, False, tally)
+                failing_writes(refusal, command, line, name, piece, True, tally)
+        if refusal:
+            failing_sockets(refusal, words, first, tally)
+    print(f"{tally.passed} passed, {tally.failed} failed")
+    return 1 if tally.failed else 0
+
+
+if __name__ == "__main__":
+    sys.exit(main())

@@ -1,0 +1,64 @@
+"""The choice of an index, and the range of its keys that a query asks for."""
+from model.selectors import COMPARISONS, bounds, needs_part, steps_of
+from model.values import order
+
+
+def bounded(columns, found):
+    """How many columns count as bounded."""
+    count = 0
+    for column in columns:
+        names = [name for name, _ in bounds(found, steps_of(column))]
+        count += bool(names)
+        if "$eq" not in names:
+            break
+    return count
+
+
+def chosen(indexes, found, sort, hint):
+    """The ddoc and name of the index that serves a query: None is that of all documents, and False says that there is none."""
+    there = [*([name] for name in ("_id", "_rev")), *map(steps_of, sort), *(atom[0] for atom in found if needs_part(atom))]
+    paths = [steps_of(path) for path in sort]
+    usable = []
+    for index, (columns, _) in indexes.items():
+        steps = [steps_of(column) for column in columns]
+        if all(step in there for step in steps) and steps[: len(paths)] == paths:
+            usable.append(index)
+    hinted = [index for index in usable if hint and index[: len(hint)] == tuple(hint)]
+    if usable:
+        rank = lambda index: (-bounded(indexes[index][0], found), len(indexes[index][0]), index[1], index[0])
+        return min(hinted or usable, key=rank)
+    return None if paths in ([], [["_id"]]) else False
+
+
+def tighter(limits, upper):
+    """The tightest of several bounds of one side, none where there is none: its value, and whether the value is inside."""
+    if not limits:
+        return None
+    sign = min if upper else max
+    end = sign(order(value) for _, value in limits)
+    same = [(name in ("$eq", "$lte", "$gte"), value) for name, value in limits if order(value) == end]
+    return {"inclusive": all(inside for inside, _ in same), "value": same[0][1]}
+
+
+def range_of(columns, found):
+    """The range's text: empty, or the fixed values and the two ends of the column after them."""
+    equal = []
+    for column in columns:
+        here = list(bounds(found, steps_of(column)))
+        fixed = [value for name, value in here if name == "$eq"]
+        if not fixed:
+            return ended(equal, here)
+        if not all(COMPARISONS[name](order(fixed[0]), order(value)) for name, value in here):
+            return {"empty": True}
+        equal.append(fixed[0])
+    return {"equal": equal, "lower": None, "upper": None}
+
+
+def ended(equal, here):
+    lower = tighter([bound for bound in here if bound[0] in ("$gt", "$gte")], False)
+    upper = tighter([bound for bound in here if bound[0] in ("$lt", "$lte")], True)
+    if lower and upper:
+        low, high = order(lower["value"]), order(upper["value"])
+        if low > high or (low == high and not (lower["inclusive"] and upper["inclusive"])):
+            return {"empty": True}
+    return {"equal": equal, "lower": lower, "upper": upper}

@@ -1,0 +1,155 @@
+"""Selectors: how they are read, of which values they hold, and the atoms that they ask in any case."""
+from model.values import MISSING, order
+
+COMPARISONS = {"$lt": lambda a, b: a < b, "$lte": lambda a, b: a <= b, "$eq": lambda a, b: a == b,
+               "$ne": lambda a, b: a != b, "$gte": lambda a, b: a >= b, "$gt": lambda a, b: a > b}
+OPPOSITES = {"$lt": "$gte", "$gte": "$lt", "$lte": "$gt", "$gt": "$lte", "$eq": "$ne", "$ne": "$eq"}
+TYPES = ["null", "boolean", "boolean", "number", "string", "array", "object"]
+ARMS = {"$and", "$or", "$nor"}
+MATCHES = {"$elemMatch", "$allMatch"}
+
+
+class Fault(Exception):
+    """A refusal: its status, error and reason."""
+
+
+BAD_ARGUMENT = (400, "bad_arg", "Bad argument for an operator.")
+UNKNOWN = (400, "invalid_operator", "Unknown operator.")
+
+
+def is_whole(value):
+    return isinstance(value, int) and not isinstance(value, bool)
+
+
+def steps_of(path):
+    """The steps of a path's text, none where one of them is empty."""
+    steps = path.replace("\\.", "\0").split(".")
+    return None if "" in steps else [step.replace("\0", ".") for step in steps]
+
+
+def part_at(value, steps):
+    for step in steps:
+        if isinstance(value, dict) and step in value:
+            value = value[step]
+        elif isinstance(value, list) and step.isdecimal() and str(int(step)) == step and int(step) < len(value):
+            value = value[int(step)]
+        else:
+            return MISSING
+    return value
+
+
+def is_argument(name, argument):
+    """Whether an operator that is no combinator takes the argument."""
+    if name in COMPARISONS:
+        return True
+    if name == "$exists":
+        return isinstance(argument, bool)
+    if name == "$type":
+        return isinstance(argument, str) and argument in TYPES
+    if name == "$size":
+        return is_whole(argument) and argument >= 0
+    if name == "$mod":
+        return isinstance(argument, list) and len(argument) == 2 and all(map(is_whole, argument)) and argument[0] != 0
+    return isinstance(argument, list)
+
+
+def read(value):
+    """The selector that an object spells, as a tuple of its form and its parts."""
+    return ("members", [read_member(name, value[name]) for name in sorted(value)])
+
+
+def read_inner(value):
+    if not isinstance(value, dict):
+        raise Fault(*BAD_ARGUMENT)
+    return read(value)
+
+
+def read_member(name, argument):
+    if not name.startswith("$"):
+        steps = steps_of(name)
+        if steps is None:
+            raise Fault(*BAD_ARGUMENT)
+        return ("at", steps, read(argument) if isinstance(argument, dict) and argument else ("asks", "$eq", argument))
+    if name == "$not":
+        return ("not", read_inner(argument))
+    if name in MATCHES:
+        return ("asks", name, read_inner(argument))
+    if name not in {*COMPARISONS, *ARMS, "$exists", "$type", "$in", "$nin", "$size", "$mod", "$all"}:
+        raise Fault(*UNKNOWN)
+    if not is_argument(name, argument):
+        raise Fault(*BAD_ARGUMENT)
+    return (name, [read_inner(arm) for arm in argument]) if name in ARMS else ("asks", name, argument)
+
+
+def entry(name, argument, value):
+    """Whether an operator holds on a part that is there."""
+    if name in COMPARISONS:
+        return COMPARISONS[name](order(value), order(argument))
+    if name == "$exists":
+        return argument
+    if name == "$type":
+        return TYPES[order(value)[0]] == argument
+    if name in ("$in", "$nin"):
+        asked = [order(item) for item in argument]
+        there = any(order(item) in asked for item in (value if isinstance(value, list) else [value]))
+        return there == (name == "$in")
+    if name == "$mod":
+        return is_whole(value) and (abs(value) % abs(argument[0])) * (-1 if value < 0 else 1) == argument[1]
+    if not isinstance(value, list):
+        return False
+    if name == "$size":
+        return len(value) == argument
+    if name == "$all":
+        there = [order(item) for item in value]
+        whole = len(argument) == 1 and order(argument[0]) == order(value)
+        return bool(argument) and (whole or all(order(item) in there for item in argument))
+    matches = [holds(argument, item) for item in value]
+    return any(matches) if name == "$elemMatch" else bool(matches) and all(matches)
+
+
+def holds(selector, value, negated=False):
+    kind, *parts = selector
+    if kind == "asks":
+        name, argument = parts
+        if value is MISSING:
+            return name == "$exists" and argument == negated
+        return entry(name, argument, value) != negated
+    if kind == "at":
+        return holds(parts[1], MISSING if value is MISSING else part_at(value, parts[0]), negated)
+    if kind == "not":
+        return holds(parts[0], value, not negated)
+    if kind == "$nor":
+        negated = not negated
+    arms = [holds(arm, value, negated) for arm in parts[0]]
+    asks_all = (kind in ("members", "$and")) != negated
+    return not arms or (all(arms) if asks_all else any(arms))
+
+
+def atoms(selector, negated=False, steps=()):
+    """The operators that are asked in any case: their steps, name, argument and sense."""
+    kind, *parts = selector
+    if kind == "asks":
+        return [(list(steps), *parts, negated)]
+    if kind == "at":
+        return atoms(parts[1], negated, (*steps, *parts[0]))
+    if kind == "not":
+        return atoms(parts[0], not negated, steps)
+    arms = parts[0]
+    through = {"members": not negated or len(arms) == 1, "$and": not negated, "$or": negated, "$nor": not negated}[kind]
+    inner = not negated if kind == "$nor" else negated
+    return [atom for arm in arms for atom in atoms(arm, inner, steps)] if through else []
+
+
+def needs_part(atom):
+    """Whether an atom fails on a missing part."""
+    _, name, argument, negated = atom
+    return not (name == "$exists" and argument == negated)
+
+
+def bounds(found, steps):
+    """The operators that bound the part at some steps, with their arguments."""
+    for place, name, argument, negated in found:
+        if place == steps and name in OPPOSITES:
+            name = OPPOSITES[name] if negated else name
+            if name != "$ne":
+                yield name, argument

@@ -1,0 +1,232 @@
+#!/usr/bin/env python3
+"""Sends random and mutated messages, over standard input and over TCP, and compares what comes back with the rules.
+
+usage: random_bytes.py --program PATH [--full] [--seed N] [--bytes N]
+
+The messages are those of tests/conversations with their bodies changed at random (seeded): values are put in others' places,
+members renamed, dropped and repeated, bytes turned over, and lengths made right again. So each is whole, and its reply has to be
+the model's (the folder model/), byte for byte. A session ends with a tail: a message with a head changed at random, or bytes
+drawn at random. What comes back for the tail is whole replies, and the end is one of a session's ends: the input ended, the last
+message asked to close, or it was refused, and then the last reply is a refusal that ends a session. Over TCP the bytes are sent in
+pieces of random sizes, and one program serves all clients, two at a time: a client after a tail is answered as the model says.
+A million bytes each way, with --full ten million. The last line is 'N passed, M failed'.
+"""
+import argparse
+import copy
+import json
+import random
+import subprocess
+import sys
+
+from common.refusal import ENDS, SECONDS
+from common.tally import Tally
+from common.wire import Wire
+from conversations import conversations_in, post, replies_in
+from model.talk import Database
+from refused_memory import FOLDER
+from tcp import listening
+
+NAMES = [
+    "$lt", "$lte", "$eq", "$ne", "$gte", "$gt", "$exists", "$type", "$in", "$nin", "$size", "$mod", "$all", "$elemMatch", "$allMatch", "$and",
+    "$or", "$nor", "$not", "$regex", "selector", "limit", "skip", "sort", "fields", "use_index", "bookmark", "conflicts", "docs", "new_edits",
+    "_id", "_rev", "_revisions", "_deleted", "_foo", "start", "ids", "index", "ddoc", "name", "type", "a", "b", "a.b", "a..b", "",
+]
+VALUES = [
+    None, True, False, 0, 1, -1, 2**63 - 1, -(2**63), "", "a", "1-a", "2-b", "nil", "\u0000", "\u00e9", "_x", "asc", "desc", "json", [], [[]],
+    [1, 0], ["a"], {}, {"a": 1}, {"a": "desc"}, {"$gt": None}, {"start": 2, "ids": ["b", "a"]},
+]
+LAST_REFUSALS = {b"bad_head", b"head_too_large", b"length_required", b"too_large", b"not_found", b"method_not_allowed"}
+NO_VALUES = [2**63, -(2**63) - 1, 1.5, 1e300, float("nan"), "\ud800"]
+MESSAGES = 40
+
+
+class Source:
+    """Messages at random."""
+
+    def __init__(self, seed):
+        self.random = random.Random(seed)
+        self.targets, self.whole = [], []
+        for file in sorted(FOLDER.glob("*.txt")):
+            for exchange in (exchange for talk in conversations_in(file) for exchange in talk.exchanges):
+                head, _, body = exchange.message.partition(b"\r\n\r\n")
+                if head.startswith((b"POST /db/_", b"GET /db/", b"DELETE /db/")) and exchange.is_whole and len(body) < 4000:
+                    self.whole.append(exchange.message)
+                    self.note(head.split(b" ")[1][4:].decode(), body)
+
+    def note(self, target, body):
+        try:
+            self.targets.append((target, json.loads(body)))
+        except ValueError:
+            pass
+
+    def value(self):
+        """A value: one of the lists, or a part of some body."""
+        if self.random.random() < 0.02:
+            return self.random.choice(NO_VALUES)
+        if self.random.random() < 0.5:
+            return self.random.choice(VALUES)
+        value = self.random.choice(self.targets)[1]
+        while isinstance(value, (list, dict)) and value and self.random.random() < 0.8:
+            value = self.random.choice(list(value.values()) if isinstance(value, dict) else value)
+        return copy.deepcopy(value)
+
+    def change(self, value):
+        """The value with a change somewhere in it."""
+        chance = self.random.random()
+        if not isinstance(value, (list, dict)) or not value or chance < 0.1:
+            return self.value()
+        if isinstance(value, list):
+            place = self.random.randrange(len(value))
+            if chance < 0.2:
+                return value[:place] + value[place + 1 :]
+            if chance < 0.3:
+                return value[:place] + [self.value()] + value[place:]
+            return value[:place] + [self.change(value[place])] + value[place + 1 :]
+        name = self.random.choice(list(value))
+        if chance < 0.2:
+            return {other: value[other] for other in value if other != name}
+        if chance < 0.35:
+            return {**value, self.random.choice(NAMES): self.value()}
+        if chance < 0.45:
+            return {(self.random.choice(NAMES) if other == name else other): value[other] for other in value}
+        return {**value, name: self.change(value[name])}
+
+    def turned(self, data, most):
+        """Bytes with some of them changed."""
+        data = bytearray(data)
+        for _ in range(self.random.randint(1, most)):
+            place = self.random.randrange(len(data) + 1)
+            kind = self.random.randrange(4)
+            if kind == 0:
+                data[place:place] = bytes([self.random.choice([*b'{}[]":,\\u0019-. \r\n$_', self.random.randrange(256)])])
+            elif kind == 1:
+                del data[place : place + self.random.choice([1, 1, 2, 10])]
+            elif kind == 2 and place < len(data):
+                data[place] ^= 1 << self.random.randrange(8)
+            else:
+                other = self.random.randrange(len(data) + 1)
+                data[place:place] = data[other : other + self.random.randint(1, 20)]
+        return bytes(data)
+
+    def message(self):
+        """A whole message: one as it is, or one with another body."""
+        if self.random.random() < 0.2:
+            return self.random.choice(self.whole)
+        target, value = self.random.choice(self.targets)
+        for _ in range(self.random.choice([0, 1, 1, 2, 4])):
+            value = self.change(value)
+        body = json.dumps(value, ensure_ascii=self.random.random() < 0.3, allow_nan=True).encode("utf-8", "surrogatepass")
+        return post(target, self.turned(body, 3) if self.random.random() < 0.15 and body else body)
+
+    def tail(self, harmless):
+        """Bytes after which the session need not go on; harmless ones write nothing."""
+        kind = self.random.randrange(4)
+        if kind == 0:
+            return self.random.randbytes(self.random.choice([1, 10, 100, 1000, 20_000]))
+        front = [message for message in self.whole if not harmless or message.startswith((b"GET", b"POST /db/_find"))]
+        head, gap, body = self.random.choice(front).partition(b"\r\n\r\n")
+        if kind == 1:
+            return self.turned(head, 6) + gap + body
+        if kind == 2:
+            return (head + gap + body)[: self.random.randrange(len(head + gap + body))]
+        return self.turned(head + gap, 2) * self.random.randint(1, 400)
+
+
+def tail_fault(output, end, over_tcp):
+    """What is wrong with what came back for a tail, none where it is right."""
+    replies, left = replies_in(output)
+    silent = bytes(left).startswith(b"HTTP/1.1 ") and bytes(left).endswith(b"\r\n\r\n")
+    if left and not silent:
+        return f"no whole reply: {left[:200]!r}"
+    if over_tcp:
+        return None
+    if end not in (ENDS["Eof"], ENDS["Refused"]):
+        return f"ended {end}"
+    if end == ENDS["Refused"] and not silent:
+        error = replies[-1].body.split(b'"')[3] if replies else b"none"
+        if error not in LAST_REFUSALS:
+            return f"refused after {error!r}"
+    return None
+
+
+def session(program, source, database, shards, workers):
+    """One session over standard input: its bytes, and what is wrong, none where it is right."""
+    messages = [source.message() for _ in range(MESSAGES)]
+    tail = source.tail(False)
+    given = b"".join(messages) + tail
+    done = subprocess.run([program, "db", shards, workers, "1", "-"], input=given, capture_output=True, timeout=SECONDS)
+    at = 0
+    for message in messages:
+        wanted = database.answer(message)
+        if not done.stdout.startswith(wanted, at):
+            return len(given), f"{message!r}\n  got    {done.stdout[at : at + 400]!r}\n  wanted {wanted[:400]!r}"
+        at += len(wanted)
+    fault = tail_fault(done.stdout[at:], (done.returncode, done.stderr), False)
+    return len(given), fault and f"tail {tail[:300]!r}: {fault}"
+
+
+def over_input(program, seed, count, tally):
+    sent, number = 0, 0
+    while sent < count:
+        source = Source(f"{seed}/{number}")
+        length, fault = session(program, source, Database(), *[("1", "1"), ("7", "2")][number % 2])
+        tally.expect(f"session {number} of seed {seed}", fault, None)
+        sent += length
+        number += 1
+
+
+def client(port, source, database):
+    """One connection: its bytes, and what is wrong, none where it is right."""
+    messages, wire, sent = [source.message() for _ in range(10)], Wire(port), 0
+    try:
+        for message in messages:
+            at = 0
+            while at < len(message):
+                size = source.random.choice([1, 7, 100, 5000])
+                wire.send(message[at : at + size])
+                at += size
+            sent += len(message)
+            wanted, got = database.answer(message), wire.reply()
+            if got != wanted:
+                return sent, f"{message!r}\n  got    {got[:400]!r}\n  wanted {wanted[:400]!r}"
+        tail = source.tail(True)
+        wire.send(tail)
+        if source.random.random() < 0.8:
+            wire.finish()
+            fault = tail_fault(wire.rest(), None, True)
+            return sent + len(tail), fault and f"tail {tail[:300]!r}: {fault}"
+        return sent + len(tail), None
+    finally:
+        wire.close()
+
+
+def over_tcp(words, seed, count, tally):
+    sent, number = 0, 0
+    while sent < count:
+        database, source = Database(), Source(f"tcp {seed}/{number}")
+        with listening(words, 2) as port:
+            for turn in range(20):
+                length, fault = client(port, source, database)
+                tally.expect(f"client {turn} of run {number}, seed {seed}", fault, None)
+                sent += length
+        number += 1
+
+
+def main():
+    parser = argparse.ArgumentParser(description=__doc__.split("\n")[0])
+    parser.add_argument("--program", required=True)
+    parser.add_argument("--full", action="store_true")
+    parser.add_argument("--seed", type=int, default=1)
+    parser.add_argument("--bytes", type=int)
+    words = parser.parse_args()
+    words.shards, words.workers = "7", "2"
+    count = words.bytes or (10_000_000 if words.full else 1_000_000)
+    tally = Tally()
+    over_input(words.program, words.seed, count, tally)
+    over_tcp(words, words.seed, count, tally)
+    print(f"{tally.passed} passed, {tally.failed} failed")
+    return 1 if tally.failed else 0
+
+
+if __name__ == "__main__":
+    sys.exit(main())

@@ -1,0 +1,161 @@
+#!/usr/bin/env python3
+"""Refuses the requests for memory of whole conversations, one by one and from one on, and checks each reply by the rules.
+
+usage: refused_memory.py --program PATH [--full] [--only NAME ..]
+
+The messages are those of the conversations of tests/conversations named below, and after them some that ask for all that is
+then there: the indexes, each document with its conflicts, and the rows of each index that was made. Each conversation is held
+with 1 and 7 shards and 1 and 2 workers; the shim refuse/refuse.c refuses its nth request for memory, or that and all after it, for
+each n until a run meets no refusal (without --full for a dozen n, spread over all). A run is right where
+- nothing was written and the program ended by `mangod: out of memory` (the session never began); or
+- each reply is `out_of_memory`, or the model's (the folder model/) to the list without the commands that were answered so;
+  and the session ended at the end of input, or refused what came after a last reply `out_of_memory`.
+The model itself has to give each reply that the conversation's file names. A conversation at a number of shards and workers
+passes or fails as one, and it fails too where no refusal was ever answered. The last line is 'N passed, M failed'; without a C
+compiler a line before it says how many conversations were left out.
+"""
+import argparse
+import json
+import sys
+from pathlib import Path
+
+from common.refusal import ENDS, ONWARD, refusals
+from common.tally import Tally
+from conversations import conversations_in, post, replies_in
+from model.talk import OUT_OF_MEMORY, Database
+
+FOLDER = Path(__file__).resolve().parent / "conversations"
+NAMES = ["first-write-and-query", "type-order", "comparison-across-types", "missing-fields", "winner", "replication", "new-edits",
+         "ties-across-shards", "descending-pages", "in-on-arrays", "in-on-arrays-2", "sort-needs-an-index", "ranges", "mod",
+         "limit-and-skip", "choice-of-index", "bad-documents", "bad-queries", "refused-queries", "arrays", "bookmark-spelling",
+         "five-shards-of-all-docs", "work", "conflicts", "paths", "sixty-five-rows"]
+SETTINGS = [("1", "1"), ("7", "1"), ("1", "2"), ("7", "2")]
+RUNS = 12
+
+
+def audit(messages):
+    """Messages that ask for all that is there, and for the rows of each index that was made."""
+    asked = [b"GET /db/_index HTTP/1.1\r\n\r\n", post("_find", b'{"selector":{},"conflicts":true,"limit":1000}')]
+    for message in messages:
+        if message.startswith(b"POST /db/_index "):
+            fields = json.loads(message.partition(b"\r\n\r\n")[2])["index"]["fields"]
+            query = {"selector": {}, "sort": fields, "fields": ["_id"], "limit": 1000}
+            asked.append(post("_find", json.dumps(query).encode()))
+    return list(dict.fromkeys(asked))
+
+
+class Talk:
+    """The messages of a conversation, and the replies to any of its parts."""
+
+    def __init__(self, conversation):
+        self.name = conversation.name
+        self.exchanges = conversation.exchanges
+        said = [exchange.message for exchange in self.exchanges]
+        self.messages = said + audit(said)
+        self.known = {}
+
+    def reply(self, kept, number):
+        """The reply to a message after those that are kept."""
+        if (kept, number) not in self.known:
+            database = Database()
+            for place in kept:
+                database.answer(self.messages[place])
+            self.known[kept, number] = database.answer(self.messages[number])
+        return self.known[kept, number]
+
+    def model_faults(self):
+        """The replies of the file that the model does not give."""
+        database = Database()
+        for exchange in self.exchanges:
+            (found,), _ = replies_in(database.answer(exchange.message))
+            yield from (wanted.text for wanted in exchange.wanted_at(1) if not wanted.is_met_by(found))
+
+    def fault(self, output, end):
+        """What is wrong with a run, none where it is right, and the numbers of the messages that were refused."""
+        if (output, end) == (b"", ENDS["start"]):
+            return None, ["start"]
+        kept, refused, at = (), [], 0
+        for number in range(len(self.messages)):
+            if at == len(output):
+                break
+            if output.startswith(OUT_OF_MEMORY, at):
+                refused.append(number)
+                at += len(OUT_OF_MEMORY)
+                continue
+            wanted = self.reply(kept, number)
+            if not output.startswith(wanted, at):
+                return f"reply {number}: {output[at : at + 300]!r}\n    wanted {wanted[:300]!r}", refused
+            kept += (number,)
+            at += len(wanted)
+        count = len(kept) + len(refused)
+        ends = [ENDS["Eof"]] if count == len(self.messages) else []
+        if refused and refused[-1] == count - 1:
+            ends.append(ENDS["Refused"])
+        if at < len(output) or end not in ends:
+            return f"{count} of {len(self.messages)} replies, then {output[at : at + 200]!r}, ended {end}", refused
+        return None, refused
+
+
+def refuse_each(refusal, words, talk, onward, step, begin):
+    """Refuses request after request until a run meets no refusal; the faults, and the messages that were refused in some run."""
+    given = b"".join(talk.messages)
+    faults, seen, first = [], set(), begin
+    while True:
+        refusal.reset()
+        refusal.refuse("memory", first, ONWARD if onward else first)
+        found, refused = talk.fault(*refusal.run(words, given))
+        seen.update(refused)
+        if found:
+            faults.append(f"from request {first}: {found}" if onward else f"request {first}: {found}")
+        if refusal.calls("memory") < first:
+            if refused:
+                faults.append("out of memory, and none was refused")
+            return faults, seen
+        first += step
+
+
+def requests(refusal, words, talk):
+    """How many requests for memory there are where none is refused."""
+    refusal.reset()
+    refusal.run(words, b"".join(talk.messages))
+    return refusal.calls("memory")
+
+
+def check(refusal, program, talk, full, tally):
+    tally.expect(f"{talk.name}: the model", list(talk.model_faults()), [])
+    for place, (shards, workers) in enumerate(SETTINGS):
+        words = [program, "db", shards, workers, "1", "-"]
+        step = 1 if full else max(1, requests(refusal, words, talk) // RUNS)
+        faults, seen = [], set()
+        for onward in (False, True):
+            begin = 1 if full else 1 + (2 * place + onward) * step // 8
+            found, refused = refuse_each(refusal, words, talk, onward, step, begin)
+            faults += found
+            seen |= refused
+        tally.expect(f"{talk.name}, {shards} shards, {workers} workers", faults[:3], [])
+        if full:
+            tally.expect(f"{talk.name}: what was refused in some run", seen >= {"start", 0}, True)
+        else:
+            tally.expect(f"{talk.name}: some message was refused", bool(seen), True)
+
+
+def main():
+    words = argparse.ArgumentParser(description=__doc__.split("\n")[0])
+    words.add_argument("--program", required=True)
+    words.add_argument("--full", action="store_true")
+    words.add_argument("--only", nargs="*", default=[])
+    args = words.parse_args()
+    found = {talk.name: talk for file in sorted(FOLDER.glob("*.txt")) for talk in conversations_in(file)}
+    names = args.only or NAMES
+    tally = Tally()
+    with refusals() as refusal:
+        if refusal is None:
+            print(f"no C compiler is here: {len(names)} conversations are left out")
+        for name in names if refusal else []:
+            check(refusal, args.program, Talk(found[name]), args.full, tally)
+    print(f"{tally.passed} passed, {tally.failed} failed")
+    return 1 if tally.failed else 0
+
+
+if __name__ == "__main__":
+    sys.exit(main())

@@ -1,0 +1,58 @@
+"""Inputs of any size, each with the bytes that its replies end in."""
+import base64
+import hashlib
+import json
+from dataclasses import dataclass
+from typing import Callable
+
+NO_JSON = b'{"error":"bad_request","reason":"Invalid JSON."}\n'
+NOTHING = b'{"bookmark":"nil","docs":[]}\n'
+ADDED = b"[]\n"
+MOST = 2**31 - 1
+
+
+@dataclass
+class Shape:
+    """What makes an input of a size; the larger size in the gate and in full; and the power of the size with which it may cost:
+    1, or 2 where the documents name a product of two parts that both grow."""
+
+    make: Callable
+    gate: int
+    full: int
+    power: int = 1
+    shards: str = "1"
+    workers: str = "1"
+
+    @property
+    def name(self):
+        return self.make.__name__
+
+
+def post(target, body):
+    return b"POST /db/%s HTTP/1.1\r\nContent-Length: %d\r\n\r\n%s" % (target, len(body), body)
+
+
+def find(selector, *more):
+    return post(b"_find", b'{"selector":%s%s}' % (selector, b"".join(b"," + member for member in more)))
+
+
+def replicas(documents):
+    return post(b"_bulk_docs", b'{"docs":[%s],"new_edits":false}' % b",".join(documents))
+
+
+def document(name, *members):
+    return b'{"_id":"%s","_rev":"1-a"%s}' % (name, b"".join(b"," + member for member in members))
+
+
+def page(names):
+    """The body of a page of ids alone, of the index of all documents."""
+
+    last = json.dumps([None, "_all_docs", "asc", [names[-1]], names[-1]], separators=(",", ":")).encode()
+    bookmark = base64.urlsafe_b64encode(last).rstrip(b"=")
+    return b'{"bookmark":"%s","docs":[%s]}\n' % (bookmark, b",".join(b'{"_id":"%s"}' % name.encode() for name in names))
+
+
+def revision(parent, body=b"{}"):
+    """The id of the new revision of a document with this body over a parent, none for the first."""
+    text = b"null" if parent is None else b'"%s"' % parent
+    return hashlib.md5(b"[false,%s,%s]" % (text, body)).hexdigest().encode()

@@ -1,0 +1,159 @@
+"""Selectors with many arguments, arms and steps, and many indexes."""
+from shapes import ADDED, NOTHING, Shape, document, find, page, post, replicas
+
+NO_INDEX = b'{"error":"no_usable_index","reason":"No index exists for this sort, try indexing by the sort fields."}\n'
+
+
+def arguments(n, first=1000):
+    return b",".join(b"%d" % i for i in range(first, first + n))
+
+
+def array(n):
+    """A document with an array of n numbers."""
+    return replicas([document(b"a", b'"v":[%s]' % arguments(n, 0))])
+
+
+def in_arguments(n):
+    """`$in` with n arguments on an array of 100 elements, none of which it has."""
+    return array(100) + find(b'{"v":{"$in":[%s]}}' % arguments(n)), NOTHING
+
+
+def nin_arguments(n):
+    """`$nin` with n arguments on an array of 100 elements, none of which it has."""
+    return array(100) + find(b'{"v":{"$nin":[%s]}}' % arguments(n), b'"fields":["_id"]'), page(["a"])
+
+
+def all_arguments(n):
+    """`$all` with n arguments that are all the last of 100 elements."""
+    return array(100) + find(b'{"v":{"$all":[%s]}}' % b",".join([b"99"] * n), b'"fields":["_id"]'), page(["a"])
+
+
+def or_arms(n):
+    """n arms of `$or` that each look at 100 elements."""
+    arms = b",".join(b'{"v":{"$elemMatch":{"$eq":%d}}}' % (1000 + i) for i in range(n))
+    return array(100) + find(b'{"$or":[%s]}' % arms), NOTHING
+
+
+def nor_arms(n):
+    """n arms of `$nor` below a negation and another one."""
+    arms = b",".join(b'{"v":{"$elemMatch":{"$eq":%d}}}' % (1000 + i) for i in range(n))
+    return array(100) + find(b'{"$not":{"$not":{"$nor":[%s]}}}' % arms, b'"fields":["_id"]'), page(["a"])
+
+
+def arguments_by_elements(n):
+    """`$in` with n arguments on n elements: a product."""
+    given = replicas([document(b"a", b'"v":[%s]' % arguments(n, 10**6))])
+    return given + find(b'{"v":{"$in":[%s]}}' % arguments(n)), NOTHING
+
+
+def choices(n):
+    """n choices of two, all of them asked: they are not multiplied out."""
+    arms = b",".join(b'{"$or":[{"a%d":1},{"b%d":1}]}' % (i, i) for i in range(n))
+    return find(b'{"$and":[%s]}' % arms) * 2, NOTHING
+
+
+def negated_choices(n):
+    """n conjunctions of two, none of which may hold."""
+    arms = b",".join(b'{"$and":[{"a%d":1},{"b%d":1}]}' % (i, i) for i in range(n))
+    return find(b'{"$not":{"$or":[%s]}}' % arms) * 2, NOTHING
+
+
+def deep_negations(n):
+    """n arms of 50 negations and elements, one in the other."""
+    arm = b'{"$not":{"$elemMatch":' * 25 + b'{"a":1}' + b"}}" * 25
+    return array(10) + find(b'{"$and":[{"a":5},%s]}' % b",".join([arm] * n)), NOTHING
+
+
+def steps_of_a_selector(n):
+    """A path of n steps in a selector, over a document that goes along for 100 of them."""
+    deep = b'"s":' + b'{"s":' * 100 + b"1" + b"}" * 100
+    return replicas([document(b"a", deep)]) + find(b'{"%s":1}' % b".".join([b"s"] * n)) * 4, NOTHING
+
+
+def steps_of_fields(n):
+    """A path of n steps in the fields of a page."""
+    deep = b'"s":' + b'{"s":' * 100 + b"1" + b"}" * 100
+    fields = b'"fields":["_id","%s"]' % b".".join([b"s"] * n)
+    return replicas([document(b"a", deep)]) + find(b"{}", fields) * 4, page(["a"])
+
+
+def steps_of_a_sort(n):
+    """A path of n steps in a sort, for which there is no index."""
+    return find(b"{}", b'"sort":["%s"]' % b".".join([b"s"] * n)) * 4, NO_INDEX
+
+
+def steps_of_an_index(n):
+    """An index on a path of n steps, and a query that it serves."""
+    path = b".".join([b"s"] * n)
+    index = post(b"_index", b'{"index":{"fields":["%s"]},"ddoc":"x","name":"i"}' % path)
+    return replicas([document(b"a")]) + index + find(b'{"%s":{"$gt":1}}' % path), NOTHING
+
+
+def arms_under_a_path(n):
+    """n arms of `$or` below a path of n steps."""
+    steps = b".".join([b"s"] * n)
+    arms = b",".join(b'{"x":%d}' % i for i in range(n))
+    return find(b'{"%s":{"$or":[%s]}}' % (steps, arms)), NOTHING
+
+
+def atoms_under_a_path(n):
+    """n operators below a path of n steps, all of which are asked: each has its whole path, so a product."""
+    steps = b".".join([b"s"] * n)
+    arms = b",".join(b'{"$gt":%d}' % i for i in range(n))
+    return find(b'{"%s":{"$and":[%s]}}' % (steps, arms)), NOTHING
+
+
+def many_fields(n):
+    """n paths in the fields of a page."""
+    fields = b'"fields":["_id",%s]' % b",".join(b'"f%d.g"' % i for i in range(n))
+    return replicas([document(b"a")]) + find(b"{}", fields), page(["a"])
+
+
+def columns(n):
+    """An index of n columns, an edit of each of which its row has one, and a query that bounds them all: a product of columns
+    and atoms."""
+    names = [b"c%d" % i for i in range(n)]
+    index = post(b"_index", b'{"index":{"fields":[%s]},"ddoc":"x","name":"i"}' % b",".join(b'"%s"' % name for name in names))
+    edit = replicas([document(b"a", *(b'"%s":1' % name for name in names))])
+    return index + edit + find(b"{%s}" % b",".join(b'"%s":2' % name for name in names)), NOTHING
+
+
+def created(n):
+    return b"".join(post(b"_index", b'{"index":{"fields":["f%d"]},"ddoc":"x","name":"i%04d"}' % (i, i)) for i in range(n))
+
+
+def indexes(n):
+    """n indexes, one after another: a commit costs each definition, so a product."""
+    return created(n), b'{"id":"_design/x","name":"i%04d","result":"created"}\n' % (n - 1)
+
+
+def indexes_on_64_shards(n):
+    """The same on 64 shards, each of which has them."""
+    return indexes(n)
+
+
+def queries_by_indexes(n):
+    """A thousand indexes, and n queries that choose among them."""
+    return created(1000) + find(b'{"f7":1,"f9":{"$gt":3}}') * n, NOTHING
+
+
+def edits_under_indexes(n):
+    """A thousand indexes, and a bulk of n documents with a row in one of them."""
+    return created(1000) + replicas([document(b"%06x" % i, b'"f7":%d' % i) for i in range(n)]), ADDED
+
+
+def empty_shards(n):
+    """64 shards with no document, 32 workers, and n queries."""
+    return find(b'{"a":1}') * n, NOTHING
+
+
+SHAPES = [Shape(in_arguments, 400_000, 900_000), Shape(nin_arguments, 400_000, 900_000), Shape(all_arguments, 1_000_000, 2_500_000),
+          Shape(or_arms, 40_000, 100_000), Shape(nor_arms, 40_000, 100_000), Shape(arguments_by_elements, 8_000, 40_000, 2),
+          Shape(choices, 20_000, 100_000), Shape(negated_choices, 20_000, 100_000), Shape(deep_negations, 2_000, 12_000),
+          Shape(steps_of_a_selector, 400_000, 1_000_000), Shape(steps_of_fields, 400_000, 1_000_000),
+          Shape(steps_of_a_sort, 400_000, 1_000_000), Shape(steps_of_an_index, 400_000, 1_000_000), Shape(arms_under_a_path, 64_000, 500_000),
+          Shape(atoms_under_a_path, 1_600, 4_000, 2),
+          Shape(many_fields, 400_000, 600_000), Shape(columns, 2_000, 8_000, 2), Shape(indexes, 800, 2_000, 2),
+          Shape(indexes_on_64_shards, 240, 1_000, 2, "64", "32"),
+          Shape(queries_by_indexes, 8_000, 40_000), Shape(edits_under_indexes, 16_000, 100_000),
+          Shape(empty_shards, 500, 5_000, 1, "64", "32")]
