@@ -28,7 +28,8 @@ FOLDER = Path(__file__).resolve().parent / "conversations"
 NAMES = ["first-write-and-query", "type-order", "comparison-across-types", "missing-fields", "winner", "replication", "new-edits",
          "ties-across-shards", "descending-pages", "in-on-arrays", "in-on-arrays-2", "sort-needs-an-index", "ranges", "mod",
          "limit-and-skip", "choice-of-index", "bad-documents", "bad-queries", "refused-queries", "arrays", "bookmark-spelling",
-         "five-shards-of-all-docs", "work", "conflicts", "paths", "sixty-five-rows"]
+         "five-shards-of-all-docs", "work", "conflicts", "paths", "sixty-five-rows", "resharding",
+         "what-is-dealt"]
 SETTINGS = [("1", "1"), ("7", "1"), ("1", "2"), ("7", "2")]
 RUNS = 12
 

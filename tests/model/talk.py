@@ -53,7 +53,8 @@ class Database(World):
         path, _, query = target.partition("?")
         place = path.split("/")[2:]
         if method == "POST":
-            posts = {"_bulk_docs": self.bulk, "_find": self.find, "_explain": self.explain, "_index": self.create}
+            posts = {"_bulk_docs": self.bulk, "_find": self.find, "_explain": self.explain, "_index": self.create,
+                     "_placement": self.deal}
             return posts[place[0]](bodies.value_of(body))
         if method == "DELETE":
             index = bodies.fronted(unquote(place[1])), unquote(place[3])
@@ -92,6 +93,11 @@ class Database(World):
         word = "exists" if self.indexes.get(index) == definition else "created"
         self.indexes[index] = definition
         return 200, {"id": index[0], "name": index[1], "result": word}
+
+    def deal(self, body):
+        shards = body.get("shards") if isinstance(body, dict) else None
+        bodies.asked(type(shards) is int and 1 <= shards <= 64)
+        return 200, {"ok": True}
 
     def served_by(self, query):
         """The index that serves a query and its columns, or the refusal."""
