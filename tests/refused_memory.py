@@ -10,25 +10,33 @@ each n until a run meets no refusal (without --full for a dozen n, spread over a
 - nothing was written and the program ended by `mangod: out of memory` (the session never began); or
 - each reply is `out_of_memory`, or the model's (the folder model/) to the list without the commands that were answered so;
   and the session ended at the end of input, or refused what came after a last reply `out_of_memory`.
-The model itself has to give each reply that the conversation's file names. A conversation at a number of shards and workers
+Then bulks and queries of some bytes that need hundreds of MiB come to a program that the system grants 200 MiB: each is answered
+`out_of_memory`, three times over, and afterwards small commands are answered as in an empty database. The model itself has to
+give each reply that the conversation's file names. A conversation at a number of shards and workers
 passes or fails as one, and it fails too where no refusal was ever answered. The last line is 'N passed, M failed'; without a C
 compiler a line before it says how many conversations were left out.
 """
 import argparse
 import json
+import resource
+import subprocess
 import sys
 from pathlib import Path
 
-from common.refusal import ENDS, ONWARD, refusals
+from common.refusal import ENDS, ONWARD, SECONDS, refusals
 from common.tally import Tally
 from conversations import conversations_in, post, replies_in
 from model.talk import OUT_OF_MEMORY, Database
+from shapes import queries, values, writes
 
 FOLDER = Path(__file__).resolve().parent / "conversations"
 NAMES = ["first-write-and-query", "type-order", "comparison-across-types", "missing-fields", "winner", "replication", "new-edits",
          "ties-across-shards", "descending-pages", "in-on-arrays", "in-on-arrays-2", "sort-needs-an-index", "ranges", "mod",
          "limit-and-skip", "choice-of-index", "bad-documents", "bad-queries", "refused-queries", "arrays", "bookmark-spelling",
          "five-shards-of-all-docs", "work", "conflicts", "paths", "sixty-five-rows"]
+TOO_LARGE = [(queries.atoms_under_a_path, 6_000, 1), (writes.tiny_documents, 200_000, 2), (values.deep_arrays, 30_000, 3),
+             (writes.documents_without_an_id, 200_000, 1)]
+GRANTED = 200 << 20
 SETTINGS = [("1", "1"), ("7", "1"), ("1", "2"), ("7", "2")]
 RUNS = 12
 
@@ -139,6 +147,18 @@ def check(refusal, program, talk, full, tally):
             tally.expect(f"{talk.name}: some message was refused", bool(seen), True)
 
 
+def limited(program, first, tally):
+    """Messages that need more memory than the system grants are refused, and what they took meanwhile is given back."""
+    few = lambda: resource.setrlimit(resource.RLIMIT_AS, (GRANTED, GRANTED))
+    database = Database()
+    wanted = b"".join(database.answer(message) for message in first.messages)
+    for make, size, count in TOO_LARGE:
+        given = make(size)[0] * 3 + b"".join(first.messages)
+        done = subprocess.run([program, "db", "1", "1", "1", "-"], input=given, capture_output=True, timeout=SECONDS, preexec_fn=few)
+        found = done.stdout == OUT_OF_MEMORY * 3 * count + wanted
+        tally.expect(f"{make.__name__} in little memory", (found, done.returncode, done.stderr), (True, 0, b""))
+
+
 def main():
     words = argparse.ArgumentParser(description=__doc__.split("\n")[0])
     words.add_argument("--program", required=True)
@@ -148,6 +168,7 @@ def main():
     found = {talk.name: talk for file in sorted(FOLDER.glob("*.txt")) for talk in conversations_in(file)}
     names = args.only or NAMES
     tally = Tally()
+    limited(args.program, Talk(found[NAMES[0]]), tally)
     with refusals() as refusal:
         if refusal is None:
             print(f"no C compiler is here: {len(names)} conversations are left out")
