@@ -60,16 +60,6 @@ class Talk:
         self.exchanges = conversation.exchanges
         said = [exchange.message for exchange in self.exchanges]
         self.messages = said + audit(said)
-        self.known = {}
-
-    def reply(self, kept, number):
-        """The reply to a message after those that are kept."""
-        if (kept, number) not in self.known:
-            database = Database()
-            for place in kept:
-                database.answer(self.messages[place])
-            self.known[kept, number] = database.answer(self.messages[number])
-        return self.known[kept, number]
 
     def model_faults(self):
         """The replies of the file that the model does not give."""
@@ -82,20 +72,19 @@ class Talk:
         """What is wrong with a run, none where it is right, and the numbers of the messages that were refused."""
         if (output, end) == (b"", ENDS["start"]):
             return None, ["start"]
-        kept, refused, at = (), [], 0
+        database, refused, at, count = Database(), [], 0, 0
         for number in range(len(self.messages)):
             if at == len(output):
                 break
+            count += 1
             if output.startswith(OUT_OF_MEMORY, at):
                 refused.append(number)
                 at += len(OUT_OF_MEMORY)
                 continue
-            wanted = self.reply(kept, number)
+            wanted = database.answer(self.messages[number])
             if not output.startswith(wanted, at):
                 return f"reply {number}: {output[at : at + 300]!r}\n    wanted {wanted[:300]!r}", refused
-            kept += (number,)
             at += len(wanted)
-        count = len(kept) + len(refused)
         ends = [ENDS["Eof"]] if count == len(self.messages) else []
         if refused and refused[-1] == count - 1:
             ends.append(ENDS["Refused"])
