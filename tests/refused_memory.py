@@ -6,15 +6,16 @@ usage: refused_memory.py --program PATH [--full] [--only NAME ..]
 The messages are those of the conversations of tests/conversations named below, and after them some that ask for all that is
 then there: the indexes, each document with its conflicts, and the rows of each index that was made. Each conversation is held
 with 1 and 7 shards and 1 and 2 workers; the shim refuse/refuse.c refuses its nth request for memory, or that and all after it, for
-each n until a run meets no refusal (without --full for a dozen n, spread over all). A run is right where
+each n until a run meets no refusal (without --full for a dozen n, spread over all, and for each n one by one of two conversations
+with 7 shards and 2 workers). A run is right where
 - nothing was written and the program ended by `mangod: out of memory` (the session never began); or
 - each reply is `out_of_memory`, or the model's (the folder model/) to the list without the commands that were answered so;
   and the session ended at the end of input, or refused what came after a last reply `out_of_memory`.
-Then bulks and queries of some bytes that need hundreds of MiB come to a program that the system grants 200 MiB: each is answered
+Then bulks and queries that need a hundred MiB and more come to a program that the system grants 60 MiB: each is answered
 `out_of_memory`, three times over, and afterwards small commands are answered as in an empty database. The model itself has to
-give each reply that the conversation's file names. A conversation at a number of shards and workers
-passes or fails as one, and it fails too where no refusal was ever answered. The last line is 'N passed, M failed'; without a C
-compiler a line before it says how many conversations were left out.
+give each reply that the conversation's file names. A conversation at a number of shards and workers passes or fails as one, and
+it fails too where no refusal was ever answered. The last line is 'N passed, M failed'; without a C compiler a line before it
+says how many conversations were left out.
 """
 import argparse
 import json
@@ -34,11 +35,12 @@ NAMES = ["first-write-and-query", "type-order", "comparison-across-types", "miss
          "ties-across-shards", "descending-pages", "in-on-arrays", "in-on-arrays-2", "sort-needs-an-index", "ranges", "mod",
          "limit-and-skip", "choice-of-index", "bad-documents", "bad-queries", "refused-queries", "arrays", "bookmark-spelling",
          "five-shards-of-all-docs", "work", "conflicts", "paths", "sixty-five-rows"]
-TOO_LARGE = [(queries.atoms_under_a_path, 6_000, 1), (writes.tiny_documents, 200_000, 2), (values.deep_arrays, 30_000, 3),
-             (writes.documents_without_an_id, 200_000, 1)]
-GRANTED = 200 << 20
+TOO_LARGE = [(queries.atoms_under_a_path, 3_000, 1), (writes.tiny_documents, 60_000, 1), (values.deep_arrays, 8_000, 3),
+             (writes.documents_without_an_id, 50_000, 1)]
+GRANTED = 60 << 20
 SETTINGS = [("1", "1"), ("7", "1"), ("1", "2"), ("7", "2")]
-RUNS = 12
+EACH = ["first-write-and-query", "new-edits"]
+RUNS = 10
 
 
 def audit(messages):
@@ -125,8 +127,9 @@ def check(refusal, program, talk, full, tally):
         step = 1 if full else max(1, requests(refusal, words, talk) // RUNS)
         faults, seen = [], set()
         for onward in (False, True):
-            begin = 1 if full else 1 + (2 * place + onward) * step // 8
-            found, refused = refuse_each(refusal, words, talk, onward, step, begin)
+            is_each = full or (talk.name in EACH and not onward and (shards, workers) == SETTINGS[-1])
+            begin = 1 if is_each else 1 + (2 * place + onward) * step // 8
+            found, refused = refuse_each(refusal, words, talk, onward, 1 if is_each else step, begin)
             faults += found
             seen |= refused
         tally.expect(f"{talk.name}, {shards} shards, {workers} workers", faults[:3], [])
