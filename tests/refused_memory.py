@@ -6,23 +6,29 @@ usage: refused_memory.py --program PATH [--full] [--only NAME ..]
 The messages are those of the conversations of tests/conversations named below, and after them some that ask for all that is
 then there: the indexes, each document with its conflicts, and the rows of each index that was made. Each conversation is held
 with 1 and 7 shards and 1 and 2 workers; the shim refuse/refuse.c refuses its nth request for memory, or that and all after it, for
-each n until a run meets no refusal (without --full for a dozen n, spread over all). A run is right where
+each n until a run meets no refusal (without --full for a dozen n, spread over all, and for each n one by one of two conversations
+with 7 shards and 2 workers). A run is right where
 - nothing was written and the program ended by `mangod: out of memory` (the session never began); or
 - each reply is `out_of_memory`, or the model's (the folder model/) to the list without the commands that were answered so;
   and the session ended at the end of input, or refused what came after a last reply `out_of_memory`.
-The model itself has to give each reply that the conversation's file names. A conversation at a number of shards and workers
-passes or fails as one, and it fails too where no refusal was ever answered. The last line is 'N passed, M failed'; without a C
-compiler a line before it says how many conversations were left out.
+Then bulks and queries that need a hundred MiB and more come to a program that the system grants 60 MiB: each is answered
+`out_of_memory`, three times over, and afterwards small commands are answered as in an empty database. The model itself has to
+give each reply that the conversation's file names. A conversation at a number of shards and workers passes or fails as one, and
+it fails too where no refusal was ever answered. The last line is 'N passed, M failed'; without a C compiler a line before it
+says how many conversations were left out.
 """
 import argparse
 import json
+import resource
+import subprocess
 import sys
 from pathlib import Path
 
-from common.refusal import ENDS, ONWARD, refusals
+from common.refusal import ENDS, ONWARD, SECONDS, refusals
 from common.tally import Tally
 from conversations import conversations_in, post, replies_in
 from model.talk import OUT_OF_MEMORY, Database
+from shapes import queries, values, writes
 
 FOLDER = Path(__file__).resolve().parent / "conversations"
 NAMES = ["first-write-and-query", "type-order", "comparison-across-types", "missing-fields", "winner", "replication", "new-edits",
@@ -30,8 +36,12 @@ NAMES = ["first-write-and-query", "type-order", "comparison-across-types", "miss
          "limit-and-skip", "choice-of-index", "bad-documents", "bad-queries", "refused-queries", "arrays", "bookmark-spelling",
          "five-shards-of-all-docs", "work", "conflicts", "paths", "sixty-five-rows", "resharding",
          "what-is-dealt"]
+TOO_LARGE = [(queries.atoms_under_a_path, 3_000, 1), (writes.tiny_documents, 60_000, 1), (values.deep_arrays, 8_000, 3),
+             (writes.documents_without_an_id, 50_000, 1)]
+GRANTED = 60 << 20
 SETTINGS = [("1", "1"), ("7", "1"), ("1", "2"), ("7", "2")]
-RUNS = 12
+EACH = ["first-write-and-query", "new-edits"]
+RUNS = 10
 
 
 def audit(messages):
@@ -53,16 +63,6 @@ class Talk:
         self.exchanges = conversation.exchanges
         said = [exchange.message for exchange in self.exchanges]
         self.messages = said + audit(said)
-        self.known = {}
-
-    def reply(self, kept, number):
-        """The reply to a message after those that are kept."""
-        if (kept, number) not in self.known:
-            database = Database()
-            for place in kept:
-                database.answer(self.messages[place])
-            self.known[kept, number] = database.answer(self.messages[number])
-        return self.known[kept, number]
 
     def model_faults(self):
         """The replies of the file that the model does not give."""
@@ -75,20 +75,19 @@ class Talk:
         """What is wrong with a run, none where it is right, and the numbers of the messages that were refused."""
         if (output, end) == (b"", ENDS["start"]):
             return None, ["start"]
-        kept, refused, at = (), [], 0
+        database, refused, at, count = Database(), [], 0, 0
         for number in range(len(self.messages)):
             if at == len(output):
                 break
+            count += 1
             if output.startswith(OUT_OF_MEMORY, at):
                 refused.append(number)
                 at += len(OUT_OF_MEMORY)
                 continue
-            wanted = self.reply(kept, number)
+            wanted = database.answer(self.messages[number])
             if not output.startswith(wanted, at):
                 return f"reply {number}: {output[at : at + 300]!r}\n    wanted {wanted[:300]!r}", refused
-            kept += (number,)
             at += len(wanted)
-        count = len(kept) + len(refused)
         ends = [ENDS["Eof"]] if count == len(self.messages) else []
         if refused and refused[-1] == count - 1:
             ends.append(ENDS["Refused"])
@@ -129,8 +128,9 @@ def check(refusal, program, talk, full, tally):
         step = 1 if full else max(1, requests(refusal, words, talk) // RUNS)
         faults, seen = [], set()
         for onward in (False, True):
-            begin = 1 if full else 1 + (2 * place + onward) * step // 8
-            found, refused = refuse_each(refusal, words, talk, onward, step, begin)
+            is_each = full or (talk.name in EACH and not onward and (shards, workers) == SETTINGS[-1])
+            begin = 1 if is_each else 1 + (2 * place + onward) * step // 8
+            found, refused = refuse_each(refusal, words, talk, onward, 1 if is_each else step, begin)
             faults += found
             seen |= refused
         tally.expect(f"{talk.name}, {shards} shards, {workers} workers", faults[:3], [])
@@ -138,6 +138,18 @@ def check(refusal, program, talk, full, tally):
             tally.expect(f"{talk.name}: what was refused in some run", seen >= {"start", 0}, True)
         else:
             tally.expect(f"{talk.name}: some message was refused", bool(seen), True)
+
+
+def limited(program, first, tally):
+    """Messages that need more memory than the system grants are refused, and what they took meanwhile is given back."""
+    few = lambda: resource.setrlimit(resource.RLIMIT_AS, (GRANTED, GRANTED))
+    database = Database()
+    wanted = b"".join(database.answer(message) for message in first.messages)
+    for make, size, count in TOO_LARGE:
+        given = make(size)[0] * 3 + b"".join(first.messages)
+        done = subprocess.run([program, "db", "1", "1", "1", "-"], input=given, capture_output=True, timeout=SECONDS, preexec_fn=few)
+        found = done.stdout == OUT_OF_MEMORY * 3 * count + wanted
+        tally.expect(f"{make.__name__} in little memory", (found, done.returncode, done.stderr), (True, 0, b""))
 
 
 def main():
@@ -149,6 +161,7 @@ def main():
     found = {talk.name: talk for file in sorted(FOLDER.glob("*.txt")) for talk in conversations_in(file)}
     names = args.only or NAMES
     tally = Tally()
+    limited(args.program, Talk(found[NAMES[0]]), tally)
     with refusals() as refusal:
         if refusal is None:
             print(f"no C compiler is here: {len(names)} conversations are left out")

@@ -219,7 +219,8 @@ def starts(refusal, words, tally):
 
 
 def first_reply(program, port, refusal):
-    """The reply to a client of a program that starts, nothing where it ended before; a client ends what is refused."""
+    """The reply to a client of a program that starts, nothing where it ended before. The first client ends what is refused; it may
+    have been refused memory itself."""
     while program.poll() is None:
         try:
             client = Wire(port)
@@ -229,7 +230,7 @@ def first_reply(program, port, refusal):
         refusal.reset()
         got = client.ask(LIST)
         client.close()
-        if got:
+        if got not in (b"", OUT_OF_MEMORY):
             return got
     return b""
 
