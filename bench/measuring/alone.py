@@ -1,4 +1,5 @@
 """What is measured of the program alone: workers, edits of one document, many clients, and readers beside a load."""
+import contextlib
 import json
 import multiprocessing
 import re
@@ -16,55 +17,57 @@ def workers(path, share):
     """A scan and a build over 16 shards with one worker and with four, by the clock."""
     corpus, rows = Corpus(max(BULK, int(100000 * share))), []
     for number in (1, 4):
-        program = Program(path, corpus, shards=16, workers=number)
-        load(program, corpus)
-        client = program.client()
-        asked = [(client.prepare(request), request.answer) for request in corpus.requests("scan", 10, 1)]
-        clock = run(client, asked)[1] / len(asked)
-        built = build(program, "kind")
+        with contextlib.closing(Program(path, corpus, shards=16, workers=number)) as program:
+            load(program, corpus)
+            client = program.client()
+            asked = [(client.prepare(request), request.answer) for request in corpus.requests("scan", 10, 1)]
+            clock = run(client, asked)[1] / len(asked)
+            built = build(program, "kind")
         title = f"{corpus.count:,} documents, 16 shards, workers {number}"
         rows.append((f"{title}: one document without an index, ms by the clock", f"{clock * 1e3:.1f}"))
         rows.append((f"{title}: an index on two fields, ms by the clock", f"{built.clock * 1e3:.1f}"))
-        program.close()
     return rows
 
 
+def edit_often(program, count):
+    """What so many edits of one document took, one a bulk."""
+    revision = None
+    before, clock = program.processor(), time.monotonic()
+    for number in range(count):
+        edit = {"_id": "one", "n": number, **({"_rev": revision} if revision else {})}
+        status, body = program.connection.exchange(message("POST", "_bulk_docs", {"docs": [edit]}))
+        revision = json.loads(body)[0].get("rev")
+        if status != b"201" or not revision:
+            raise SystemExit(f"an edit was answered by {status} {body}")
+    return Use(count, program.processor() - before, time.monotonic() - clock)
+
+
 def edits(path, share):
-    """Edits of one document, one a bulk."""
+    """Edits of one document."""
     rows = []
     for count in (int(2000 * share), int(4000 * share), int(8000 * share)):
-        program = Program(path, Corpus(BULK))
-        revision = None
-        before, clock = program.processor(), time.monotonic()
-        for number in range(count):
-            edit = {"_id": "one", "n": number, **({"_rev": revision} if revision else {})}
-            status, body = program.connection.exchange(message("POST", "_bulk_docs", {"docs": [edit]}))
-            revision = json.loads(body)[0].get("rev")
-            if status != b"201" or not revision:
-                raise SystemExit(f"an edit was answered by {status} {body}")
-        use = Use(count, program.processor() - before, time.monotonic() - clock)
-        rows.append((f"{count:,} edits of one document, us of processor each", f"{use.figures()['processor_us']:.0f}"))
-        program.close()
+        with contextlib.closing(Program(path, Corpus(BULK))) as program:
+            used = edit_often(program, count).figures()["processor_us"]
+        rows.append((f"{count:,} edits of one document, us of processor each", f"{used:.0f}"))
     return rows
 
 
 def crowd(path, share):
-    """`GET` and commits by 1, 4 and 16 clients."""
+    """`GET`, queries and commits by 1, 4 and 16 clients."""
     corpus, rows = Corpus(max(BULK, int(100000 * share))), []
-    program = Program(path, corpus, sessions=16)
-    load(program, corpus)
-    for which in INDEXES:
-        program.index(which)
-    program.connection.socket.close()
-    for kind, number in (("get", 20000), ("equality", 6000), ("commit", 4000)):
-        for clients in (1, 4, 16):
-            many = max(20, int(number * share))
-            figures = side_by_side(program, [corpus.requests(kind, many, f"{clients}-{one}") for one in range(clients)]).figures()
-            rows.append((f"{kind} by {clients} clients, a second (us of processor)", f"{figures['a_second']:,.0f} ({figures['processor_us']:.0f})"))
-            say(*rows[-1])
-    rows.extend(by_wrk(program))
-    program.close()
-    return rows
+    with contextlib.closing(Program(path, corpus, sessions=16)) as program:
+        load(program, corpus)
+        for which in INDEXES:
+            program.index(which)
+        program.connection.socket.close()
+        for kind, number in (("get", 20000), ("equality", 6000), ("commit", 4000)):
+            for clients in (1, 4, 16):
+                many = max(20, int(number * share))
+                lists = [corpus.requests(kind, many, f"{clients}-{one}") for one in range(clients)]
+                figures = side_by_side(program, lists).figures()
+                rows.append((f"{kind} by {clients} clients, a second (us of processor)", f"{figures['a_second']:,.0f} ({figures['processor_us']:.0f})"))
+                say(*rows[-1])
+        return rows + by_wrk(program)
 
 
 def by_wrk(program):
@@ -93,19 +96,19 @@ def load_on(program, first, stop):
 def beside(path, share):
     """How long a `GET` takes while another client loads."""
     corpus = Corpus(max(BULK, int(100000 * share)))
-    program, stop = Program(path, corpus), multiprocessing.Event()
-    load(program, corpus)
-    writer = multiprocessing.Process(target=load_on, args=(program, 2 * 10**7, stop), daemon=True)
-    writer.start()
-    time.sleep(0.2)
-    client, times = program.client(), []
-    for request in corpus.requests("get", max(1000, int(40000 * share)), 1):
-        text, start = client.prepare(request), time.monotonic()
-        client.ask(text, request.answer)
-        times.append(time.monotonic() - start)
-    stop.set()
-    writer.join()
-    program.close()
+    stop, times = multiprocessing.Event(), []
+    with contextlib.closing(Program(path, corpus)) as program:
+        load(program, corpus)
+        writer = multiprocessing.Process(target=load_on, args=(program, 2 * 10**7, stop), daemon=True)
+        writer.start()
+        time.sleep(0.2)
+        client = program.client()
+        for request in corpus.requests("get", max(1000, int(40000 * share)), 1):
+            text, start = client.prepare(request), time.monotonic()
+            client.ask(text, request.answer)
+            times.append(time.monotonic() - start)
+        stop.set()
+        writer.join()
     times.sort()
     return [(f"`GET` while bulks of {BULK:,} are loaded, ms, {title}", f"{times[len(times) * part // 100] * 1e3:.3f}")
             for title, part in (("median", 50), ("99th percentile", 99))]

@@ -74,8 +74,18 @@ def prepared_database(system, corpus, empty):
 def measure(make, corpus, share, clients, turn):
     """The figures of one database, made, measured and ended."""
     system = make(corpus)
-    rows = prepared_database(system, corpus, system.size())
-    tell(system, corpus, rows)
+    try:
+        rows = prepared_database(system, corpus, system.size())
+        tell(system, corpus, rows)
+        rows.update(requests(system, corpus, share, clients, turn))
+    finally:
+        system.close()
+    return system.name, rows
+
+
+def requests(system, corpus, share, clients, turn):
+    """The figures of each kind of request, by each number of clients."""
+    rows = {}
     if max(clients) > 1:
         system.share()
     for kind in REQUESTS:
@@ -85,8 +95,7 @@ def measure(make, corpus, share, clients, turn):
             figures = rows[f"{kind} {number}"] = processes.measured(system, lists).figures()
             say(f"{corpus.count:,} documents, {system.name}, clients {number}, {kind}: {figures['processor_us']:.1f} us of processor, "
                 f"{figures['a_second']:,.0f} a second")
-    system.close()
-    return system.name, rows
+    return rows
 
 
 def tell(system, corpus, rows):
