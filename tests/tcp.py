@@ -53,21 +53,33 @@ def free_port():
         return server.getsockname()[1]
 
 
+def started(words, sessions, environment):
+    """A new program of so many sessions that listens, and its port; another port where somebody else took it meanwhile."""
+    for _ in range(3):
+        port = free_port()
+        command = [words.program, "db", str(words.shards), str(words.workers), str(sessions), f"127.0.0.1:{port}"]
+        program = subprocess.Popen(command, stdin=subprocess.DEVNULL, stdout=subprocess.PIPE, stderr=subprocess.PIPE, env=environment)
+        line = program.stderr.readline()
+        if line == b"mangod: listening\n":
+            return program, port
+        program.kill()
+        program.communicate()
+        if line != b"mangod: cannot listen\n":
+            break
+    sys.exit("the program does not listen")
+
+
 @contextlib.contextmanager
 def listening(words, sessions, environment=None):
     """The port of a new program of so many sessions, which is ended afterwards."""
-    port = free_port()
-    command = [words.program, "db", str(words.shards), str(words.workers), str(sessions), f"127.0.0.1:{port}"]
-    program = subprocess.Popen(command, stdin=subprocess.DEVNULL, stdout=subprocess.PIPE, stderr=subprocess.PIPE, env=environment)
+    program, port = started(words, sessions, environment)
     try:
-        if program.stderr.readline() != b"mangod: listening\n":
-            sys.exit("the program does not listen")
         yield port
         if program.poll() is not None:
             sys.exit(f"the program ended with status {program.returncode}")
     finally:
         program.kill()
-        program.wait()
+        program.communicate()
 
 
 def connect(port):
