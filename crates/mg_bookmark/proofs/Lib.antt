@@ -1,2 +1,3 @@
 mod Spellings
 mod Readings
+mod Carried

@@ -1,11 +1,12 @@
 -- Bookmarks of a page, as in CouchDB's `_find`: a JSON array of what a page ended with, spelled in the URL-safe base64 of
 -- RFC 4648, which is not padded here. Which array that is, is this project's own choice.
-use Rattle.std.specs.Prelude.{◌≡◌, ℕ, List, codes, Option, Some, None, option_map, option_and_then, if◌then◌else◌}
-use Rattle.std.specs.Str.{bytes_eq, is_utf8}
+use Rattle.std.specs.Prelude.{◌≡◌, ℕ, ◌≤◌, List, [], codes, Option, Some, None, option_map, option_and_then, unwrap_or, if◌then◌else◌}
+use Rattle.std.specs.Str.{IsUtf8, bytes_eq, is_utf8}
 use Rattle.base64.specs.GeneralPurpose.{decoded_of, encode_of}
 use Rattle.base64.specs.Engines.{url_safe_no_pad}
 use Rattle.serde_json.specs.Read.{read}
-use Rattle.mg_value.specs.Value.{Value, null, text, list, Items, item, no_items}
+use Rattle.mg_value.specs.Value.{Value, null, text, list, Items, item, no_items, items_depth}
+use Rattle.mg_value.specs.Held.{ItemsAreHeld}
 use Rattle.mg_value.specs.Text.{Reads, compact, whole_of}
 use Rattle.mg_collate.specs.declared.direction.Direction.{Direction}
 use Rattle.mg_collate.specs.declared.direction.Direction.TheVariants.{Asc, Desc}
@@ -40,6 +41,16 @@ spelled p = encode_of url_safe_no_pad (compact (place_value p))
 -- it nests at most 127 deep
 abbrev pub Spells : List ℕ → Place → Type 0
 Spells t p = (t ≡ spelled p) × Reads (compact (place_value p)) (place_value p)
+
+-- the place is one that JSON text carries: the values of its key nest at most 125 deep, two less than a text that can be read, since the
+-- array has them in an array; the key's numbers are i64, and its objects have their names in order; and each text is UTF-8
+pub record CanBeSpelled (p : Place) : Type 0 where
+  pub shallow : items_depth p.key ≤ 125
+  pub held : ItemsAreHeld p.key
+  pub key : IsUtf8 (compact (list p.key))
+  pub ddoc : IsUtf8 (unwrap_or p.ddoc [])
+  pub name : IsUtf8 p.name
+  pub id : IsUtf8 p.id
 
 -- ---- reading a spelling
 

@@ -36,7 +36,8 @@ follows q r = option_map_or (λ p. is_gt (directed_order q.direction r (p.key, p
 abbrev pub is_wanted_by : Query → List Steps → RowValue → Bool
 is_wanted_by q columns r = has_key (range_of (atoms_of q.selector) columns) (item_list r.0) && follows q r
 
-all_found_by : RangesAreComplete → (q : Query) (columns : List Steps) (holds : Option Value → Bool) → ((x : Option Value) → holds x ≡ holds_in q.selector Plain x) → is_usable (atoms_of q.selector) q.sort columns ≡ true
+-- each of these has, where it is found, the one row that the query finds of it, and none otherwise
+pub all_found_by : RangesAreComplete → (q : Query) (columns : List Steps) (holds : Option Value → Bool) → ((x : Option Value) → holds x ≡ holds_in q.selector Plain x) → is_usable (atoms_of q.selector) q.sort columns ≡ true
     → (cs : List Candidate) → AreWhole cs
     → AllByRecursion (IsFoundBy (row_by columns) document (is_asked q) (follows q) (rows_asked (λ d. holds (Some d.1)) (row_of columns) (is_wanted_by q columns))) cs
 all_found_by complete q columns holds same usable [] h = tt

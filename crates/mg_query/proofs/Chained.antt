@@ -22,7 +22,7 @@ use Rattle.mg_index.specs.Choice.{Source}
 use Rattle.mg_index.specs.Definition.{Steps}
 use Rattle.mg_merge.specs.Merged.{joined}
 use Rattle.mg_shard.proofs.Shown.{bytes_cmp}
-use Rattle.mg_query.specs.Laws.{AreChained, CanBeReadBack, PagesJoin, beginning_after, place_at}
+use Rattle.mg_query.specs.Laws.{AreChained, CanBeReadBack, PagesReadBackJoin, beginning_after, place_at}
 use Rattle.mg_query.specs.Page.{Candidate, bookmark_after, candidate_of, candidates_of, columns_of, is_asked, order_by, page_rows, row_by}
 use Rattle.mg_query.specs.Query.{Query}
 use Rattle.mg_query.proofs.Candidates.{shown_first}
@@ -212,8 +212,8 @@ all_after_none : (cs : List Candidate) → filter (λ c. true) cs ≡ cs
 all_after_none [] = refl
 all_after_none (c ∷ cs) = ap (λ xs. c ∷ xs) (all_after_none cs)
 
-pub pages_join : PagesJoin
-pages_join s q hs pages skipped limit back chained =
+pub pages_that_read_back_join : PagesReadBackJoin
+pages_that_read_back_join s q hs pages skipped limit back chained =
     let cs = candidates_of hs in
     let order = order_by (columns_of s) q.direction in
     let asked = filter (is_asked q) cs in

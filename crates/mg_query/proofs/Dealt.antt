@@ -91,7 +91,7 @@ module _ {E D : Type 0} (f : E → ℕ) (g : E → Option D) where
 
 -- ---- the entries of the histories of a shard
 
-entries_kept : (hs : Histories) (p : List ℕ → Bool) → entries (retain_keys hs p) ≡ where_key bytes_cmp p (entries hs)
+pub entries_kept : (hs : Histories) (p : List ℕ → Bool) → entries (retain_keys hs p) ≡ where_key bytes_cmp p (entries hs)
 entries_kept hs p =
     let alike = λ (q : List ℕ) (x : List ℕ) (t : bytes_cmp q x ≡ Equal). ap p (sym (bytes_exact q x t)) in
     same_entries bytes_cmp nat_list_cmp_total bytes_exact (entries (retain_keys hs p)) (where_key bytes_cmp p (entries hs)) (entries_sorted (retain_keys hs p)) (is_sorted-where_key bytes_cmp p (entries hs) (entries_sorted hs))

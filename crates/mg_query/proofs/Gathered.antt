@@ -83,7 +83,7 @@ module _ {X : Type 0} (f : X → RowValue) (document : X → Document) (picked :
   rows_of_found (x ∷ xs) h = ap₂ (λ rs ss. rs ++ ss) h.0 (rows_of_found xs h.1) ∙ found_first x xs (picked x)
 
   -- the rows of all documents are those of the candidates that are found, in their order
-  all_found : (direction : Direction) (xs : List X) → AllByRecursion IsFoundBy xs
+  pub all_found : (direction : Direction) (xs : List X) → AllByRecursion IsFoundBy xs
       → rows_of direction rows (map document xs) ≡ map f (filter (λ x. after (f x)) (sorted (λ x y. directed_order direction (f x) (f y)) (filter picked xs)))
   all_found direction xs h =
       ap (sorted_rows direction) (rows_of_found xs h)

@@ -106,7 +106,7 @@ module _ (q : Query) (columns : List Steps) (normal : NormalForm) (is : IsNormal
   abbrev listed_here : List Document → List RowValue
   listed_here ds = listed asked_here (row_of columns) (is_wanted_by q columns) q.direction ds
 
-  shard_listed : (s : ShardView) → shard_rows normal columns q s ≡ take most (listed_here (docs_of s.documents))
+  pub shard_listed : (s : ShardView) → shard_rows normal columns q s ≡ take most (listed_here (docs_of s.documents))
   shard_listed s =
       ap (take most)
       (filter_agree (λ r. has_key (range_of (normal_atoms normal) columns) (item_list r.0) && option_map_or (λ p. is_gt (directed_order q.direction r p)) (option_map row_at q.bookmark) true) (is_wanted_by q columns)

@@ -13,5 +13,6 @@ pub mod Chained
 pub mod Kept
 pub mod Listed
 pub mod Handed
+pub mod Counts
 pub mod Lent
 pub mod Showing

@@ -1,11 +1,11 @@
--- The page that the code's stands for, its text, and what the code looks at for it.
+-- The page that the code's stands for, its text, and what shards hand over for it.
 use Rattle.std.specs.Prelude.{◌≡◌, ℕ, ◌+◌, ◌≤◌, ◌==◌, Bool, not, ◌&&◌, List, length, map, min, string_bytes, All, option_map, Result, Ok, Err}
-use Rattle.std.specs.List.{AllZip, sum}
+use Rattle.std.specs.List.{AllZip, range_with_len, sum}
 use Rattle.mg_value.specs.Text.{compact}
 use Rattle.mg_value.specs.View.{view}
 use Rattle.mg_collate.specs.Row.{RowValue}
 use Rattle.mg_bookmark.specs.Bookmark.{Place}
-use Rattle.mg_index.specs.Definition.{Steps}
+use Rattle.mg_index.specs.Definition.{IndexDefinition, Steps}
 use Rattle.mg_merge.specs.Work.{Hand}
 use Rattle.mg_normal.specs.Normal.{NormalForm, normal_atoms}
 use Rattle.mg_range.specs.Range.{range_of}
@@ -14,9 +14,11 @@ use Rattle.mg_scan.specs.Found.{asked}
 use Rattle.mg_scan.specs.Hit.{hit_document, hit_form, hit_row, hit_text}
 use Rattle.mg_scan.specs.Scan.{scanned}
 use Rattle.mg_scan.specs.declared.hit.Hit.{Hit}
+use Rattle.mg_shard.specs.Dealt.{Placing, histories_on}
 use Rattle.mg_shard.specs.Documents.{docs_of, kept_of}
+use Rattle.mg_shard.specs.Histories.{Histories}
 use Rattle.mg_shard.specs.Shard.{ShardView}
-use Rattle.mg_query.specs.Page.{Candidate, Page, Unanswered, page_value, row_by}
+use Rattle.mg_query.specs.Page.{Candidate, Page, Unanswered, candidates_of, columns_of, found, if_served, page_value, row_by, served_by}
 use Rattle.mg_query.specs.Query.{Query}
 use Rattle.mg_query.specs.declared.shown.Page as code
 
@@ -34,6 +36,19 @@ pub record IsWithin (count most : ℕ) (work : Hand) : Type 0 where
   pub shards : length work.handed ≡ count
   pub handed : All (λ n. n ≤ most) work.handed
   pub taken : work.taken ≡ min most (sum work.handed)
+
+-- how many rows a shard hands over for a query, where these are the histories of its documents: as many as the query finds there, and
+-- no more than the page passes over and may have
+abbrev pub count_handed : List Steps → Query → Histories → ℕ
+count_handed columns q hs = min (q.skip + q.limit) (length (found columns q (candidates_of hs)))
+
+-- how many rows each of n shards hands over, of the documents that are placed on it
+abbrev pub counts_handed : List Steps → Query → Placing → ℕ → Histories → List ℕ
+counts_handed columns q place n hs = map (λ i. count_handed columns q (histories_on place n i hs)) (range_with_len 0 n)
+
+-- the same in the index that serves the query, or why the query is not answered
+abbrev pub handed_of : List IndexDefinition → Query → Placing → ℕ → Histories → Result (List ℕ) Unanswered
+handed_of ds q place n hs = if_served (λ s. counts_handed (columns_of s) q place n hs) (served_by ds q)
 
 -- ---- for private clauses
 

@@ -6,7 +6,7 @@ ghost use Rattle.mg_shard.specs.Shard.{shards_seen};
 ghost use Rattle.mg_shard.specs.Dealt.{Placing, ShardsStandFor};
 ghost use Rattle.mg_shard.specs.Histories.{Histories};
 ghost use Rattle.mg_query.specs.Page.{Candidate, answer_of, bookmark_after, candidates_of, columns_of, shown_of};
-ghost use Rattle.mg_query.specs.Paged.{IsWithin, LendEach, page_seen, text_of};
+ghost use Rattle.mg_query.specs.Paged.{IsWithin, LendEach, handed_of, page_seen, text_of};
 ghost use Rattle.mg_query.specs.Seen.{query_seen};
 ghost use Rattle.mg_query.specs.Served.{Answers, AreWhole, source_seen};
 
@@ -26,9 +26,9 @@ use std::sync::Arc;
 use std::thread::Threads;
 
 /// The page that answers a query over the indexes of the catalog, which each shard has to have, and how many rows each
-/// shard handed over for it: at most as many as the page passes over and may have, together. What it is does not rest
-/// on the number of workers, from 1 to 32, nor on how documents are placed on shards. The gate is passed before a
-/// shard's first row is read and after its last.
+/// shard handed over for it: all that the query finds there, or as many as the page passes over and may have, together,
+/// where these are fewer. What it is does not rest on the number of workers, from 1 to 32, nor on how documents are
+/// placed on shards. The gate is passed before a shard's first row is read and after its last.
 ///
 /// Errors: `NoUsableIndex` where no index serves the query, then `BadBookmark` where its bookmark is of another index
 /// or direction; `NoMemory` where a growth was refused.
@@ -52,6 +52,10 @@ pub fn page<R: Threads + Sync, G: Gate + Sync>(
         (answer_of catalog.now (query_seen query.now) (candidates_of hs)) }
     ensures work { IfOk result
         (λ r. IsWithin (length shards.now) (query.now.skip + query.now.limit) r.1) }
+    ensures handed { (place : Placing) (hs : Histories)
+        → ShardsStandFor place (shards_seen shards.now) hs → AreWhole (candidates_of hs)
+        → Answers (λ r. r.1.handed) result
+        (handed_of catalog.now (query_seen query.now) place (length shards.now) hs) }
 {
     let found = find(rt, alloc, query, catalog, shards, workers, gate)?;
     let hits = after_skip(&found.hits, query.skip);
@@ -81,6 +85,10 @@ pub fn page_text<R: Threads + Sync, G: Gate + Sync>(
         (text_of (answer_of catalog.now (query_seen query.now) (candidates_of hs))) }
     ensures work { IfOk result
         (λ r. IsWithin (length shards.now) (query.now.skip + query.now.limit) r.1) }
+    ensures handed { (place : Placing) (hs : Histories)
+        → ShardsStandFor place (shards_seen shards.now) hs → AreWhole (candidates_of hs)
+        → Answers (λ r. r.1.handed) result
+        (handed_of catalog.now (query_seen query.now) place (length shards.now) hs) }
 {
     let found = find(rt, alloc, query, catalog, shards, workers, gate)?;
     let hits = after_skip(&found.hits, query.skip);

@@ -9,7 +9,7 @@ ghost use Rattle.mg_selector.specs.View.{selector_of};
 ghost use Rattle.mg_shard.specs.Dealt.{Placing, ShardsStandFor};
 ghost use Rattle.mg_shard.specs.Histories.{Histories};
 ghost use Rattle.mg_query.specs.Page.{candidates_of, columns_of, page_rows, served_by as served_of};
-ghost use Rattle.mg_query.specs.Paged.{IsWithin, LendEach, row_at, shard_rows};
+ghost use Rattle.mg_query.specs.Paged.{IsWithin, LendEach, counts_handed, row_at, shard_rows};
 ghost use Rattle.mg_query.specs.Seen.{query_seen};
 ghost use Rattle.mg_query.specs.Served.{Answers, AreWhole, IsListed, source_seen};
 
@@ -57,6 +57,10 @@ pub(crate) fn find<'a, R: Threads + Sync, G: Gate + Sync>(
         (page_rows (columns_of (source_seen f.source)) (query_seen query.now) (candidates_of hs))) }
     ensures work { IfOk result
         (λ f. IsWithin (length shards.now) (query.now.skip + query.now.limit) f.work) }
+    ensures handed { IfOk result (λ f. (place : Placing) (hs : Histories)
+        → ShardsStandFor place (shards_seen shards.now) hs → AreWhole (candidates_of hs)
+        → f.work.handed ≡ counts_handed (columns_of (source_seen f.source)) (query_seen query.now)
+        place (length shards.now) hs) }
 {
     ranges_are_complete();
     let normal = Normal::of(alloc, &query.selector)?;

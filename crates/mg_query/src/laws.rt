@@ -1,9 +1,18 @@
 //! Laws of pages, each the contract of a function that does nothing.
-ghost use Rattle.mg_query.specs.Laws.{PagesJoin};
+ghost use Rattle.mg_query.specs.Laws.{PagesJoin, PagesReadBackJoin};
+
+use mg_bookmark::laws::what_is_spelled_is_read;
 
 /// Where nothing is passed over and the limit is at least 1, the pages that follow one another by their bookmarks,
-/// until one is empty, join to all documents that the query finds, in order. Each bookmark has to be one that is read
-/// back as the place that it spells.
+/// until one is empty, join to all documents that the query finds, in order. The values of each document's key have to
+/// nest at most 125 deep, and all texts to be UTF-8.
 pub fn pages_join()
     ensures { PagesJoin }
+{
+    what_is_spelled_is_read();
+}
+
+/// The same where each bookmark is read back as the place that it spells, with nothing said of the keys.
+pub fn pages_that_read_back_join()
+    ensures { PagesReadBackJoin }
 {}

@@ -4,3 +4,4 @@ mod Whole
 mod Texts
 mod Written
 mod Trees
+pub mod Compact

@@ -7,9 +7,10 @@ use Rattle.mg_shard.specs.Shard.{shards_seen}
 use Rattle.mg_scan.specs.Hit.{hit_row}
 use Rattle.mg_scan.specs.declared.hit.Hit.{Hit}
 use Rattle.mg_query.specs.Page.{candidates_of, columns_of, page_rows}
-use Rattle.mg_query.specs.Paged.{IsWithin, LendEach}
+use Rattle.mg_query.specs.Paged.{IsWithin, LendEach, counts_handed}
 use Rattle.mg_query.specs.Seen.{query_seen}
 use Rattle.mg_query.specs.Served.{source_seen}
+use Rattle.mg_query.proofs.Counts.{handed_counts}
 use Rattle.mg_query.proofs.Handed.{handed_in_order, handed_within, merged_same, rows_handed}
 use Rattle.mg_query.proofs.Lent.{lend_page}
 use Rattle.mg_query.proofs.Serving.{choice_served}
@@ -46,3 +47,16 @@ returns-clause-work g c =
     subst (λ n. IsWithin n (q.skip + q.limit) c.in_ok-hits.work) (length-map c.args.shards.now arc_value)
     (handed_within q columns c.in_ok-normal.normal c.in_ok-normal.ensures lists (shards_seen c.args.shards.now) c.in_ok-lists.ensures.rows c.in_ok-hits.hits.items merge c.in_ok-hits.work
     (c.in_ok-hits.ensures.handed ∙ ap (map (λ (l : Vec Hit Global). length l.items)) c.deref.ensures.value) c.in_ok-hits.ensures.taken)
+
+pub returns-clause-handed : goal.returns-clause-handed
+returns-clause-handed g c = λ place hs stands whole.
+    let q = query_seen c.args.query.now in
+    let ds = c.args.catalog.now in
+    let s = source_seen c.in_ok-source.source in
+    let columns = columns_of s in
+    let shards = shards_seen c.args.shards.now in
+    let lists = c.in_ok-lists.lists.items in
+    let usable = choice_usable ds (atoms_of q.selector) q.sort q.hint s (choice_served ds q s c.in_ok-source.ensures.answers) in
+    c.in_ok-hits.ensures.handed ∙ ap (map (λ (l : Vec Hit Global). length l.items)) c.deref.ensures.value
+    ∙ handed_counts c.ranges_are_complete.ensures q columns c.in_ok-normal.normal c.in_ok-normal.ensures usable place shards hs stands whole lists c.in_ok-lists.ensures.rows
+    ∙ ap (λ n. counts_handed columns q place n hs) (length-map c.args.shards.now arc_value)

@@ -1,13 +1,12 @@
 use Rattle.std.proofs.Common.{◌≡◌, [], ◌++◌, sym, ap, ◌∙◌, subst}
 use Rattle.std.specs.Str.{IsUtf8}
-use Rattle.json.specs.Lex.{tokens}
 use Rattle.json.specs.Print.{print}
 use Rattle.serde_json.proofs.Texts.{print-outline}
 use Rattle.mg_value.specs.Held.{tokens_of}
-use Rattle.mg_value.specs.Text.{data_of}
+use Rattle.mg_value.specs.Text.{Reads, compact, data_of}
 use Rattle.mg_value.specs.View.{view}
+use Rattle.mg_value.proofs.Compact.{reads_compact}
 use Rattle.mg_value.proofs.Texts.{compact_text-data_of}
-use Rattle.mg_value.proofs.Written.{read-tokens_of, whole_of-data_of}
 use Rattle.mg_value.proofs.writer.write.Goals as goal
 
 -- what the buffer held at the start was nothing
@@ -21,9 +20,9 @@ returns-clause-text c =
 pub returns-clause-reads_back : goal.returns-clause-reads_back
 returns-clause-reads_back c shallow =
     let v = view c.args.value.now in
-    let held = c.in_ok-write_value.ensures.held in
     let written : c.write_value.new.out.tokens ≡ tokens_of v = c.in_ok-write_value.ensures.tokens ∙ ap (λ ts. ts ++ tokens_of v) c.new-out.ensures.tokens in
     let before : c.write_value.new.out.before ≡ [] = c.write_value.ensures.before ∙ c.new-out.ensures.before ∙ c.in_ok-with_capacity.ensures.items in
-    let bytes : c.into_inner.result.items ≡ print c.write_value.new.out.tokens = c.into_inner.ensures.items ∙ ap (λ b. b ++ print c.write_value.new.out.tokens) before in
-    let same : tokens c.into_inner.result.items ≡ tokens_of v = ap tokens bytes ∙ c.into_inner.ensures.reads_back ∙ written in
-    (data_of v, (subst IsUtf8 (sym bytes) c.into_inner.ensures.utf8, read-tokens_of v c.into_inner.result.items same held shallow), whole_of-data_of v held)
+    let printed : print c.write_value.new.out.tokens ≡ compact v = ap print written ∙ print-outline (data_of v) ∙ compact_text-data_of v in
+    let text : c.into_inner.result.items ≡ compact v = c.into_inner.ensures.items ∙ ap (λ b. b ++ print c.write_value.new.out.tokens) before ∙ printed in
+    let read = reads_compact v c.in_ok-write_value.ensures.held shallow (subst IsUtf8 printed c.into_inner.ensures.utf8) in
+    subst (λ bytes. Reads bytes v) (sym text) read
