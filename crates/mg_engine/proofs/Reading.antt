@@ -1,5 +1,5 @@
 -- Edits that are read one after another.
-use Rattle.std.proofs.Common.{◌≡◌, List, [], ◌∷◌, ◌++◌, Bool, true, false, ◌&&◌, Result, Ok, Err, refl, sym, ap, append-nil, append_assoc}
+use Rattle.std.proofs.Common.{◌≡◌, List, [], ◌∷◌, ◌++◌, Result, Ok, Err, refl, sym, ap, append-nil, append_assoc}
 use Rattle.mg_doc.specs.Document.{Edit, then_read}
 use Rattle.mg_doc.specs.declared.error.DocError.{DocError}
 

@@ -1,6 +1,6 @@
 -- Reshards among other commands: they change no other reply, and leave the same world.
 use Rattle.std.proofs.Common.{◌≡◌, List, [], ◌∷◌, refl, ap}
-use Rattle.mg_engine.specs.Commands.{Asked, Answer, bulk, create_index, drop_index, list_indexes, find, explain, get, reshard, next, replies_of, reply_of, world_after}
+use Rattle.mg_engine.specs.Commands.{Asked, bulk, create_index, drop_index, list_indexes, find, explain, get, reshard, next, replies_of, reply_of, world_after}
 use Rattle.mg_engine.specs.Laws.{other_answers, without_reshards}
 use Rattle.mg_engine.specs.World.{World}
 

@@ -1,7 +1,6 @@
 -- Refusals of a query that was not read, or is not answered, as they are told.
 use Rattle.std.proofs.Common.{◌≡◌, ℕ, List, [], ◌∷◌, ◌++◌, Result, Ok, Err, sym, ap, ◌∙◌}
 use Rattle.mg_value.specs.Value.{Value}
-use Rattle.mg_value.specs.Text.{compact}
 use Rattle.mg_query.specs.Page.{Page, Unanswered, page_value}
 use Rattle.mg_query.specs.Paged.{text_of}
 use Rattle.mg_query.specs.Query.{Query}

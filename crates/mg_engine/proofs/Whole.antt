@@ -1,25 +1,24 @@
 -- Documents stay objects, and what is served of one has its id and its revision.
-use Rattle.std.proofs.Common.{◌≡◌, ℕ, Bool, true, false, cond, ◌||◌, List, [], ◌∷◌, ◌++◌, Option, Some, None, option_map, option_to_list, option_and_then, unwrap_or, is_some, codes, Result, Ok, Err, Ordering, Less, Equal, Greater, refl, sym, ap, ◌∙◌, subst}
+use Rattle.std.proofs.Common.{◌≡◌, ℕ, Bool, true, false, cond, List, [], ◌∷◌, ◌++◌, Option, Some, None, option_map, option_to_list, option_and_then, unwrap_or, is_some, codes, Result, Ok, Err, Ordering, Less, Equal, Greater, refl, sym, ap, ◌∙◌, subst}
 use Rattle.std.proofs.lemmas.Cmp.{nat_list_cmp_total, tied_itself}
 use Rattle.std.specs.Cmp.Lexicographic.{slice_cmp}
 use Rattle.std.specs.FinMap as finite
-use Rattle.std.specs.FinMap.{entries, get, get-empty, get-insert, insert}
+use Rattle.std.specs.FinMap.{get, get-empty, get-insert}
 use Rattle.std.specs.List.{AllByRecursion, filter_map}
-use Rattle.std.specs.Option.{IsSome}
 use Rattle.std.specs.Ordering.{eq_by_cmp, is_lt, match_ordering, nat_cmp}
 use Rattle.mg_value.specs.Value.{Value, null, flag, whole, text, list, object, Items, no_items, item, Members, no_members, member, get_member, put, with_member}
 use Rattle.mg_doc.specs.Document.{Edit, change_given, edit_of, id_of, is_object, mark_read, members_read, or_fault, own_members, then_read}
 use Rattle.mg_doc.specs.declared.change.Change.{Change}
 use Rattle.mg_doc.specs.Edit.{Accepted, accepted_by, edited, history_after}
-use Rattle.mg_doc.specs.Served.{served_form, served_of, shown_leaf}
+use Rattle.mg_doc.specs.Served.{served_form, shown_leaf}
 use Rattle.mg_doc.specs.declared.error.DocError.{DocError}
 use Rattle.mg_doc.specs.declared.error.DocError.TheVariants.{BadId, BadRev}
 use Rattle.mg_doc.specs.declared.error.Refused.{Refused}
 use Rattle.mg_range.specs.Laws.{Has}
 use Rattle.mg_index.specs.Choice.{id_path, rev_path}
 use Rattle.mg_path.specs.Part.{part_of}
-use Rattle.mg_query.specs.Page.{Candidate, candidate_of, candidates_of}
-use Rattle.mg_query.specs.Served.{AreWhole, IsWhole}
+use Rattle.mg_query.specs.Page.{Candidate, candidates_of}
+use Rattle.mg_query.specs.Served.{AreWhole}
 use Rattle.mg_query.proofs.Candidates.{shown_first}
 use Rattle.mg_query.proofs.Kept.{IsKnown, all_known}
 use Rattle.mg_revtree.specs.History.{History, Leaf, Path, all_links, better_of, best_from, best_of, has_child, is_at, leaf_of, leaf_order, marked, newest_of, tip_of, winner_of}
@@ -27,7 +26,7 @@ use Rattle.mg_revtree.specs.Revision.{Revision, revision_text}
 use Rattle.mg_shard.specs.Edits.{after_edit, after_edits, history_put, id_in, outcome_in}
 use Rattle.mg_shard.specs.Histories.{Histories, history_at}
 use Rattle.mg_shard.proofs.Shown.{bytes_cmp}
-use Rattle.mg_engine.specs.Bulk.{edits_of, edits_or_refusal, named, number_with, numbered}
+use Rattle.mg_engine.specs.Bulk.{edits_of, edits_or_refusal, number_with, numbered}
 use Rattle.mg_engine.specs.declared.refusal.Refusal.{Refusal}
 use Rattle.mg_engine.specs.Objects.{BringObjects, HasObjects, HaveObjects}
 

@@ -1,7 +1,6 @@
 -- What each command answers and which world it leaves: the whole behaviour of the database, for one caller.
 use Rattle.std.specs.Prelude.{ℕ, List, [], ◌∷◌, Bool, true, false, codes, Option, Some, None, is_some, option_map, unwrap_or, Result, Ok, Err, if◌then◌else◌}
 use Rattle.std.specs.FinMap as finite
-use Rattle.std.specs.Option.{option_map_or}
 use Rattle.mg_value.specs.Value.{Value, list}
 use Rattle.mg_revtree.specs.History.{History}
 use Rattle.mg_doc.specs.Conflicts.{with_conflicts_of}
@@ -15,7 +14,7 @@ use Rattle.mg_index.specs.declared.error.IndexError.{IndexError}
 use Rattle.mg_index.specs.declared.error.IndexError.TheVariants as index_fault
 use Rattle.mg_shard.specs.Edits.{after_edits, outcomes}
 use Rattle.mg_query.specs.Query.{Query, query_of}
-use Rattle.mg_query.specs.Page.{Page, Unanswered, no_usable_index, bad_bookmark, answer_of, candidates_of, page_value}
+use Rattle.mg_query.specs.Page.{Unanswered, no_usable_index, bad_bookmark, answer_of, candidates_of, page_value}
 use Rattle.mg_query.specs.Explain.{explanation_of}
 use Rattle.mg_query.specs.declared.error.QueryError.{QueryError}
 use Rattle.mg_query.specs.declared.error.QueryError.TheVariants as query_fault

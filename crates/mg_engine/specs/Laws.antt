@@ -1,7 +1,7 @@
 -- What holds of resharding, for every world and every list of commands.
 use Rattle.std.specs.Prelude.{◌≡◌, List, [], ◌∷◌, Bool, true, false, if◌then◌else◌}
 use Rattle.mg_engine.specs.World.{World}
-use Rattle.mg_engine.specs.Commands.{Asked, Answer, bulk, create_index, drop_index, list_indexes, find, explain, get, reshard, replies_of, world_after}
+use Rattle.mg_engine.specs.Commands.{Asked, Answer, reshard, replies_of, world_after}
 
 -- whether a command asks for another number of shards
 abbrev pub is_reshard : Asked → Bool

@@ -1,5 +1,5 @@
 -- Which replies are no refusal, and which state a command on indexes leaves.
-use Rattle.std.specs.Prelude.{◌≡◌, ℕ, List, Bool, true, false, ◌||◌, ◌==◌, map, Option, None, is_some, Result, Ok, Err}
+use Rattle.std.specs.Prelude.{◌≡◌, ℕ, List, Bool, false, ◌||◌, ◌==◌, map, Option, None, is_some, Result, Ok, Err}
 use Rattle.std.specs.Option.{option_map_or}
 use Rattle.mg_index.specs.Catalog.{with_definition, without_definition}
 use Rattle.mg_index.specs.Definition.{IndexDefinition}

@@ -1,8 +1,7 @@
 -- What clauses see of a state, and of shards while a bulk is applied.
-use Rattle.std.specs.Prelude.{◌≡◌, ◌<◌, ℕ, List, [], ◌∷◌, length, map, string_bytes}
+use Rattle.std.specs.Prelude.{◌≡◌, ◌<◌, List, [], ◌∷◌, length, map, string_bytes}
 use Rattle.std.specs.Arc.{arc_value}
 use Rattle.std.specs.FinMap as finite
-use Rattle.mg_index.specs.Definition.{IndexDefinition}
 use Rattle.mg_shard.specs.Documents.{StandFor}
 use Rattle.mg_shard.specs.Draft.{DraftStandsFor, DraftView}
 use Rattle.mg_shard.specs.Histories.{Histories}

@@ -2,7 +2,7 @@ use Rattle.std.proofs.Common.{◌≡◌, Err, List, sym, subst}
 use Rattle.mg_index.specs.Definition.{IndexDefinition}
 use Rattle.mg_query.specs.Page.{answer_of, candidates_of, page_value}
 use Rattle.mg_query.specs.Seen.{query_seen}
-use Rattle.mg_engine.specs.Commands.{Answer, told_or_refused}
+use Rattle.mg_engine.specs.Commands.{told_or_refused}
 use Rattle.mg_engine.specs.Faults.{of_page}
 use Rattle.mg_engine.specs.Told.{Tells}
 use Rattle.mg_engine.specs.declared.fault.Fault.{Fault}

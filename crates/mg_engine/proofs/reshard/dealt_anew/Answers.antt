@@ -1,4 +1,4 @@
-use Rattle.std.proofs.Common.{◌≡◌, List, sym, subst}
+use Rattle.std.proofs.Common.{List, sym, subst}
 use Rattle.mg_shard.specs.Dealt.{ShardsStandFor}
 use Rattle.mg_shard.specs.Shard.{ShardView, shards_seen}
 use Rattle.mg_engine.specs.Stands.{HaveRows}

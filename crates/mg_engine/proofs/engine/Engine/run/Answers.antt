@@ -1,4 +1,4 @@
-use Rattle.std.proofs.Common.{ap, refl, ◌∙◌, ◌+◌}
+use Rattle.std.proofs.Common.{ap, ◌+◌}
 use Rattle.mg_engine.specs.View.{asked, said}
 use Rattle.mg_engine.specs.Stands.{Stands, Shown, shard_count}
 use Rattle.mg_engine.proofs.Numbers.{is_number_then, number_after, number_here}

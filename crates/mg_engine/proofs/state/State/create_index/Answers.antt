@@ -1,4 +1,4 @@
-use Rattle.std.proofs.Common.{◌≡◌, Some, sym, ap, ◌∙◌, subst}
+use Rattle.std.proofs.Common.{Some, sym, ap, ◌∙◌, subst}
 use Rattle.mg_value.specs.View.{view}
 use Rattle.mg_index.specs.Reading.{definition_of}
 use Rattle.mg_engine.specs.Stands.{Holds}

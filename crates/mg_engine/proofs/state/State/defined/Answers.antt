@@ -1,6 +1,5 @@
 use Rattle.std.proofs.Common.{◌≡◌, sym, ap, ◌∙◌, subst}
 use Rattle.mg_index.specs.Catalog.{with_definition}
-use Rattle.mg_engine.specs.Commands.{world_defined}
 use Rattle.mg_engine.specs.Stands.{Holds, Shown}
 use Rattle.mg_engine.proofs.Indexes.{holds_same, holds_with}
 use Rattle.mg_engine.proofs.state.State.defined.Goals as goal
