@@ -24,6 +24,13 @@ class Results:
     def add(self, count, system, rows):
         self.runs.setdefault(count, {}).setdefault(system, []).append(rows)
 
+    def add_all(self, runs):
+        """The runs of an earlier file."""
+        for count, systems in runs.items():
+            for system, turns in systems.items():
+                for rows in turns:
+                    self.add(int(count), system, rows)
+
     def systems(self):
         return list(dict.fromkeys(system for systems in self.runs.values() for system in systems))
 

@@ -1,6 +1,6 @@
 -- A table whose routes have no parameter, what is left of routes, and the segments of a path.
-use Rattle.std.proofs.Common.{◌≡◌, ◌+◌, ◌<◌, ◌≤◌, ℕ, zero, suc, ◌-◌, ◌==◌, Bool, true, false, ◌&&◌, ◌||◌, cond, List, [], ◌∷◌, ◌++◌, length, map, get_or, take, drop, Option, Some, None, refl, sym, ap, ◌∙◌, arith}
-use Rattle.std.specs.Prelude.{bytes_eq, codes, nat_lt, is_some}
+use Rattle.std.proofs.Common.{inl, inr, subst, ◌⊎◌, ◌≡◌, ◌+◌, ◌<◌, ◌≤◌, ℕ, zero, suc, ◌-◌, ◌==◌, Bool, true, false, ◌&&◌, ◌||◌, cond, List, [], ◌∷◌, ◌++◌, length, map, get_or, take, drop, Option, Some, None, refl, sym, ap, ◌∙◌, arith}
+use Rattle.std.specs.Prelude.{IfOk, Result, bytes_eq, codes, nat_lt, is_some}
 use Rattle.std.specs.List.{list_all, list_any, filter_map, cons_option, slice_split, position_or_len}
 use Rattle.std.proofs.lemmas.Bool.{cond-false, and_from}
 use Rattle.std.proofs.lemmas.Bool.Decides.{nat_tests}
@@ -12,7 +12,7 @@ use Rattle.std.proofs.lemmas.List.Elements.{filter_map-append}
 use Rattle.std.proofs.lemmas.List.Sums.{fails_before_first}
 use Rattle.matchit.specs.Rows.{RowsOf, param_token, catch_all_token}
 use Rattle.matchit.specs.Seek.{seek, param_step, own, step, or_else, first, has_slash, slash}
-use Rattle.mg_http.specs.Routes.{literal, routes, goes_on}
+use Rattle.mg_http.specs.Routes.{Route, literal, routes, goes_on}
 use Rattle.mg_http.proofs.ListLemmas.{both}
 
 module _ {K : Type 0} where
@@ -109,17 +109,18 @@ module _ {K : Type 0} where
   some_first rows path found plain e = sym e ∙ ap is_some (first_plain rows path plain) ∙ some_row rows path
 
 -- a text that is the second segment of three routes more
-again : (b : Bool) → (b || false) ≡ (b || (b || (b || (b || false))))
-again true = refl
-again false = refl
+again : (b c : Bool) → (b || c) ≡ (b || (b || (b || (b || c))))
+again true c = refl
+again false c = refl
 
 -- the second segments that stand as they are: each text once, where the table of the routes may have it more often
 pub seconds : (text : List ℕ)
-    → (bytes_eq (codes "_bulk_docs") text || (bytes_eq (codes "_explain") text || (bytes_eq (codes "_find") text || (bytes_eq (codes "_placement") text
-    || (bytes_eq (codes "_index") text || false)))))
+    → (bytes_eq (codes "_bulk_docs") text || (bytes_eq (codes "_explain") text || (bytes_eq (codes "_find") text || (bytes_eq (codes "_index") text
+    || (bytes_eq (codes "_placement") text || false)))))
     ≡ goes_on (literal text) routes
 seconds text =
-    ap (λ (b : Bool). bytes_eq (codes "_bulk_docs") text || (bytes_eq (codes "_explain") text || (bytes_eq (codes "_find") text || (bytes_eq (codes "_placement") text || b)))) (again (bytes_eq (codes "_index") text))
+    ap (λ (b : Bool). bytes_eq (codes "_bulk_docs") text || (bytes_eq (codes "_explain") text || (bytes_eq (codes "_find") text || b)))
+    (again (bytes_eq (codes "_index") text) (bytes_eq (codes "_placement") text || false))
 
 -- what is left of what each element shows
 pub filter_map-map : {X Y Z : Type 0} (h : Y → Option Z) (f : X → Y) (xs : List X) → filter_map h (map f xs) ≡ filter_map (λ x. h (f x)) xs
@@ -151,3 +152,11 @@ one_behind {Y = Y} f h xs i d before after found inside was e pushed =
     ∙ ap (λ (t : List Y). t ++ option_to_list (h (f (get_or xs i d)))) was
     ∙ ap (λ (t : List Y). filter_map (λ r. h (f r)) (take i xs) ++ t) (one_or_none (h (f (get_or xs i d))))
     ∙ sym (filter_map-append (λ r. h (f r)) (take i xs) (get_or xs i d ∷ [])) ∙ ap (filter_map (λ r. h (f r))) (sym (take_more xs i d inside))
+
+-- where some routes are left, they are those of the table
+pub the_table : {A E : Type 0} (f : A → Route) (xs : List A) (r : Result Bool E) (segment : List ℕ) → 0 < length xs
+    → (map f xs ≡ []) ⊎ (map f xs ≡ routes) → IfOk r (λ b. b ≡ goes_on (literal segment) routes)
+    → IfOk r (λ b. b ≡ goes_on (literal segment) (map f xs))
+the_table f [] r segment some left h = omega (arith, some)
+the_table f (x ∷ xs) r segment some (inl e) h = cc
+the_table f (x ∷ xs) r segment some (inr e) h = subst (λ rs. IfOk r (λ b. b ≡ goes_on (literal segment) rs)) (sym e) h

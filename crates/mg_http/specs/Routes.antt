@@ -25,7 +25,6 @@ routes =
     record { method = codes "POST"; path = literal (codes "_bulk_docs") ∷ []; asks = Body BulkDocs }
     ∷ record { method = codes "POST"; path = literal (codes "_explain") ∷ []; asks = Body Explain }
     ∷ record { method = codes "POST"; path = literal (codes "_find") ∷ []; asks = Body Find }
-    ∷ record { method = codes "POST"; path = literal (codes "_placement") ∷ []; asks = Body Reshard }
     ∷ record { method = codes "POST"; path = literal (codes "_index") ∷ []; asks = Body CreateIndex }
     ∷ record { method = codes "GET"; path = literal (codes "_index") ∷ []; asks = ListIndexes }
     ∷ record {
@@ -38,6 +37,7 @@ routes =
       path = literal (codes "_index") ∷ literal (codes "_design") ∷ parameter ∷ literal (codes "json") ∷ parameter ∷ [];
       asks = DropDesignIndex;
     }
+    ∷ record { method = codes "POST"; path = literal (codes "_placement") ∷ []; asks = Body Reshard }
     ∷ record { method = codes "GET"; path = parameter ∷ []; asks = Document }
     ∷ []
 

@@ -151,8 +151,8 @@ fn look_up(alloc: Global, text: &str) -> Result<bool, InsertError>
     table.insert("_bulk_docs", ())?;
     table.insert("_explain", ())?;
     table.insert("_find", ())?;
-    table.insert("_placement", ())?;
     table.insert("_index", ())?;
+    table.insert("_placement", ())?;
     match table.at(text) {
         Ok(_) => Ok(true),
         Err(_) => Ok(false),

@@ -69,11 +69,6 @@ const ROUTES: [Route; 9] = [
     },
     Route {
         method: b"POST",
-        path: &[Part::Literal(b"_placement")],
-        action: Action::Body(Endpoint::Reshard),
-    },
-    Route {
-        method: b"POST",
         path: &[Part::Literal(b"_index")],
         action: Action::Body(Endpoint::CreateIndex),
     },
@@ -102,6 +97,11 @@ const ROUTES: [Route; 9] = [
             Part::Parameter,
         ],
         action: Action::DropDesignIndex,
+    },
+    Route {
+        method: b"POST",
+        path: &[Part::Literal(b"_placement")],
+        action: Action::Body(Endpoint::Reshard),
     },
     Route {
         method: b"GET",
