@@ -2,7 +2,7 @@
 use lib.Dec.{T}
 use Rattle.std.proofs.Common.{reverse}
 use Rattle.std.proofs.lemmas.List.{reverse-append}
-use Rattle.std.proofs.Common.{◌≡◌, ℕ, ◌+◌, ◌≤◌, Bool, true, false, ◌&&◌, List, [], ◌∷◌, ◌++◌, Ordering, Less, Equal, Greater, Option, Some, None, option_map, option_and_then, cond, is_eq, is_lt, is_gt, refl, ap, ap₂, sym, ◌∙◌, arith}
+use Rattle.std.proofs.Common.{◌≡◌, ℕ, ◌+◌, ◌≤◌, Bool, true, false, ◌&&◌, List, [], ◌∷◌, ◌++◌, Ordering, Less, Equal, Greater, Option, Some, None, option_map, option_and_then, cond, is_eq, is_lt, is_gt, refl, ap, ap₂, sym, subst, ◌∙◌, arith}
 use Rattle.std.proofs.lemmas.Cmp.{nat_list_cmp_total, tied_itself}
 use Rattle.std.specs.List.{AllByRecursion, cons_option, filter, filter_map}
 use Rattle.std.specs.Ordering.{eq_by_cmp, ordering_reverse}
@@ -274,7 +274,7 @@ rows_mended columns ds id k rows new were rises is =
     ∙ ap (λ o. count_one z (row_at columns z.1 o)) (sym (get-insert nat_list_cmp_total ds id k z.1))
     ∙ sym (count-rows columns z (insert ds id k)))
 
--- ---- rows that are put in one after another
+-- ---- rows that stand at most once
 
 few_at : (b : Bool) → cond b 1 0 ≤ 1
 few_at true = omega arith
@@ -286,22 +286,6 @@ few z (Some r) n e = let at = few_at (is_eq (row_value_order z r)) in omega (ari
 
 pub at_most_once : (columns : List Steps) (z : RowValue) (ds : KeptDocuments) → count z (filter_map (row_of columns) (docs_of ds)) ≤ 1
 at_most_once columns z ds = few z (row_at columns z.1 (get ds z.1)) (count z (filter_map (row_of columns) (docs_of ds))) (count-unsorted columns z ds)
-
-one_put : (b : Bool) (n m t : ℕ) → n + (cond b 1 0 + m) ≡ t → t ≤ 1 → cond b 1 n + m ≡ t
-one_put true n m t e f = omega arith
-one_put false n m t e f = omega arith
-
-swapped : (n b m k t : ℕ) → k ≡ m + (b + 0) → n + k ≡ t → n + (b + m) ≡ t
-swapped n b m k t e f = omega (arith, e, f)
-
--- a row of some that stand at most once each is put among the others
-pub put_row : (z r : RowValue) (rows rest all : List RowValue) → count z rows + count z (rest ++ r ∷ []) ≡ count z all → count z all ≤ 1
-    → count z (inserted row_value_order r rows) + count z rest ≡ count z all
-put_row z r rows rest all e few =
-    let put = count-inserted z r rows in
-    let step = count-append z rest (r ∷ []) ∙ ap (λ n. count z rest + n) (count-cons z r []) in
-    let before : count z rows + (cond (is_eq (row_value_order z r)) 1 0 + count z rest) ≡ count z all = swapped (count z rows) (cond (is_eq (row_value_order z r)) 1 0) (count z rest) (count z (rest ++ r ∷ [])) (count z all) step e in
-    ap (λ n. n + count z rest) put ∙ one_put (is_eq (row_value_order z r)) (count z rows) (count z rest) (count z all) before few
 
 -- rows in order among which each stands as often as among others are those, sorted
 pub sorted_is : (rows all : List RowValue) → Rises row_value_order rows → ((z : RowValue) → count z rows ≡ count z all) → rows ≡ sorted row_value_order all
@@ -370,3 +354,36 @@ sorted_code old new same order =
     sorted_is (rows_view new) (rows_view old) (sorted_rises new (rises row_order row_order_total new order)) (λ z.
     let counted = is_count_by (λ (rows : List Row). count z (rows_view rows)) (λ r. is_eq (row_value_order z (row_view r))) refl (λ _ _. refl) in
     counted new ∙ sum_by-IsPermutation (λ r. cond (is_eq (row_value_order z (row_view r))) 1 0) old new same ∙ sym (counted old))
+
+-- ---- rows in order of which each stands once
+
+-- a row that is above none, and ties with none, is below
+strictly : (o : Ordering) (n : ℕ) → is_gt o ≡ false → cond (is_eq o) (1 + n) n ≡ 0 → (o ≡ Less) × (n ≡ 0)
+strictly Less n h e = (refl, e)
+strictly Equal n h e = absurd (omega (arith, e))
+strictly Greater n h e = absurd cc
+
+below_others : (z : RowValue) (rows : List Row) → NoneBelow row_value_order z (rows_view rows) → count z (rows_view rows) ≡ 0 → AllByRecursion (λ x. row_value_order z (row_view x) ≡ Less) rows
+below_others z [] h e = tt
+below_others z (x ∷ rows) h e = let both = strictly (row_value_order z (row_view x)) (count z (rows_view rows)) h.0 e in (both.0, below_others z rows h.1 both.1)
+
+no_other : (o : Ordering) (n : ℕ) → o ≡ Equal → cond (is_eq o) (1 + n) n ≤ 1 → n ≡ 0
+no_other Less n e h = absurd cc
+no_other Equal n e h = omega (arith, h)
+no_other Greater n e h = absurd cc
+
+rises_strictly : (rows : List Row) → Rises row_value_order (rows_view rows) → ((z : RowValue) → count z (rows_view rows) ≤ 1) → Ascends row_order rows
+rises_strictly [] h once = tt
+rises_strictly (r ∷ rows) h once = (
+  below_others (row_view r) rows h.0
+      (no_other (row_value_order (row_view r) (row_view r)) (count (row_view r) (rows_view rows)) (tied_itself row_value_order_total (row_view r)) (once (row_view r))),
+  rises_strictly rows h.1 (λ z. let all = once z in let one = count-cons z (row_view r) (rows_view rows) in omega (arith, all, one)),
+)
+
+-- rows that stand once each ascend when they are sorted
+pub sorted_ascends : (old new : List Row) → rows_view new ≡ sorted row_value_order (rows_view old) → ((z : RowValue) → count z (rows_view old) ≤ 1) → Ascends row_order new
+sorted_ascends old new is once =
+    rises_strictly new (subst (Rises row_value_order) (sym is) (rises_sorted row_value_order row_value_order_total (rows_view old))) (λ z.
+    let same : count z (rows_view new) ≡ count z (rows_view old) =
+    ap (count z) is ∙ times_permutation row_value_order z (rows_view old) (sorted row_value_order (rows_view old)) (permutation_sorted row_value_order (rows_view old)) in
+    let few = once z in omega (arith, same, few))

@@ -6,6 +6,7 @@ ghost use Rattle.mg_value.specs.View.{view, items_view};
 ghost use Rattle.mg_collate.specs.Row.{RowValue, row_value_order, row_view, rows_view};
 ghost use Rattle.mg_collate.specs.Sorted.{sorted};
 ghost use Rattle.mg_collate.proofs.Sorting.{times};
+ghost use Rattle.mg_pages.specs.Parts.{values};
 ghost use Rattle.mg_shard.specs.Documents.{Kept, KeptDocuments, docs_of, form_at};
 ghost use Rattle.mg_shard.specs.Mended.{own_row, with_row, without_row};
 ghost use Rattle.mg_shard.specs.Rows.{key_of, row_of, rows_of};
@@ -136,19 +137,27 @@ impl IndexRows {
     }
 }
 
+// The rows, each of them shared, in the same order.
+fn shared_rows(alloc: Global, rows: Vec<Row>) -> Result<Vec<Arc<Row>>, NoMemory>
+    ensures { IfOk result (λ v. values v.items ≡ rows.items) }
+{
+    let mut shared = Vec::with_capacity(alloc, rows.len())?;
+    for row in rows {
+        shared.push(Arc::new(alloc, row)?)?;
+    }
+    Ok(shared)
+}
+
 /// Pages of rows, each of which stands once among them.
 ///
-/// Errors: `NoMemory` where a growth was refused. Cost: the number of the rows times its logarithm.
-pub(crate) fn pages_of(alloc: Global, mut rows: Vec<Row>) -> Result<Pages<Row>, NoMemory>
+/// Errors: `NoMemory` where a growth was refused. Cost: the rows sorted, and a step a row. The pages are full, but for the last.
+pub(crate) fn pages_of(alloc: Global, rows: Vec<Row>) -> Result<Pages<Row>, NoMemory>
     requires { (z : RowValue) → times row_value_order z (rows_view rows.items) ≤ 1 }
     ensures { IfOk result (λ pages. rows_view pages ≡ sorted row_value_order (rows_view rows.items)) }
 {
-    let mut pages = Pages::new(alloc);
-    while let Some(row) = rows.pop() {
-        pages.insert(alloc, Arc::new(alloc, row)?)?;
-    }
-    pages.ascends();
-    Ok(pages)
+    let rows = sorted_rows(rows)?;
+    let shared = shared_rows(alloc, rows)?;
+    Pages::from_sorted(alloc, &shared)
 }
 
 /// The rows sorted by key and id. Errors: `NoMemory` where a growth was refused. Cost: the number of the rows times its logarithm.

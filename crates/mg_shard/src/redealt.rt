@@ -23,7 +23,7 @@ use std::sync::Arc;
 /// shard has the rows of every index. Documents and trees are shared with the shards that are lent, not copied.
 ///
 /// Errors: `NoMemory` where a growth was refused. Cost: for each document its placement and the way to its place, and for each index a
-/// copy of its key and the way to its row's place.
+/// copy of its key, and each shard's rows sorted.
 pub fn redeal<P: Placement>(
     alloc: Global,
     shards: &[Arc<Shard>],

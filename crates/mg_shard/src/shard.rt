@@ -322,7 +322,7 @@ impl Shard {
 
     /// The shard with an index of this definition, instead of one of its design document and name.
     ///
-    /// Errors: `NoMemory` where a growth was refused. Cost: each document once, and its row to its place.
+    /// Errors: `NoMemory` where a growth was refused. Cost: each document once, a copy of its key, and the rows sorted.
     pub fn with_index(&self, alloc: Global, definition: &IndexDef) -> Result<Shard, NoMemory>
         ensures { IfOk result (λ s. s ≡ record self.now { definitions = with_definition definition.now self.now.definitions }) }
     {
@@ -333,7 +333,7 @@ impl Shard {
 
     /// The same, handed that index's rows of this shard.
     ///
-    /// Errors: `NoMemory` where a growth was refused. Cost: each row to its place.
+    /// Errors: `NoMemory` where a growth was refused. Cost: a comparison and a step a row, since the rows are in order.
     pub fn with_rows(
         &self,
         alloc: Global,
