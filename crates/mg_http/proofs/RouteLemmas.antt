@@ -157,6 +157,6 @@ one_behind {Y = Y} f h xs i d before after found inside was e pushed =
 pub the_table : {A E : Type 0} (f : A → Route) (xs : List A) (r : Result Bool E) (segment : List ℕ) → 0 < length xs
     → (map f xs ≡ []) ⊎ (map f xs ≡ routes) → IfOk r (λ b. b ≡ goes_on (literal segment) routes)
     → IfOk r (λ b. b ≡ goes_on (literal segment) (map f xs))
-the_table f [] r segment some left h = omega (arith, some)
+the_table f [] r segment some left h = absurd (omega (arith, some))
 the_table f (x ∷ xs) r segment some (inl e) h = cc
 the_table f (x ∷ xs) r segment some (inr e) h = subst (λ rs. IfOk r (λ b. b ≡ goes_on (literal segment) rs)) (sym e) h
