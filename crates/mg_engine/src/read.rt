@@ -6,7 +6,7 @@ ghost use Rattle.mg_value.specs.View.{view};
 ghost use Rattle.mg_revtree.specs.History.{History};
 ghost use Rattle.mg_revtree.specs.Tree.{StandsFor};
 ghost use Rattle.mg_doc.specs.Conflicts.{with_conflicts_of};
-ghost use Rattle.mg_shard.specs.Documents.{StandsAt, form_at};
+ghost use Rattle.mg_shard.specs.Documents.{StandsAt, form_of};
 ghost use Rattle.mg_engine.specs.Bodies.{line_of};
 ghost use Rattle.mg_engine.specs.Commands.{got};
 ghost use Rattle.mg_engine.specs.Stands.{Holds};
@@ -21,13 +21,13 @@ use crate::state::State;
 use mg_doc::with_conflicts;
 use mg_revtree::RevTree;
 use mg_shard::laws::each_id_has_its_shard;
-use mg_shard::{Placement, Shard};
+use mg_shard::{Document, Placement, Shard};
 use mg_value::{Json, NoMemory};
 use std::alloc::Global;
 use std::sync::Arc;
 
 impl State {
-    /// The reply to a `GET` of a document: the placement, look-ups in one shard, and a copy of the text that is kept, or, where
+    /// The reply to a `GET` of a document: the placement, one look-up in one shard, and a copy of the text that is kept, or, where
     /// conflicts are asked for, a copy of the document.
     pub(crate) fn get<P: Placement>(
         &self,
@@ -61,16 +61,16 @@ fn get_from(alloc: Global, shard: &Shard, id: &str, conflicts: bool) -> Result<R
     ensures { IfOk result (λ r. (o : Option History) → StandsAt id.now (get shard.now.documents id.now) o
         → said r ≡ Some (got id.now conflicts o)) }
 {
-    let Some(tree) = shard.tree(id) else {
+    let Some(document) = shard.document(id) else {
         return Ok(Reply::refusing(alloc, Refusal::Missing)?);
     };
-    let Some(form) = shard.served(id) else {
+    let Some(form) = document.form() else {
         return Ok(Reply::refusing(alloc, Refusal::Deleted)?);
     };
     let body = if conflicts {
-        conflicted_line(alloc, form, tree)?
+        conflicted_line(alloc, form, document.tree())?
     } else {
-        served_line(alloc, shard, id, form)?
+        served_line(alloc, document, form)?
     };
     Ok(Reply::Full { status: 200, body })
 }
@@ -86,11 +86,11 @@ fn conflicted_line(alloc: Global, form: &Json, tree: &RevTree) -> Result<Vec<u8>
 }
 
 // The line of a document that is served in this form, by the text that is kept of it.
-fn served_line(alloc: Global, shard: &Shard, id: &str, form: &Json) -> Result<Vec<u8>, NoMemory>
-    requires { form_at shard.now.documents id.now ≡ Some (view form.now) }
+fn served_line(alloc: Global, document: &Document, form: &Json) -> Result<Vec<u8>, NoMemory>
+    requires { form_of document.now ≡ Some (view form.now) }
     ensures { IfOk result (λ b. b.items ≡ line_of (view form.now)) }
 {
-    let body = match shard.served_text(id) {
+    let body = match document.text() {
         Some(text) => text_line(alloc, text)?,
         None => line(alloc, form)?,
     };
