@@ -28,7 +28,7 @@ use std::thread::Threads;
 
 impl State {
     /// The reply to an index that is to be created, and the next state, if the body defines one.
-    /// Cost: nothing more where the same definition stands; else each document, and its row to its place.
+    /// Cost: nothing more where the same definition stands; else each document, and its rows sorted.
     pub(crate) fn create_index<R: Threads + Sync>(
         &self,
         rt: &R,
