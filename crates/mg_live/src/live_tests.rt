@@ -80,7 +80,7 @@ const L1_AND_L2: &str =
     "{\"bookmark\":\"W251bGwsIl9hbGxfZG9jcyIsImFzYyIsWyJsMiJdLCJsMiJd\",\"docs\":[{\"_id\":\"l1\"},{\"_id\":\"l2\"}]}\n";
 
 // What one seat writes, the other finds: after it was told, and with nothing told.
-fn find_what_the_other_wrote<D: Database, C: Ends, R: Wait + Threads + Sync>(
+fn find_what_the_other_wrote<D: Database, C: Ends, R: Wait + Threads + Abort + Sync>(
     rt: &R,
     alloc: Global,
     a: &mut Seat<D, C>,
@@ -117,7 +117,7 @@ const LISTED: &str =
     "{\"indexes\":[{\"ddoc\":null,\"def\":{\"fields\":[{\"_id\":\"asc\"}]},\"name\":\"_all_docs\",\"type\":\"special\"},{\"ddoc\":\"_design/x\",\"def\":{\"fields\":[{\"a\":\"asc\"}]},\"name\":\"ia\",\"type\":\"json\"}],\"total_rows\":2}\n";
 
 // An index that one seat creates serves the other, until it is dropped.
-fn use_the_other_ones_index<D: Database, C: Ends, R: Wait + Threads + Sync>(
+fn use_the_other_ones_index<D: Database, C: Ends, R: Wait + Threads + Abort + Sync>(
     rt: &R,
     alloc: Global,
     a: &mut Seat<D, C>,
