@@ -72,11 +72,11 @@ fn said(reply: &Reply) -> (u16, &str) {
     )
 }
 
-// The reply to the ids of all documents.
-const L1: &str =
+// The replies to a query for the ids of all documents: the first one alone, and both.
+const FIRST: &str =
     "{\"bookmark\":\"W251bGwsIl9hbGxfZG9jcyIsImFzYyIsWyJsMSJdLCJsMSJd\",\"docs\":[{\"_id\":\"l1\"}]}\n";
 
-const L1_AND_L2: &str =
+const BOTH: &str =
     "{\"bookmark\":\"W251bGwsIl9hbGxfZG9jcyIsImFzYyIsWyJsMiJdLCJsMiJd\",\"docs\":[{\"_id\":\"l1\"},{\"_id\":\"l2\"}]}\n";
 
 // What one seat writes, the other finds: after it was told, and with nothing told.
@@ -93,9 +93,9 @@ fn find_what_the_other_wrote<D: Database, C: Ends, R: Wait + Threads + Abort + S
     )?;
     assert_eq!(rt; said(&b.get(rt, "l1", false)).0, 404);
     assert_eq!(rt; said(&a.bulk(rt, &first, 1)), (201, "[]\n"));
-    assert_eq!(rt; said(&a.find(rt, &all, 1)), (200, L1));
+    assert_eq!(rt; said(&a.find(rt, &all, 1)), (200, FIRST));
     b.learn(&a.share(rt)?);
-    assert_eq!(rt; said(&b.find(rt, &all, 1)), (200, L1));
+    assert_eq!(rt; said(&b.find(rt, &all, 1)), (200, FIRST));
     assert_eq!(rt;
         said(&b.get(rt, "l1", false)),
         (200, "{\"_id\":\"l1\",\"_rev\":\"1-a\"}\n")
@@ -105,7 +105,7 @@ fn find_what_the_other_wrote<D: Database, C: Ends, R: Wait + Threads + Abort + S
         b"{\"docs\":[{\"_id\":\"l2\",\"_rev\":\"1-a\"}],\"new_edits\":false}",
     )?;
     assert_eq!(rt; said(&a.bulk(rt, &second, 1)), (201, "[]\n"));
-    assert_eq!(rt; said(&b.find(rt, &all, 1)), (200, L1_AND_L2));
+    assert_eq!(rt; said(&b.find(rt, &all, 1)), (200, BOTH));
     Ok(())
 }
 
