@@ -19,12 +19,13 @@ import subprocess
 import sys
 
 from common.refusal import ENDS, ONWARD, SECONDS, refusals
+from common.server import listening
 from common.tally import Tally
 from common.wire import Wire
 from conversations import conversations_in
 from model.talk import Database
 from refused_memory import FOLDER, Talk
-from tcp import listening, reset
+from tcp import reset
 
 NAMES = ["first-write-and-query", "ties-across-shards", "choice-of-index"]
 LIST = b"GET /db/_index HTTP/1.1\r\n\r\n"

@@ -26,7 +26,9 @@ EXAMPLES = {"client.py": 1, "replicas.py": 2, "report.sh": 1}
 def printed(program, example, servers, shards):
     """The status of an example, and what it prints, with that many servers of so many shards."""
     with contextlib.ExitStack() as stack:
-        urls = [stack.enter_context(listening(program, shards)) for _ in range(servers)]
+        settings = argparse.Namespace(program=program, shards=shards, workers=2)
+        ports = [stack.enter_context(listening(settings, 4)) for _ in range(servers)]
+        urls = [f"http://127.0.0.1:{port}/db" for port in ports]
         done = subprocess.run([TOP / "examples" / example, *urls], capture_output=True, text=True, timeout=SECONDS)
     return done.returncode, done.stdout, done.stderr
 

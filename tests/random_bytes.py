@@ -19,12 +19,12 @@ import subprocess
 import sys
 
 from common.refusal import ENDS, SECONDS
+from common.server import listening
 from common.tally import Tally
 from common.wire import Wire
 from conversations import conversations_in, post, replies_in
 from model.talk import Database
 from refused_memory import FOLDER
-from tcp import listening
 
 NAMES = [
     "$lt", "$lte", "$eq", "$ne", "$gte", "$gt", "$exists", "$type", "$in", "$nin", "$size", "$mod", "$all", "$elemMatch", "$allMatch", "$and",

@@ -21,12 +21,12 @@ import threading
 import time
 
 from common.refusal import ONWARD, refusals
+from common.server import free_port, listening
 from common.tally import Tally
 from common.wire import Wire
 from conversations import conversations_in, post
 from model.talk import OUT_OF_MEMORY, Database
 from refused_memory import FOLDER, Talk
-from tcp import free_port, listening
 
 WORKER_SETTINGS = [("7", "2"), ("7", "32"), ("64", "3")]
 WRITES = 60

@@ -8,7 +8,6 @@ line is 'N passed, M failed'. Without curl, its part is left out, and a line say
 """
 import argparse
 import concurrent.futures
-import contextlib
 import http.client
 import json
 import shutil
@@ -18,6 +17,7 @@ import subprocess
 import sys
 import time
 
+from common.server import listening
 from common.tally import Tally
 
 SECONDS = 30
@@ -46,40 +46,6 @@ class Client:
 
     def close(self):
         self.connection.close()
-
-
-def free_port():
-    with socket.create_server(("127.0.0.1", 0)) as server:
-        return server.getsockname()[1]
-
-
-def started(words, sessions, environment):
-    """A new program of so many sessions that listens, and its port; another port where somebody else took it meanwhile."""
-    for _ in range(3):
-        port = free_port()
-        command = [words.program, "db", str(words.shards), str(words.workers), str(sessions), f"127.0.0.1:{port}"]
-        program = subprocess.Popen(command, stdin=subprocess.DEVNULL, stdout=subprocess.PIPE, stderr=subprocess.PIPE, env=environment)
-        line = program.stderr.readline()
-        if line == b"mangod: listening\n":
-            return program, port
-        program.kill()
-        program.communicate()
-        if line != b"mangod: cannot listen\n":
-            break
-    sys.exit("the program does not listen")
-
-
-@contextlib.contextmanager
-def listening(words, sessions, environment=None):
-    """The port of a new program of so many sessions, which is ended afterwards."""
-    program, port = started(words, sessions, environment)
-    try:
-        yield port
-        if program.poll() is not None:
-            sys.exit(f"the program ended with status {program.returncode}")
-    finally:
-        program.kill()
-        program.communicate()
 
 
 def connect(port):

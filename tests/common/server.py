@@ -1,22 +1,39 @@
-"""A server that a test has started."""
+"""Programs that a test has started, which listen on a free port of 127.0.0.1."""
 import contextlib
 import socket
 import subprocess
 import sys
 
 
+def free_port():
+    with socket.create_server(("127.0.0.1", 0)) as server:
+        return server.getsockname()[1]
+
+
+def started(words, sessions, environment):
+    """A new program of these words and so many sessions that listens, and its port; another port where somebody else took it meanwhile."""
+    for _ in range(3):
+        port = free_port()
+        command = [words.program, "db", str(words.shards), str(words.workers), str(sessions), f"127.0.0.1:{port}"]
+        program = subprocess.Popen(command, stdin=subprocess.DEVNULL, stdout=subprocess.PIPE, stderr=subprocess.PIPE, env=environment)
+        line = program.stderr.readline()
+        if line == b"mangod: listening\n":
+            return program, port
+        program.kill()
+        program.communicate()
+        if line != b"mangod: cannot listen\n":
+            break
+    sys.exit("the program does not listen")
+
+
 @contextlib.contextmanager
-def listening(program, shards=4, workers=2, sessions=4):
-    """The URL of the database `db` of a new server, which is ended afterwards."""
-    with socket.create_server(("127.0.0.1", 0)) as taken:
-        port = taken.getsockname()[1]
-    command = [program, "db", str(shards), str(workers), str(sessions), f"127.0.0.1:{port}"]
-    server = subprocess.Popen(command, stdin=subprocess.DEVNULL, stderr=subprocess.PIPE)
+def listening(words, sessions, environment=None):
+    """The port of a new program of so many sessions, which is ended afterwards."""
+    program, port = started(words, sessions, environment)
     try:
-        if server.stderr.readline() != b"mangod: listening\n":
-            sys.exit("the program does not listen")
-        yield f"http://127.0.0.1:{port}/db"
+        yield port
+        if program.poll() is not None:
+            sys.exit(f"the program ended with status {program.returncode}")
     finally:
-        server.kill()
-        server.wait()
-        server.stderr.close()
+        program.kill()
+        program.communicate()
