@@ -7,27 +7,28 @@ use Rattle.std.specs.Cmp.{IsTotalOrder}
 use Rattle.std.specs.List.{flat_map}
 use Rattle.mg_pages.specs.Order.{IsProbe, Ascends, above, below, inserted, removed, probe_from_total}
 use Rattle.mg_pages.specs.Runs.{IsEndRun}
-use Rattle.mg_pages.specs.Parts.{IsLast, AreWhole, child_seen, child_value, child_whole, children}
+use Rattle.mg_pages.specs.Parts.{IsLast, AreWhole, child_seen, child_value, child_whole, children, node_value}
 use Rattle.mg_pages.specs.declared.child.Child.{Child}
+use Rattle.mg_pages.specs.declared.child.Node.{Node}
 use Rattle.mg_pages.proofs.Sorted.{split_at, above_of_below, above_one_less, above_one_not, before_one}
 use Rattle.mg_pages.proofs.Parts.{mapped_at, mapped_length, whole_at, ascends_at}
 
 -- a child that stands in a level, by its last element and its part
-pub part_at : {T P : Type 0} (xs : List (Child T P)) (i : ℕ) (c : Child T P) (p : P) → i < length xs → c ≡ get_or xs i c → p ≡ arc_value c.part → (arc_value c.last, p) ≡ get_or (children xs) i (arc_value c.last, p)
-part_at xs i c p l e v = mapped_at child_value xs i c (arc_value c.last, p) l e (ap (λ q. (arc_value c.last, q)) v)
+pub part_at : {T P : Type 0} (xs : List (Child T P)) (i : ℕ) (c : Child T P) (n : Node T P) → i < length xs → c ≡ get_or xs i c → n ≡ arc_value c.node → node_value n ≡ get_or (children xs) i (node_value n)
+part_at xs i c n l e v = mapped_at child_value xs i c (node_value n) l e (ap node_value v)
 
 pub within_children : {T P : Type 0} (xs : List (Child T P)) (i : ℕ) → i < length xs → i < length (children xs)
 within_children xs i l = omega (arith, mapped_length child_value xs)
 
 -- its part is whole, and ends with its last element
-pub child_at : {T P : Type 0} (W : P → Type 0) (seen : P → List T) (xs : List (Child T P)) (i : ℕ) (c : Child T P) (p : P) → i < length xs → c ≡ get_or xs i c → p ≡ arc_value c.part
-    → AreWhole (child_whole W seen) (children xs) → child_whole W seen (arc_value c.last, p)
-child_at W seen xs i c p l e v h = whole_at (child_whole W seen) (children xs) i (arc_value c.last, p) (within_children xs i l) (part_at xs i c p l e v) h
+pub child_at : {T P : Type 0} (W : P → Type 0) (seen : P → List T) (xs : List (Child T P)) (i : ℕ) (c : Child T P) (n : Node T P) → i < length xs → c ≡ get_or xs i c → n ≡ arc_value c.node
+    → AreWhole (child_whole W seen) (children xs) → child_whole W seen (node_value n)
+child_at W seen xs i c n l e v h = whole_at (child_whole W seen) (children xs) i (node_value n) (within_children xs i l) (part_at xs i c n l e v) h
 
 -- its elements ascend
-pub child_ascends : {T P : Type 0} (seen : P → List T) (order : T → T → Ordering) (xs : List (Child T P)) (i : ℕ) (c : Child T P) (p : P) → i < length xs → c ≡ get_or xs i c → p ≡ arc_value c.part
-    → Ascends order (flat_map (child_seen seen) (children xs)) → Ascends order (seen p)
-child_ascends seen order xs i c p l e v s = ascends_at (child_seen seen) order (children xs) i (arc_value c.last, p) (within_children xs i l) (part_at xs i c p l e v) s
+pub child_ascends : {T P : Type 0} (seen : P → List T) (order : T → T → Ordering) (xs : List (Child T P)) (i : ℕ) (c : Child T P) (n : Node T P) → i < length xs → c ≡ get_or xs i c → n ≡ arc_value c.node
+    → Ascends order (flat_map (child_seen seen) (children xs)) → Ascends order (seen n.part)
+child_ascends seen order xs i c n l e v s = ascends_at (child_seen seen) order (children xs) i (node_value n) (within_children xs i l) (part_at xs i c n l e v) s
 
 -- parts that are whole are not empty
 pub seen_some : {P T : Type 0} (W : P → Type 0) (seen : P → List T) (ps : List (T × P)) → 0 < length ps → AreWhole (child_whole W seen) ps → 0 < length (flat_map (child_seen seen) ps)

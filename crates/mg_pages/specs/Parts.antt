@@ -1,6 +1,7 @@
 -- What pages and levels stand for.
 use Rattle.mg_pages.specs.Order.{Ascends}
 use Rattle.mg_pages.specs.declared.child.Child.{Child}
+use Rattle.mg_pages.specs.declared.child.Node.{Node}
 use Rattle.mg_pages.specs.declared.level.Level.{Level}
 use Rattle.mg_pages.specs.declared.page.Page.{Page}
 use Rattle.std.specs.declared.cmp.Ordering.{Ordering}
@@ -28,9 +29,13 @@ pub record IsLast {X : Type 0} (x : X) (xs : List X) : Type 0 where
 abbrev pub AreWhole : {P : Type 0} → (P → Type 0) → List P → Type 0
 AreWhole is_whole ps = AllByRecursion is_whole ps
 
--- a child: the element that is said to be its last, and the part
+-- a node: the element that is said to be its last, and the part
+abbrev pub node_value : {T P : Type 0} → Node T P → T × P
+node_value n = (arc_value n.last, n.part)
+
+-- a child is a node that is shared
 abbrev pub child_value : {T P : Type 0} → Child T P → T × P
-child_value c = (arc_value c.last, arc_value c.part)
+child_value c = node_value (arc_value c.node)
 
 -- children one after another
 abbrev pub children : {T P : Type 0} → List (Child T P) → List (T × P)

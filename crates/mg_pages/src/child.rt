@@ -1,8 +1,8 @@
-//! Parts as they stand in a level: shared, each with its last element beside it.
+//! Parts as they stand in a level: shared, each with its last element beside it, so that a copy of a level counts once for each.
 ghost use Rattle.std.specs.Prelude.{◌≡◌, ◌<◌, [], true, false, is_some, length, List, IfOk, OnOk, OnErr};
 ghost use Rattle.std.specs.Arc.{arc_value};
 ghost use Rattle.mg_pages.specs.Order.{Ascends, found, inserted, removed};
-ghost use Rattle.mg_pages.specs.Parts.{IsLast, child_value, child_seen, child_whole, children};
+ghost use Rattle.mg_pages.specs.Parts.{IsLast, node_value, child_value, child_seen, child_whole, children};
 
 use crate::hint::number_of;
 use crate::keyed::{Keyed, Probe};
@@ -10,12 +10,28 @@ use crate::part::Part;
 use std::alloc::{AllocError, Global};
 use std::sync::Arc;
 
-/// A part, its last element, so that a search need not look into the part, and the number of that element.
+/// A part with its last element beside it, so that a search need not look into the part.
+#[derive(Drop)]
+pub struct Node<T, P> {
+    pub(crate) last: Arc<T>,
+    pub(crate) part: P,
+}
+
+/// A part as it stands in a level: shared with its last element, and the number of that element.
 #[derive(Drop)]
 pub struct Child<T, P> {
-    pub(crate) last: Arc<T>,
-    pub(crate) part: Arc<P>,
+    pub(crate) node: Arc<Node<T, P>>,
     pub(crate) hint: u64,
+}
+
+// A part with its last element.
+fn node_of<T: Keyed, P: Part<T>>(part: P) -> Result<Node<T, P>, AllocError>
+    requires { P.is_whole part }
+    ensures whole { IfOk result (λ n. child_whole P.is_whole P.seen (node_value n)) }
+    ensures seen { IfOk result (λ n. child_seen P.seen (node_value n) ≡ P.seen part) }
+{
+    let last = part.last().clone()?;
+    Ok(Node { last, part })
 }
 
 /// A part as a child.
@@ -24,20 +40,19 @@ pub fn child_of<T: Keyed, P: Part<T>>(alloc: Global, part: P) -> Result<Child<T,
     ensures whole { IfOk result (λ c. child_whole P.is_whole P.seen (child_value c)) }
     ensures seen { IfOk result (λ c. child_seen P.seen (child_value c) ≡ P.seen part) }
 {
-    let last = part.last().clone()?;
-    let hint = number_of(&last);
-    let part = Arc::new(alloc, part)?;
-    Ok(Child { last, part, hint })
+    let own = node_of::<T, P>(part)?;
+    let hint = number_of(&own.last);
+    let node = Arc::new(alloc, own)?;
+    Ok(Child { node, hint })
 }
 
 // The same child, which shares the part.
 fn copy<T: Drop, P: Drop>(child: &Child<T, P>) -> Result<Child<T, P>, AllocError>
     ensures { IfOk result (λ c. child_value c ≡ child_value child.now) }
 {
-    let last = child.last.clone()?;
-    let part = child.part.clone()?;
+    let node = child.node.clone()?;
     let hint = child.hint;
-    Ok(Child { last, part, hint })
+    Ok(Child { node, hint })
 }
 
 /// The same children, each of which shares its part, with room for one more.
@@ -95,56 +110,105 @@ fn last_without<T: Keyed, P: Part<T>, Q: Probe<T>>(
     Ok(kept)
 }
 
-// Puts an element into a part, which is copied if others share it, and says whether one that ties gave way.
-fn put_shared<T: Keyed, P: Part<T>>(
+// A part of its own with the same elements.
+fn own_node<T: Keyed, P: Part<T>>(
     alloc: Global,
-    part: &mut Arc<P>,
+    node: &Node<T, P>,
+) -> Result<Node<T, P>, AllocError>
+    requires { child_whole P.is_whole P.seen (node_value node.now) }
+    ensures whole { IfOk result (λ n. child_whole P.is_whole P.seen (node_value n)) }
+    ensures seen { IfOk result (λ n. child_seen P.seen (node_value n) ≡ child_seen P.seen (node_value node.now)) }
+{
+    let part = node.part.copy(alloc)?;
+    let last = node.last.clone()?;
+    Ok(Node { last, part })
+}
+
+// Puts an element into a part, and says whether one that ties gave way.
+fn put_in_node<T: Keyed, P: Part<T>>(
+    alloc: Global,
+    node: &mut Node<T, P>,
     element: Arc<T>,
 ) -> Result<bool, AllocError>
-    requires whole { P.is_whole (arc_value part.old) }
-    requires sorted { Ascends T.order (P.seen (arc_value part.old)) }
-    ensures whole { P.is_whole (arc_value part.new) }
-    ensures had { IfOk result (λ had. had ≡ is_some (found (T.order (arc_value element)) (P.seen (arc_value part.old)))) }
-    ensures ok { OnOk result (P.seen (arc_value part.new) ≡ inserted T.order (arc_value element) (P.seen (arc_value part.old))) }
-    ensures err { OnErr result (P.seen (arc_value part.new) ≡ P.seen (arc_value part.old)) }
+    requires whole { child_whole P.is_whole P.seen (node_value node.old) }
+    requires sorted { Ascends T.order (child_seen P.seen (node_value node.old)) }
+    ensures whole { child_whole P.is_whole P.seen (node_value node.new) }
+    ensures had { IfOk result (λ had. had ≡ is_some (found (T.order (arc_value element)) (child_seen P.seen (node_value node.old)))) }
+    ensures ok { OnOk result (child_seen P.seen (node_value node.new) ≡ inserted T.order (arc_value element) (child_seen P.seen (node_value node.old))) }
+    ensures err { OnErr result (child_seen P.seen (node_value node.new) ≡ child_seen P.seen (node_value node.old)) }
 {
-    if let Some(own) = Arc::get_mut(part) {
-        return own.put(alloc, element);
-    }
-    let shared: &P = part;
-    let mut own = shared.copy(alloc)?;
-    let had = own.put(alloc, element)?;
-    *part = Arc::new(alloc, own)?;
+    let last = last_with(&node.last, &element)?;
+    let had = node.part.put(alloc, element)?;
+    node.last = last;
     Ok(had)
 }
 
-// Takes the element that ties with a key out of a part, which is copied if others share it, and says whether
-// nothing is left.
-fn take_out_shared<T: Keyed, P: Part<T>, Q: Probe<T>>(
+// Takes the element that ties with a key out of a part, and says whether nothing is left.
+fn take_out_of_node<T: Keyed, P: Part<T>, Q: Probe<T>>(
     alloc: Global,
-    part: &mut Arc<P>,
+    node: &mut Node<T, P>,
     key: &Q,
 ) -> Result<bool, AllocError>
-    requires whole { P.is_whole (arc_value part.old) }
-    requires sorted { Ascends T.order (P.seen (arc_value part.old)) }
-    ensures whole { IfOk result (λ emptied. emptied ≡ false → P.is_whole (arc_value part.new)) }
-    ensures some { IfOk result (λ emptied. emptied ≡ false → 0 < length (P.seen (arc_value part.new))) }
-    ensures emptied { IfOk result (λ emptied. emptied ≡ true → P.seen (arc_value part.new) ≡ []) }
-    ensures ok { OnOk result (P.seen (arc_value part.new) ≡ removed (Q.against key.now) (P.seen (arc_value part.old))) }
-    ensures err { OnErr result (P.seen (arc_value part.new) ≡ P.seen (arc_value part.old)) }
-    ensures err_whole { OnErr result (P.is_whole (arc_value part.new)) }
+    requires whole { child_whole P.is_whole P.seen (node_value node.old) }
+    requires sorted { Ascends T.order (child_seen P.seen (node_value node.old)) }
+    ensures whole { IfOk result (λ emptied. emptied ≡ false → child_whole P.is_whole P.seen (node_value node.new)) }
+    ensures emptied { IfOk result (λ emptied. emptied ≡ true → child_seen P.seen (node_value node.new) ≡ []) }
+    ensures ok { OnOk result (child_seen P.seen (node_value node.new) ≡ removed (Q.against key.now) (child_seen P.seen (node_value node.old))) }
+    ensures err { OnErr result (child_seen P.seen (node_value node.new) ≡ child_seen P.seen (node_value node.old)) }
+    ensures err_whole { OnErr result (child_whole P.is_whole P.seen (node_value node.new)) }
 {
-    if let Some(own) = Arc::get_mut(part) {
-        return own.take_out(alloc, key);
-    }
-    let shared: &P = part;
-    let mut own = shared.copy(alloc)?;
-    let emptied = own.take_out(alloc, key)?;
-    *part = Arc::new(alloc, own)?;
+    let last = last_without::<T, P, Q>(&node.part, &node.last, key)?;
+    let emptied = node.part.take_out(alloc, key)?;
+    node.last = last;
     Ok(emptied)
 }
 
-/// Puts an element into a child, and says whether one that ties gave way.
+// The same where the part may be shared: it is copied then.
+fn put_shared<T: Keyed, P: Part<T>>(
+    alloc: Global,
+    node: &mut Arc<Node<T, P>>,
+    element: Arc<T>,
+) -> Result<bool, AllocError>
+    requires whole { child_whole P.is_whole P.seen (node_value (arc_value node.old)) }
+    requires sorted { Ascends T.order (child_seen P.seen (node_value (arc_value node.old))) }
+    ensures whole { child_whole P.is_whole P.seen (node_value (arc_value node.new)) }
+    ensures had { IfOk result (λ had. had ≡ is_some (found (T.order (arc_value element)) (child_seen P.seen (node_value (arc_value node.old))))) }
+    ensures ok { OnOk result (child_seen P.seen (node_value (arc_value node.new)) ≡ inserted T.order (arc_value element) (child_seen P.seen (node_value (arc_value node.old)))) }
+    ensures err { OnErr result (child_seen P.seen (node_value (arc_value node.new)) ≡ child_seen P.seen (node_value (arc_value node.old))) }
+{
+    if let Some(own) = Arc::get_mut(node) {
+        return put_in_node::<T, P>(alloc, own, element);
+    }
+    let mut own = own_node::<T, P>(alloc, node)?;
+    let had = put_in_node::<T, P>(alloc, &mut own, element)?;
+    *node = Arc::new(alloc, own)?;
+    Ok(had)
+}
+
+// The same for what is taken out.
+fn take_out_shared<T: Keyed, P: Part<T>, Q: Probe<T>>(
+    alloc: Global,
+    node: &mut Arc<Node<T, P>>,
+    key: &Q,
+) -> Result<bool, AllocError>
+    requires whole { child_whole P.is_whole P.seen (node_value (arc_value node.old)) }
+    requires sorted { Ascends T.order (child_seen P.seen (node_value (arc_value node.old))) }
+    ensures whole { IfOk result (λ emptied. emptied ≡ false → child_whole P.is_whole P.seen (node_value (arc_value node.new))) }
+    ensures emptied { IfOk result (λ emptied. emptied ≡ true → child_seen P.seen (node_value (arc_value node.new)) ≡ []) }
+    ensures ok { OnOk result (child_seen P.seen (node_value (arc_value node.new)) ≡ removed (Q.against key.now) (child_seen P.seen (node_value (arc_value node.old)))) }
+    ensures err { OnErr result (child_seen P.seen (node_value (arc_value node.new)) ≡ child_seen P.seen (node_value (arc_value node.old))) }
+    ensures err_whole { OnErr result (child_whole P.is_whole P.seen (node_value (arc_value node.new))) }
+{
+    if let Some(own) = Arc::get_mut(node) {
+        return take_out_of_node::<T, P, Q>(alloc, own, key);
+    }
+    let mut own = own_node::<T, P>(alloc, node)?;
+    let emptied = take_out_of_node::<T, P, Q>(alloc, &mut own, key)?;
+    *node = Arc::new(alloc, own)?;
+    Ok(emptied)
+}
+
+/// Puts an element into a child, which is copied if others share it, and says whether one that ties gave way.
 pub fn put_into<T: Keyed, P: Part<T>>(
     alloc: Global,
     child: &mut Child<T, P>,
@@ -157,14 +221,12 @@ pub fn put_into<T: Keyed, P: Part<T>>(
     ensures ok { OnOk result (child_seen P.seen (child_value child.new) ≡ inserted T.order (arc_value element) (child_seen P.seen (child_value child.old))) }
     ensures err { OnErr result (child_seen P.seen (child_value child.new) ≡ child_seen P.seen (child_value child.old)) }
 {
-    let last = last_with(&child.last, &element)?;
-    let had = put_shared::<T, P>(alloc, &mut child.part, element)?;
-    child.hint = number_of(&last);
-    child.last = last;
+    let had = put_shared::<T, P>(alloc, &mut child.node, element)?;
+    child.hint = number_of(&child.node.last);
     Ok(had)
 }
 
-/// Takes the element that ties with a key out of a child, and says whether nothing is left.
+/// Takes the element that ties with a key out of a child, which is copied if others share it, and says whether nothing is left.
 pub fn take_out_of<T: Keyed, P: Part<T>, Q: Probe<T>>(
     alloc: Global,
     child: &mut Child<T, P>,
@@ -178,9 +240,7 @@ pub fn take_out_of<T: Keyed, P: Part<T>, Q: Probe<T>>(
     ensures err { OnErr result (child_seen P.seen (child_value child.new) ≡ child_seen P.seen (child_value child.old)) }
     ensures err_whole { OnErr result (child_whole P.is_whole P.seen (child_value child.new)) }
 {
-    let last = last_without::<T, P, Q>(&child.part, &child.last, key)?;
-    let emptied = take_out_shared::<T, P, Q>(alloc, &mut child.part, key)?;
-    child.hint = number_of(&last);
-    child.last = last;
+    let emptied = take_out_shared::<T, P, Q>(alloc, &mut child.node, key)?;
+    child.hint = number_of(&child.node.last);
     Ok(emptied)
 }

@@ -7,7 +7,7 @@ ghost use Rattle.mg_pages.specs.Search.{AllBelow, AllAbove};
 ghost use Rattle.mg_pages.specs.Runs.{IsRun, IsEndRun};
 ghost use Rattle.mg_pages.specs.Parts.{values, children, child_seen, child_value, child_whole, AreWhole};
 
-use crate::child::{Child, child_of, copied_children, put_into, take_out_of};
+use crate::child::{Child, Node, child_of, copied_children, put_into, take_out_of};
 use crate::hint::next_guess;
 use crate::keyed::{Keyed, Probe};
 use crate::part::{LIMIT, Part};
@@ -55,7 +55,8 @@ fn place<T: Keyed, P: Part<T>, Q: Probe<T>>(parts: &[Child<T, P>], key: &Q) -> u
     while low < high {
         let middle = next_guess(low, high, guess);
         let child = &parts[middle];
-        let last: &T = &child.last;
+        let node: &Node<T, P> = &child.node;
+        let last: &T = &node.last;
         if key.against(last).is_gt() {
             low = middle + 1;
         } else {
@@ -73,8 +74,8 @@ fn run_from<T: Keyed, P: Part<T>>(parts: &[Child<T, P>], i: usize) -> &[Arc<T>]
 {
     if i < parts.len() {
         let child = &parts[i];
-        let part: &P = &child.part;
-        return part.first_run();
+        let node: &Node<T, P> = &child.node;
+        return node.part.first_run();
     }
     &[]
 }
@@ -89,8 +90,8 @@ fn run_upto<T: Keyed, P: Part<T>>(parts: &[Child<T, P>], i: usize) -> &[Arc<T>]
     if i > 0 {
         let last = i - 1;
         let child = &parts[last];
-        let part: &P = &child.part;
-        return part.last_run();
+        let node: &Node<T, P> = &child.node;
+        return node.part.last_run();
     }
     &[]
 }
@@ -151,8 +152,8 @@ fn make_room<T: Keyed, P: Part<T>>(
     ensures kept { IfOk result (λ split. split ≡ false → parts.new.items ≡ parts.old.items) }
 {
     let child = &parts[i];
-    let part: &P = &child.part;
-    match part.halves(alloc, element)? {
+    let node: &Node<T, P> = &child.node;
+    match node.part.halves(alloc, element)? {
         None => Ok(false),
         Some((front, back)) => {
             let front = child_of::<T, P>(alloc, front)?;
@@ -199,13 +200,14 @@ impl<T: Keyed, P: Part<T>> Part<T> for Level<T, P> {
 
     fn last(&self) -> &Arc<T> {
         let child = &self.parts[self.parts.len() - 1];
-        &child.last
+        let node: &Node<T, P> = &child.node;
+        &node.last
     }
 
     fn get<Q: Probe<T>>(&self, key: &Q) -> Option<&T> {
         let child = &self.parts[place::<T, P, Q>(&self.parts, key)];
-        let part: &P = &child.part;
-        part.get(key)
+        let node: &Node<T, P> = &child.node;
+        node.part.get(key)
     }
 
     fn first_run(&self) -> &[Arc<T>] {
@@ -215,8 +217,8 @@ impl<T: Keyed, P: Part<T>> Part<T> for Level<T, P> {
     fn run_after<Q: Probe<T>>(&self, key: &Q) -> &[Arc<T>] {
         let i = place::<T, P, Q>(&self.parts, key);
         let child = &self.parts[i];
-        let part: &P = &child.part;
-        let run = part.run_after(key);
+        let node: &Node<T, P> = &child.node;
+        let run = node.part.run_after(key);
         if run.len() > 0 {
             return run;
         }
@@ -230,8 +232,8 @@ impl<T: Keyed, P: Part<T>> Part<T> for Level<T, P> {
     fn run_before<Q: Probe<T>>(&self, key: &Q) -> &[Arc<T>] {
         let i = place::<T, P, Q>(&self.parts, key);
         let child = &self.parts[i];
-        let part: &P = &child.part;
-        let run = part.run_before(key);
+        let node: &Node<T, P> = &child.node;
+        let run = node.part.run_before(key);
         if run.len() > 0 {
             return run;
         }
