@@ -5,8 +5,8 @@ ghost use Rattle.mg_revtree.specs.Losers.{losers_of};
 ghost use Rattle.mg_revtree.specs.Tree.{StandsFor};
 ghost use Rattle.mg_doc.specs.Conflicts.{leaf_text, with_conflicts_of};
 
-use mg_revtree::{Leaf, NoMemory, RevTree};
-use mg_value::Json;
+use mg_revtree::{Leaf, RevTree};
+use mg_value::{Json, NoMemory};
 use std::alloc::Global;
 
 /// A document with its conflicts beside it: `_conflicts`, the texts of the revisions of the leaves that are neither the

@@ -4,8 +4,8 @@ ghost use Rattle.mg_value.specs.View.{view};
 ghost use Rattle.mg_doc.specs.Digest.{digest_of, parent_text as text_of_parent};
 
 use md5::{Digest, Md5};
-use mg_revtree::{NoMemory, Rev};
-use mg_value::{Json, write};
+use mg_revtree::Rev;
+use mg_value::{Json, NoMemory, write};
 use std::alloc::Global;
 
 /// The id of a new revision over a parent, or of a document's first: 32 lower hexadecimal digits of

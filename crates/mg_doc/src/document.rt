@@ -4,8 +4,8 @@ ghost use Rattle.mg_revtree.specs.History.{History as Paths, Leaf as Winner};
 ghost use Rattle.mg_revtree.specs.Tree.{StandsFor};
 ghost use Rattle.mg_doc.specs.Served.{served_form as form_of, served_of};
 
-use mg_revtree::{Leaf, NoMemory, RevTree};
-use mg_value::Json;
+use mg_revtree::{Leaf, RevTree};
+use mg_value::{Json, NoMemory};
 use std::alloc::Global;
 
 /// The document that is served for an id: what the winning revision holds, and `_id` and `_rev` beside it. None where

@@ -1,4 +1,5 @@
-use mg_revtree::{MergeError, NoMemory, Refusal, RevError, TreeError};
+use mg_revtree::{MergeError, Refusal, RevError, TreeError};
+use mg_value::NoMemory;
 use std::alloc::{AllocError, AllocFailed};
 use thiserror::Error;
 

@@ -7,7 +7,7 @@ mod conflicts;
 mod digest;
 mod document;
 mod edit;
-pub mod error;
+mod error;
 mod members;
 mod path;
 

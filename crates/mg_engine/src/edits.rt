@@ -9,11 +9,10 @@ ghost use Rattle.mg_shard.specs.Shard.{shards_seen};
 ghost use Rattle.std.specs.Arc.{arc_value};
 
 use mg_doc::Edit;
-use mg_shard::draft::id_in;
 use mg_shard::laws::{
     drafts_become_shards, each_edit_is_decided_there, each_edit_is_made_there, shards_become_drafts,
 };
-use mg_shard::{Draft, EditReply, Placement, Shard};
+use mg_shard::{Draft, EditReply, Placement, Shard, id_in};
 use mg_value::NoMemory;
 use std::alloc::Global;
 use std::sync::Arc;

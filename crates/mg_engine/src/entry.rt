@@ -9,8 +9,7 @@ ghost use Rattle.mg_engine.specs.Bulk.{done_entry, entries_of, entry_before, ent
 use crate::refusal::{BAD_HISTORY_ERROR, BAD_HISTORY_REASON, CONFLICT_ERROR, CONFLICT_REASON};
 use mg_doc::Edit;
 use mg_revtree::Rev;
-use mg_shard::EditReply;
-use mg_shard::draft::id_in;
+use mg_shard::{EditReply, id_in};
 use mg_value::{Json, NoMemory};
 use std::alloc::Global;
 

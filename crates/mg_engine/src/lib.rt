@@ -3,17 +3,17 @@
 
 mod body;
 mod bulk;
-pub mod command;
+mod command;
 mod define;
 mod edits;
-pub mod engine;
+mod engine;
 mod entry;
 mod fault;
 pub mod laws;
 mod query;
 mod read;
-pub mod refusal;
-pub mod reply;
+mod refusal;
+mod reply;
 mod reshard;
 mod state;
 mod take;

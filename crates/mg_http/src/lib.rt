@@ -3,20 +3,20 @@
 
 mod answer;
 mod decode;
-pub mod device;
+mod device;
 mod fault;
-pub mod fields;
-pub mod head;
-pub mod inbox;
+mod fields;
+mod head;
+mod inbox;
 pub mod laws;
-pub mod message;
-pub mod place;
+mod message;
+mod place;
 mod reply;
-pub mod routes;
-pub mod service;
-pub mod sessions;
+mod routes;
+mod service;
+mod sessions;
 mod talks;
-pub mod target;
+mod target;
 mod text;
 
 pub use device::Device;

@@ -1,18 +1,17 @@
 // The columns of an index, as `fields` of CouchDB's `_index` gives them.
-ghost use Rattle.std.specs.Prelude.{◌≡◌, Some, map, string_bytes, option_map};
-ghost use Rattle.std.specs.List.{list_all};
-ghost use Rattle.mg_value.specs.View.{view, items_view, members_view};
+ghost use Rattle.std.specs.Prelude.{◌≡◌, Some, map, string_bytes};
+ghost use Rattle.mg_value.specs.View.{view, items_view};
 ghost use Rattle.mg_value.specs.Value.{list};
 ghost use Rattle.mg_path.specs.Part.{steps_of};
-ghost use Rattle.mg_index.specs.Reading.{Gives, each_of, or_fault, field_path as path_text, field_direction as direction_given, word_direction as direction_word, direction_named as named_direction, only_member as member_alone, one_direction as shared_direction, is_same as are_same, columns_of, columns_read};
+ghost use Rattle.mg_index.specs.Reading.{Gives, each_of, or_fault, field_path as path_text, field_direction as direction_given, one_direction as shared_direction, columns_of, columns_read};
 ghost use Rattle.mg_index.specs.View.{columns_seen};
 
 use crate::error::IndexError;
+use crate::field::{are_all, field_direction, field_path};
 use mg_collate::Direction;
 use mg_path::Path;
 use mg_value::Json;
 use std::alloc::Global;
-use std::collections::BTreeMap;
 
 // The columns of an index: the texts of their paths, the paths, and their direction.
 #[derive(Debug, Drop)]
@@ -94,88 +93,5 @@ fn one_direction(directions: &[Direction]) -> Result<Direction, IndexError>
         Ok(*first)
     } else {
         Err(IndexError::Mixed)
-    }
-}
-
-fn are_all(direction: Direction, others: &[Direction]) -> bool
-    ensures { result ≡ list_all (are_same direction) others.now }
-{
-    for other in others {
-        if !is_same(direction, *other) {
-            return false;
-        }
-    }
-    true
-}
-
-pub(crate) fn is_same(a: Direction, b: Direction) -> bool
-    ensures { result ≡ are_same a b }
-{
-    match (a, b) {
-        (Direction::Asc, Direction::Asc) => true,
-        (Direction::Desc, Direction::Desc) => true,
-        _ => false,
-    }
-}
-
-// The text of a column's path.
-fn field_path(field: &Json) -> Option<&str>
-    ensures { option_map (λ t. t.now) result ≡ path_text (view field.now) }
-{
-    match field {
-        Json::Text(path) => Some(path.as_str()),
-        Json::Object(members) => {
-            let (path, _) = only_member(members)?;
-            Some(path)
-        }
-        _ => None,
-    }
-}
-
-// A column's direction.
-fn field_direction(field: &Json) -> Option<Direction>
-    ensures { result ≡ direction_given (view field.now) }
-{
-    match field {
-        Json::Text(_) => Some(Direction::Asc),
-        Json::Object(members) => {
-            let (_, word) = only_member(members)?;
-            word_direction(word)
-        }
-        _ => None,
-    }
-}
-
-fn word_direction(word: &Json) -> Option<Direction>
-    ensures { result ≡ direction_word (view word.now) }
-{
-    match word {
-        Json::Text(word) => direction_named(word.as_str()),
-        _ => None,
-    }
-}
-
-fn direction_named(word: &str) -> Option<Direction>
-    ensures { result ≡ named_direction word.now }
-{
-    if word == "asc" {
-        Some(Direction::Asc)
-    } else if word == "desc" {
-        Some(Direction::Desc)
-    } else {
-        None
-    }
-}
-
-// The one member of an object.
-fn only_member(members: &BTreeMap<String, Json>) -> Option<(&str, &Json)>
-    ensures { option_map (λ m. (m.0.now, view m.1.now)) result
-        ≡ member_alone (members_view members.now.entries) }
-{
-    let mut members = members.iter();
-    let (name, value) = members.next()?;
-    match members.next() {
-        None => Some((name.as_str(), value)),
-        Some(_) => None,
     }
 }

@@ -6,8 +6,8 @@ ghost use Rattle.mg_index.specs.Definition.{listed_of};
 ghost use Rattle.mg_index.specs.Same.{is_same_definition};
 ghost use Rattle.mg_index.specs.Reading.{Gives, definition_of};
 
-use crate::column::is_same;
 use crate::error::IndexError;
+use crate::field::is_same;
 use crate::listing::fields_json;
 use crate::reader;
 use mg_collate::Direction;

@@ -1,15 +1,16 @@
 //! Index definitions, the catalog of a database's indexes, and the choice of the index that serves a query.
 #![tactic(auto)]
 
-pub mod bound;
-pub mod catalog;
-pub mod choice;
+mod bound;
+mod catalog;
+mod choice;
 mod column;
-pub mod definition;
-pub mod error;
+mod definition;
+mod error;
+mod field;
 pub mod laws;
 mod listing;
-pub mod query;
+mod query;
 mod reader;
 mod usable;
 
@@ -18,5 +19,6 @@ pub use catalog::{Added, Catalog};
 pub use choice::{Choice, choose};
 pub use definition::IndexDef;
 pub use error::{IndexError, NoUsableIndex};
+pub use field::{are_all, field_direction, field_path, is_same};
 pub use listing::{all_docs_listed, design_document};
 pub use query::{Hint, Sort};

@@ -96,21 +96,9 @@ impl<D: Database, C: Ends> Desk<D, C> {
         ensures parts { share.new.parts ≡ share.old.parts }
         ensures publishes { Publishes D.db self (commits_seen front.old.seen.log) share.old.amount write.now.seat (asked write.now.command.now) (said result.1) result.0 (commits_seen front.new.seen.log) share.new.amount }
     {
-        let Desk {
-            writer,
-            mut tally,
-            ends,
-        } = self;
-        let now = writer.published();
+        let now = self.writer.published();
         if !front.begins(&now.front) {
-            return (
-                Desk {
-                    writer,
-                    tally,
-                    ends,
-                },
-                Reply::NoMemory,
-            );
+            return (self, Reply::NoMemory);
         }
         let (reply, next) = now.next::<D, R>(rt, alloc, head, write);
         let seen = now.front.again();
@@ -119,16 +107,14 @@ impl<D: Database, C: Ends> Desk<D, C> {
                 Reply::NoMemory => {}
                 Reply::Full { .. } => *front = seen,
             }
-            return (
-                Desk {
-                    writer,
-                    tally,
-                    ends,
-                },
-                reply,
-            );
+            return (self, reply);
         };
         *front = next.front.again();
+        let Desk {
+            writer,
+            mut tally,
+            ends,
+        } = self;
         tally.add(share);
         let writer = show(rt, writer, next);
         (

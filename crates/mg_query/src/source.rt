@@ -16,10 +16,9 @@ ghost use Rattle.mg_query.specs.Seen.{query_seen};
 ghost use Rattle.mg_query.specs.Served.{Answers, Chooses, IsListed, source_seen};
 
 use crate::error::PageError;
-use crate::field::is_same;
 use crate::query::Query;
 use mg_bookmark::Bookmark;
-use mg_index::{Catalog, Choice, IndexDef, all_docs_listed, choose};
+use mg_index::{Catalog, Choice, IndexDef, all_docs_listed, choose, is_same};
 use mg_normal::Normal;
 use mg_path::{Path, PathError};
 use mg_range::KeyRange;

@@ -4,8 +4,8 @@
 mod edge;
 pub mod laws;
 mod listed;
-pub mod place;
-pub mod range;
+mod place;
+mod range;
 mod span;
 mod text;
 

@@ -1,4 +1,4 @@
-pub use mg_value::NoMemory;
+use mg_value::NoMemory;
 use std::alloc::AllocError;
 use thiserror::Error;
 

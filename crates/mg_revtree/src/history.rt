@@ -3,8 +3,8 @@ ghost use Rattle.std.specs.List.{list_all};
 ghost use Rattle.mg_revtree.specs.Revision.{is_revision_id, run_from, run_of};
 ghost use Rattle.mg_revtree.specs.History.{newest_of};
 
-use crate::error::NoMemory;
 use crate::revision::{Rev, is_id};
+use mg_value::NoMemory;
 use std::marker::Model;
 
 /// A path as a replica gives it: a run of revisions, newest first, each at the position below the one before.

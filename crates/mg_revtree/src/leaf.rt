@@ -2,9 +2,8 @@ ghost use Rattle.std.specs.Prelude.{◌≡◌, IfOk};
 ghost use Rattle.mg_revtree.specs.History.{leaf_order};
 ghost use Rattle.mg_revtree.specs.Steps.{marked_as};
 
-use crate::error::NoMemory;
 use crate::revision::Rev;
-use mg_value::Json;
+use mg_value::{Json, NoMemory};
 use std::alloc::Global;
 use std::cmp::Ordering;
 use std::marker::Model;

@@ -5,9 +5,9 @@ ghost use Rattle.mg_revtree.specs.History.{has_child, links};
 ghost use Rattle.mg_revtree.specs.Tree.{AreApart, AreRanked, leaf_in};
 ghost use Rattle.mg_revtree.specs.Steps.{IsBetween, IsLeafAt, IsTied, marked_as, ranked};
 
-use crate::error::NoMemory;
 use crate::leaf::{Leaf, Shared};
 use crate::revision::Rev;
+use mg_value::NoMemory;
 use std::alloc::Global;
 
 // Where the leaf of a mark and a revision is among leaves, best first, or where it would go.

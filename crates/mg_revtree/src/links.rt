@@ -3,11 +3,11 @@ ghost use Rattle.mg_revtree.specs.Revision.{run_from};
 ghost use Rattle.mg_revtree.specs.History.{Link, are_held, fit, links};
 ghost use Rattle.mg_revtree.specs.Tree.{AreNodes, AreSorted, find};
 
-use crate::error::NoMemory;
 use crate::lookup::{all_agree, all_held, place};
 use crate::node::Node;
 use crate::parts::parts_for;
 use crate::room::join_all;
+use mg_value::NoMemory;
 use std::alloc::Global;
 use std::marker::Model;
 

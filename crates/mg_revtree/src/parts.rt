@@ -2,9 +2,9 @@ ghost use Rattle.std.specs.Prelude.{◌≡◌, IfOk, length, map, string_bytes};
 ghost use Rattle.mg_revtree.specs.Tree.{AreSorted};
 ghost use Rattle.mg_revtree.specs.Nodes.{AreWithin, Grows, IsWithin, PartsWithin, links_in, part_of};
 
-use crate::error::NoMemory;
 use crate::lookup::place;
 use crate::node::{Node, Part};
+use mg_value::NoMemory;
 
 // Adds an id to the texts.
 fn add(texts: &mut Vec<u8>, id: &[u8]) -> Result<Part, NoMemory>

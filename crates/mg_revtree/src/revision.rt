@@ -3,7 +3,8 @@ ghost use Rattle.std.specs.Char.{is_ascii_digit};
 ghost use Rattle.std.specs.List.{list_all};
 ghost use Rattle.mg_revtree.specs.Revision.{is_id_byte, is_revision_id, position_of, revision_of, revision_order, revision_text, same_revision};
 
-use crate::error::{NoMemory, RevError};
+use crate::error::RevError;
+use mg_value::NoMemory;
 use std::alloc::Global;
 use std::cmp::Ordering;
 use std::marker::Model;

@@ -7,13 +7,13 @@ ghost use Rattle.mg_revtree.specs.Losers.{leaves_of, losers_of};
 ghost use Rattle.mg_revtree.specs.Changes.{Decides, extension, found_of, next_position, path_of, position_below, refusal_of, with_path};
 ghost use Rattle.mg_revtree.specs.Steps.{base_in, ids_over};
 
-use crate::error::{MergeError, Merged, NoMemory, Refusal, TreeError};
+use crate::error::{MergeError, Merged, Refusal, TreeError};
 use crate::history::History;
 use crate::leaf::{Leaf, Shared};
 use crate::leaf_list::{add_leaf, copy_leaves, is_leaf, kept_among, unleaf};
 use crate::links::Links;
 use crate::revision::Rev;
-use mg_value::Json;
+use mg_value::{Json, NoMemory};
 use std::alloc::Global;
 use std::marker::Model;
 

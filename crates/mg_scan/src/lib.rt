@@ -3,12 +3,12 @@
 
 mod begin;
 mod building;
-pub mod gate;
+mod gate;
 mod hit;
 mod scanning;
 mod search;
 mod shard;
-pub mod target;
+mod target;
 mod workers;
 
 pub use building::build;

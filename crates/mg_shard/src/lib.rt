@@ -2,21 +2,21 @@
 #![tactic(auto)]
 
 mod docs;
-pub mod document;
-pub mod draft;
+mod document;
+mod draft;
 mod index;
 mod indexes;
 pub mod laws;
-pub mod placement;
+mod placement;
 mod redealt;
-pub mod reply;
+mod reply;
 mod served;
-pub mod shard;
+mod shard;
 mod walk;
 
 pub use docs::Docs;
 pub use document::Document;
-pub use draft::Draft;
+pub use draft::{Draft, id_in};
 pub use placement::{Md5Placement, Placement};
 pub use redealt::redeal;
 pub use reply::EditReply;

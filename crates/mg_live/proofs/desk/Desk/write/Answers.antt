@@ -6,8 +6,8 @@ use Rattle.mg_live.specs.declared.history.Front.{Front}
 use Rattle.mg_live.proofs.Publishing.{added}
 use Rattle.mg_live.proofs.desk.Desk.write.Goals as goal
 
-pub invariant_of-result-2 : goal.invariant_of-result-2
-invariant_of-result-2 g c =
+pub invariant_of-result : goal.invariant_of-result
+invariant_of-result g c =
     let w = c.args.write.now in
     let cs = commits_of c.published-now.result.now in
     let next : Nexts g.D.Database.db cs w.seat (asked w.command.now) (said c.next-reply.result.0) (Some (commits_of c.in-Some.next)) = rw c.in-Some.is at c.next-reply.ensures.next in

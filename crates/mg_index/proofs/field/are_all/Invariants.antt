@@ -1,7 +1,7 @@
 use Rattle.std.proofs.Common.{◌≡◌, drop}
 use Rattle.std.specs.List.{list_all}
 use Rattle.mg_index.specs.Reading.{is_same}
-use Rattle.mg_index.proofs.column.are_all.Given as goal
+use Rattle.mg_index.proofs.field.are_all.Given as goal
 
 -- the others that are left decide
 abbrev pub invariant-loop-other : goal.invariant-loop-other

@@ -1,0 +1,94 @@
+//! The fields of an index and of a sort: a text, or an object of one member whose name is the path and whose value is the direction.
+ghost use Rattle.std.specs.Prelude.{◌≡◌, option_map};
+ghost use Rattle.std.specs.List.{list_all};
+ghost use Rattle.mg_value.specs.View.{view, members_view};
+ghost use Rattle.mg_index.specs.Reading.{field_path as path_text, field_direction as direction_given, word_direction as direction_word, direction_named as named_direction, only_member as member_alone, is_same as are_same};
+
+use mg_collate::Direction;
+use mg_value::Json;
+use std::collections::BTreeMap;
+
+/// Whether all the others are this direction. Takes no memory. Cost: their number.
+pub fn are_all(direction: Direction, others: &[Direction]) -> bool
+    ensures { result ≡ list_all (are_same direction) others.now }
+{
+    for other in others {
+        if !is_same(direction, *other) {
+            return false;
+        }
+    }
+    true
+}
+
+/// Whether two directions are the same. Takes no memory.
+pub fn is_same(a: Direction, b: Direction) -> bool
+    ensures { result ≡ are_same a b }
+{
+    match (a, b) {
+        (Direction::Asc, Direction::Asc) => true,
+        (Direction::Desc, Direction::Desc) => true,
+        _ => false,
+    }
+}
+
+/// The text of a field's path, if it has one. Takes no memory. Source: `fields` and `sort` in CouchDB's API reference.
+pub fn field_path(field: &Json) -> Option<&str>
+    ensures { option_map (λ t. t.now) result ≡ path_text (view field.now) }
+{
+    match field {
+        Json::Text(path) => Some(path.as_str()),
+        Json::Object(members) => {
+            let (path, _) = only_member(members)?;
+            Some(path)
+        }
+        _ => None,
+    }
+}
+
+/// A field's direction, if it has one: ascending where the field is a text. Takes no memory. Source: as of `field_path`.
+pub fn field_direction(field: &Json) -> Option<Direction>
+    ensures { result ≡ direction_given (view field.now) }
+{
+    match field {
+        Json::Text(_) => Some(Direction::Asc),
+        Json::Object(members) => {
+            let (_, word) = only_member(members)?;
+            word_direction(word)
+        }
+        _ => None,
+    }
+}
+
+fn word_direction(word: &Json) -> Option<Direction>
+    ensures { result ≡ direction_word (view word.now) }
+{
+    match word {
+        Json::Text(word) => direction_named(word.as_str()),
+        _ => None,
+    }
+}
+
+fn direction_named(word: &str) -> Option<Direction>
+    ensures { result ≡ named_direction word.now }
+{
+    if word == "asc" {
+        Some(Direction::Asc)
+    } else if word == "desc" {
+        Some(Direction::Desc)
+    } else {
+        None
+    }
+}
+
+// The one member of an object.
+fn only_member(members: &BTreeMap<String, Json>) -> Option<(&str, &Json)>
+    ensures { option_map (λ m. (m.0.now, view m.1.now)) result
+        ≡ member_alone (members_view members.now.entries) }
+{
+    let mut members = members.iter();
+    let (name, value) = members.next()?;
+    match members.next() {
+        None => Some((name.as_str(), value)),
+        Some(_) => None,
+    }
+}
