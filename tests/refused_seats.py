@@ -9,7 +9,7 @@ model/); then the other client, for whom nothing is refused, sees all indexes an
 command that was answered `out_of_memory`, and everything of one that was accepted. A connection may end after `out_of_memory`,
 and the next one is served. Then two clients write at once while requests are refused at random (seeded), and afterwards exactly
 what was accepted is found. The start is refused memory too: it ends by `mangod: out of memory`, or clients are served. Last,
-threads are refused: workers that cannot be started change no reply, and a seat whose thread cannot be started leaves the other.
+threads are refused: a worker that does not start changes no reply, and a seat whose thread does not start leaves the other.
 The last line is 'N passed, M failed'; without a C compiler a line before it says that all is left out.
 """
 import argparse

@@ -16,7 +16,7 @@ class Document:
         self.held = {}
 
     def leaves(self):
-        """Best first: one that is not deleted, then the higher position, then the greater id."""
+        """From the winner down: those that are not deleted by position and id, and then the deleted ones so."""
         inner = set(self.parents.values())
         leaves = [revision for revision in self.parents if revision not in inner]
         return sorted(leaves, key=lambda revision: (not self.held[revision][0], revision), reverse=True)

@@ -82,7 +82,7 @@ def read_member(name, argument):
 
 
 def entry(name, argument, value):
-    """Whether an operator holds on a part that is there."""
+    """Whether an operator holds on a part, which is not missing."""
     if name in COMPARISONS:
         return COMPARISONS[name](order(value), order(argument))
     if name == "$exists":

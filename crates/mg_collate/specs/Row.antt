@@ -36,7 +36,7 @@ id_order = on (λ r. r.1) (slice_cmp nat_cmp)
 abbrev pub row_value_order : RowValue → RowValue → Ordering
 row_value_order = then_cmp key_order id_order
 
--- the order of rows: by key, then by the bytes of the id
+-- the order of rows: by key, and at one key by the bytes of the id
 abbrev pub row_order : Row → Row → Ordering
 row_order = on row_view row_value_order
 

@@ -11,7 +11,7 @@ abbrev pub inserted : {X : Type 0} → (X → X → Ordering) → X → List X �
 inserted order x [] = x ∷ []
 inserted order x (y ∷ ys) = if is_gt (order x y) then y ∷ inserted order x ys else x ∷ y ∷ ys
 
--- the elements of a list in order, each as often as it stands there
+-- the list put in order: nothing is lost, and nothing is doubled
 abbrev pub sorted : {X : Type 0} → (X → X → Ordering) → List X → List X
 sorted order [] = []
 sorted order (x ∷ xs) = inserted order x (sorted order xs)

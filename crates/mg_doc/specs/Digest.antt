@@ -11,6 +11,6 @@ abbrev pub parent_text : Option Revision → Value
 parent_text None = null
 parent_text (Some r) = text (revision_text r)
 
--- the digest of the compact text of `[deleted, parent, body]`
+-- the digest of `[deleted, parent, body]` as compact text
 abbrev pub digest_of : Bool → Option Revision → Value → List ℕ
 digest_of deleted parent body = encode_lower (md5 (compact (list (item (flag deleted) (item (parent_text parent) (item body no_items))))))

@@ -1,4 +1,4 @@
--- The document that is served, after CouchDB's `GET` of a document: the winner's body with `_id` and `_rev`.
+-- The document that is served, after CouchDB's `GET` of a document: what the winner holds, with `_id` and `_rev` beside it.
 use Rattle.std.specs.Prelude.{ℕ, List, codes, Option, Some, None, option_and_then, if◌then◌else◌}
 use Rattle.mg_value.specs.Value.{Value, text, with_member}
 use Rattle.mg_revtree.specs.Revision.{revision_text}

@@ -9,9 +9,9 @@ use mg_revtree::{Leaf, RevTree};
 use mg_value::{Json, NoMemory};
 use std::alloc::Global;
 
-/// A document with its conflicts beside it: `_conflicts`, the texts of the revisions of the leaves that are neither the
-/// winner nor deleted, best first. A document without such leaves is handed back as it came, and so is a value that is
-/// no object.
+/// A document with its conflicts beside it: `_conflicts`, the texts of the revisions of its losers, which are the leaves
+/// beside the winner that are not deleted, in their order. A document without losers is handed back as it came, and so
+/// is a value that is no object.
 ///
 /// Where there are none, no memory is needed. Cost: the number of the leaves, and the length of the texts. Source:
 /// `conflicts` of `GET` and `_find` in CouchDB's API reference.

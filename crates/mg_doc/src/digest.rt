@@ -9,7 +9,7 @@ use mg_value::{Json, NoMemory, write};
 use std::alloc::Global;
 
 /// The id of a new revision over a parent, or of a document's first: 32 lower hexadecimal digits of
-/// the MD5 of the compact text of `[deleted, parent, body]`, the parent as its text or null.
+/// the MD5 of `[deleted, parent, body]` as compact text, the parent as its text or null.
 ///
 /// Cost: the length of the body's text. Source: CouchDB's deterministic revision ids, RFC 1321.
 pub fn rev_id(

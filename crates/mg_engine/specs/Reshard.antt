@@ -2,7 +2,7 @@
 use Rattle.std.specs.Prelude.{ℕ, pos, ◌&&◌, codes, Option, Some, None, if◌then◌else◌, nat_le}
 use Rattle.mg_value.specs.Value.{Value, whole, member_of}
 
--- a whole number from 1 to 64
+-- a number of shards: whole, at least 1 and at most 64
 abbrev pub shard_number : Option Value → Option ℕ
 shard_number (Some (whole (pos n))) = if nat_le 1 n && nat_le n 64 then Some n else None
 shard_number v = None

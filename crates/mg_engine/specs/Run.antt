@@ -21,7 +21,7 @@ told [] = []
 told (None ∷ rs) = told rs
 told (Some a ∷ rs) = a ∷ told rs
 
--- from w the commands have these replies: where memory was refused, the command changed nothing and counts as not given
+-- from w the commands have these replies: those of the commands that were not refused memory are as if the others were not there
 pub record IsRun (w : World) (cs : List Asked) (rs : List (Option Answer)) (ends : World → Type 0) : Type 0 where
   pub one_each : length rs ≡ length cs
   pub replies : told rs ≡ replies_of w (kept cs rs)

@@ -106,7 +106,7 @@ impl<P: Placement + Drop> Engine<P> {
         reply
     }
 
-    /// The reply to a write, and the engine that it leaves, which is there exactly where the status is 200 or 201. This engine stays.
+    /// The reply to a write, and the engine that it leaves, which is there exactly for the statuses 200 and 201. This engine stays.
     /// Cost: as of `step`.
     pub fn commit<R: Threads + Sync>(
         &self,

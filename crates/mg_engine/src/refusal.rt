@@ -57,7 +57,8 @@ pub const BAD_HISTORY_ERROR: &str = "bad_history";
 /// The `reason` of an edit that the history does not admit.
 pub const BAD_HISTORY_REASON: &str = "Revision history does not fit the document.";
 
-/// Why a request is refused. The texts stand here once, for the definitions and for the code.
+/// Why a request is refused. The definitions write its texts out themselves (specs/Refusals.antt), and `body` is proved to give them;
+/// the constants above are the code's.
 #[derive(Clone, Copy, PartialEq, Eq, Debug, Drop)]
 pub enum Refusal {
     /// The body is no JSON text, or has a number that is no 64-bit integer.

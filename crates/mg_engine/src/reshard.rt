@@ -23,7 +23,7 @@ use std::alloc::Global;
 use std::sync::Arc;
 
 impl State {
-    /// The reply to a body that asks for a number of shards, and the next state, if that is a whole number from 1 to 64; any other
+    /// The reply to a body that asks for a number of shards, and the next state, if that is whole and from 1 to 64; any other
     /// body is refused as of the wrong shape. The documents, the indexes and the counter stay as they are. Cost: the shards, where
     /// they are as many already; else each document, to its place, and its row in each index.
     pub(crate) fn reshard<P: Placement>(

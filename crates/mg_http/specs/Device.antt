@@ -8,7 +8,7 @@ use Rattle.mg_http.specs.declared.device.Fault.{Fault}
 abbrev pub inner_of : {T : Type 0} → Device T → T
 inner_of d = d.inner
 
--- a call of it answered an error, or a write of some bytes took none
+-- some call of it ended in an error, or was a write of some bytes of which none was taken
 abbrev pub has_failed : {T : Type 0} → Device T → Bool
 has_failed d = d.failed
 

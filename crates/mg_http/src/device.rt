@@ -7,8 +7,8 @@ use std::io::{Read, Write};
 /// The most bytes that are gathered for one write.
 const MAX_PAGE: usize = 65_536;
 
-/// A reader or a writer that remembers whether it failed: whether a call of it answered an error, or a write of some
-/// bytes took none of them.
+/// A reader or a writer that remembers whether it failed: whether a call of it ended in an error, or was a write
+/// of some bytes of which none was taken.
 #[derive(Drop)]
 pub struct Device<T> {
     inner: T,

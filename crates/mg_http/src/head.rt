@@ -121,7 +121,7 @@ fn is_head(method: &[u8]) -> bool
     method == b"HEAD".as_slice()
 }
 
-/// Whether the session ends after the reply to a message of this minor version with these fields.
+/// Whether the reply to a message of this minor version with these fields is the session's last.
 fn closes_after(minor: u8, bytes: &[u8], fields: &[HeaderSpan]) -> bool
     requires { All (IsHeaderWithin (length bytes.now)) fields.now }
     ensures { result ≡ (minor == 0 || list_any asks_close (map (header_bytes bytes.now) fields.now)) }

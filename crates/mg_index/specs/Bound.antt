@@ -88,7 +88,7 @@ is_fixed atoms column = list_any is_exact (bounds_on atoms column)
 abbrev pub is_bounded : List Atom → Steps → Bool
 is_bounded atoms column = list_any (λ b. true) (bounds_on atoms column)
 
--- how many columns are bounded: the leading ones whose value is fixed, and the next one where it has any bound
+-- how many columns are bounded: from the first on those whose value is fixed, and one more if the column after these has a bound
 abbrev pub bounded_count : List Atom → List Steps → ℕ
 bounded_count atoms [] = 0
 bounded_count atoms (c ∷ cs) = if is_fixed atoms c then suc (bounded_count atoms cs) else if is_bounded atoms c then 1 else 0

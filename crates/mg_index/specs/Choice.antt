@@ -34,8 +34,8 @@ needs_part a = not (operator_holds a.operator a.sense None)
 abbrev pub asks_of : Steps → Atom → Bool
 asks_of column a = path_eq a.steps column && needs_part a
 
--- a document that a query with these atoms and this sort finds has the column: it is `_id`, `_rev`, a path of the sort, or the
--- path of an atom that does not hold on a missing part
+-- no document that a query with these atoms and this sort finds lacks the column: each document has it (`_id`, `_rev`), or the
+-- sort names it, or some atom is asked of it that fails where the part is missing
 abbrev pub is_covered : List Atom → List Steps → Steps → Bool
 is_covered atoms sort column =
     path_eq column id_path || (path_eq column rev_path || (list_any (path_eq column) sort || list_any (asks_of column) atoms))

@@ -37,13 +37,14 @@ pub(crate) struct Candidate<'a> {
 
 /// The index that serves a query. Takes no memory.
 ///
-/// An index is usable where each column is `_id`, `_rev`, a path of the sort, or the path of an atom that
-/// does not hold on a missing part, and its columns begin with the sort's paths. Of the usable ones that
-/// the hint names, if there are any, and else of all usable ones: the one with the most bounded columns,
-/// then the fewest columns, then the least name, then the least design document. Where none is usable:
-/// the index of all documents, if there is no sort or it is by `_id` alone.
+/// An index can serve if no document that the query finds lacks one of its columns, and if the sort's paths are the
+/// first of these. No document lacks `_id` and `_rev`, and none that is found lacks what the sort names, or a part of
+/// which some atom is asked that fails where it is missing. Of the indexes that can serve, one that the hint names is
+/// before one that it does not name; then more bounded columns are before fewer, fewer columns before more, the lesser
+/// name before the greater, and so the lesser design document; the first one is taken. If none can, it is the index of
+/// all documents, for a query without a sort or with one by `_id` alone.
 ///
-/// Errors: `NoUsableIndex` where that is not usable either.
+/// Errors: `NoUsableIndex` where that cannot serve either.
 /// Cost: for each definition its columns times the atoms. Source: the selection of indexes in CouchDB.
 pub fn choose(
     catalog: &Catalog,

@@ -51,8 +51,8 @@ impl IndexDef {
     /// - `index`, an object whose `fields` is an array of one or more columns, each the text of a path,
     ///   which is ascending, or `{path: "asc"}` or `{path: "desc"}`.
     /// - `ddoc` and `name`, texts that are not empty. A `ddoc` without `_design/` in front gets it. An
-    ///   absent name is the MD5, in lower hexadecimal, of the compact text of
-    ///   `{"fields":[{path: direction},..]}`, and an absent ddoc is `_design/` and that digest.
+    ///   absent name is the MD5, in lower hexadecimal, of
+    ///   `{"fields":[{path: direction},..]}` as compact text, and an absent ddoc is `_design/` and that digest.
     /// - `type`, `json` if it is there; `partial_filter_selector`, here or in `index`, `{}` if it is
     ///   there; `partitioned`, false if it is there. Other members are ignored.
     ///

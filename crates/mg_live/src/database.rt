@@ -5,7 +5,7 @@ use std::sync::Wait;
 use std::sync::ledger::Ledger;
 
 /// Which database it is: its name, the history of its commits, and the ledger of its tallies. A function over it is called with
-/// `Brand`, where a proof picks it; such a function has no `&str` in its own signature.
+/// `Brand`, where a proof picks it; such a function takes and gives no `&str` itself.
 pub trait Database: Ledger {
     ghost use Rattle.logbook.specs.Pages.{Book};
     ghost use Rattle.std.specs.Prelude.{ℕ, List};

@@ -55,8 +55,8 @@ fn is_at(seats: usize, event: &Event) -> bool
 /// The replies to events at so many seats, over one shard and with one worker, by this thread alone: of `Publish` and `Answer`
 /// the reply to the command, whole, and none of `Enter` and `Told`. Each event has to be at one of these seats, which `are_at` tests.
 ///
-/// Errors: `NoMemory` where a growth was refused anywhere; so no reply is a want of memory. After 18,446,744,073,709,551,615
-/// commits a write is refused by 413 `too_large`. Cost: that of each command, as of `Engine::step`, and the number of seats;
+/// Errors: `NoMemory` where a growth was refused anywhere; so no reply is a want of memory. A write is refused by 413 `too_large`
+/// where 18,446,744,073,709,551,615 commits stand already. Cost: that of each command, as of `Engine::step`, and the number of seats;
 /// `Enter` and `Told` cost the same for any documents.
 pub fn replay<R: Threads + Sync>(
     rt: &R,

@@ -21,7 +21,7 @@ lists_view lists = map (λ list. rows_view list.items) lists
 abbrev pub joined : {X : Type 0} → List (List X) → List X
 joined lists = flat_map (λ list. list) lists
 
--- the first `count` rows of all lists together in a direction's order, each as often as it stands
+-- the lists joined and put in a direction's order, and of that the first `count` rows
 abbrev pub merged : Direction → ℕ → List (List RowValue) → List RowValue
 merged direction count lists = take count (sorted_rows direction (joined lists))
 

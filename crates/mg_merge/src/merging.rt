@@ -12,8 +12,8 @@ use mg_collate::{Direction, Row};
 use mg_value::NoMemory;
 use std::alloc::Global;
 
-/// The first `take` rows of all lists together, in the direction's order: fewer only where the lists
-/// hold fewer, and each row as often as it stands in the lists. Beside them stand the lengths of the
+/// Of all rows of the lists, put together in the direction's order, the first `take`: fewer only where the
+/// lists hold fewer, and none lost or doubled. Beside them stand the lengths of the
 /// lists and of the result. Each list has to be in that order, which `are_in_order` tests; it may be
 /// empty.
 ///

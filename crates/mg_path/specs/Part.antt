@@ -39,7 +39,7 @@ pieces_of (c ∷ d ∷ cs) =
 abbrev pub steps_of : List ℕ → Option (List (List ℕ))
 steps_of t = if list_any is_empty (pieces_of t) then None else Some (pieces_of t)
 
--- the step is `0`, or decimal digits without a leading zero
+-- the step is made of decimal digits, of which the first is a `0` only where it is the only one
 abbrev pub is_place : List ℕ → Bool
 is_place [] = false
 is_place (c ∷ cs) = if c == 48 then is_empty cs else all_ascii_digits (c ∷ cs)
@@ -59,7 +59,7 @@ abbrev pub part_of : List (List ℕ) → Value → Option Value
 part_of [] v = Some v
 part_of (step ∷ steps) v = option_and_then (part_of steps) (part_at step v)
 
--- the value with the part under the steps, as nested objects' names, in place of what stands there;
+-- the value with the part at the steps, each the name of a member in the object before, in place of what stands there;
 -- where some value on the way is no object, all stays as it is
 abbrev pub placed : List (List ℕ) → Value → Value → Value
 placed [] part v = part

@@ -46,7 +46,7 @@ impl Path {
     /// Reads a text such as `a.b.0`: steps between dots. `\.` is a dot within a step, and a
     /// backslash before anything else a backslash.
     ///
-    /// Errors: `Empty` exactly where a step is empty, which is found before memory is taken;
+    /// Errors: `Empty` for exactly the texts with an empty step, which is found before memory is taken;
     /// `NoMemory` where a growth is refused.
     /// Cost: the length of the text. Source: the field syntax of CouchDB's `_find`.
     pub fn parse(alloc: Global, text: &str) -> Result<Path, PathError>

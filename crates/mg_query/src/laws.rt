@@ -3,9 +3,9 @@ ghost use Rattle.mg_query.specs.Laws.{PagesJoin, PagesReadBackJoin};
 
 use mg_bookmark::laws::what_is_spelled_is_read;
 
-/// Where nothing is passed over and the limit is at least 1, the pages that follow one another by their bookmarks,
-/// until one is empty, join to all documents that the query finds, in order. The values of each document's key have to
-/// nest at most 125 deep, and all texts to be UTF-8.
+/// Where nothing is passed over and the limit is at least 1, the pages that are asked for one after another, each by the
+/// bookmark of the one before, up to the first empty one, have together what the query finds, in order. The values of
+/// each document's key have to nest at most 125 deep, and all texts to be UTF-8.
 pub fn pages_join()
     ensures { PagesJoin }
 {

@@ -47,11 +47,11 @@ impl<'a> Query<'a> {
     /// Reads the body of a `_find` or an `_explain`, an object:
     ///
     /// - `selector`, an object, has to be there.
-    /// - `limit` (25) and `skip` (0), 0 to 2,147,483,647.
-    /// - `sort`, an array of path texts, which are ascending, and of `{path: "asc"}` or `{path: "desc"}`.
-    /// - `fields`, an array of path texts; absent or empty gives whole documents.
+    /// - `limit` and `skip`, whole numbers from 0 to 2,147,483,647, and 25 and 0 where they are absent.
+    /// - `sort`, an array whose items are paths, which are ascending, and `{path: "asc"}` or `{path: "desc"}`.
+    /// - `fields`, an array whose items are paths. Without one, documents are shown whole.
     /// - `use_index`, a design document, or an array of none, of one, or of one and a name.
-    /// - `bookmark`, a text or null; `conflicts`, true or false. Other members are ignored.
+    /// - `conflicts`, true or false; `bookmark`, null or a text. Other members are ignored.
     ///
     /// Errors, in this order: `Shape` for any other body, or a path of `sort` or `fields` with an empty step; the
     /// selector's first fault; `BadBookmark` where the text spells no bookmark; `MixedSort` for a sort in both

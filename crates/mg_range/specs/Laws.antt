@@ -26,7 +26,7 @@ abbrev pub HasKey : List Steps → Value → List Value → Type 0
 HasKey columns v key = each_of (λ c. part_of c v) columns ≡ Some key
 
 -- where an index is usable for a selector and a sort, and a document has `_id`, `_rev` and every path of the sort, and the selector
--- holds of it, then the document has every column, and its key is in the range
+-- holds of it, then no column is missing in the document, and what stands there is a key of the range
 abbrev pub RangesAreComplete : Type 0
 RangesAreComplete =
     (s : Selector) (sort columns : List Steps) (v : Value) → is_usable (atoms_of s) sort columns ≡ true

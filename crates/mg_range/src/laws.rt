@@ -4,8 +4,8 @@ ghost use Rattle.mg_range.specs.Laws.{RangesAreComplete, RangesStandTogether, Ro
 use mg_normal::laws::atoms_are_necessary;
 
 /// Where an index is usable for a selector and a sort, and a document has `_id`, `_rev` and every path of
-/// the sort, and the selector holds of it, then the document has every column of the index, and its key is
-/// in the range. So a search of the index within the range finds each document that the query asks for.
+/// the sort, and the selector holds of it, then no column of the index is missing in the document, and what
+/// stands there is a key of the range. So a search of the index within the range finds each document that the query asks for.
 pub fn ranges_are_complete()
     ensures { RangesAreComplete }
 {

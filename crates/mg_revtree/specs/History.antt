@@ -6,7 +6,7 @@ use Rattle.std.specs.declared.cmp.Ordering.{Ordering}
 use Rattle.mg_value.specs.Value.{Value}
 use Rattle.mg_revtree.specs.Revision.{Revision, revision_order, same_revision}
 
--- an accepted path: revisions, newest first, with the mark and the body of the newest
+-- an accepted path: its revisions from the newest down, and what the newest has, its mark and its body
 pub record Path : Type 0 where
   pub revs : List Revision
   pub deleted : Bool
@@ -48,7 +48,7 @@ abbrev pub or_else : {A : Type 0} → Option A → Option A → Option A
 or_else None b = b
 or_else (Some a) b = Some a
 
--- the revision after it in some path
+-- what comes behind a revision in a path, of the first path where something does
 abbrev pub parent_of : Revision → List Link → Option Revision
 parent_of r [] = None
 parent_of r (l ∷ ls) = if same_revision r l.rev then or_else l.parent (parent_of r ls) else parent_of r ls

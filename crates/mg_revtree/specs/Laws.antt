@@ -57,7 +57,7 @@ AcceptedInEveryOrder = (h ps : List Path) → OneParent (all_links (h ++ ps)) �
 
 -- ---- what a path changes
 
--- a path that is known whole changes nothing
+-- with a path that is known whole, a history says what it said without it
 abbrev pub KnownChangesNothing : Type 0
 KnownChangesNothing = (h : History) (p : Path) → is_whole h p.revs ≡ true → Agree (with_path h p) h
 

@@ -1,4 +1,5 @@
--- The losers of a history as a list, after the conflicts of CouchDB's replication model: the leaves that are neither the winner nor deleted.
+-- The losers of a history as a list, after the conflicts of CouchDB's replication model: its leaves without the winner and without
+-- those that are deleted.
 use Rattle.std.specs.Prelude.{List, [], ◌∷◌, not}
 use Rattle.std.specs.List.{filter, filter_map}
 use Rattle.std.specs.Ordering.{match_ordering}

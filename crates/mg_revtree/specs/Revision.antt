@@ -12,7 +12,7 @@ use Rattle.std.specs.declared.cmp.Ordering.{Ordering}
 abbrev pub Revision : Type 0
 Revision = ℕ × List ℕ
 
--- by the position, then by the bytes of the id
+-- by the position, and at one position by the bytes of the id
 abbrev pub revision_order : Revision → Revision → Ordering
 revision_order = then_cmp (on (λ r. r.0) nat_cmp) (on (λ r. r.1) (slice_cmp nat_cmp))
 
@@ -28,7 +28,7 @@ is_id_byte b = nat_le 33 b && nat_le b 126
 abbrev pub is_revision_id : List ℕ → Bool
 is_revision_id s = nat_lt 0 (length s) && list_all is_id_byte s
 
--- the number of a position: 1 to 4,294,967,295 in decimal digits with no leading zero
+-- the number of a position: from 1 to 4,294,967,295 in decimal digits with no leading zero
 abbrev pub position_of : List ℕ → Option ℕ
 position_of s =
     if list_all is_ascii_digit s && (nat_lt 0 (digits_value 10 s) && (nat_le (digits_value 10 s) 4294967295 && bytes_eq (decimal (digits_value 10 s)) s))

@@ -66,7 +66,7 @@ pub record AreLeaves (h : History) (ls : List Leaf) : Type 0 where
   pub apart : AreApart ls
   pub ranked : AreRanked ls
 
--- the mark and body of a leaf that is neither the winner nor deleted
+-- the mark and body of a leaf beside the winner that is not deleted
 abbrev pub loser_at : Revision → History → Option (Bool × Value)
 loser_at r h = if is_at r (option_map (λ l. l.rev) (winner_of h)) then None else option_and_then (λ m. if not m.0 then Some m else None) (leaf_at r h)
 

@@ -27,7 +27,7 @@ impl Model for History {
 }
 
 impl History {
-    /// The run that starts at a position, if there are 1 to `start` ids, each the id of a revision.
+    /// The run that starts at a position, if its ids are at least one and at most `start`, each that of a revision.
     /// Takes no memory. Cost: the length of the ids. Source: `_revisions` of CouchDB's API reference.
     pub fn new(start: u32, ids: Vec<String>) -> Option<History>
         ensures { result ≡ run_of start (map string_bytes ids.items) }

@@ -12,7 +12,7 @@ pub fn accepted_in_every_order()
     ensures { AcceptedInEveryOrder }
 {}
 
-/// A path that is known whole changes nothing.
+/// With a path that is known whole, a history says what it said without it.
 pub fn known_changes_nothing()
     ensures { KnownChangesNothing }
 {}

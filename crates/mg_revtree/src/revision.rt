@@ -13,7 +13,7 @@ use std::marker::Model;
 /// ASCII characters that are no space and no control character. Contracts see it as the pair of both.
 #[derive(Debug, Drop)]
 pub struct Rev {
-    /// The position, 1 to 4,294,967,295.
+    /// The position, from 1 to 4,294,967,295.
     pub pos: u32,
     /// The id, as written.
     pub id: String,
@@ -29,7 +29,7 @@ impl Model for Rev {
 }
 
 impl Rev {
-    /// Reads `N-id`, cut at the first hyphen: N in decimal with no leading zero, 1 to 4,294,967,295.
+    /// Reads `N-id`, cut at the first hyphen: N in decimal, from 1 to 4,294,967,295, with no leading zero.
     ///
     /// Errors: `Bad` for exactly the texts that are no revision. Cost: the length of the text.
     /// Source: revisions of CouchDB's API reference.
@@ -62,7 +62,7 @@ impl Rev {
         Ok(format!(in alloc; "{pos}-{id}")?)
     }
 
-    /// By the position, then by the bytes of the id.
+    /// By the position, and at one position by the bytes of the id.
     pub fn order(&self, other: &Rev) -> Ordering
         ensures { result ≡ revision_order self.now other.now }
     {

@@ -174,8 +174,8 @@ impl RevTree {
 
     /// Accepts a path as a replica gives it, with the mark and the body of its newest revision. Unknown revisions
     /// become known, and known ones without a parent are joined to the parent that the path gives them. A newest
-    /// revision that is known already keeps the mark and the body that it has. A path that is known whole changes
-    /// nothing.
+    /// revision that is known already keeps the mark and the body that it has. After a path that is known whole the
+    /// tree is as it was.
     ///
     /// Errors: `BadHistory` where the path contradicts a parent that is known already, and else `NoMemory` where a
     /// growth is refused; neither a bad path nor one that is known whole needs memory. A refusal leaves the tree as it

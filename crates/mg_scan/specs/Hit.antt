@@ -44,7 +44,7 @@ pub record IsHitOf (ds : KeptDocuments) (h : Hit) : Type 0 where
 abbrev pub AreHitsOf : KeptDocuments → List Hit → Type 0
 AreHitsOf ds hits = AllByRecursion (IsHitOf ds) hits
 
--- the order of hits is that of their rows: by key, then by the bytes of the id
+-- the order of hits is that of their rows: by key, and at one key by the bytes of the id
 abbrev pub hit_order : Hit → Hit → Ordering
 hit_order = on hit_row row_value_order
 

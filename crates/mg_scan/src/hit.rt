@@ -11,7 +11,7 @@ use mg_value::{Json, NoMemory, copy_items};
 use std::alloc::Global;
 use std::cmp::Ordering;
 
-/// A row that a scan found, and its document, lent by a shard. Hits are ordered by key, then by the bytes of the id.
+/// A row that a scan found, and its document, lent by a shard. Hits are ordered by key, and at one key by the bytes of the id.
 #[derive(Clone, Copy, Drop)]
 pub struct Hit<'a> {
     pub(crate) key: &'a [Json],

@@ -24,7 +24,7 @@ use std::thread::Threads;
 
 /// The hits of each shard, in the order of the shards: in the target's rows that the direction lists strictly after the row, if one is
 /// named, those whose key is in the range and of whose document the selector holds, the first `take` of them, in the direction's order.
-/// What they are is the same for every number of workers, from 1 to 32, and for every gate. One worker, or one shard, starts no thread.
+/// They do not depend on the number of workers, which is from 1 to 32, nor on the gate. One worker, or one shard, starts no thread.
 ///
 /// The gate is passed before a shard's first row is read and after its last.
 /// Errors: `NoMemory` where a growth was refused. Cost: in each shard one look-up of where to begin, then for each row that is

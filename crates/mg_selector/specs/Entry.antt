@@ -44,7 +44,7 @@ has_type json_type.Array (list vs) = true
 has_type json_type.Object (object ms) = true
 has_type t v = false
 
--- of an array some element equals some argument; any other value does
+-- some item of an array is among the arguments, or any other value is so itself
 abbrev pub meets_some : Items → Value → Bool
 meets_some ws (list vs) = some_item (is_among ws) vs
 meets_some ws v = is_among ws v
@@ -54,7 +54,7 @@ abbrev pub has_size : ℕ → Value → Bool
 has_size n (list vs) = length (item_list vs) == n
 has_size n v = false
 
--- a number whose truncated remainder by d, with the number's own sign, is r; no number has one by 0
+-- a number that leaves r as its remainder by d, which has the number's own sign; no number leaves one by 0
 abbrev pub has_remainder : ℤ → ℤ → Value → Bool
 has_remainder d r (whole z) = int_eq (int_rem z d) r
 has_remainder d r v = false

@@ -71,7 +71,7 @@ abbrev mutual
   of_object (list vs) = Err BadArg
   of_object (object ms) = fmap members (of_members ms)
 
-  -- the arms of `$and`, `$or` and `$nor`, which have to be an array
+  -- the arms of a combinator (`$and`, `$or`, `$nor`), which have to be an array
   pub of_arms : Value → Result Arms SelError
   of_arms null = Err BadArg
   of_arms (flag b) = Err BadArg

@@ -21,7 +21,7 @@ mutual
     no_arms : Arms
     arm : Selector → Arms → Arms
 
-  -- an operator that is no combinator, with its argument
+  -- an operator with its argument, but for the combinators
   pub data Operator : Type 0 where
     -- `$lt`, `$lte`, `$eq`, `$ne`, `$gte`, `$gt`
     less : Value → Operator

@@ -7,7 +7,7 @@ use mg_collate::compare;
 use mg_value::Json;
 use std::num::NonZeroI64;
 
-/// Of an array some element equals some argument; any other value does.
+/// Whether some item of an array is among the arguments, or any other value is so itself.
 pub(crate) fn meets_some(arguments: &[Json], value: &Json) -> bool
     ensures { result ≡ meets_some (items_view arguments.now) (view value.now) }
 {

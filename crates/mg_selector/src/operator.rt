@@ -9,7 +9,7 @@ use mg_value::{Json, NoMemory};
 use std::alloc::Global;
 use std::num::NonZeroI64;
 
-/// An operator that is no combinator, with its argument. What it asks of a part is written beside it.
+/// An operator with its argument, but for the combinators. What it asks of a part is written beside it.
 #[cycle(selector)]
 #[derive(Debug, Drop)]
 pub enum Op {
@@ -29,7 +29,7 @@ pub enum Op {
     Exists(bool),
     /// `$type`: of the type.
     Type(JsonType),
-    /// `$in`: of an array some element equals some argument; any other value does.
+    /// `$in`: an array of which some item is among the arguments; any other value, where it is so itself.
     In(Vec<Json>),
     /// `$nin`: `$in` does not hold.
     Nin(Vec<Json>),
@@ -39,7 +39,7 @@ pub enum Op {
     Mod(NonZeroI64, i64),
     /// `$all`: an array that has every argument, of which there are some, or that equals the only one.
     All(Vec<Json>),
-    /// `$elemMatch`: an array, some element of which satisfies the selector.
+    /// `$elemMatch`: an array with an element that the selector holds of.
     ElemMatch(Box<Sel>),
     /// `$allMatch`: an array that is not empty, each element of which satisfies the selector.
     AllMatch(Box<Sel>),

@@ -34,13 +34,14 @@ impl Sel {
     ghost use Rattle.mg_selector.specs.Reading.{Gives, IsObject, reading};
     ghost use Rattle.mg_selector.specs.View.{selector_of};
 
-    /// Reads a selector such as `{"a":{"$gt":1},"b.c":2}`. A name that begins with `$` is an operator
-    /// on the current part; any other is a path, with a selector or a value that it equals.
+    /// Reads a selector such as `{"a":{"$gt":1},"b.c":2}`. With `$` in front, a name asks an operator of
+    /// the part at hand; without it, it is a path, and beside it stands a selector on the part there or a
+    /// value that this equals.
     ///
-    /// Errors: `Shape` where the value is not an object; else the first fault, members in the order
-    /// of their names, depth first: `InvalidOperator` for an unknown operator, `BadArg` for a wrong
-    /// argument or a path with an empty step. `NoMemory` where a growth is refused, and never in
-    /// place of `Shape`.
+    /// Errors: `Shape` for a value that is no object; else the first fault, members in the order
+    /// of their names, each with what is inside it: `InvalidOperator` for a name that no operator has,
+    /// `BadArg` for an argument that its operator does not take, or a path with an empty step. `NoMemory`
+    /// where a growth is refused, and never in place of `Shape`.
     /// Cost: the size of the value. Source: the selector syntax of CouchDB's `_find`.
     pub fn read(alloc: Global, value: &Json) -> Result<Sel, SelError>
         ensures reading { Gives selector_of result (reading (view value.now)) }

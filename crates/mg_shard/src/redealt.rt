@@ -19,8 +19,8 @@ use mg_value::NoMemory;
 use std::alloc::Global;
 use std::sync::Arc;
 
-/// So many shards with the documents of these: each document goes with its whole tree to the shard that the placement names, and each
-/// shard has the rows of every index. Documents and trees are shared with the shards that are lent, not copied.
+/// So many shards with the documents of these: the placement says to which of them a document goes, its tree with it, and each
+/// has the rows of all indexes that these have. Documents and trees are shared with the shards that are lent, not copied.
 ///
 /// Errors: `NoMemory` where a growth was refused. Cost: for each document its placement and the way to its place, and for each index a
 /// copy of its key, and each shard's rows sorted.

@@ -331,7 +331,7 @@ impl Shard {
         self.with(alloc, definition, pages)
     }
 
-    /// The same, handed that index's rows of this shard.
+    /// The shard with an index, as of `with_index`, whose rows the caller brings: those that `rows_for` gives.
     ///
     /// Errors: `NoMemory` where a growth was refused. Cost: a comparison and a step a row, since the rows are in order.
     pub fn with_rows(
