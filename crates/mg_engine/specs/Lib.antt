@@ -14,4 +14,5 @@ pub mod Faults
 pub mod Told
 pub mod Settled
 pub mod Objects
+pub mod Outcomes
 pub mod Laws
