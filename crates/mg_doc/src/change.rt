@@ -1,4 +1,7 @@
+ghost use Rattle.std.specs.Prelude.{◌≡◌, IfOk, option_copied};
+
 use mg_revtree::{History, Rev};
+use mg_value::NoMemory;
 
 /// What an edit does to the revisions of its document.
 #[derive(Debug, Drop)]
@@ -7,4 +10,26 @@ pub enum Change {
     New(Option<Rev>),
     /// The path of a replica is accepted.
     Replica(History),
+}
+
+impl Change {
+    // An equal change. Cost: a named revision, or the length of the path.
+    pub(crate) fn copy(&self) -> Result<Change, NoMemory>
+        ensures { IfOk result (λ change. change ≡ self.now) }
+    {
+        match self {
+            Change::New(named) => Ok(Change::New(copied(named.as_ref())?)),
+            Change::Replica(path) => Ok(Change::Replica(path.copy()?)),
+        }
+    }
+}
+
+// The revision that is named, if one is, copied.
+fn copied(named: Option<&Rev>) -> Result<Option<Rev>, NoMemory>
+    ensures { IfOk result (λ copy. copy ≡ option_copied named.entry) }
+{
+    match named {
+        Some(rev) => Ok(Some(rev.copy()?)),
+        None => Ok(None),
+    }
 }

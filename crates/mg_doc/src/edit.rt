@@ -1,4 +1,4 @@
-ghost use Rattle.std.specs.Prelude.{◌≡◌, Err, None, OnErr, Some, option_map, string_bytes, true};
+ghost use Rattle.std.specs.Prelude.{◌≡◌, Err, IfOk, None, OnErr, Some, option_map, string_bytes, true};
 ghost use Rattle.mg_value.specs.View.{view, members_view};
 ghost use Rattle.mg_revtree.specs.History.{History as Paths};
 ghost use Rattle.mg_revtree.specs.Tree.{StandsFor};
@@ -11,7 +11,7 @@ use crate::error::{DocError, EditError};
 use crate::members::{checked_mark, keep_own, take_id};
 use crate::path::take_change;
 use mg_revtree::{Rev, RevTree};
-use mg_value::Json;
+use mg_value::{Json, NoMemory};
 use std::alloc::Global;
 use std::collections::BTreeMap;
 use std::marker::Model;
@@ -90,6 +90,18 @@ impl Edit {
         }
     }
 
+    /// An equal edit. Errors: `NoMemory` where a growth was refused. Cost: its id, its path and its body.
+    pub fn copy(&self, alloc: Global) -> Result<Edit, NoMemory>
+        ensures { IfOk result (λ edit. edit ≡ self.now) }
+    {
+        Ok(Edit {
+            id: copied_id(alloc, self.id())?,
+            change: self.change.copy()?,
+            deleted: self.deleted,
+            body: self.body.copy(alloc)?,
+        })
+    }
+
     /// Looks what the edit would do to the tree of its document, before the tree is copied or changed: the revision of a
     /// path that is known whole, which would change nothing; none where the edit is to be applied; or why it is refused,
     /// but for a new revision that would be known already, which `apply` finds.
@@ -152,6 +164,16 @@ impl Edit {
             Change::New(named) => extend(alloc, tree, named.as_ref(), deleted, body),
             Change::Replica(path) => merge(tree, &path, deleted, body),
         }
+    }
+}
+
+// The id, if there is one, copied.
+fn copied_id(alloc: Global, id: Option<&str>) -> Result<Option<String>, NoMemory>
+    ensures { IfOk result (λ copy. option_map string_bytes copy ≡ option_map (λ s. s.now) id.entry) }
+{
+    match id {
+        Some(id) => Ok(Some(String::from_str(alloc, id)?)),
+        None => Ok(None),
     }
 }
 

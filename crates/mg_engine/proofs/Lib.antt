@@ -7,3 +7,5 @@ mod Reading
 mod Resharding
 mod Telling
 pub mod Whole
+mod Printed
+mod Entries

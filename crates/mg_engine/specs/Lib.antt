@@ -4,7 +4,6 @@ pub mod Bulk
 pub mod Reshard
 pub mod Commands
 pub mod Bodies
-pub mod Before
 pub mod View
 pub mod BulkView
 pub mod Stands
@@ -14,4 +13,5 @@ pub mod Faults
 pub mod Told
 pub mod Settled
 pub mod Objects
+pub mod Outcomes
 pub mod Laws

@@ -1,8 +1,9 @@
 //! The edits of a bulk, each made on the shard on which the placement puts its document.
 ghost use Rattle.std.specs.Prelude.{◌≡◌, ◌<◌, IfOk, OnOk, map, length};
 ghost use Rattle.mg_shard.specs.Dealt.{DraftsStandFor, ShardsStandFor};
-ghost use Rattle.mg_shard.specs.Edits.{after_edit, after_edits, outcome_in, outcome_seen, outcomes};
+ghost use Rattle.mg_shard.specs.Edits.{after_edit, after_edits, id_in, outcome_in, outcomes};
 ghost use Rattle.mg_shard.specs.Histories.{Histories};
+ghost use Rattle.mg_engine.specs.Outcomes.{reply_in, told_id};
 ghost use Rattle.mg_engine.specs.Stands.{definitions_of};
 ghost use Rattle.mg_engine.specs.StateView.{AllLeave, Leaves, before, fresh};
 ghost use Rattle.mg_shard.specs.Shard.{shards_seen};
@@ -17,22 +18,29 @@ use mg_value::NoMemory;
 use std::alloc::Global;
 use std::sync::Arc;
 
-/// What became of edits that have ids and are made in order, and the shards that they leave.
+/// What became of an edit that has an id, and that id.
+#[derive(Drop)]
+pub(crate) struct Outcome {
+    pub(crate) id: String,
+    pub(crate) reply: EditReply,
+}
+
+/// What became of edits that have ids and are made in order, and the shards that they leave. Their bodies are moved into these.
 ///
 /// Errors: `NoMemory` where a growth was refused. Cost: the edits, each with its document, and the number of the shards.
 pub(crate) fn edited<P: Placement>(
     alloc: Global,
     placement: &P,
     shards: &[Arc<Shard>],
-    edits: &[Edit],
-) -> Result<(Vec<EditReply>, Vec<Arc<Shard>>), NoMemory>
+    edits: Vec<Edit>,
+) -> Result<(Vec<Outcome>, Vec<Arc<Shard>>), NoMemory>
     requires { 0 < length shards.now }
     ensures replies { IfOk result (λ r. (hs : Histories) → ShardsStandFor (P.place placement.now) (shards_seen shards.now) hs
-        → map outcome_seen r.0.items ≡ outcomes hs edits.now) }
+        → map reply_in r.0.items ≡ outcomes hs edits.items) }
+    ensures ids { IfOk result (λ r. map told_id r.0.items ≡ map id_in edits.items) }
     ensures stands { IfOk result (λ r. (hs : Histories) → ShardsStandFor (P.place placement.now) (shards_seen shards.now) hs
-        → ShardsStandFor (P.place placement.now) (shards_seen r.1.items) (after_edits hs edits.now)) }
+        → ShardsStandFor (P.place placement.now) (shards_seen r.1.items) (after_edits hs edits.items)) }
     ensures definitions { IfOk result (λ r. definitions_of (shards_seen r.1.items) ≡ definitions_of (shards_seen shards.now)) }
-    ensures number { IfOk result (λ r. length r.0.items ≡ length edits.now) }
 {
     shards_become_drafts();
     drafts_become_shards();
@@ -57,22 +65,22 @@ fn edit_all<P: Placement>(
     alloc: Global,
     placement: &P,
     drafts: &mut [Draft<'_>],
-    edits: &[Edit],
-) -> Result<Vec<EditReply>, NoMemory>
+    edits: Vec<Edit>,
+) -> Result<Vec<Outcome>, NoMemory>
     requires { 0 < length drafts.old }
-    ensures replies { IfOk result (λ rs. (hs : Histories) → DraftsStandFor (P.place placement.now) drafts.old hs
-        → map outcome_seen rs.items ≡ outcomes hs edits.now) }
-    ensures number { IfOk result (λ rs. length rs.items ≡ length edits.now) }
+    ensures replies { IfOk result (λ v. (hs : Histories) → DraftsStandFor (P.place placement.now) drafts.old hs
+        → map reply_in v.items ≡ outcomes hs edits.items) }
+    ensures ids { IfOk result (λ v. map told_id v.items ≡ map id_in edits.items) }
     ensures stands { OnOk result ((hs : Histories) → DraftsStandFor (P.place placement.now) drafts.old hs
-        → DraftsStandFor (P.place placement.now) drafts.new (after_edits hs edits.now)) }
+        → DraftsStandFor (P.place placement.now) drafts.new (after_edits hs edits.items)) }
     ensures before { OnOk result (before drafts.new ≡ before drafts.old) }
 {
-    let mut replies = Vec::with_capacity(alloc, edits.len())?;
+    let mut outcomes = Vec::with_capacity(alloc, edits.len())?;
     for edit in edits {
-        let reply = edit_one(alloc, placement, drafts, edit)?;
-        replies.push(reply)?;
+        let outcome = edit_one(alloc, placement, drafts, edit)?;
+        outcomes.push(outcome)?;
     }
-    Ok(replies)
+    Ok(outcomes)
 }
 
 // Makes one edit, on the shard of its id.
@@ -80,21 +88,23 @@ fn edit_one<P: Placement>(
     alloc: Global,
     placement: &P,
     drafts: &mut [Draft<'_>],
-    edit: &Edit,
-) -> Result<EditReply, NoMemory>
+    edit: Edit,
+) -> Result<Outcome, NoMemory>
     requires { 0 < length drafts.old }
-    ensures reply { IfOk result (λ r. (hs : Histories) → DraftsStandFor (P.place placement.now) drafts.old hs
-        → outcome_seen r ≡ outcome_in hs edit.now) }
+    ensures reply { IfOk result (λ o. (hs : Histories) → DraftsStandFor (P.place placement.now) drafts.old hs
+        → reply_in o ≡ outcome_in hs edit) }
+    ensures id { IfOk result (λ o. told_id o ≡ id_in edit) }
     ensures stands { OnOk result ((hs : Histories) → DraftsStandFor (P.place placement.now) drafts.old hs
-        → DraftsStandFor (P.place placement.now) drafts.new (after_edit hs edit.now)) }
+        → DraftsStandFor (P.place placement.now) drafts.new (after_edit hs edit)) }
     ensures before { OnOk result (before drafts.new ≡ before drafts.old) }
 {
     each_edit_is_decided_there();
     each_edit_is_made_there();
-    let place = placement.shard_of(id_in(edit), drafts.len());
+    let id = String::from_str(alloc, id_in(&edit))?;
+    let place = placement.shard_of(id_in(&edit), drafts.len());
     let draft = &mut drafts[place];
     let reply = draft.edit(alloc, edit)?;
-    Ok(reply)
+    Ok(Outcome { id, reply })
 }
 
 // The shards that drafts leave: of a draft that touched nothing the shard as it was.

@@ -1,92 +1,107 @@
-//! The entries of the reply to a bulk.
-ghost use Rattle.std.specs.Prelude.{◌≡◌, IfOk, OnOk, length, map, option_map};
-ghost use Rattle.mg_value.specs.Value.{Items};
-ghost use Rattle.mg_value.specs.View.{items_view, view};
-ghost use Rattle.mg_shard.specs.Edits.{outcome_seen};
-ghost use Rattle.mg_engine.specs.Before.{items_before};
-ghost use Rattle.mg_engine.specs.Bulk.{done_entry, entries_of, entry_before, entry_of, refused_entry};
+//! The entries of the reply to a bulk, written as text.
+ghost use Rattle.std.specs.Prelude.{◌≡◌, ◌++◌, IfOk, OnOk};
+ghost use Rattle.mg_value.specs.Held.{items_tokens_of, tokens_of};
+ghost use Rattle.mg_value.specs.Value.{Items, list};
+ghost use Rattle.mg_engine.specs.Bodies.{line_of};
+ghost use Rattle.mg_engine.specs.Bulk.{done_entry, entry_before, entry_of, refused_entry};
+ghost use Rattle.mg_engine.specs.Outcomes.{entries_told, reply_in, told_id};
 
+use crate::body::with_line_feed;
+use crate::edits::Outcome;
 use crate::refusal::{BAD_HISTORY_ERROR, BAD_HISTORY_REASON, CONFLICT_ERROR, CONFLICT_REASON};
-use mg_doc::Edit;
+use json::Writer;
 use mg_revtree::Rev;
-use mg_shard::{EditReply, id_in};
-use mg_value::{Json, NoMemory};
+use mg_shard::EditReply;
+use mg_value::NoMemory;
 use std::alloc::Global;
 
-/// The entries of edits that have ids, by what became of each, for those that are told of. Cost: their number.
-pub(crate) fn entries(
+// The bytes that are asked for at first for each entry: the text of most fits.
+const ENTRY_ROOM: usize = 96;
+
+/// The line of the reply to a bulk: the entries of its edits, by what became of each, for those that are told of.
+///
+/// Errors: `NoMemory` where a growth was refused. Cost: the length of the line, in one buffer that grows.
+pub(crate) fn entries_line(
     alloc: Global,
     new_edits: bool,
-    edits: &[Edit],
-    replies: &[EditReply],
-) -> Result<Vec<Json>, NoMemory>
-    requires { length replies.now ≡ length edits.now }
-    ensures { IfOk result (λ v. items_view v.items ≡ entries_of new_edits edits.now (map outcome_seen replies.now)) }
+    outcomes: &[Outcome],
+) -> Result<Vec<u8>, NoMemory>
+    ensures { IfOk result (λ b. b.items ≡ line_of (list (entries_told new_edits outcomes.now))) }
 {
-    let mut entries = Vec::new(alloc);
-    for place in 0..edits.len() {
-        let id = id_in(&edits[place]);
-        let entry = entry(alloc, new_edits, id, &replies[place])?;
-        push_entry(&mut entries, entry)?;
-    }
-    Ok(entries)
+    let room = outcomes.len().saturating_mul(ENTRY_ROOM);
+    let mut out = Writer::new(Vec::with_capacity(alloc, room)?);
+    out.begin_array()?;
+    write_entries(alloc, new_edits, outcomes, &mut out)?;
+    Ok(with_line_feed(out.into_inner())?)
 }
 
-// Adds an entry, if there is one.
-fn push_entry(entries: &mut Vec<Json>, entry: Option<Json>) -> Result<(), NoMemory>
-    ensures { OnOk result ((vs : Items) → items_before entries.new.items vs
-        ≡ items_before entries.old.items (entry_before (option_map view entry) vs)) }
+// Writes the entries, and the bracket behind them.
+fn write_entries(
+    alloc: Global,
+    new_edits: bool,
+    outcomes: &[Outcome],
+    out: &mut Writer,
+) -> Result<(), NoMemory>
+    ensures tokens { OnOk result (out.new.tokens ≡ out.old.tokens ++ items_tokens_of (entries_told new_edits outcomes.now)) }
+    ensures before { OnOk result (out.new.before ≡ out.old.before) }
 {
-    if let Some(entry) = entry {
-        entries.push(entry)?;
+    for outcome in outcomes {
+        write_entry(alloc, new_edits, outcome, out)?;
     }
+    out.end_array()?;
     Ok(())
 }
 
-// The entry of an edit, by its id and by what became of it, if it is told of.
-fn entry(
+// Writes the entry of an edit, if it is told of, before those that are still to come.
+fn write_entry(
     alloc: Global,
     new_edits: bool,
-    id: &str,
-    reply: &EditReply,
-) -> Result<Option<Json>, NoMemory>
-    ensures { IfOk result (λ o. option_map view o ≡ entry_of new_edits id.now (outcome_seen reply.now)) }
+    outcome: &Outcome,
+    out: &mut Writer,
+) -> Result<(), NoMemory>
+    ensures tokens { OnOk result ((vs : Items) → out.new.tokens ++ items_tokens_of vs
+        ≡ out.old.tokens ++ items_tokens_of (entry_before (entry_of new_edits (told_id outcome.now) (reply_in outcome.now)) vs)) }
+    ensures before { OnOk result (out.new.before ≡ out.old.before) }
 {
-    match reply {
+    let id = outcome.id.as_str();
+    match &outcome.reply {
         EditReply::Done(rev) => if new_edits {
-            Ok(Some(done_entry(alloc, id, rev)?))
+            Ok(write_done(alloc, id, rev, out)?)
         } else {
-            Ok(None)
+            Ok(())
         },
-        EditReply::Conflict => {
-            Ok(Some(refused_entry(alloc, CONFLICT_ERROR, id, CONFLICT_REASON)?))
-        }
-        EditReply::BadHistory => {
-            Ok(Some(refused_entry(alloc, BAD_HISTORY_ERROR, id, BAD_HISTORY_REASON)?))
-        }
+        EditReply::Conflict => Ok(write_refused(CONFLICT_ERROR, id, CONFLICT_REASON, out)?),
+        EditReply::BadHistory => Ok(write_refused(BAD_HISTORY_ERROR, id, BAD_HISTORY_REASON, out)?),
     }
 }
 
-fn done_entry(alloc: Global, id: &str, rev: &Rev) -> Result<Json, NoMemory>
-    ensures { IfOk result (λ v. view v ≡ done_entry id.now rev.now) }
+fn write_done(alloc: Global, id: &str, rev: &Rev, out: &mut Writer) -> Result<(), NoMemory>
+    ensures tokens { OnOk result (out.new.tokens ≡ out.old.tokens ++ tokens_of (done_entry id.now rev.now)) }
+    ensures before { OnOk result (out.new.before ≡ out.old.before) }
 {
-    let mut entry = Json::empty_object(alloc);
-    entry.insert(alloc, "id", Json::Text(String::from_str(alloc, id)?))?;
-    entry.insert(alloc, "ok", Json::Flag(true))?;
-    entry.insert(alloc, "rev", Json::Text(rev.text(alloc)?))?;
-    Ok(entry)
+    let rev = rev.text(alloc)?;
+    out.begin_object()?;
+    out.key("id")?;
+    out.string(id)?;
+    out.key("ok")?;
+    out.boolean(true)?;
+    out.key("rev")?;
+    out.string(&rev)?;
+    out.end_object()?;
+    Ok(())
 }
 
-fn refused_entry(alloc: Global, error: &str, id: &str, reason: &str) -> Result<Json, NoMemory>
-    ensures { IfOk result (λ v. view v ≡ refused_entry error.now id.now reason.now) }
+fn write_refused(error: &str, id: &str, reason: &str, out: &mut Writer) -> Result<(), NoMemory>
+    ensures tokens { OnOk result (out.new.tokens ≡ out.old.tokens ++ tokens_of (refused_entry error.now id.now reason.now)) }
+    ensures before { OnOk result (out.new.before ≡ out.old.before) }
 {
-    let mut entry = Json::empty_object(alloc);
-    entry.insert(alloc, "error", Json::Text(String::from_str(alloc, error)?))?;
-    entry.insert(alloc, "id", Json::Text(String::from_str(alloc, id)?))?;
-    entry.insert(
-        alloc,
-        "reason",
-        Json::Text(String::from_str(alloc, reason)?),
-    )?;
-    Ok(entry)
+    out.begin_object()?;
+    out.key("error")?;
+    out.string(error)?;
+    out.key("id")?;
+    out.string(id)?;
+    out.key("reason")?;
+    out.string(reason)?;
+    out.end_object()?;
+    Ok(())
 }

@@ -8,10 +8,9 @@ ghost use Rattle.mg_engine.specs.Stands.{Holds};
 ghost use Rattle.mg_engine.specs.View.{said};
 ghost use Rattle.mg_engine.specs.World.{World};
 
-use crate::body::line;
 use crate::bulk::{numbered, read_bulk, read_edits};
 use crate::edits::edited;
-use crate::entry::entries;
+use crate::entry::entries_line;
 use crate::fault::Fault;
 use crate::refusal::Refusal;
 use crate::reply::Reply;
@@ -65,9 +64,8 @@ impl State {
         ensures number { IfOk result (λ r. length r.1.shards ≡ length self.now.shards) }
     {
         let (edits, counter) = numbered(alloc, edits, self.counter)?;
-        let (replies, shards) = edited(alloc, placement, &self.shards, &edits)?;
-        let entries = entries(alloc, new_edits, &edits, &replies)?;
-        let body = line(alloc, &Json::List(entries))?;
+        let (outcomes, shards) = edited(alloc, placement, &self.shards, edits)?;
+        let body = entries_line(alloc, new_edits, &outcomes)?;
         let next = self.with_shards(shards, counter)?;
         Ok((Reply::Full { status: 201, body }, next))
     }

@@ -5,6 +5,7 @@ ghost use Rattle.mg_revtree.specs.History.{newest_of};
 
 use crate::revision::{Rev, is_id};
 use mg_value::NoMemory;
+use std::alloc::Global;
 use std::marker::Model;
 
 /// A path as a replica gives it: a run of revisions, newest first, each at the position below the one before.
@@ -59,6 +60,18 @@ impl History {
         }
     }
 
+    /// An equal path. Errors: `NoMemory` where a growth was refused. Cost: the length of its ids.
+    pub fn copy(&self) -> Result<History, NoMemory>
+        ensures { IfOk result (λ path. path ≡ self.now) }
+    {
+        let alloc = *self.ids.allocator();
+        let ids = copied_ids(alloc, &self.ids)?;
+        Ok(History {
+            start: self.start,
+            ids,
+        })
+    }
+
     /// The start, and the ids, newest first.
     pub(crate) fn run(&self) -> (u32, &[String])
         ensures run { self.now ≡ run_from result.0 (map string_bytes result.1.now) }
@@ -67,6 +80,17 @@ impl History {
     {
         (self.start, self.ids.as_slice())
     }
+}
+
+// Equal ids.
+fn copied_ids(alloc: Global, ids: &[String]) -> Result<Vec<String>, NoMemory>
+    ensures { IfOk result (λ copy. map string_bytes copy.items ≡ map string_bytes ids.now) }
+{
+    let mut copy = Vec::with_capacity(alloc, ids.len())?;
+    for id in ids {
+        copy.push(id.clone()?)?;
+    }
+    Ok(copy)
 }
 
 // Whether each text is the id of a revision.

@@ -1,9 +1,9 @@
 -- Documents are served with their own ids.
 use denote.Ref.{Bor}
-use Rattle.std.proofs.Common.{◌≡◌, ℕ, Bool, true, false, List, [], ◌∷◌, Ordering, Less, Equal, Greater, Option, Some, None, IfSome, codes, cond, is_eq, map, nat_cmp, option_and_then, option_map, string_bytes, refl, ap, sym, ◌∙◌, subst}
+use Rattle.std.proofs.Common.{◌≡◌, ℕ, Bool, true, false, List, [], ◌∷◌, Ordering, Less, Equal, Greater, Option, Some, None, IfSome, codes, cond, is_eq, map, nat_cmp, option_and_then, option_map, refl, ap, sym, ◌∙◌, subst}
 use Rattle.std.proofs.lemmas.Cmp.{nat_list_cmp_total, tied_itself}
 use Rattle.std.specs.Cmp.Lexicographic.{slice_cmp}
-use Rattle.std.specs.FinMap.{find, get, get-from_entries}
+use Rattle.std.specs.FinMap.{find, get-from_entries}
 use Rattle.std.specs.List.{filter}
 use Rattle.std.specs.Ordering.{match_ordering}
 use Rattle.mg_doc.specs.Served.{served_form}
@@ -12,7 +12,7 @@ use Rattle.mg_pages.specs.Order.{first_of_list, found}
 use Rattle.mg_path.specs.Part.{part_of}
 use Rattle.mg_revtree.specs.History.{Leaf}
 use Rattle.mg_revtree.specs.Revision.{revision_text}
-use Rattle.mg_value.specs.Value.{Value, null, flag, whole, text, list, object, Members, no_members, member, Items, no_items, item, get_member, member_of, put, with_member}
+use Rattle.mg_value.specs.Value.{Value, null, flag, whole, text, list, object, Members, no_members, member, no_items, item, get_member, member_of, put, with_member}
 use Rattle.mg_value.specs.View.{view}
 use Rattle.mg_value.specs.declared.value.Json.{Json}
 use Rattle.mg_shard.specs.Documents.{Kept, entry_of, form_at, form_of, id_of, kept_of, shown}

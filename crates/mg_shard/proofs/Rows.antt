@@ -274,6 +274,24 @@ rows_mended columns ds id k rows new were rises is =
     ∙ ap (λ o. count_one z (row_at columns z.1 o)) (sym (get-insert nat_list_cmp_total ds id k z.1))
     ∙ sym (count-rows columns z (insert ds id k)))
 
+left_at : (columns : List Steps) (z : RowValue) (id : List ℕ) (k : Kept) (d o : Option Kept) (b : Bool) → eq_by_cmp bytes_cmp z.1 id ≡ b → (b ≡ true → o ≡ d)
+    → row_at columns id d ≡ row_at columns id (Some k) → count_one z (row_at columns z.1 o) ≡ count_one z (row_at columns z.1 (cond b (Some k) o))
+left_at columns z id k d o true is same kept =
+    let here : z.1 ≡ id = same_id z.1 id is in
+    ap₂ (λ i p. count_one z (row_at columns i p)) here (same refl) ∙ ap (count_one z) kept ∙ ap (λ i. count_one z (row_at columns i (Some k))) (sym here)
+left_at columns z id k d o false is same kept = refl
+
+-- where a document changes and its row does not, the rows are left
+pub rows_left : (columns : List Steps) (ds : KeptDocuments) (id : List ℕ) (k : Kept) (rows : List RowValue) → rows ≡ rows_of columns (docs_of ds)
+    → row_at columns id (get ds id) ≡ row_at columns id (Some k) → rows ≡ rows_of columns (docs_of (insert ds id k))
+rows_left columns ds id k rows were kept =
+    were ∙ same_list row_value_order row_value_order_total same_rows (rows_of columns (docs_of ds)) (rows_of columns (docs_of (insert ds id k)))
+    (rises_sorted row_value_order row_value_order_total (filter_map (row_of columns) (docs_of ds)))
+    (rises_sorted row_value_order row_value_order_total (filter_map (row_of columns) (docs_of (insert ds id k)))) (λ z.
+    count-rows columns z ds ∙ left_at columns z id k (get ds id) (get ds z.1) (eq_by_cmp bytes_cmp z.1 id) refl (λ b. ap (get ds) (same_id z.1 id b)) kept
+    ∙ ap (λ o. count_one z (row_at columns z.1 o)) (sym (get-insert nat_list_cmp_total ds id k z.1))
+    ∙ sym (count-rows columns z (insert ds id k)))
+
 -- ---- rows that stand at most once
 
 few_at : (b : Bool) → cond b 1 0 ≤ 1

@@ -4,7 +4,7 @@ use Rattle.std.proofs.lemmas.List.{reverse-append}
 use Rattle.std.specs.List.{cons_option, filter, filter_map}
 use Rattle.mg_collate.specs.declared.direction.Direction.{Direction}
 use Rattle.mg_collate.specs.declared.direction.Direction.TheVariants.{Asc, Desc}
-use Rattle.mg_shard.specs.Walk.{beyond, in_direction}
+use Rattle.mg_shard.specs.Walk.{beyond}
 
 map-append : {A B : Type 0} (f : A → B) (xs ys : List A) → map f (xs ++ ys) ≡ map f xs ++ map f ys
 map-append f [] ys = refl

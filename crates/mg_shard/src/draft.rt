@@ -1,16 +1,16 @@
 //! A shard while a bulk is applied.
-ghost use Rattle.std.specs.Prelude.{◌≡◌, None, unwrap_or, IfOk, IfSome, OnOk, map, string_bytes};
+ghost use Rattle.std.specs.Prelude.{◌≡◌, ℕ, List, None, Some, unwrap_or, IfOk, IfSome, OnOk, map, option_map, string_bytes};
 ghost use Rattle.std.specs.FinMap as finite;
 ghost use Rattle.std.specs.FinMap.{get, insert};
 ghost use Rattle.mg_revtree.specs.History.{History};
 ghost use Rattle.mg_revtree.specs.Tree.{StandsFor, Tree};
 ghost use Rattle.mg_doc.specs.Edit.{edited, outcome_of};
-ghost use Rattle.mg_shard.specs.Documents.{shown, StandFor};
+ghost use Rattle.mg_shard.specs.Documents.{KeptDocuments, StandFor, StandsAt, shown, tree_at};
 ghost use Rattle.mg_shard.specs.Draft.{DraftStandsFor, TouchedStandFor, touched_of};
 ghost use Rattle.std.specs.List.{AllByRecursion};
 ghost use Rattle.mg_shard.specs.Index.{HasRows, definitions_of, indexes_seen};
 ghost use Rattle.mg_shard.specs.Edits.{after_edit, after_edits, id_in, outcome_in, outcome_seen, outcomes};
-ghost use Rattle.mg_shard.specs.Histories.{Histories};
+ghost use Rattle.mg_shard.specs.Histories.{Histories, history_at};
 
 use crate::document::Document;
 use crate::index::IndexRows;
@@ -65,23 +65,25 @@ impl<'a> Draft<'a> {
         }
     }
 
-    /// Applies one edit that has an id. A refused edit, and one whose revision is known, touch nothing.
+    /// Applies one edit that has an id, and moves its body into the tree of its document. A refused edit, and one whose revision is
+    /// known, touch nothing.
     ///
     /// Errors: `NoMemory` where a growth was refused; the draft is then of no more use.
-    /// Cost: the edit on its document's tree, and a copy of that tree where the draft has not touched it yet.
-    pub fn edit(&mut self, alloc: Global, edit: &Edit) -> Result<EditReply, NoMemory>
-        ensures outcome { IfOk result (λ r. (hs : Histories) → DraftStandsFor self.old hs → outcome_seen r ≡ outcome_in hs edit.now) }
-        ensures stands { OnOk result ((hs : Histories) → DraftStandsFor self.old hs → DraftStandsFor self.new (after_edit hs edit.now)) }
+    /// Cost: a step of its document's tree, no copy of the body, and a copy of that tree where the draft has not touched it yet.
+    pub fn edit(&mut self, alloc: Global, edit: Edit) -> Result<EditReply, NoMemory>
+        ensures outcome { IfOk result (λ r. (hs : Histories) → DraftStandsFor self.old hs → outcome_seen r ≡ outcome_in hs edit) }
+        ensures stands { OnOk result ((hs : Histories) → DraftStandsFor self.old hs → DraftStandsFor self.new (after_edit hs edit)) }
         ensures shard { OnOk result (self.new.shard ≡ self.old.shard) }
     {
-        let id = id_in(edit);
-        match self.touched.remove_entry(id) {
+        match self.touched.remove_entry(id_in(&edit)) {
             Some((key, tree)) => Ok(edit_touched(alloc, &mut self.touched, key, tree, edit)?),
             None => Ok(edit_first(alloc, self.shard, &mut self.touched, edit)?),
         }
     }
 
-    /// Applies edits that have ids, in order, and says what became of each. Errors and cost are as of `edit`.
+    /// Applies copies of edits that have ids, in order, and says what became of each.
+    ///
+    /// Errors are as of `edit`. Cost: as of `edit`, and a copy of each edit, with its body.
     pub fn edit_all(&mut self, alloc: Global, edits: &[Edit]) -> Result<Vec<EditReply>, NoMemory>
         ensures outcomes { IfOk result (λ rs. (hs : Histories) → DraftStandsFor self.old hs → map outcome_seen rs.items ≡ outcomes hs edits.now) }
         ensures stands { OnOk result ((hs : Histories) → DraftStandsFor self.old hs → DraftStandsFor self.new (after_edits hs edits.now)) }
@@ -89,7 +91,8 @@ impl<'a> Draft<'a> {
     {
         let mut replies = Vec::with_capacity(alloc, edits.len())?;
         for edit in edits {
-            let reply = self.edit(alloc, edit)?;
+            let copy = edit.copy(alloc)?;
+            let reply = self.edit(alloc, copy)?;
             replies.push(reply)?;
         }
         Ok(replies)
@@ -112,7 +115,7 @@ impl<'a> Draft<'a> {
 }
 
 // What becomes of an edit that needs no copy of the tree: it is refused, or its path is known whole. None for another.
-pub(crate) fn looked(edit: &Edit, tree: &RevTree) -> Result<Option<EditReply>, NoMemory>
+fn looked(edit: &Edit, tree: &RevTree) -> Result<Option<EditReply>, NoMemory>
     ensures { IfOk result (λ o. (h : History) → StandsFor tree.now h
         → IfSome o (λ r. (outcome_seen r ≡ outcome_of h edit.now) × StandsFor tree.now (edited h edit.now))) }
 {
@@ -125,11 +128,33 @@ pub(crate) fn looked(edit: &Edit, tree: &RevTree) -> Result<Option<EditReply>, N
     }
 }
 
-// What becomes of an edit, and the tree that it leaves.
-fn applied(alloc: Global, edit: &Edit, mut tree: RevTree) -> Result<(EditReply, RevTree), NoMemory>
-    ensures { IfOk result (λ r. (h : History) → StandsFor tree h → (outcome_seen r.0 ≡ outcome_of h edit.now) × StandsFor r.1 (edited h edit.now)) }
+// The same of the tree of a document, where there is one.
+fn looked_at(edit: &Edit, tree: Option<&RevTree>) -> Result<Option<EditReply>, NoMemory>
+    ensures { IfOk result (λ o. (ds : KeptDocuments) (hs : Histories) (id : List ℕ) → option_map (λ t. t.now) tree.entry ≡ tree_at ds id → StandsAt id (get ds id) (get hs id)
+        → IfSome o (λ r. (outcome_seen r ≡ outcome_of (history_at hs id) edit.now) × StandsAt id (get ds id) (Some (edited (history_at hs id) edit.now)))) }
 {
-    match edit.apply(alloc, &mut tree) {
+    match tree {
+        Some(tree) => Ok(looked(edit, tree)?),
+        None => Ok(None),
+    }
+}
+
+// A copy of the tree of a document, and an empty tree where there is none.
+fn copied(alloc: Global, tree: Option<&RevTree>) -> Result<RevTree, NoMemory>
+    ensures { IfOk result (λ t. (ds : KeptDocuments) (hs : Histories) (id : List ℕ) → option_map (λ t. t.now) tree.entry ≡ tree_at ds id → StandsAt id (get ds id) (get hs id)
+        → StandsFor t (history_at hs id)) }
+{
+    match tree {
+        Some(tree) => Ok(tree.copy()?),
+        None => Ok(RevTree::new(alloc)),
+    }
+}
+
+// What becomes of an edit, and the tree that it leaves, into which its body is moved.
+fn applied(alloc: Global, edit: Edit, mut tree: RevTree) -> Result<(EditReply, RevTree), NoMemory>
+    ensures { IfOk result (λ r. (h : History) → StandsFor tree h → (outcome_seen r.0 ≡ outcome_of h edit) × StandsFor r.1 (edited h edit)) }
+{
+    match edit.bring(alloc, &mut tree) {
         Ok(rev) => Ok((EditReply::Done(rev), tree)),
         Err(EditError::Conflict) => Ok((EditReply::Conflict, tree)),
         Err(EditError::BadHistory) => Ok((EditReply::BadHistory, tree)),
@@ -143,11 +168,11 @@ fn edit_touched(
     touched: &mut BTreeMap<String, RevTree>,
     id: String,
     tree: RevTree,
-    edit: &Edit,
+    edit: Edit,
 ) -> Result<EditReply, NoMemory>
-    ensures outcome { IfOk result (λ r. (h : History) → StandsFor tree h → outcome_seen r ≡ outcome_of h edit.now) }
+    ensures outcome { IfOk result (λ r. (h : History) → StandsFor tree h → outcome_seen r ≡ outcome_of h edit) }
     ensures touched { OnOk result ((h : History) → StandsFor tree h
-        → (t : Tree) × StandsFor t (edited h edit.now) × (touched_of touched.new.entries ≡ insert (touched_of touched.old.entries) (string_bytes id) t)) }
+        → (t : Tree) × StandsFor t (edited h edit) × (touched_of touched.new.entries ≡ insert (touched_of touched.old.entries) (string_bytes id) t)) }
 {
     let (reply, tree) = applied(alloc, edit, tree)?;
     drop(touched.insert(id, tree)?);
@@ -159,25 +184,26 @@ fn edit_first(
     alloc: Global,
     shard: &Shard,
     touched: &mut BTreeMap<String, RevTree>,
-    edit: &Edit,
+    edit: Edit,
 ) -> Result<EditReply, NoMemory>
-    requires { get (touched_of touched.old.entries) (id_in edit.now) ≡ None }
+    requires { get (touched_of touched.old.entries) (id_in edit) ≡ None }
     ensures outcome { IfOk result (λ r. (hs : Histories) → TouchedStandFor shard.now.documents (touched_of touched.old.entries) hs
-        → outcome_seen r ≡ outcome_in hs edit.now) }
+        → outcome_seen r ≡ outcome_in hs edit) }
     ensures stands { OnOk result ((hs : Histories) → TouchedStandFor shard.now.documents (touched_of touched.old.entries) hs
-        → TouchedStandFor shard.now.documents (touched_of touched.new.entries) (after_edit hs edit.now)) }
+        → TouchedStandFor shard.now.documents (touched_of touched.new.entries) (after_edit hs edit)) }
 {
-    let id = id_in(edit);
-    let look = shard.looked(id, edit)?;
+    let id = id_in(&edit);
+    let before = shard.tree(id);
+    let look = looked_at(&edit, before)?;
     if let Some(known) = look {
         return Ok(known);
     }
-    let tree = shard.copied_tree(alloc, id)?;
+    let key = String::from_str(alloc, id)?;
+    let tree = copied(alloc, before)?;
     let (reply, tree) = applied(alloc, edit, tree)?;
     if !reply.is_done() {
         return Ok(reply);
     }
-    let key = String::from_str(alloc, id)?;
     drop(touched.insert(key, tree)?);
     Ok(reply)
 }

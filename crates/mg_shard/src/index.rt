@@ -1,5 +1,5 @@
 //! The rows of an index in a shard.
-ghost use Rattle.std.specs.Prelude.{◌≡◌, ◌≤◌, IfOk, OnOk, option_map};
+ghost use Rattle.std.specs.Prelude.{◌≡◌, ◌≤◌, IfOk, OnOk, option_map, true};
 ghost use Rattle.std.specs.Arc.{arc_value};
 ghost use Rattle.std.specs.FinMap.{insert};
 ghost use Rattle.mg_value.specs.View.{view, items_view};
@@ -75,6 +75,17 @@ fn row_if(
     }
 }
 
+// Whether the row that goes is the row that comes, or there is neither.
+fn are_same(gone: &Option<Row>, come: &Option<Row>) -> bool
+    ensures { result ≡ true → option_map row_view gone.now ≡ option_map row_view come.now }
+{
+    match (gone, come) {
+        (None, None) => true,
+        (Some(gone), Some(come)) => gone.cmp(come).is_eq(),
+        _ => false,
+    }
+}
+
 // Takes a row out, if there is one to be taken.
 fn take_row(alloc: Global, rows: &mut Pages<Row>, row: Option<Row>) -> Result<(), NoMemory>
     ensures { OnOk result (rows_view rows.new ≡ without_row (option_map row_view row) (rows_view rows.old)) }
@@ -114,7 +125,7 @@ impl IndexRows {
     /// Mends the rows where the document of an id changes, which had a form before and has another after.
     ///
     /// Errors: `NoMemory` where a growth was refused; the index is then of no more use.
-    /// Cost: copies of both keys, and the way to both rows.
+    /// Cost: copies of both keys, and the way to both rows where these differ.
     pub(crate) fn mend(
         &mut self,
         alloc: Global,
@@ -130,6 +141,9 @@ impl IndexRows {
         let definition: &IndexDef = &self.definition;
         let gone = row_if(alloc, definition.columns(), id, before)?;
         let come = row_if(alloc, definition.columns(), id, after)?;
+        if are_same(&gone, &come) {
+            return Ok(());
+        }
         take_row(alloc, &mut self.rows, gone)?;
         put_row(alloc, &mut self.rows, come)?;
         self.rows.ascends();

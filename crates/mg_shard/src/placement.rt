@@ -18,7 +18,7 @@ pub trait Placement {
 /// The placement by MD5: the first eight bytes of the digest of the id's UTF-8 bytes, as a big-endian
 /// number, and of it the remainder by the number of shards.
 ///
-/// Cost: the length of the id. Takes no memory. Source: RFC 1321.
+/// Cost: the length of the id, and nothing where there is one shard. Takes no memory. Source: RFC 1321.
 #[derive(Clone, Copy, Drop, Debug)]
 pub struct Md5Placement;
 
@@ -26,6 +26,9 @@ impl Placement for Md5Placement {
     ghost place = { λ _ id shards. md5_place id shards };
 
     fn shard_of(&self, id: &str, shards: usize) -> usize {
+        if shards == 1 {
+            return 0;
+        }
         let [a, b, c, d, e, f, g, h, ..] = Md5::digest(id);
         let number = u64::from_be_bytes([a, b, c, d, e, f, g, h]);
         (number % shards as u64) as usize

@@ -5,16 +5,14 @@ ghost use Rattle.std.specs.FinMap.{entries, get};
 ghost use Rattle.std.specs.declared.cmp.Ordering.{Ordering};
 ghost use Rattle.mg_value.specs.View.{view};
 ghost use Rattle.mg_value.specs.Text.{compact};
-ghost use Rattle.mg_doc.specs.Edit.{edited, outcome_of};
-ghost use Rattle.mg_revtree.specs.Tree.{StandsFor};
-ghost use Rattle.mg_shard.specs.Documents.{Kept, docs_of, entry_of, form_at, id_of, kept_of, tree_at, StandFor, StandsAt};
+ghost use Rattle.mg_shard.specs.Documents.{Kept, docs_of, entry_of, form_at, id_of, kept_of, tree_at, StandFor};
 ghost use Rattle.mg_shard.specs.Own.{HasOwnId};
 ghost use Rattle.mg_shard.specs.Walk.{beyond};
 ghost use Rattle.mg_shard.specs.declared.document.Document.{Document};
 ghost use Rattle.mg_collate.specs.declared.row.Row.{Row};
 ghost use Rattle.mg_value.specs.Value.{Value};
 ghost use Rattle.mg_shard.specs.Edits.{after_edits, outcome_seen, outcomes};
-ghost use Rattle.mg_shard.specs.Histories.{Histories, history_at};
+ghost use Rattle.mg_shard.specs.Histories.{Histories};
 ghost use Rattle.mg_shard.specs.Rows.{row_of, rows_of};
 ghost use Rattle.mg_shard.specs.Shard.{rows_at};
 ghost use Rattle.mg_collate.specs.Row.{RowValue, row_value_order, row_view, rows_view};
@@ -25,7 +23,7 @@ ghost use Rattle.std.specs.List.{filter_map};
 
 use crate::docs::Docs;
 use crate::document::Document;
-use crate::draft::{Draft, looked};
+use crate::draft::Draft;
 use crate::index::{IndexRows, pages_of, row_in, sorted_rows};
 use crate::indexes::{index_at, shared, with, without};
 use crate::reply::EditReply;
@@ -187,33 +185,11 @@ impl Shard {
         }
     }
 
-    // What becomes of an edit of an id that needs no copy of its tree, where there is one.
-    pub(crate) fn looked(&self, id: &str, edit: &Edit) -> Result<Option<EditReply>, NoMemory>
-        ensures { IfOk result (λ o. (hs : Histories) → StandsAt id.now (get self.now.documents id.now) (get hs id.now)
-            → IfSome o (λ r. (outcome_seen r ≡ outcome_of (history_at hs id.now) edit.now)
-            × StandsAt id.now (get self.now.documents id.now) (Some (edited (history_at hs id.now) edit.now)))) }
-    {
-        match self.tree(id) {
-            Some(tree) => Ok(looked(edit, tree)?),
-            None => Ok(None),
-        }
-    }
-
-    // A copy of the tree of an id, and an empty tree where there is none.
-    pub(crate) fn copied_tree(&self, alloc: Global, id: &str) -> Result<RevTree, NoMemory>
-        ensures { IfOk result (λ t. (hs : Histories) → StandsAt id.now (get self.now.documents id.now) (get hs id.now) → StandsFor t (history_at hs id.now)) }
-    {
-        match self.tree(id) {
-            Some(tree) => Ok(tree.copy()?),
-            None => Ok(RevTree::new(alloc)),
-        }
-    }
-
     /// The shard after edits that have ids, applied in order, and what became of each. A refusal of memory leaves this shard.
     ///
-    /// Errors: `NoMemory` where a growth was refused. Cost: the edits, each on its document's tree, and for each document that
-    /// they touch a copy of its tree and its body, its text, and the pages on the way to it. A bulk that touches none copies
-    /// no page but the top.
+    /// Errors: `NoMemory` where a growth was refused. Cost: a copy of each edit, whose body is moved into its document's tree; and for
+    /// each document that they touch a copy of its tree and its body, its text, and the pages on the way to it. A bulk that touches
+    /// none copies no page but the top. A draft takes edits by value, without these copies.
     pub fn apply(&self, alloc: Global, edits: &[Edit]) -> Result<(Shard, Vec<EditReply>), NoMemory>
         ensures stands { IfOk result (λ r. (hs : Histories) → StandFor self.now.documents hs → StandFor r.0.documents (after_edits hs edits.now)) }
         ensures indexes { IfOk result (λ r. r.0.definitions ≡ self.now.definitions) }

@@ -1,18 +1,22 @@
-use Rattle.std.proofs.Common.{◌≡◌, ◌<◌, ◌++◌, drop, length, map}
+use Rattle.std.proofs.Common.{◌≡◌, ◌<◌, ◌++◌, length, map}
+use Rattle.std.specs.Vec.Iter.{into_iter_items}
 use Rattle.mg_shard.specs.Dealt.{DraftsStandFor}
-use Rattle.mg_shard.specs.Edits.{after_edits, outcome_seen, outcomes}
+use Rattle.mg_shard.specs.Edits.{after_edits, id_in, outcomes}
 use Rattle.mg_shard.specs.Histories.{Histories}
+use Rattle.mg_engine.specs.Outcomes.{reply_in, told_id}
 use Rattle.mg_engine.specs.StateView.{before}
 use Rattle.mg_engine.proofs.edits.edit_all.Given as goal
 
 -- what is left decides, from the histories for which the drafts stand now
 abbrev pub invariant-loop-edit : goal.invariant-loop-edit
 invariant-loop-edit g l = record {
+  can_next : (goal.iterator-loop-edit g).can_next l.edit-iterator;
+  is_finite : (goal.iterator-loop-edit g).is_finite l.edit-iterator;
   some : 0 < length l.drafts;
-  number : length l.replies.items ≡ l.edit-index;
+  ids : map id_in l.fn.edits.items ≡ map told_id l.outcomes.items ++ map id_in (into_iter_items l.edit-iterator);
   before : before l.drafts ≡ before l.fn.drafts;
   goes_on : (hs : Histories) → DraftsStandFor (g.P.Placement.place l.placement) l.fn.drafts hs
       → (now : Histories) × DraftsStandFor (g.P.Placement.place l.placement) l.drafts now
-      × (after_edits hs l.edits ≡ after_edits now (drop l.edit-index l.edits))
-      × (outcomes hs l.edits ≡ map outcome_seen l.replies.items ++ outcomes now (drop l.edit-index l.edits));
+      × (after_edits hs l.fn.edits.items ≡ after_edits now (into_iter_items l.edit-iterator))
+      × (outcomes hs l.fn.edits.items ≡ map reply_in l.outcomes.items ++ outcomes now (into_iter_items l.edit-iterator));
 }

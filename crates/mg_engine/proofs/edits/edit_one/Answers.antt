@@ -11,9 +11,9 @@ returns-clause-reply g c = λ hs st.
     let drafts = c.args.drafts.now in
     let i = c.shard_of-place.result in
     let d = get_or drafts i c.index-drafts-place.result in
-    let here : place (id_in c.args.edit.now) (length drafts) ≡ i = ap (λ id. place id (length drafts)) (sym c.id_in.ensures) ∙ sym c.shard_of-place.ensures.place in
+    let here : place (id_in c.args.edit) (length drafts) ≡ i = ap (λ id. place id (length drafts)) (sym c.id_in-2.ensures) ∙ sym c.shard_of-place.ensures.place in
     let at = ap (slice_get drafts) here ∙ slice_get-get_or drafts i c.index-drafts-place.result c.shard_of-place.ensures.below in
-    let there = c.each_edit_is_decided_there.ensures place drafts hs c.args.edit.now d at st in
+    let there = c.each_edit_is_decided_there.ensures place drafts hs c.args.edit d at st in
     c.in_ok-reply.ensures.outcome there.0 there.1 ∙ there.2
 
 pub returns-clause-stands : goal.returns-clause-stands
@@ -22,10 +22,10 @@ returns-clause-stands g c = λ hs st.
     let drafts = c.args.drafts.now in
     let i = c.shard_of-place.result in
     let d = get_or drafts i c.index-drafts-place.result in
-    let here : place (id_in c.args.edit.now) (length drafts) ≡ i = ap (λ id. place id (length drafts)) (sym c.id_in.ensures) ∙ sym c.shard_of-place.ensures.place in
+    let here : place (id_in c.args.edit) (length drafts) ≡ i = ap (λ id. place id (length drafts)) (sym c.id_in-2.ensures) ∙ sym c.shard_of-place.ensures.place in
     let at = ap (slice_get drafts) here ∙ slice_get-get_or drafts i c.index-drafts-place.result c.shard_of-place.ensures.below in
-    subst (λ i. DraftsStandFor place (slice_set drafts i c.edit.new.self) (after_edit hs c.args.edit.now)) here
-    (c.each_edit_is_made_there.ensures place drafts hs c.args.edit.now d c.edit.new.self at (λ gs h. c.in_ok-reply.ensures.stands gs h) st)
+    subst (λ i. DraftsStandFor place (slice_set drafts i c.edit-2.new.self) (after_edit hs c.args.edit)) here
+    (c.each_edit_is_made_there.ensures place drafts hs c.args.edit d c.edit-2.new.self at (λ gs h. c.in_ok-reply.ensures.stands gs h) st)
 
 pub returns-clause-before : goal.returns-clause-before
-returns-clause-before g c = before-set c.args.drafts.now c.shard_of-place.result c.index-drafts-place.result c.edit.new.self c.in_ok-reply.ensures.shard c.shard_of-place.ensures.below
+returns-clause-before g c = before-set c.args.drafts.now c.shard_of-place.result c.index-drafts-place.result c.edit-2.new.self c.in_ok-reply.ensures.shard c.shard_of-place.ensures.below

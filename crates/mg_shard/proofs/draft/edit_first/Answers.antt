@@ -14,11 +14,11 @@ pub returns-then-not-is_done-clause-stands : goal.returns-then-not-is_done-claus
 returns-then-not-is_done-clause-stands c = λ hs st.
     let ds = c.args.shard.now.documents in
     let ts = touched_of c.args.touched.now.entries in
-    let e = c.args.edit.now in
+    let e = c.args.edit in
     let named = c.id_in-id.ensures in
     let tree : StandsFor c.in_ok-tree.tree (history_at hs (id_in e)) =
     subst (λ i. StandsFor c.in_ok-tree.tree (history_at hs i)) named
-    (c.in_ok-tree.ensures hs (subst (λ i. StandsAt i (get ds i) (get hs i)) (sym named) (document_at ds ts hs (id_in e) c.requires st))) in
+    (c.in_ok-tree.ensures ds hs c.id_in-id.result.now c.tree-before.ensures (subst (λ i. StandsAt i (get ds i) (get hs i)) (sym named) (document_at ds ts hs (id_in e) c.requires st))) in
     let did = c.in_ok-reply.ensures (history_at hs (id_in e)) tree in
     let not : is_ok (outcome_seen c.in_ok-reply.reply) ≡ false = search rules in
     refused_stands ds ts hs e (outcome_seen c.in_ok-reply.reply) did.0 not st
@@ -27,11 +27,11 @@ pub returns-clause-stands : goal.returns-clause-stands
 returns-clause-stands c = λ hs st.
     let ds = c.args.shard.now.documents in
     let ts = touched_of c.args.touched.now.entries in
-    let e = c.args.edit.now in
+    let e = c.args.edit in
     let named = c.id_in-id.ensures in
     let tree : StandsFor c.in_ok-tree.tree (history_at hs (id_in e)) =
     subst (λ i. StandsFor c.in_ok-tree.tree (history_at hs i)) named
-    (c.in_ok-tree.ensures hs (subst (λ i. StandsAt i (get ds i) (get hs i)) (sym named) (document_at ds ts hs (id_in e) c.requires st))) in
+    (c.in_ok-tree.ensures ds hs c.id_in-id.result.now c.tree-before.ensures (subst (λ i. StandsAt i (get ds i) (get hs i)) (sym named) (document_at ds ts hs (id_in e) c.requires st))) in
     let did = c.in_ok-reply.ensures (history_at hs (id_in e)) tree in
     let done : is_ok (outcome_seen c.in_ok-reply.reply) ≡ true = search rules in
     let put : touched_of c.insert.new.self.entries ≡ insert ts (id_in e) c.in_ok-reply.tree =
@@ -43,23 +43,23 @@ pub returns-in-Some-clause-outcome : goal.returns-in-Some-clause-outcome
 returns-in-Some-clause-outcome c = λ hs st.
     let ds = c.args.shard.now.documents in
     let ts = touched_of c.args.touched.now.entries in
-    let e = c.args.edit.now in
+    let e = c.args.edit in
     let named = c.id_in-id.ensures in
     let id = c.id_in-id.result.now in
     let stands : StandsAt id (get ds id) (get hs id) = subst (λ i. StandsAt i (get ds i) (get hs i)) (sym named) (document_at ds ts hs (id_in e) c.requires st) in
     let said : (outcome_seen c.in-Some.known ≡ outcome_of (history_at hs id) e) × StandsAt id (get ds id) (Some (edited (history_at hs id) e)) =
-    subst (λ (o : Option EditReply). IfSome o (λ r. (outcome_seen r ≡ outcome_of (history_at hs id) e) × StandsAt id (get ds id) (Some (edited (history_at hs id) e)))) c.in-Some.is (c.in_ok-look.ensures hs stands) in
+    subst (λ (o : Option EditReply). IfSome o (λ r. (outcome_seen r ≡ outcome_of (history_at hs id) e) × StandsAt id (get ds id) (Some (edited (history_at hs id) e)))) c.in-Some.is (c.in_ok-look.ensures ds hs id c.tree-before.ensures stands) in
     said.0 ∙ ap (λ i. outcome_of (history_at hs i) e) named
 
 pub returns-in-Some-clause-stands : goal.returns-in-Some-clause-stands
 returns-in-Some-clause-stands c = λ hs st.
     let ds = c.args.shard.now.documents in
     let ts = touched_of c.args.touched.now.entries in
-    let e = c.args.edit.now in
+    let e = c.args.edit in
     let named = c.id_in-id.ensures in
     let id = c.id_in-id.result.now in
     let stands : StandsAt id (get ds id) (get hs id) = subst (λ i. StandsAt i (get ds i) (get hs i)) (sym named) (document_at ds ts hs (id_in e) c.requires st) in
     let said : (outcome_seen c.in-Some.known ≡ outcome_of (history_at hs id) e) × StandsAt id (get ds id) (Some (edited (history_at hs id) e)) =
-    subst (λ (o : Option EditReply). IfSome o (λ r. (outcome_seen r ≡ outcome_of (history_at hs id) e) × StandsAt id (get ds id) (Some (edited (history_at hs id) e)))) c.in-Some.is (c.in_ok-look.ensures hs stands) in
+    subst (λ (o : Option EditReply). IfSome o (λ r. (outcome_seen r ≡ outcome_of (history_at hs id) e) × StandsAt id (get ds id) (Some (edited (history_at hs id) e)))) c.in-Some.is (c.in_ok-look.ensures ds hs id c.tree-before.ensures stands) in
     looked_stands ds ts hs e (outcome_seen c.in-Some.known) (said.0 ∙ ap (λ i. outcome_of (history_at hs i) e) named) c.requires
     (subst (λ i. StandsAt i (get ds i) (Some (edited (history_at hs i) e))) named said.1) st

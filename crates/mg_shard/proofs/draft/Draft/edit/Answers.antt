@@ -10,30 +10,30 @@ use Rattle.mg_shard.proofs.draft.Draft.edit.Goals as goal
 
 pub edit_first-requires : goal.edit_first-requires
 edit_first-requires c =
-    subst (λ i. get (touched_of c.remove_entry.new.self.entries) i ≡ None) c.id_in-id.ensures
-    (touched_out c.self.inside.touched c.remove_entry.new.self c.id_in-id.result.now c.remove_entry.ensures.updates)
+    subst (λ i. get (touched_of c.remove_entry.new.self.entries) i ≡ None) c.id_in.ensures
+    (touched_out c.self.inside.touched c.remove_entry.new.self c.id_in.result.now c.remove_entry.ensures.updates)
 
 pub returns-in_ok-edit_touched-in-Some-clause-outcome : goal.returns-in_ok-edit_touched-in-Some-clause-outcome
 returns-in_ok-edit_touched-in-Some-clause-outcome c = λ hs st.
-    let e = c.args.edit.now in
+    let e = c.args.edit in
     let m = c.self.inside.touched in
     let ts = touched_of m.entries in
     let ds = c.self.inside.shard.now.documents in
     let tree = c.in-Some.tree in
-    let is : get ts (id_in e) ≡ Some tree = ap (get ts) (sym c.id_in-id.ensures) ∙ sym (get-touched m c.id_in-id.result.now) ∙ sym c.in-Some.ensures.value in
+    let is : get ts (id_in e) ≡ Some tree = ap (get ts) (sym c.id_in.ensures) ∙ sym (get-touched m c.id_in.result.now) ∙ sym c.in-Some.ensures.value in
     let stood = subst (λ d. DraftStandsFor d hs) (sym c.self.view_is) st in
     c.in_ok-edit_touched-in-Some.ensures.outcome (history_at hs (id_in e)) (tree_touched ds ts hs (id_in e) tree is stood)
 
 pub returns-in_ok-edit_touched-in-Some-clause-stands : goal.returns-in_ok-edit_touched-in-Some-clause-stands
 returns-in_ok-edit_touched-in-Some-clause-stands c = λ hs st.
-    let e = c.args.edit.now in
+    let e = c.args.edit in
     let m = c.self.inside.touched in
     let ts = touched_of m.entries in
     let ds = c.self.inside.shard.now.documents in
     let tree = c.in-Some.tree in
     let out = c.remove_entry.new.self in
-    let named = c.id_in-id.ensures in
-    let id = c.id_in-id.result.now in
+    let named = c.id_in.ensures in
+    let id = c.id_in.result.now in
     let is : get ts (id_in e) ≡ Some tree = ap (get ts) (sym named) ∙ sym (get-touched m id) ∙ sym c.in-Some.ensures.value in
     let stood = subst (λ d. DraftStandsFor d hs) (sym c.self.view_is) st in
     let did = c.in_ok-edit_touched-in-Some.ensures.touched (history_at hs (id_in e)) (tree_touched ds ts hs (id_in e) tree is stood) in

@@ -26,9 +26,9 @@ loop-edit-init c = record {
 pub loop-edit-preserved : goal.loop-edit-preserved
 loop-edit-preserved c =
     let l = c.loop-edit in
-    let e = c.edit-item.result in
+    let e = c.in_ok-copy.copy in
     let left = drop (l.edit-index + 1) c.args.edits.now in
-    let step : drop l.edit-index c.args.edits.now ≡ e ∷ left = drop_item c.args.edits.now l.edit-index e c.loop-edit-test.true c.edit-item.is in
+    let step : drop l.edit-index c.args.edits.now ≡ e ∷ left = drop_item c.args.edits.now l.edit-index c.edit-item.result c.loop-edit-test.true c.edit-item.is ∙ ap (λ x. x ∷ left) (sym c.in_ok-copy.ensures) in
     record {
       shard = c.in_ok-reply.ensures.shard ∙ l.invariant.shard;
       goes_on = λ hs st.

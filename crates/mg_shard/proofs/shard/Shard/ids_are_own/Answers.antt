@@ -1,5 +1,5 @@
-use Rattle.std.proofs.Common.{◌≡◌, Some, sym, ap, ◌∙◌}
-use Rattle.mg_shard.specs.Documents.{form_at, shown}
+use Rattle.std.proofs.Common.{ap, ◌∙◌}
+use Rattle.mg_shard.specs.Documents.{form_at}
 use Rattle.mg_shard.proofs.Owned.{own_shown}
 use Rattle.mg_shard.proofs.shard.Shard.ids_are_own.Goals as goal
 

@@ -1,5 +1,5 @@
 use Rattle.std.proofs.Common.{List, ap, ◌∙◌}
-use Rattle.mg_collate.specs.Row.{row_value_order, rows_view}
+use Rattle.mg_collate.specs.Row.{row_value_order}
 use Rattle.mg_collate.specs.Sorted.{sorted}
 use Rattle.mg_index.specs.Definition.{Steps}
 use Rattle.mg_shard.specs.Documents.{docs_of}

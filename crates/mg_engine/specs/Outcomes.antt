@@ -1,0 +1,21 @@
+-- For private clauses: what is told of edits that were made.
+use Rattle.std.specs.Prelude.{ℕ, Bool, List, [], ◌∷◌, string_bytes, Result}
+use Rattle.mg_value.specs.Value.{Items, no_items}
+use Rattle.mg_revtree.specs.Revision.{Revision}
+use Rattle.mg_doc.specs.declared.error.Refused.{Refused}
+use Rattle.mg_shard.specs.Edits.{outcome_seen}
+use Rattle.mg_engine.specs.Bulk.{entry_before, entry_of}
+use Rattle.mg_engine.specs.declared.edits.Outcome.{Outcome}
+
+-- the id of the edit
+abbrev pub told_id : Outcome → List ℕ
+told_id o = string_bytes o.id
+
+-- what became of it
+abbrev pub reply_in : Outcome → Result Revision Refused
+reply_in o = outcome_seen o.reply
+
+-- the entries of the reply, by the ids of the edits
+abbrev pub entries_told : Bool → List Outcome → Items
+entries_told new_edits [] = no_items
+entries_told new_edits (o ∷ os) = entry_before (entry_of new_edits (told_id o) (reply_in o)) (entries_told new_edits os)
