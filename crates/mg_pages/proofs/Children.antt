@@ -1,17 +1,18 @@
 -- Children of a level: the last element that stands beside a part.
-use Rattle.std.proofs.Common.{◌≡◌, ℕ, ◌+◌, ◌-◌, ◌<◌, List, [], ◌∷◌, ◌++◌, length, take, drop, get_or, false, Ordering, Less, is_lt, refl, sym, ap, ap₂, ◌∙◌, subst, arith, append_assoc, append-nil}
+use Rattle.std.proofs.Common.{◌≡◌, ℕ, ◌+◌, ◌-◌, ◌<◌, List, [], ◌∷◌, ◌++◌, length, take, drop, get_or, false, Ordering, Less, Equal, is_lt, is_gt, Option, Some, None, IfSome, refl, sym, ap, ap₂, ◌∙◌, subst, arith, append_assoc, append-nil}
 use Rattle.std.proofs.lemmas.List.{drop_all, length-append}
 use Rattle.std.proofs.lemmas.List.Elements.{filter-append}
 use Rattle.std.specs.Arc.{arc_value}
 use Rattle.std.specs.Cmp.{IsTotalOrder}
 use Rattle.std.specs.List.{flat_map}
-use Rattle.mg_pages.specs.Order.{IsProbe, Ascends, above, below, inserted, removed, probe_from_total}
+use Rattle.mg_pages.specs.Order.{IsProbe, Ascends, above, below, found, inserted, removed, probe_from_total}
+use Rattle.mg_pages.specs.Search.{IsAmong}
 use Rattle.mg_pages.specs.Runs.{IsEndRun}
 use Rattle.mg_pages.specs.Parts.{IsLast, AreWhole, child_seen, child_value, child_whole, children, node_value}
 use Rattle.mg_pages.specs.declared.child.Child.{Child}
 use Rattle.mg_pages.specs.declared.child.Node.{Node}
-use Rattle.mg_pages.proofs.Sorted.{split_at, above_of_below, above_one_less, above_one_not, before_one}
-use Rattle.mg_pages.proofs.Parts.{mapped_at, mapped_length, whole_at, ascends_at}
+use Rattle.mg_pages.proofs.Sorted.{above_first, found_cut, found_one, split_at, above_of_below, above_one_less, above_one_not, before_one}
+use Rattle.mg_pages.proofs.Parts.{mapped_at, mapped_length, whole_at, ascends_at, seen_split}
 
 -- a child that stands in a level, by its last element and its part
 pub part_at : {T P : Type 0} (xs : List (Child T P)) (i : ℕ) (c : Child T P) (n : Node T P) → i < length xs → c ≡ get_or xs i c → n ≡ arc_value c.node → node_value n ≡ get_or (children xs) i (node_value n)
@@ -91,3 +92,27 @@ removed_run_last xs low run x e r n at = last_of_end xs r.rest run x (e ∙ r.is
 -- where that run is empty, nothing is left
 pub removed_run_none : {T : Type 0} (xs low run : List T) → xs ≡ low → IsEndRun run low → length run ≡ 0 → xs ≡ []
 removed_run_none xs low run e r n = e ∙ r.some n
+
+-- one of the elements of a part is one of all
+pub among_part : {P T : Type 0} (seen : P → List T) (ps : List P) (i : ℕ) (p : P) (x : T) → i < length ps → p ≡ get_or ps i p → IsAmong (seen p) x → IsAmong (flat_map seen ps) x
+among_part seen ps i p x l e it =
+    let before = flat_map seen (take i ps) in
+    let after = flat_map seen (drop (i + 1) ps) in
+    record {
+      front = before ++ it.front;
+      rest = it.rest ++ after;
+      is = seen_split seen ps i p l e ∙ ap (λ us. before ++ (us ++ after)) it.is ∙ ap (λ us. before ++ us) (append_assoc it.front (x ∷ it.rest) after) ∙ sym (append_assoc before it.front (x ∷ (it.rest ++ after)));
+    }
+
+-- the one that ties is found
+pub found_among : {T : Type 0} (order : T → T → Ordering) (against : T → Ordering) → IsProbe order against → (xs : List T) (x : T) → Ascends order xs → IsAmong xs x → against x ≡ Equal → found against xs ≡ Some x
+found_among order against p xs x s it e =
+    let rises = subst (Ascends order) it.is s in
+    let low = before_one order against p it.front x it.rest rises (ap is_lt e) in
+    let high = above_first order against p it.front x it.rest rises (ap is_gt e) in
+    ap (found against) it.is ∙ found_cut against it.front (x ∷ []) it.rest low high ∙ found_one against x e
+
+-- what holds of the one that is there, by a step
+pub if_there : {A : Type 0} (P Q : A → Type 0) (o : Option A) → ((a : A) → P a → Q a) → IfSome o P → IfSome o Q
+if_there P Q None step h = h
+if_there P Q (Some a) step h = step a h

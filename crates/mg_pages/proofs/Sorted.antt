@@ -192,6 +192,11 @@ all_pass : {T : Type 0} (test : T → Bool) (xs : List T) → AllByRecursion (λ
 all_pass test [] = tt
 all_pass test (x ∷ xs) = pass_one test x (filter test xs) (test x) refl (all_pass test xs)
 
+pub equal_from_test : (r : Ordering) → is_eq r ≡ true → r ≡ Equal
+equal_from_test Equal h = refl
+equal_from_test Less h = absurd cc
+equal_from_test Greater h = absurd cc
+
 pub less_from_test : (r : Ordering) → is_lt r ≡ true → r ≡ Less
 less_from_test Less h = refl
 less_from_test Equal h = absurd cc

@@ -26,3 +26,9 @@ pub record IsGap {T : Type 0} (against : T → Ordering) (xs : List T) (i : ℕ)
   pub within : i ≤ length xs
   pub before : AllBelow against (take i xs)
   pub after : AllAbove against (drop i xs)
+
+-- x is one of xs
+pub record IsAmong {T : Type 0} (xs : List T) (x : T) : Type 0 where
+  pub front : List T
+  pub rest : List T
+  pub is : xs ≡ front ++ x ∷ rest

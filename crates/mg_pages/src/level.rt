@@ -210,6 +210,16 @@ impl<T: Keyed, P: Part<T>> Part<T> for Level<T, P> {
         node.part.get(key)
     }
 
+    fn guessed<Q: Probe<T>>(&self, key: &Q) -> Option<&T> {
+        let i = guess_among::<T, P, Q>(&self.parts, key);
+        if i < self.parts.len() {
+            let child = &self.parts[i];
+            let node: &Node<T, P> = &child.node;
+            return node.part.guessed(key);
+        }
+        None
+    }
+
     fn first_run(&self) -> &[Arc<T>] {
         run_from::<T, P>(&self.parts, 0)
     }

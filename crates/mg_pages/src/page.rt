@@ -74,6 +74,14 @@ impl<T: Keyed> Part<T> for Page<T> {
         }
     }
 
+    fn guessed<Q: Probe<T>>(&self, key: &Q) -> Option<&T> {
+        let i = self.hints.guess(key.hint());
+        if i < self.elements.len() {
+            return Some(&self.elements[i]);
+        }
+        None
+    }
+
     fn first_run(&self) -> &[Arc<T>] {
         &self.elements
     }

@@ -1,5 +1,5 @@
 //! Ordered collections in shared pages.
-ghost use Rattle.std.specs.Prelude.{◌≡◌, ◌↔◌, [], ◌∷◌, length, IfOk, IsTrue, OnOk, OnErr, is_some, option_map, reverse};
+ghost use Rattle.std.specs.Prelude.{◌≡◌, ◌↔◌, [], ◌∷◌, Some, length, IfOk, IfSome, IsTrue, OnOk, OnErr, is_some, option_map, reverse};
 ghost use Rattle.std.specs.Arc.{arc_value};
 ghost use Rattle.mg_pages.specs.Order.{Ascends, above, below, found, from, inserted, removed, upto};
 ghost use Rattle.mg_pages.specs.Runs.{IsRun, IsEndRun};
@@ -80,6 +80,21 @@ fn take_out<T: Keyed, Q: Probe<T>>(
     }
     take_out_of_parts::<T, Level<T, Level<T, Page<T>>>, Q>(alloc, &mut root.parts, key)?;
     Ok(())
+}
+
+// The element that ties with a key, if the numbers lead to it: one comparison.
+fn tied<'a, T: Keyed, Q: Probe<T>>(root: &'a Root<T>, key: &Q) -> Option<&'a T>
+    requires { IsSound T.order root.now }
+    ensures { IfSome result (λ t. found (Q.against key.now) (root_seen root.now) ≡ Some t.now) }
+{
+    if root.parts.is_empty() {
+        return None;
+    }
+    let element = root.guessed(key)?;
+    if key.against(element).is_eq() {
+        return Some(element);
+    }
+    None
 }
 
 // One thing alone.
@@ -163,10 +178,14 @@ impl<T: Keyed> Pages<T> {
         let _ = &self.root;
     }
 
-    /// The element that ties with the key. Cost: the logarithm of the number of elements. Takes no memory.
+    /// The element that ties with the key. Cost: one comparison where the numbers lead to it, and else the logarithm of the number
+    /// of elements. Takes no memory.
     pub fn get<Q: Probe<T>>(&self, key: &Q) -> Option<&T>
         ensures { option_map (λ t. t.now) result ≡ found (Q.against key.now) self.now }
     {
+        if let Some(element) = tied::<T, Q>(&self.root, key) {
+            return Some(element);
+        }
         if self.root.parts.is_empty() {
             return None;
         }

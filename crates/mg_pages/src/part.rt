@@ -3,6 +3,7 @@ ghost use Rattle.std.specs.Prelude.{◌≡◌, ◌<◌, [], true, false, is_some
 ghost use Rattle.std.specs.Arc.{arc_value};
 ghost use Rattle.mg_pages.specs.Order.{inserted, removed, found, above, below, Ascends};
 ghost use Rattle.mg_pages.specs.Runs.{IsRun, IsEndRun};
+ghost use Rattle.mg_pages.specs.Search.{IsAmong};
 ghost use Rattle.mg_pages.specs.Parts.{values, IsLast, IsCopy, AreHalves};
 
 use crate::keyed::{Keyed, Probe};
@@ -30,6 +31,11 @@ pub trait Part<T: Keyed>: Drop + Sized {
         requires whole { is_whole self.now }
         requires sorted { Ascends T.order (seen self.now) }
         ensures { option_map (λ t. t.now) result ≡ found (Q.against key.now) (seen self.now) };
+
+    /// The element to which the numbers lead, which may be the one that ties with a key. No element is compared.
+    fn guessed<Q: Probe<T>>(&self, key: &Q) -> Option<&T>
+        requires { is_whole self.now }
+        ensures { IfSome result (λ t. IsAmong (seen self.now) t.now) };
 
     /// The first elements, as many as one page has.
     fn first_run(&self) -> &[Arc<T>]
