@@ -15,6 +15,7 @@ mod reply;
 pub mod routes;
 pub mod service;
 pub mod sessions;
+mod table;
 mod talks;
 pub mod target;
 mod text;

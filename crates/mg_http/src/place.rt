@@ -10,7 +10,7 @@ ghost use Rattle.mg_http.specs.Segments.{segments_left};
 
 use crate::decode::decoded;
 use crate::routes::{Action, Part, Route, all_routes};
-use matchit::{InsertError, Router};
+use crate::table::Table;
 use std::alloc::{AllocError, Global};
 
 /// What is left of the routes on which a path goes, and what its parameters spell.
@@ -143,32 +143,13 @@ fn is_asked(route: &Route, method: &[u8]) -> bool
     ends_here(route) && route.method == method
 }
 
-/// Whether the text is the second segment of some route as it stands. The table has these segments alone.
-fn look_up(alloc: Global, text: &str) -> Result<bool, InsertError>
-    ensures { IfOk result (λ b. b ≡ goes_on (literal text.now) routes) }
-{
-    let mut table = Router::new(alloc);
-    table.insert("_bulk_docs", ())?;
-    table.insert("_explain", ())?;
-    table.insert("_find", ())?;
-    table.insert("_index", ())?;
-    table.insert("_placement", ())?;
-    match table.at(text) {
-        Ok(_) => Ok(true),
-        Err(_) => Ok(false),
-    }
-}
-
 /// Whether the segment is the second one of some route as it stands.
-fn is_literal(alloc: Global, segment: &[u8]) -> Result<bool, AllocError>
-    ensures { IfOk result (λ b. b ≡ goes_on (literal segment.now) routes) }
+fn is_literal(table: &Table, segment: &[u8]) -> bool
+    ensures { result ≡ goes_on (literal segment.now) routes }
 {
     match str::from_utf8(segment) {
-        Ok(text) => match look_up(alloc, text) {
-            Ok(found) => Ok(found),
-            Err(_) => Err(AllocError),
-        },
-        Err(_) => Ok(goes_on(all_routes(), segment)),
+        Ok(text) => table.has(text),
+        Err(_) => goes_on(all_routes(), segment),
     }
 }
 
@@ -196,14 +177,14 @@ impl Place {
     }
 
     /// Whether some route goes on by the second segment as it stands, from the place behind the database's name.
-    fn stands_second(&self, alloc: Global, segment: &[u8]) -> Result<bool, AllocError>
+    fn stands_second(&self, table: &Table, segment: &[u8]) -> bool
         requires { (map route_of self.now.routes.items ≡ []) ⊎ (map route_of self.now.routes.items ≡ routes) }
-        ensures { IfOk result (λ b. b ≡ goes_on (literal segment.now) (map route_of self.now.routes.items)) }
+        ensures { result ≡ goes_on (literal segment.now) (map route_of self.now.routes.items) }
     {
         if self.routes.is_empty() {
-            return Ok(false);
+            return false;
         }
-        is_literal(alloc, segment)
+        is_literal(table, segment)
     }
 
     /// The place one segment further, which is taken as it stands if some route goes on by it.
@@ -225,7 +206,7 @@ impl Place {
     }
 
     /// Where the path leads.
-    pub(crate) fn of(alloc: Global, path: &[u8]) -> Result<Place, AllocError>
+    pub(crate) fn of(alloc: Global, table: &Table, path: &[u8]) -> Result<Place, AllocError>
         ensures { IfOk result (λ p. place_in p ≡ place_of (segments_of path.now)) }
     {
         let mut segments = Segments::new(path);
@@ -239,7 +220,7 @@ impl Place {
         let Some(second) = segments.next() else {
             return Ok(place);
         };
-        let stands = place.stands_second(alloc, second)?;
+        let stands = place.stands_second(table, second);
         place = place.enter(alloc, second, stands)?;
         for segment in segments {
             let stands = goes_on(&place.routes, segment);
