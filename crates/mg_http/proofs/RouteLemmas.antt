@@ -1,5 +1,5 @@
 -- A table whose routes have no parameter, what is left of routes, and the segments of a path.
-use Rattle.std.proofs.Common.{inl, inr, subst, ◌⊎◌, ◌≡◌, ◌+◌, ◌<◌, ◌≤◌, ℕ, zero, suc, ◌-◌, ◌==◌, Bool, true, false, ◌&&◌, ◌||◌, cond, List, [], ◌∷◌, ◌++◌, length, map, get_or, take, drop, Option, Some, None, refl, sym, ap, ◌∙◌, arith}
+use Rattle.std.proofs.Common.{inl, inr, ◌⊎◌, ◌≡◌, ◌+◌, ◌<◌, ◌≤◌, ℕ, zero, suc, ◌-◌, ◌==◌, Bool, true, false, ◌&&◌, ◌||◌, cond, List, [], ◌∷◌, ◌++◌, length, map, get_or, take, drop, Option, Some, None, refl, sym, ap, ◌∙◌, arith}
 use Rattle.std.specs.Prelude.{bytes_eq, codes, nat_lt, is_some}
 use Rattle.std.specs.List.{list_all, list_any, filter_map, cons_option, slice_split, position_or_len}
 use Rattle.std.proofs.lemmas.Bool.{cond-false, and_from}

@@ -102,9 +102,13 @@ impl Inbox {
         ensures reads { self.new.reads ≡ self.old.reads }
         ensures requests { self.new.requests ≡ self.old.requests }
     {
-        let answered = self.start;
+        if self.start == 0 {
+            return;
+        }
+        let left = self.held.len() - self.start;
+        self.held.copy_within(self.start.., 0);
+        self.held.truncate(left);
         self.start = 0;
-        self.held.drain(..answered);
     }
 
     /// Reads once. The room for what comes is taken before, so no byte is lost.

@@ -4,6 +4,7 @@ ghost use Rattle.percent_encoding.specs.Percent.{percent_decode};
 ghost use Rattle.std.specs.Iterator.{YieldsFirstRef, item_count};
 ghost use Rattle.std.specs.List.{list_any};
 ghost use Rattle.std.specs.Option.{option_map};
+ghost use Rattle.std.specs.Cow.{cow_slice_items};
 ghost use Rattle.mg_http.specs.RouteViews.{part_of, route_of, place_in};
 ghost use Rattle.mg_http.specs.Routes.{literal, routes, same_part, route_behind, behind, begins_with, goes_on, enter, place_of, segments_of, ends_here, is_asked};
 ghost use Rattle.mg_http.specs.Segments.{segments_left};
@@ -12,11 +13,12 @@ use crate::decode::decoded;
 use crate::routes::{Action, Part, Route, all_routes};
 use crate::table::Table;
 use std::alloc::{AllocError, Global};
+use std::borrow::CowSlice;
 
 /// What is left of the routes on which a path goes, and what its parameters spell.
 #[derive(Drop)]
 pub struct Place {
-    pub routes: Vec<Route>,
+    pub routes: CowSlice<'static, Route>,
     pub parameters: Vec<Vec<u8>>,
 }
 
@@ -160,26 +162,26 @@ impl Place {
           routes_left = if length name.now == 0 then [] else routes;
           parameters = percent_decode name.now ∷ [];
         }) }
-        ensures routes { IfOk result (λ p. (map route_of p.routes.items ≡ []) ⊎ (map route_of p.routes.items ≡ routes)) }
+        ensures routes { IfOk result (λ p. (map route_of (cow_slice_items p.routes) ≡ []) ⊎ (map route_of (cow_slice_items p.routes) ≡ routes)) }
     {
         let mut parameters = Vec::new(alloc);
         parameters.push(decoded(alloc, name)?)?;
         if name.is_empty() {
             return Ok(Place {
-                routes: Vec::new(alloc),
+                routes: CowSlice::Borrowed(&[]),
                 parameters,
             });
         }
         Ok(Place {
-            routes: Vec::from_slice(alloc, all_routes())?,
+            routes: CowSlice::Borrowed(all_routes()),
             parameters,
         })
     }
 
     /// Whether some route goes on by the second segment as it stands, from the place behind the database's name.
     fn stands_second(&self, table: &Table, segment: &[u8]) -> bool
-        requires { (map route_of self.now.routes.items ≡ []) ⊎ (map route_of self.now.routes.items ≡ routes) }
-        ensures { result ≡ goes_on (literal segment.now) (map route_of self.now.routes.items) }
+        requires { (map route_of (cow_slice_items self.now.routes) ≡ []) ⊎ (map route_of (cow_slice_items self.now.routes) ≡ routes) }
+        ensures { result ≡ goes_on (literal segment.now) (map route_of (cow_slice_items self.now.routes)) }
     {
         if self.routes.is_empty() {
             return false;
@@ -189,18 +191,18 @@ impl Place {
 
     /// The place one segment further, which is taken as it stands if some route goes on by it.
     fn enter(mut self, alloc: Global, segment: &[u8], stands: bool) -> Result<Place, AllocError>
-        requires { stands ≡ goes_on (literal segment.now) (map route_of self.routes.items) }
+        requires { stands ≡ goes_on (literal segment.now) (map route_of (cow_slice_items self.routes)) }
         ensures { IfOk result (λ p. place_in p ≡ enter (place_in self) segment.now) }
     {
         if stands {
-            self.routes = behind(alloc, &self.routes, Part::Literal(segment))?;
+            self.routes = CowSlice::Owned(behind(alloc, &self.routes, Part::Literal(segment))?);
             return Ok(self);
         }
         self.parameters.push(decoded(alloc, segment)?)?;
         self.routes = if segment.is_empty() {
-            Vec::new(alloc)
+            CowSlice::Borrowed(&[])
         } else {
-            behind(alloc, &self.routes, Part::Parameter)?
+            CowSlice::Owned(behind(alloc, &self.routes, Part::Parameter)?)
         };
         Ok(self)
     }
@@ -212,7 +214,7 @@ impl Place {
         let mut segments = Segments::new(path);
         let Some(name) = segments.next() else {
             return Ok(Place {
-                routes: Vec::new(alloc),
+                routes: CowSlice::Borrowed(&[]),
                 parameters: Vec::new(alloc),
             });
         };
