@@ -1,6 +1,6 @@
 -- A table whose routes have no parameter, what is left of routes, and the segments of a path.
-use Rattle.std.proofs.Common.{inl, inr, subst, ◌⊎◌, ◌≡◌, ◌+◌, ◌<◌, ◌≤◌, ℕ, zero, suc, ◌-◌, ◌==◌, Bool, true, false, ◌&&◌, ◌||◌, cond, List, [], ◌∷◌, ◌++◌, length, map, get_or, take, drop, Option, Some, None, refl, sym, ap, ◌∙◌, arith}
-use Rattle.std.specs.Prelude.{IfOk, Result, bytes_eq, codes, nat_lt, is_some}
+use Rattle.std.proofs.Common.{inl, inr, ◌⊎◌, ◌≡◌, ◌+◌, ◌<◌, ◌≤◌, ℕ, zero, suc, ◌-◌, ◌==◌, Bool, true, false, ◌&&◌, ◌||◌, cond, List, [], ◌∷◌, ◌++◌, length, map, get_or, take, drop, Option, Some, None, refl, sym, ap, ◌∙◌, arith}
+use Rattle.std.specs.Prelude.{bytes_eq, codes, nat_lt, is_some}
 use Rattle.std.specs.List.{list_all, list_any, filter_map, cons_option, slice_split, position_or_len}
 use Rattle.std.proofs.lemmas.Bool.{cond-false, and_from}
 use Rattle.std.proofs.lemmas.Bool.Decides.{nat_tests}
@@ -154,9 +154,8 @@ one_behind {Y = Y} f h xs i d before after found inside was e pushed =
     ∙ sym (filter_map-append (λ r. h (f r)) (take i xs) (get_or xs i d ∷ [])) ∙ ap (filter_map (λ r. h (f r))) (sym (take_more xs i d inside))
 
 -- where some routes are left, they are those of the table
-pub the_table : {A E : Type 0} (f : A → Route) (xs : List A) (r : Result Bool E) (segment : List ℕ) → 0 < length xs
-    → (map f xs ≡ []) ⊎ (map f xs ≡ routes) → IfOk r (λ b. b ≡ goes_on (literal segment) routes)
-    → IfOk r (λ b. b ≡ goes_on (literal segment) (map f xs))
-the_table f [] r segment some left h = absurd (omega (arith, some))
-the_table f (x ∷ xs) r segment some (inl e) h = cc
-the_table f (x ∷ xs) r segment some (inr e) h = subst (λ rs. IfOk r (λ b. b ≡ goes_on (literal segment) rs)) (sym e) h
+pub the_table : {A : Type 0} (f : A → Route) (xs : List A) (b : Bool) (segment : List ℕ) → 0 < length xs
+    → (map f xs ≡ []) ⊎ (map f xs ≡ routes) → b ≡ goes_on (literal segment) routes → b ≡ goes_on (literal segment) (map f xs)
+the_table f [] b segment some left h = absurd (omega (arith, some))
+the_table f (x ∷ xs) b segment some (inl e) h = cc
+the_table f (x ∷ xs) b segment some (inr e) h = h ∙ ap (goes_on (literal segment)) (sym e)

@@ -1,5 +1,6 @@
 -- What the code's table of routes and its places stand for.
 use Rattle.std.specs.Prelude.{map}
+use Rattle.std.specs.Cow.{cow_slice_items}
 use Rattle.mg_http.specs.declared.routes.Part.{Part}
 use Rattle.mg_http.specs.declared.routes.Part.TheVariants.{Literal, Parameter}
 use Rattle.mg_http.specs.declared.routes.Route.{Route}
@@ -17,4 +18,4 @@ route_of r = record { method = r.method.now; path = map part_of r.path.now; asks
 
 -- a place
 abbrev pub place_in : Place → spec.Place
-place_in p = record { routes_left = map route_of p.routes.items; parameters = map (λ v. v.items) p.parameters.items }
+place_in p = record { routes_left = map route_of (cow_slice_items p.routes); parameters = map (λ v. v.items) p.parameters.items }

@@ -5,14 +5,16 @@ ghost use Rattle.mg_http.specs.Target.{is_conflicts, asks_conflicts};
 use form_urlencoded::{decode, raw_pairs};
 use percent_encoding::percent_decode;
 use std::alloc::{AllocError, Global};
+use std::borrow::CowSlice;
 
 /// What the segment spells.
 pub(crate) fn decoded(alloc: Global, segment: &[u8]) -> Result<Vec<u8>, AllocError>
     ensures { IfOk result (λ v. v.items ≡ percent_decode segment.now) }
 {
-    let mut bytes = Vec::new(alloc);
-    percent_decode(segment).append_to(&mut bytes)?;
-    Ok(bytes)
+    match percent_decode(segment).into_cow(alloc)? {
+        CowSlice::Borrowed(bytes) => Vec::from_slice(alloc, bytes),
+        CowSlice::Owned(bytes) => Ok(bytes),
+    }
 }
 
 /// Whether the pair of a query reads as conflicts=true.

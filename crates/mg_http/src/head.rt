@@ -9,6 +9,7 @@ ghost use Rattle.mg_http.specs.Turns.{IsHeadRead, request_in, IsFramedBy};
 
 use crate::fault::ends_in_target;
 use crate::fields::{Length, asks_close, has_field, length_in};
+use crate::table::Table;
 use crate::target::{Target, read_target};
 use httparse::spans::{HeaderSpan, RequestSpans, parse_request};
 use httparse::{Error, Status};
@@ -89,6 +90,7 @@ fn framed_by(length: Length, coded: bool, post: bool, target: Target) -> Framing
 fn read_framing(
     alloc: Global,
     db: &str,
+    table: &Table,
     method: &[u8],
     target: &[u8],
     bytes: &[u8],
@@ -100,7 +102,7 @@ fn read_framing(
     if fields.len() > MAX_FIELDS {
         return Ok(Framing::Refused(Refusal::HeadTooLarge));
     }
-    let target = read_target(alloc, db, method, target)?;
+    let target = read_target(alloc, db, table, method, target)?;
     let length = length_in(bytes, fields);
     let coded = has_field(bytes, fields, b"transfer-encoding");
     Ok(framed_by(length, coded, method == b"POST".as_slice(), target))
@@ -145,6 +147,7 @@ fn fault(bytes: &[u8]) -> HeadRead
 fn read_whole(
     alloc: Global,
     db: &str,
+    table: &Table,
     bytes: &[u8],
     spans: &[HeaderSpan],
     head: RequestSpans,
@@ -155,7 +158,7 @@ fn read_whole(
     let method = head.method.of(bytes);
     let fields = first_of(spans, head.headers);
     let silent = is_head(method);
-    match read_framing(alloc, db, method, head.path.of(bytes), bytes, fields) {
+    match read_framing(alloc, db, table, method, head.path.of(bytes), bytes, fields) {
         Err(AllocError) => HeadRead::NoMemory(silent),
         Ok(Framing::Refused(refusal)) => HeadRead::Unframed(refusal, silent),
         Ok(Framing::Bytes(target, body)) => HeadRead::Whole(Framed {
@@ -169,13 +172,19 @@ fn read_whole(
 }
 
 /// Reads the head at the front of at most 16,384 bytes; the spans are room for its fields.
-pub(crate) fn read_head(alloc: Global, db: &str, bytes: &[u8], spans: &mut [HeaderSpan]) -> HeadRead
+pub(crate) fn read_head(
+    alloc: Global,
+    db: &str,
+    table: &Table,
+    bytes: &[u8],
+    spans: &mut [HeaderSpan],
+) -> HeadRead
     requires size { length bytes.now ≤ 16384 }
     requires room { 5461 ≤ length spans.old }
     ensures { IsHeadRead db.now bytes.now result }
 {
     match parse_request(bytes, spans) {
-        Ok(Status::Complete(head)) => read_whole(alloc, db, bytes, spans, head),
+        Ok(Status::Complete(head)) => read_whole(alloc, db, table, bytes, spans, head),
         Ok(Status::Partial) => HeadRead::Partial,
         Err(Error::TooManyHeaders) => unreachable!(),
         Err(_) => fault(bytes),

@@ -5,6 +5,7 @@ ghost use Rattle.mg_http.specs.Device.{inner_of, has_failed};
 
 use crate::device::{Device, Fault};
 use crate::message::{Front, read_front};
+use crate::table::Table;
 use httparse::spans::{EMPTY_HEADER_SPAN, HeaderSpan};
 use std::alloc::{AllocError, Global};
 use std::io::Read;
@@ -21,6 +22,8 @@ pub(crate) struct Inbox {
     /// What was read; the bytes before `start` are answered. They are dropped when the reader is asked again.
     pub(crate) held: Vec<u8>,
     pub(crate) start: usize,
+    /// Where the second segment of a path is looked up.
+    pub(crate) table: Table,
     /// Room for the fields of a head.
     pub(crate) spans: Vec<HeaderSpan>,
     /// Room for one read.
@@ -68,6 +71,7 @@ impl Inbox {
         Ok(Inbox {
             held: Vec::new(alloc),
             start: 0,
+            table: Table::new(alloc)?,
             spans: vec![in alloc; EMPTY_HEADER_SPAN; SPANS]?,
             piece: vec![in alloc; 0; PIECE]?,
             page: Vec::new(alloc),
@@ -82,7 +86,13 @@ impl Inbox {
         ensures held { unanswered self.new ≡ unanswered self.old }
         ensures turns { turns_left self.new ≡ turns_left self.old }
     {
-        read_front(alloc, db, rest_of(&self.held, self.start), &mut self.spans)
+        read_front(
+            alloc,
+            db,
+            &self.table,
+            rest_of(&self.held, self.start),
+            &mut self.spans,
+        )
     }
 
     /// Lets the answered bytes go.
@@ -92,9 +102,13 @@ impl Inbox {
         ensures reads { self.new.reads ≡ self.old.reads }
         ensures requests { self.new.requests ≡ self.old.requests }
     {
-        let answered = self.start;
+        if self.start == 0 {
+            return;
+        }
+        let left = self.held.len() - self.start;
+        self.held.copy_within(self.start.., 0);
+        self.held.truncate(left);
         self.start = 0;
-        self.held.drain(..answered);
     }
 
     /// Reads once. The room for what comes is taken before, so no byte is lost.

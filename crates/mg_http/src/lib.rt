@@ -15,6 +15,7 @@ mod reply;
 mod routes;
 mod service;
 mod sessions;
+mod table;
 mod talks;
 mod target;
 mod text;

@@ -3,6 +3,7 @@ ghost use Rattle.std.specs.Prelude.{◌≡◌, ◌≤◌, length};
 ghost use Rattle.mg_http.specs.Turns.{IsFront};
 
 use crate::head::{Framed, HeadRead, read_head};
+use crate::table::Table;
 use httparse::spans::HeaderSpan;
 use mg_engine::Refusal;
 use std::alloc::Global;
@@ -24,11 +25,17 @@ pub(crate) enum Front {
 }
 
 /// What is at the front of the bytes; the spans are room for the fields of a head.
-pub(crate) fn read_front(alloc: Global, db: &str, bytes: &[u8], spans: &mut [HeaderSpan]) -> Front
+pub(crate) fn read_front(
+    alloc: Global,
+    db: &str,
+    table: &Table,
+    bytes: &[u8],
+    spans: &mut [HeaderSpan],
+) -> Front
     requires { 5461 ≤ length spans.old }
     ensures { IsFront db.now bytes.now result }
 {
-    match read_head(alloc, db, &bytes[..bytes.len().min(MAX_HEAD)], spans) {
+    match read_head(alloc, db, table, &bytes[..bytes.len().min(MAX_HEAD)], spans) {
         HeadRead::Whole(framed) => Front::Message(framed),
         HeadRead::Unframed(refusal, silent) => Front::Refused(refusal, silent),
         HeadRead::Bad => Front::Refused(Refusal::BadHead, false),

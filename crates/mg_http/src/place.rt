@@ -4,19 +4,21 @@ ghost use Rattle.percent_encoding.specs.Percent.{percent_decode};
 ghost use Rattle.std.specs.Iterator.{YieldsFirstRef, item_count};
 ghost use Rattle.std.specs.List.{list_any};
 ghost use Rattle.std.specs.Option.{option_map};
+ghost use Rattle.std.specs.Cow.{cow_slice_items};
 ghost use Rattle.mg_http.specs.RouteViews.{part_of, route_of, place_in};
 ghost use Rattle.mg_http.specs.Routes.{literal, routes, same_part, route_behind, behind, begins_with, goes_on, enter, place_of, segments_of, ends_here, is_asked};
 ghost use Rattle.mg_http.specs.Segments.{segments_left};
 
 use crate::decode::decoded;
 use crate::routes::{Action, Part, Route, all_routes};
-use matchit::{InsertError, Router};
+use crate::table::Table;
 use std::alloc::{AllocError, Global};
+use std::borrow::CowSlice;
 
 /// What is left of the routes on which a path goes, and what its parameters spell.
 #[derive(Drop)]
 pub struct Place {
-    pub routes: Vec<Route>,
+    pub routes: CowSlice<'static, Route>,
     pub parameters: Vec<Vec<u8>>,
 }
 
@@ -143,32 +145,13 @@ fn is_asked(route: &Route, method: &[u8]) -> bool
     ends_here(route) && route.method == method
 }
 
-/// Whether the text is the second segment of some route as it stands. The table has these segments alone.
-fn look_up(alloc: Global, text: &str) -> Result<bool, InsertError>
-    ensures { IfOk result (λ b. b ≡ goes_on (literal text.now) routes) }
-{
-    let mut table = Router::new(alloc);
-    table.insert("_bulk_docs", ())?;
-    table.insert("_explain", ())?;
-    table.insert("_find", ())?;
-    table.insert("_index", ())?;
-    table.insert("_placement", ())?;
-    match table.at(text) {
-        Ok(_) => Ok(true),
-        Err(_) => Ok(false),
-    }
-}
-
 /// Whether the segment is the second one of some route as it stands.
-fn is_literal(alloc: Global, segment: &[u8]) -> Result<bool, AllocError>
-    ensures { IfOk result (λ b. b ≡ goes_on (literal segment.now) routes) }
+fn is_literal(table: &Table, segment: &[u8]) -> bool
+    ensures { result ≡ goes_on (literal segment.now) routes }
 {
     match str::from_utf8(segment) {
-        Ok(text) => match look_up(alloc, text) {
-            Ok(found) => Ok(found),
-            Err(_) => Err(AllocError),
-        },
-        Err(_) => Ok(goes_on(all_routes(), segment)),
+        Ok(text) => table.has(text),
+        Err(_) => goes_on(all_routes(), segment),
     }
 }
 
@@ -179,59 +162,59 @@ impl Place {
           routes_left = if length name.now == 0 then [] else routes;
           parameters = percent_decode name.now ∷ [];
         }) }
-        ensures routes { IfOk result (λ p. (map route_of p.routes.items ≡ []) ⊎ (map route_of p.routes.items ≡ routes)) }
+        ensures routes { IfOk result (λ p. (map route_of (cow_slice_items p.routes) ≡ []) ⊎ (map route_of (cow_slice_items p.routes) ≡ routes)) }
     {
         let mut parameters = Vec::new(alloc);
         parameters.push(decoded(alloc, name)?)?;
         if name.is_empty() {
             return Ok(Place {
-                routes: Vec::new(alloc),
+                routes: CowSlice::Borrowed(&[]),
                 parameters,
             });
         }
         Ok(Place {
-            routes: Vec::from_slice(alloc, all_routes())?,
+            routes: CowSlice::Borrowed(all_routes()),
             parameters,
         })
     }
 
     /// Whether some route goes on by the second segment as it stands, from the place behind the database's name.
-    fn stands_second(&self, alloc: Global, segment: &[u8]) -> Result<bool, AllocError>
-        requires { (map route_of self.now.routes.items ≡ []) ⊎ (map route_of self.now.routes.items ≡ routes) }
-        ensures { IfOk result (λ b. b ≡ goes_on (literal segment.now) (map route_of self.now.routes.items)) }
+    fn stands_second(&self, table: &Table, segment: &[u8]) -> bool
+        requires { (map route_of (cow_slice_items self.now.routes) ≡ []) ⊎ (map route_of (cow_slice_items self.now.routes) ≡ routes) }
+        ensures { result ≡ goes_on (literal segment.now) (map route_of (cow_slice_items self.now.routes)) }
     {
         if self.routes.is_empty() {
-            return Ok(false);
+            return false;
         }
-        is_literal(alloc, segment)
+        is_literal(table, segment)
     }
 
     /// The place one segment further, which is taken as it stands if some route goes on by it.
     fn enter(mut self, alloc: Global, segment: &[u8], stands: bool) -> Result<Place, AllocError>
-        requires { stands ≡ goes_on (literal segment.now) (map route_of self.routes.items) }
+        requires { stands ≡ goes_on (literal segment.now) (map route_of (cow_slice_items self.routes)) }
         ensures { IfOk result (λ p. place_in p ≡ enter (place_in self) segment.now) }
     {
         if stands {
-            self.routes = behind(alloc, &self.routes, Part::Literal(segment))?;
+            self.routes = CowSlice::Owned(behind(alloc, &self.routes, Part::Literal(segment))?);
             return Ok(self);
         }
         self.parameters.push(decoded(alloc, segment)?)?;
         self.routes = if segment.is_empty() {
-            Vec::new(alloc)
+            CowSlice::Borrowed(&[])
         } else {
-            behind(alloc, &self.routes, Part::Parameter)?
+            CowSlice::Owned(behind(alloc, &self.routes, Part::Parameter)?)
         };
         Ok(self)
     }
 
     /// Where the path leads.
-    pub(crate) fn of(alloc: Global, path: &[u8]) -> Result<Place, AllocError>
+    pub(crate) fn of(alloc: Global, table: &Table, path: &[u8]) -> Result<Place, AllocError>
         ensures { IfOk result (λ p. place_in p ≡ place_of (segments_of path.now)) }
     {
         let mut segments = Segments::new(path);
         let Some(name) = segments.next() else {
             return Ok(Place {
-                routes: Vec::new(alloc),
+                routes: CowSlice::Borrowed(&[]),
                 parameters: Vec::new(alloc),
             });
         };
@@ -239,7 +222,7 @@ impl Place {
         let Some(second) = segments.next() else {
             return Ok(place);
         };
-        let stands = place.stands_second(alloc, second)?;
+        let stands = place.stands_second(table, second);
         place = place.enter(alloc, second, stands)?;
         for segment in segments {
             let stands = goes_on(&place.routes, segment);

@@ -9,6 +9,7 @@ ghost use Rattle.mg_http.specs.Turns.{request_in};
 use crate::decode::asks_conflicts;
 use crate::place::Place;
 use crate::routes::{Action, Endpoint};
+use crate::table::Table;
 use mg_engine::{Command, Refusal};
 use std::alloc::{AllocError, Global};
 
@@ -133,16 +134,17 @@ fn target_at(
 
 /// What the method and the target ask of the database.
 ///
-/// Errors: where memory for the table of routes, or for what the target spells, is refused.
+/// Errors: where memory for what the target spells is refused.
 pub(crate) fn read_target(
     alloc: Global,
     db: &str,
+    table: &Table,
     method: &[u8],
     target: &[u8],
 ) -> Result<Target, AllocError>
     ensures { IfOk result (λ t. request_in t ≡ request_of db.now method.now target.now) }
 {
     let (path, query) = split_query(target);
-    let place = Place::of(alloc, path)?;
+    let place = Place::of(alloc, table, path)?;
     target_at(alloc, db, method, query, place)
 }

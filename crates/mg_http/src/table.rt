@@ -1,0 +1,39 @@
+//! The second segments that some route has as they stand.
+ghost use Rattle.std.specs.Prelude.{◌≡◌, ℕ, List, is_some};
+ghost use Rattle.matchit.specs.Seek.{first};
+ghost use Rattle.mg_http.specs.Routes.{literal, routes, goes_on};
+
+use matchit::{InsertError, Router};
+use std::alloc::{AllocError, Global};
+
+/// The second segments that some route has as they stand, and no others.
+#[derive(Drop)]
+pub(crate) struct Table {
+    router: Router<()>,
+    ghost complete: { (text : List ℕ) → is_some (first router text) ≡ goes_on (literal text) routes },
+}
+
+impl Table {
+    /// The table of these segments.
+    pub(crate) fn new(alloc: Global) -> Result<Table, AllocError> {
+        Table::filled(alloc).map_err(|_| AllocError)
+    }
+
+    /// The table of these segments, or why it could not be made.
+    fn filled(alloc: Global) -> Result<Table, InsertError> {
+        let mut router = Router::new(alloc);
+        router.insert("_bulk_docs", ())?;
+        router.insert("_explain", ())?;
+        router.insert("_find", ())?;
+        router.insert("_index", ())?;
+        router.insert("_placement", ())?;
+        Ok(Table { router })
+    }
+
+    /// Whether the text is the second segment of some route as it stands.
+    pub(crate) fn has(&self, text: &str) -> bool
+        ensures { result ≡ goes_on (literal text.now) routes }
+    {
+        self.router.at(text).is_ok()
+    }
+}
