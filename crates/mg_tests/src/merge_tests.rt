@@ -1,100 +1,135 @@
 use mg_collate::{Direction, Row};
 use mg_merge::{are_in_order, merge};
-use mg_value::Json;
+use mg_value::{Json, NoMemory};
 use std::alloc::Global;
 use std::test::Fail;
 
-fn rows(alloc: Global, given: &[(i64, &str)]) -> Result<Vec<Row>, Fail> {
+type Given = &'static [(i64, &'static str)];
+
+// Lists of keys and ids, and the rows of their merge.
+#[derive(Clone, Copy, Drop)]
+struct Merge {
+    lists: &'static [Given],
+    direction: Direction,
+    take: usize,
+    wanted: Given,
+    handed: &'static [u64],
+}
+
+// Rows that tie by their keys and stand in several lists; a row that stands twice comes twice.
+const TIES: &[Given] = &[
+    &[(7, "d4")],
+    &[(7, "d1"), (7, "d5")],
+    &[],
+    &[(7, "d2"), (7, "d4")],
+];
+
+const MERGES: &[Merge] = &[
+    Merge {
+        lists: TIES,
+        direction: Direction::Asc,
+        take: 0,
+        wanted: &[],
+        handed: &[1, 2, 0, 2],
+    },
+    Merge {
+        lists: TIES,
+        direction: Direction::Asc,
+        take: 3,
+        wanted: &[(7, "d1"), (7, "d2"), (7, "d4")],
+        handed: &[1, 2, 0, 2],
+    },
+    Merge {
+        lists: TIES,
+        direction: Direction::Asc,
+        take: 9,
+        wanted: &[(7, "d1"), (7, "d2"), (7, "d4"), (7, "d4"), (7, "d5")],
+        handed: &[1, 2, 0, 2],
+    },
+    // Keys and ids descend together.
+    Merge {
+        lists: &[&[(10, "a"), (2, "c")], &[(10, "b"), (2, "b"), (-1, "z")]],
+        direction: Direction::Desc,
+        take: 4,
+        wanted: &[(10, "b"), (10, "a"), (2, "c"), (2, "b")],
+        handed: &[2, 3],
+    },
+    // Five documents with one key, dealt to four shards by their numbers: a page of two after one that is passed over, and a
+    // page of two after `d2`.
+    Merge {
+        lists: &[
+            &[(7, "d4")],
+            &[(7, "d1"), (7, "d5")],
+            &[(7, "d2")],
+            &[(7, "d3")],
+        ],
+        direction: Direction::Asc,
+        take: 3,
+        wanted: &[(7, "d1"), (7, "d2"), (7, "d3")],
+        handed: &[1, 2, 1, 1],
+    },
+    Merge {
+        lists: &[&[(7, "d4")], &[(7, "d5")], &[], &[(7, "d3")]],
+        direction: Direction::Asc,
+        take: 2,
+        wanted: &[(7, "d3"), (7, "d4")],
+        handed: &[1, 1, 0, 1],
+    },
+];
+
+fn row(alloc: Global, number: i64, id: &str) -> Result<Row, NoMemory> {
+    let mut key = Vec::new(alloc);
+    key.push(Json::Whole(number))?;
+    let id = String::from_str(alloc, id)?;
+    Ok(Row { key, id })
+}
+
+fn rows(alloc: Global, given: &[(i64, &str)]) -> Result<Vec<Row>, NoMemory> {
     let mut rows = Vec::new(alloc);
     for (number, id) in given {
-        let mut key = Vec::new(alloc);
-        key.push(Json::Whole(*number))?;
-        rows.push(Row {
-            key,
-            id: String::from_str(alloc, id)?,
-        })?;
+        rows.push(row(alloc, *number, id)?)?;
     }
     Ok(rows)
 }
 
-// Whether the merge of the lists, which have to be in order, is the rows that are wanted.
-fn merges(
-    alloc: Global,
-    given: &[&[(i64, &str)]],
-    direction: Direction,
-    take: usize,
-    wanted: &[(i64, &str)],
-) -> Result<bool, Fail> {
+fn lists(alloc: Global, given: &[Given]) -> Result<Vec<Vec<Row>>, NoMemory> {
     let mut lists = Vec::new(alloc);
     for list in given {
         lists.push(rows(alloc, list)?)?;
     }
-    if !are_in_order(&lists, direction) {
-        return Ok(false);
-    }
-    let (found, work) = merge(alloc, &lists, direction, take)?;
-    Ok(found == rows(alloc, wanted)? && work.taken() == wanted.len() as u64)
+    Ok(lists)
 }
 
-// Rows that tie by their keys and stand in several lists; a row that stands twice comes twice.
+// Whether the merge of the lists, which have to be in order, is the rows that are wanted.
+fn merges(alloc: Global, case: &Merge) -> Result<bool, NoMemory> {
+    let lists = lists(alloc, case.lists)?;
+    if !are_in_order(&lists, case.direction) {
+        return Ok(false);
+    }
+    let (found, work) = merge(alloc, &lists, case.direction, case.take)?;
+    let wanted = rows(alloc, case.wanted)?;
+    Ok(found == wanted && work.handed() == case.handed && work.taken() == wanted.len() as u64)
+}
+
 #[test]
 fn ties_over_lists(rt: HostRuntime) -> Result<(), Fail> {
-    let up: [&[(i64, &str)]; 4] = [
-        &[(7, "d4")],
-        &[(7, "d1"), (7, "d5")],
-        &[],
-        &[(7, "d2"), (7, "d4")],
-    ];
-    let all = [(7, "d1"), (7, "d2"), (7, "d4"), (7, "d4"), (7, "d5")];
-    for take in [0, 3, 9] {
-        let wanted = all.get(..take).unwrap_or(&all);
-        assert!(rt; merges(rt.alloc(), &up, Direction::Asc, take, wanted)?);
+    for case in MERGES {
+        assert!(rt; merges(rt.alloc(), case)?, "take {}", case.take);
     }
-    assert!(rt; !merges(rt.alloc(), &up, Direction::Desc, 9, &all)?);
     Ok(())
 }
 
 #[test]
-fn keys_and_ids_descend_together(rt: HostRuntime) -> Result<(), Fail> {
-    let given: [&[(i64, &str)]; 2] = [&[(10, "a"), (2, "c")], &[(10, "b"), (2, "b"), (-1, "z")]];
-    let wanted = [(10, "b"), (10, "a"), (2, "c"), (2, "b")];
-    assert!(rt; merges(rt.alloc(), &given, Direction::Desc, 4, &wanted)?);
+fn lists_out_of_order(rt: HostRuntime) -> Result<(), Fail> {
+    let lists = lists(rt.alloc(), TIES)?;
+    assert!(rt; !are_in_order(&lists, Direction::Desc));
     Ok(())
 }
 
-// Whether a merge of the lists says that it was handed lists of these lengths and gave so many.
-fn hands_over(
-    alloc: Global,
-    given: &[&[(i64, &str)]],
-    take: usize,
-    handed: &[u64],
-    taken: u64,
-) -> Result<bool, Fail> {
-    let mut lists = Vec::new(alloc);
-    for list in given {
-        lists.push(rows(alloc, list)?)?;
-    }
-    if !are_in_order(&lists, Direction::Asc) {
-        return Ok(false);
-    }
-    let (_, work) = merge(alloc, &lists, Direction::Asc, take)?;
-    Ok(work.handed() == handed && work.taken() == taken)
-}
-
-// Five documents with one key, dealt to four shards by their numbers: what the shards hand over for a page of two after
-// one that is passed over, and for a page of two after `d2`.
 #[test]
-fn work(rt: HostRuntime) -> Result<(), Fail> {
-    let first: [&[(i64, &str)]; 4] = [
-        &[(7, "d4")],
-        &[(7, "d1"), (7, "d5")],
-        &[(7, "d2")],
-        &[(7, "d3")],
-    ];
-    let handed = [1, 2, 1, 1];
-    assert!(rt; hands_over(rt.alloc(), &first, 3, &handed, 3)?);
-    let second: [&[(i64, &str)]; 4] = [&[(7, "d4")], &[(7, "d5")], &[], &[(7, "d3")]];
-    let handed = [1, 1, 0, 1];
-    assert!(rt; hands_over(rt.alloc(), &second, 2, &handed, 2)?);
+fn rows_by_key_then_id(rt: HostRuntime) -> Result<(), Fail> {
+    let first = row(rt.alloc(), 7, "d2")?;
+    assert!(rt; first < row(rt.alloc(), 7, "d3")?);
+    assert!(rt; first > row(rt.alloc(), 5, "d3")?);
     Ok(())
 }

@@ -1,17 +1,38 @@
 ghost use Rattle.std.specs.Prelude.{◌≡◌, string_bytes};
 
-use crate::engine_tests::{DOCUMENTS, PAGE};
+use crate::engine_tests::{DOCUMENTS, IDS, PAGE};
 use crate::scan_tests::BothBegin;
-use mg_live::{Database, History, Live, Waiting};
+use mg_live::{Database, Ends, History, Live, Seat, Waiting};
 use mg_value::read;
 use std::alloc::Global;
 use std::marker::Brand;
 use std::process::Abort;
 use std::sync::Wait;
-use std::sync::atomic::Ordering;
 use std::sync::ledger::Blank;
 use std::test::Fail;
 use std::thread::Threads;
+
+// Whether the seat writes the documents.
+fn is_written<D: Database, C: Ends, R: Wait + Threads + Sync>(
+    rt: &R,
+    alloc: Global,
+    seat: &mut Seat<D, C>,
+) -> Result<bool, Fail> {
+    let bulk = read(alloc, DOCUMENTS.as_bytes())?;
+    Ok(seat.bulk(rt, &bulk, 1).status() == 201)
+}
+
+// Whether it finds all ids.
+fn is_found<D: Database, C: Ends, R: Threads + Sync>(
+    rt: &R,
+    alloc: Global,
+    seat: &mut Seat<D, C>,
+    gate: &BothBegin,
+) -> Result<bool, Fail> {
+    let query = read(alloc, IDS.as_bytes())?;
+    let reply = seat.find_with(rt, &query, 2, gate);
+    Ok(reply.body() == PAGE.as_bytes())
+}
 
 fn begun<D: Database + Send + Sync, R: Threads + Wait + Abort + Sync + Send + Drop + Copy>(
     rt: R,
@@ -36,15 +57,10 @@ fn begun<D: Database + Send + Sync, R: Threads + Wait + Abort + Sync + Send + Dr
         1,
     )?;
     let mut seat = seats.pop().ok_or("a seat")?;
-    let bulk = read(alloc, DOCUMENTS.as_bytes())?;
-    assert_eq!(rt; seat.bulk(&rt, &bulk, 1).status(), 201);
+    assert!(rt; is_written(&rt, alloc, &mut seat)?);
     let gate = BothBegin::new();
-    let query = read(alloc, br#"{"selector":{},"fields":["_id"]}"#)?;
-    let reply = seat.find_with(&rt, &query, 2, &gate);
-    assert_eq!(rt; reply.body(), PAGE.as_bytes());
-    assert_eq!(rt; gate.faults.load(Ordering::SeqCst), 0);
-    assert_eq!(rt; gate.begun.load(Ordering::SeqCst), 2);
-    assert_eq!(rt; gate.done.load(Ordering::SeqCst), 2);
+    assert!(rt; is_found(&rt, alloc, &mut seat, &gate)?);
+    assert!(rt; gate.is_passed());
     Ok(())
 }
 

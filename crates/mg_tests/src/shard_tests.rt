@@ -1,22 +1,31 @@
 use mg_shard::{Md5Placement, Placement};
 use std::test::Fail;
 
-// The expected shards are those of another implementation of MD5, for 2, 7 and 64 shards.
+// The expected shards are those of another implementation of MD5, for 1, 2, 7 and 64 shards.
+const PLACES: &[(&str, [usize; 4])] = &[
+    ("a", [0, 0, 6, 40]),
+    ("abc", [0, 0, 0, 48]),
+    ("b", [0, 0, 3, 44]),
+    ("d1", [0, 1, 0, 55]),
+    ("d2", [0, 1, 1, 7]),
+    ("\u{e9}", [0, 0, 6, 50]),
+    ("00000000000000000000000000000001", [0, 1, 3, 9]),
+];
+
+fn places(id: &str) -> [usize; 4] {
+    let place = Md5Placement;
+    [
+        place.shard_of(id, 1),
+        place.shard_of(id, 2),
+        place.shard_of(id, 7),
+        place.shard_of(id, 64),
+    ]
+}
+
 #[test]
 fn md5_placement(rt: HostRuntime) -> Result<(), Fail> {
-    for (id, of_2, of_7, of_64) in [
-        ("a", 0, 6, 40),
-        ("abc", 0, 0, 48),
-        ("b", 0, 3, 44),
-        ("d1", 1, 0, 55),
-        ("d2", 1, 1, 7),
-        ("\u{e9}", 0, 6, 50),
-        ("00000000000000000000000000000001", 1, 3, 9),
-    ] {
-        assert_eq!(rt; Md5Placement.shard_of(id, 1), 0, "at {id}");
-        assert_eq!(rt; Md5Placement.shard_of(id, 2), of_2, "at {id}");
-        assert_eq!(rt; Md5Placement.shard_of(id, 7), of_7, "at {id}");
-        assert_eq!(rt; Md5Placement.shard_of(id, 64), of_64, "at {id}");
+    for (id, wanted) in PLACES {
+        assert!(rt; places(id) == *wanted, "at {id}");
     }
     Ok(())
 }

@@ -1,0 +1,154 @@
+#!/usr/bin/env python3
+"""Holds revision trees against a plain program: the accepted paths, looked through from the first.
+
+usage: trees.py --program PATH [--shards 1,7]
+
+Each three of seven paths come to a document of their own, one after another as a replica brings them. After each path the reply, the
+served document and its conflicts are those of the plain program, by CouchDB's rule: the best leaf is one that is not deleted, then
+the higher position, then the greater id. At the end an edit of each known revision is taken exactly where that is a leaf.
+One process `PATH db SHARDS 1 1 -` for each number of shards. Prints the first reply that differs of each document; the last line
+is 'N passed, M failed'.
+"""
+import argparse
+import hashlib
+import itertools
+import json
+import subprocess
+import sys
+from pathlib import Path
+
+from conversations import replies_in
+
+SECONDS = 120
+# the newest position, the ids from the newest on, and whether the newest revision is deleted
+PATHS = [
+    (1, ["a"], False),
+    (2, ["b", "a"], False),
+    (2, ["b", "c"], True),
+    (2, ["b"], True),
+    (3, ["d", "b", "a"], True),
+    (3, ["e", "b"], False),
+    (2, ["f", "a"], False),
+]
+
+
+def compact(value):
+    return json.dumps(value, separators=(",", ":"), sort_keys=True)
+
+
+def text_of(revision):
+    return f"{revision[0]}-{revision[1]}"
+
+
+def revisions_of(path):
+    start, ids, _ = path
+    return [(start - i, id) for i, id in enumerate(ids)]
+
+
+def parent_of(accepted, revision):
+    """Its parent by the first path that gives one, none where none does."""
+    for path in accepted:
+        for child, parent in itertools.pairwise(revisions_of(path)):
+            if child == revision:
+                return parent
+    return None
+
+
+def fits(accepted, path):
+    return all(parent_of(accepted, child) in (None, parent) for child, parent in itertools.pairwise(revisions_of(path)))
+
+
+def known_in(accepted):
+    return sorted({revision for path in accepted for revision in revisions_of(path)})
+
+
+def leaves_of(accepted):
+    """Each leaf as whether it is not deleted, by the first path whose newest revision it is, its position and its id; best first."""
+    parents = {parent for path in accepted for parent in revisions_of(path)[1:]}
+    leaves = [revision for revision in known_in(accepted) if revision not in parents]
+    marks = {leaf: next(path[2] for path in accepted if revisions_of(path)[0] == leaf) for leaf in leaves}
+    return sorted(((not marks[leaf], *leaf) for leaf in leaves), reverse=True)
+
+
+def served(id, accepted):
+    """The reply to a GET with conflicts."""
+    winner, *others = leaves_of(accepted)
+    if not winner[0]:
+        return 404, {"error": "not_found", "reason": "deleted"}
+    losers = [text_of(leaf[1:]) for leaf in others if leaf[0]]
+    return 200, {"_id": id, "_rev": text_of(winner[1:]), **({"_conflicts": losers} if losers else {})}
+
+
+def brought(id, accepted, path):
+    """The body of the bulk that brings the path, and its reply."""
+    start, ids, deleted = path
+    document = {"_id": id, "_revisions": {"start": start, "ids": ids}, **({"_deleted": True} if deleted else {})}
+    refusal = {"error": "bad_history", "id": id, "reason": "Revision history does not fit the document."}
+    return {"docs": [document], "new_edits": False}, (201, [] if fits(accepted, path) else [refusal])
+
+
+def edited(id, accepted, revision):
+    """The body of the bulk that edits the revision, and its reply."""
+    text = text_of(revision)
+    digest = hashlib.md5(compact([False, text, {}]).encode()).hexdigest()
+    made = {"id": id, "ok": True, "rev": f"{revision[0] + 1}-{digest}"}
+    conflict = {"error": "conflict", "id": id, "reason": "Document update conflict."}
+    is_leaf = revision in [leaf[1:] for leaf in leaves_of(accepted)]
+    return {"docs": [{"_id": id, "_rev": text}]}, (201, [made if is_leaf else conflict])
+
+
+def bulk(body):
+    text = compact(body)
+    return f"POST /db/_bulk_docs HTTP/1.1\r\nContent-Length: {len(text)}\r\n\r\n{text}"
+
+
+def talk_of(id, paths):
+    """The messages about a document, each with its reply."""
+    accepted = []
+    for path in paths:
+        body, reply = brought(id, accepted, path)
+        yield bulk(body), reply
+        if not reply[1]:
+            accepted.append(path)
+        yield f"GET /db/{id}?conflicts=true HTTP/1.1\r\n\r\n", served(id, accepted)
+    for revision in known_in(accepted):
+        body, reply = edited(id, accepted, revision)
+        yield bulk(body), reply
+
+
+def fault_of(talk, replies):
+    """The first message whose reply is another, if there is one."""
+    for (message, (status, value)), reply in itertools.zip_longest(talk, replies):
+        if not reply or (reply.status, reply.body.decode()) != (status, compact(value) + "\n"):
+            return f"{message!r}\n    replied  {reply}\n    expected {status} {compact(value)}"
+    return None
+
+
+def main():
+    parser = argparse.ArgumentParser()
+    parser.add_argument("--program", required=True, type=Path)
+    parser.add_argument("--shards", default="1,7")
+    options = parser.parse_args()
+    talks = [list(talk_of(f"d{place}", paths)) for place, paths in enumerate(itertools.product(PATHS, repeat=3))]
+    given = "".join(message for talk in talks for message, _ in talk).encode()
+    passed = failed = 0
+    for shards in options.shards.split(","):
+        call = [options.program.resolve(), "db", shards, "1", "1", "-"]
+        done = subprocess.run(call, input=given, capture_output=True, timeout=SECONDS)
+        replies, left = replies_in(done.stdout)
+        if left or done.returncode or len(replies) != sum(map(len, talks)):
+            print(f"{shards} shards: {len(replies)} replies, {left[:200]!r}, status {done.returncode}, {done.stderr!r}")
+            failed += 1
+        for talk in talks:
+            fault = fault_of(talk, replies[: len(talk)])
+            replies = replies[len(talk) :]
+            passed += not fault
+            failed += bool(fault)
+            if fault:
+                print(f"{shards} shards: {fault}")
+    print(f"{passed} passed, {failed} failed")
+    sys.exit(1 if failed else 0)
+
+
+if __name__ == "__main__":
+    main()
