@@ -139,12 +139,12 @@ def bookmark_of(text):
     if text in (None, "nil"):
         return None
     try:
-        parts = json.loads(base64.urlsafe_b64decode(text.encode() + b"=" * (-len(text) % 4)).decode())
+        parts = json.loads(base64.urlsafe_b64decode(text.encode() + b"=" * (-len(text) % 4)).decode(), parse_int=whole, parse_constant=no_constant)
     except ValueError:
         parts = None
     shape = isinstance(parts, list) and len(parts) == 5 and (parts[0] is None or is_text(parts[0])) and is_text(parts[1])
     asked(shape and parts[2] in ("asc", "desc") and isinstance(parts[3], list) and is_text(parts[4]), NO_BOOKMARK)
-    asked(base64.urlsafe_b64encode(compact(parts).encode()).decode().rstrip("=") == text, NO_BOOKMARK)
+    asked(is_read(parts) and base64.urlsafe_b64encode(compact(parts).encode()).decode().rstrip("=") == text, NO_BOOKMARK)
     return parts
 
 
