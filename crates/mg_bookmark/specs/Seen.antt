@@ -9,8 +9,8 @@ use Rattle.mg_bookmark.specs.declared.place.RowKey.TheVariants.{Columns, Id}
 use Rattle.mg_bookmark.specs.declared.place.RowPlace.{RowPlace}
 
 -- the place that the code's bookmark names
-abbrev pub place_of : Bookmark → Place
-place_of b = record { ddoc = option_map string_bytes b.ddoc; name = string_bytes b.name; direction = b.direction; key = items_view b.key.items; id = string_bytes b.id }
+abbrev pub bookmark_place : Bookmark → Place
+bookmark_place b = record { ddoc = option_map string_bytes b.ddoc; name = string_bytes b.name; direction = b.direction; key = items_view b.key.items; id = string_bytes b.id }
 
 -- the key of the row of the document with this id
 abbrev pub key_at : RowKey → List ℕ → Items

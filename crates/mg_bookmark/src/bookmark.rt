@@ -24,7 +24,7 @@ pub struct Bookmark {
 
 impl Bookmark {
     ghost use Rattle.mg_bookmark.specs.Bookmark.{Place, Spells, bookmark_read, spelled};
-    ghost use Rattle.mg_bookmark.specs.Seen.{place_at, place_of};
+    ghost use Rattle.mg_bookmark.specs.Seen.{place_at, bookmark_place};
 
     /// The text that a client gets: the five parts as a JSON array, written compactly, in the
     /// alphabet of base64 that URLs allow (RFC 4648), not padded. The design document of `_all_docs`
@@ -32,14 +32,14 @@ impl Bookmark {
     ///
     /// Errors: `NoMemory` where a growth was refused. Cost: the size of the key.
     pub fn encode(&self, alloc: Global) -> Result<String, NoMemory>
-        ensures { IfOk result (λ t. string_bytes t ≡ spelled (place_of self.now)) }
+        ensures { IfOk result (λ t. string_bytes t ≡ spelled (bookmark_place self.now)) }
     {
         self.lent().spell(alloc)
     }
 
     // The same place, its parts lent.
     pub(crate) fn lent(&self) -> RowPlace<'_>
-        ensures { place_at result ≡ place_of self.now }
+        ensures { place_at result ≡ bookmark_place self.now }
     {
         RowPlace {
             ddoc: self.ddoc.as_deref(),
@@ -58,11 +58,11 @@ impl Bookmark {
     /// Cost: the length of the text.
     pub fn decode(alloc: Global, text: &str) -> Result<Option<Bookmark>, BookmarkError>
         ensures none { (result ≡ Ok None) ↔ (text.now ≡ codes "nil") }
-        ensures some { IfOk result (λ found. IfSome found (λ b. Spells text.now (place_of b))) }
+        ensures some { IfOk result (λ found. IfSome found (λ b. Spells text.now (bookmark_place b))) }
         ensures invalid { result ≡ Err BookmarkError.Invalid
             → (¬ (text.now ≡ codes "nil")) × ((p : Place) → ¬ Spells text.now p) }
         ensures read { IfOk result
-            (λ found. bookmark_read text.now ≡ Some (option_map place_of found)) }
+            (λ found. bookmark_read text.now ≡ Some (option_map bookmark_place found)) }
         ensures unread { result ≡ Err BookmarkError.Invalid → bookmark_read text.now ≡ None }
     {
         match text {

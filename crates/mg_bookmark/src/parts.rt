@@ -4,7 +4,7 @@ ghost use Rattle.mg_value.specs.Value.{list, text, Items};
 ghost use Rattle.mg_value.specs.View.{view, items_view};
 ghost use Rattle.mg_bookmark.specs.Bookmark.{Place, place_value, ddoc_value, direction_text};
 ghost use Rattle.mg_bookmark.specs.Decoding.{five};
-ghost use Rattle.mg_bookmark.specs.Seen.{place_of};
+ghost use Rattle.mg_bookmark.specs.Seen.{bookmark_place};
 ghost use Rattle.mg_collate.specs.declared.direction.Direction.{Direction as DirectionValue};
 
 use crate::bookmark::Bookmark;
@@ -15,7 +15,7 @@ use std::alloc::Global;
 
 // The bookmark whose array the value is.
 pub(crate) fn bookmark_in(alloc: Global, value: &Json) -> Result<Bookmark, BookmarkError>
-    ensures ok { IfOk result (λ b. view value.now ≡ place_value (place_of b)) }
+    ensures ok { IfOk result (λ b. view value.now ≡ place_value (bookmark_place b)) }
     ensures invalid { result ≡ Err BookmarkError.Invalid
         → (p : Place) → ¬ (view value.now ≡ place_value p) }
 {
@@ -26,7 +26,7 @@ pub(crate) fn bookmark_in(alloc: Global, value: &Json) -> Result<Bookmark, Bookm
 }
 
 fn bookmark_of(alloc: Global, items: &[Json]) -> Result<Bookmark, BookmarkError>
-    ensures ok { IfOk result (λ b. list (items_view items.now) ≡ place_value (place_of b)) }
+    ensures ok { IfOk result (λ b. list (items_view items.now) ≡ place_value (bookmark_place b)) }
     ensures invalid { result ≡ Err BookmarkError.Invalid
         → (p : Place) → ¬ (list (items_view items.now) ≡ place_value p) }
 {
@@ -45,7 +45,7 @@ fn bookmark_with(
     id: &Json,
 ) -> Result<Bookmark, BookmarkError>
     ensures ok { IfOk result (λ b. five (view ddoc.now) (view name.now) (view direction.now)
-        (view key.now) (view id.now) ≡ place_value (place_of b)) }
+        (view key.now) (view id.now) ≡ place_value (bookmark_place b)) }
     ensures invalid { result ≡ Err BookmarkError.Invalid → (p : Place)
         → ¬ (five (view ddoc.now) (view name.now) (view direction.now) (view key.now) (view id.now)
         ≡ place_value p) }

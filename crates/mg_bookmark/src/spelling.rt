@@ -5,7 +5,7 @@ ghost use Rattle.base64.specs.Engines.{url_safe_no_pad};
 ghost use Rattle.mg_value.specs.Text.{Reads, compact};
 ghost use Rattle.mg_value.specs.View.{view};
 ghost use Rattle.mg_bookmark.specs.Bookmark.{Spells, place_read, place_value, value_in};
-ghost use Rattle.mg_bookmark.specs.Seen.{place_of};
+ghost use Rattle.mg_bookmark.specs.Seen.{bookmark_place};
 ghost use Rattle.mg_bookmark.specs.Decoding.{IsDecoded};
 
 use crate::bookmark::Bookmark;
@@ -18,7 +18,7 @@ use std::alloc::Global;
 
 // The bookmark that the text spells.
 pub(crate) fn spelled_by(alloc: Global, text: &str) -> Result<Bookmark, BookmarkError>
-    ensures ok { IfOk result (λ b. Spells text.now (place_of b)) }
+    ensures ok { IfOk result (λ b. Spells text.now (bookmark_place b)) }
     ensures unread { result ≡ Err BookmarkError.Invalid → place_read text.now ≡ None }
 {
     let bytes = from_base64(alloc, text)?;
@@ -59,8 +59,8 @@ fn from_json(alloc: Global, bytes: &[u8]) -> Result<Json, BookmarkError>
 // Whether the bytes are the compact text of the bookmark's array.
 fn is_array_of(alloc: Global, bytes: &[u8], bookmark: &Bookmark) -> Result<bool, NoMemory>
     ensures same { IfOk result
-        (λ same. IsTrue same ↔ (bytes.now ≡ compact (place_value (place_of bookmark.now)))) }
-    ensures low { IfOk result (λ _. IsBytes (compact (place_value (place_of bookmark.now)))) }
+        (λ same. IsTrue same ↔ (bytes.now ≡ compact (place_value (bookmark_place bookmark.now)))) }
+    ensures low { IfOk result (λ _. IsBytes (compact (place_value (bookmark_place bookmark.now)))) }
 {
     let text = bookmark.lent().array_text(alloc)?;
     Ok(is_same(bytes, &text))

@@ -13,7 +13,8 @@ use Rattle.mg_revtree.specs.declared.error.Refusal.TheVariants.{NotLeaf, Full, K
 use Rattle.mg_revtree.specs.declared.error.TreeError.{TreeError}
 use Rattle.mg_revtree.specs.declared.error.TreeError.TheVariants.{NotLeaf as not_leaf, Full as full, Known as known, NoMemory as tree_refused}
 use Rattle.mg_revtree.proofs.Replicas.{whole_fits, whole_stands}
-use Rattle.mg_doc.specs.Applied.{Applied, Brings, Foreseen, Missing, Refuses, error_of, told}
+use Rattle.mg_doc.specs.Applied.{Applied, Foreseen, Refuses, error_of, refusal_told}
+use Rattle.mg_doc.specs.Brought.{Brings, Missing}
 use Rattle.mg_doc.specs.Base.{LooksFor, Misfits}
 use Rattle.mg_doc.specs.Digest.{digest_of}
 use Rattle.mg_doc.specs.Document.{Edit}
@@ -28,7 +29,7 @@ use Rattle.mg_doc.proofs.Entries.{two}
 
 -- ---- errors
 
-pub told_error : (refused : Refused) → told (error_of refused) ≡ Some refused
+pub told_error : (refused : Refused) → refusal_told (error_of refused) ≡ Some refused
 told_error Conflict = refl
 told_error BadHistory = refl
 
@@ -51,7 +52,7 @@ misfits : (h : History) (run : List Revision) → fits h run ≡ false → repli
 misfits h [] f = refl
 misfits h (q ∷ qs) f = rw f refl
 
-pub not_merged : (h : History) (run : List Revision) (x : MergeError) → (fits h run ≡ true → x ≡ merge_refused) → Missing (replicated h run) (told (error_of_merge x))
+pub not_merged : (h : History) (run : List Revision) (x : MergeError) → (fits h run ≡ true → x ≡ merge_refused) → Missing (replicated h run) (refusal_told (error_of_merge x))
 not_merged h run misfit f = elim (two (fits h run)) [
   | inl t ↦ absurd (let e : misfit ≡ merge_refused = f t in cc)
   | inr n ↦ misfits h run n
@@ -60,7 +61,7 @@ not_merged h run merge_refused f = tt
 
 -- ---- a new edit
 
-pub not_made : (o : Option Refusal) (x : TreeError) (a : Accepted) → Decides o (Err x) → Missing (unless o a) (told (error_of_tree x))
+pub not_made : (o : Option Refusal) (x : TreeError) (a : Accepted) → Decides o (Err x) → Missing (unless o a) (refusal_told (error_of_tree x))
 not_made None not_leaf a d = absurd (let e : not_leaf ≡ tree_refused = d in cc)
 not_made None full a d = absurd (let e : full ≡ tree_refused = d in cc)
 not_made None known a d = absurd (let e : known ≡ tree_refused = d in cc)
@@ -130,11 +131,11 @@ unbased_over : (h : History) (d : Bool) (b : Value) (base : Result (Option Revis
 unbased_over h d b (Err x) refused k = let e : x ≡ refused = cc in ap Err e
 unbased_over h d b (Ok base) refused k = unplaced_made h d b base (next_position h base) refused refl k
 
-pub refuses_new : (h : History) (e : Edit) (named : Option Revision) (x : EditError) (refused : Refused) → e.change ≡ New named → unbased h (base_of h named) ≡ Some refused → x ≡ error_of refused → Refuses h e (told x)
+pub refuses_new : (h : History) (e : Edit) (named : Option Revision) (x : EditError) (refused : Refused) → e.change ≡ New named → unbased h (base_of h named) ≡ Some refused → x ≡ error_of refused → Refuses h e (refusal_told x)
 refuses_new h e named x refused is k to =
     let P : Option Refused → Type 0 = Refuses h e in
     let said : accepted_by h e ≡ Err refused = rw is (unbased_over h e.deleted e.body (base_of h named) refused k) in
-    subst P (sym (ap told to ∙ told_error refused)) (ap newest_accepted said)
+    subst P (sym (ap refusal_told to ∙ told_error refused)) (ap newest_accepted said)
 
 -- ---- what is seen of a replica's path
 
@@ -148,7 +149,7 @@ module _ (h : History) (e : Edit) (run : List Revision) (is : e.change ≡ Repli
 
   pub looks_for : (r : Result (Option Revision) EditError) → StandsFor t h → LooksFor h run r → Foreseen h e r t
   looks_for (Ok None) s k = rw is (rw k refl)
-  looks_for (Err x) s k = refuses_run (told x) k
+  looks_for (Err x) s k = refuses_run (refusal_told x) k
   looks_for (Ok (Some r)) s k =
       let f : fits h run ≡ true = whole_fits (all_links h) _ k.1 in
       let d = replicated_ok h run r k.0 f in
@@ -160,7 +161,7 @@ module _ (h : History) (e : Edit) (run : List Revision) (is : e.change ≡ Repli
 -- want of memory for a path that fits
 pub looks_want : (h : History) (run : List Revision) (r : Result (Option Revision) EditError) → fits h run ≡ true → IsErrAnd r (λ x. x ≡ no_memory) → LooksFor h run r
 looks_want h run (Ok o) f k = absurd k
-looks_want h run (Err x) f k = let P : EditError → Type 0 = λ y. Misfits h run (told y) in subst P (sym k) f
+looks_want h run (Err x) f k = let P : EditError → Type 0 = λ y. Misfits h run (refusal_told y) in subst P (sym k) f
 
 -- ---- either
 

@@ -1,22 +1,20 @@
 -- What applying an edit to a tree gives, for each history that the tree stands for.
-use Rattle.std.specs.Prelude.{◌≡◌, List, ◌∷◌, Bool, Option, Some, None, Result, Ok, Err}
-use Rattle.mg_value.specs.Value.{Value}
+use Rattle.std.specs.Prelude.{◌≡◌, Option, Some, None, Result, Ok, Err}
 use Rattle.mg_revtree.specs.Revision.{Revision}
 use Rattle.mg_revtree.specs.History.{History}
-use Rattle.mg_revtree.specs.Changes.{path_of, with_path}
 use Rattle.mg_revtree.specs.Tree.{Tree, StandsFor}
 use Rattle.mg_doc.specs.Document.{Edit}
-use Rattle.mg_doc.specs.Edit.{Accepted, edited, first_refusal, outcome_of}
+use Rattle.mg_doc.specs.Edit.{edited, first_refusal, outcome_of}
 use Rattle.mg_doc.specs.declared.error.EditError.{EditError}
 use Rattle.mg_doc.specs.declared.error.EditError.TheVariants.{Conflict as conflict, BadHistory as bad_history, NoMemory as no_memory}
 use Rattle.mg_doc.specs.declared.error.Refused.{Refused}
 use Rattle.mg_doc.specs.declared.error.Refused.TheVariants.{Conflict, BadHistory}
 
 -- the refusal that an error tells. Want of memory is none
-abbrev pub told : EditError → Option Refused
-told conflict = Some Conflict
-told bad_history = Some BadHistory
-told no_memory = None
+abbrev pub refusal_told : EditError → Option Refused
+refusal_told conflict = Some Conflict
+refusal_told bad_history = Some BadHistory
+refusal_told no_memory = None
 
 -- the error that tells a refusal
 abbrev pub error_of : Refused → EditError
@@ -31,21 +29,11 @@ Refuses h e None = first_refusal h e.change ≡ None
 -- the outcome of the edit, after which the tree stands for the edited history, or its error
 abbrev pub Applied : History → Edit → Result Revision EditError → Tree → Type 0
 Applied h e (Ok r) t = (outcome_of h e ≡ Ok r) × StandsFor t (edited h e)
-Applied h e (Err x) t = Refuses h e (told x)
+Applied h e (Err x) t = Refuses h e (refusal_told x)
 
 -- what is seen of an edit before it is applied: a path that is known whole, after which the tree stands for the edited
 -- history as it is; or that the edit is not refused so far; or its error
 abbrev pub Foreseen : History → Edit → Result (Option Revision) EditError → Tree → Type 0
 Foreseen h e (Ok (Some r)) t = (outcome_of h e ≡ Ok r) × StandsFor t (edited h e)
 Foreseen h e (Ok None) t = first_refusal h e.change ≡ None
-Foreseen h e (Err x) t = Refuses h e (told x)
-
--- what is said where an error tells a refusal
-abbrev pub Missing : {A : Type 0} → Result A Refused → Option Refused → Type 0
-Missing said (Some refused) = said ≡ Err refused
-Missing said None = Unit {0}
-
--- a path that is accepted, after which the tree stands for the history with it, or why none is
-abbrev pub Brings : History → Bool → Value → Result Accepted Refused → Result Revision EditError → Tree → Type 0
-Brings h deleted body said (Ok r) t = (rs : List Revision) × (said ≡ Ok (r, rs)) × StandsFor t (with_path h (path_of (r ∷ rs) deleted body))
-Brings h deleted body said (Err x) t = Missing said (told x)
+Foreseen h e (Err x) t = Refuses h e (refusal_told x)

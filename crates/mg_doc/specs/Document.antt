@@ -148,9 +148,9 @@ Gives said (Err BadId) = said ≡ Err BadId
 Gives said (Err BadRev) = said ≡ Err BadRev
 
 -- the fault of a document whose revision was not read
-abbrev pub fault_of : RevError → DocError
-fault_of Bad = BadRev
-fault_of rev_refused = NoMemory
+abbrev pub fault_of_rev : RevError → DocError
+fault_of_rev Bad = BadRev
+fault_of_rev rev_refused = NoMemory
 
 -- whether a value is an object
 abbrev pub is_object : Value → Bool

@@ -4,7 +4,7 @@ ghost use Rattle.mg_revtree.specs.Changes.{position_below};
 ghost use Rattle.mg_value.specs.View.{view};
 ghost use Rattle.mg_revtree.specs.History.{History as Paths};
 ghost use Rattle.mg_revtree.specs.Tree.{StandsFor};
-ghost use Rattle.mg_doc.specs.Applied.{Brings};
+ghost use Rattle.mg_doc.specs.Brought.{Brings};
 ghost use Rattle.mg_doc.specs.Base.{CopyIs, LooksFor};
 ghost use Rattle.mg_doc.specs.Edit.{base_of, extended, made_over, replicated, unbased};
 
@@ -92,12 +92,12 @@ fn base_unnamed(tree: &RevTree) -> Result<Option<&Rev>, Refused>
 }
 
 // The same, copied.
-fn copied_base(tree: &RevTree) -> Result<Option<Rev>, EditError>
+fn copied_base(alloc: Global, tree: &RevTree) -> Result<Option<Rev>, EditError>
     ensures { (h : Paths) → StandsFor tree.now h → CopyIs (base_of h None) result }
 {
     match base_unnamed(tree)? {
         None => Ok(None),
-        Some(rev) => Ok(Some(rev.copy()?)),
+        Some(rev) => Ok(Some(rev.copy(alloc)?)),
     }
 }
 
@@ -116,7 +116,7 @@ pub(crate) fn extend(
     match named {
         Some(rev) => extend_over(alloc, tree, Some(rev), deleted, body),
         None => {
-            let base = copied_base(tree)?;
+            let base = copied_base(alloc, tree)?;
             extend_over(alloc, tree, base.as_ref(), deleted, body)
         }
     }

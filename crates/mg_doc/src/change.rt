@@ -2,6 +2,7 @@ ghost use Rattle.std.specs.Prelude.{◌≡◌, IfOk, option_copied};
 
 use mg_revtree::{History, Rev};
 use mg_value::NoMemory;
+use std::alloc::Global;
 
 /// What an edit does to the revisions of its document.
 #[derive(Debug, Drop)]
@@ -14,22 +15,22 @@ pub enum Change {
 
 impl Change {
     // An equal change. Cost: a named revision, or the length of the path.
-    pub(crate) fn copy(&self) -> Result<Change, NoMemory>
+    pub(crate) fn copy(&self, alloc: Global) -> Result<Change, NoMemory>
         ensures { IfOk result (λ change. change ≡ self.now) }
     {
         match self {
-            Change::New(named) => Ok(Change::New(copied(named.as_ref())?)),
-            Change::Replica(path) => Ok(Change::Replica(path.copy()?)),
+            Change::New(named) => Ok(Change::New(copied(alloc, named.as_ref())?)),
+            Change::Replica(path) => Ok(Change::Replica(path.copy(alloc)?)),
         }
     }
 }
 
 // The revision that is named, if one is, copied.
-fn copied(named: Option<&Rev>) -> Result<Option<Rev>, NoMemory>
+fn copied(alloc: Global, named: Option<&Rev>) -> Result<Option<Rev>, NoMemory>
     ensures { IfOk result (λ copy. copy ≡ option_copied named.entry) }
 {
     match named {
-        Some(rev) => Ok(Some(rev.copy()?)),
+        Some(rev) => Ok(Some(rev.copy(alloc)?)),
         None => Ok(None),
     }
 }

@@ -96,7 +96,7 @@ impl Edit {
     {
         Ok(Edit {
             id: copied_id(alloc, self.id())?,
-            change: self.change.copy()?,
+            change: self.change.copy(alloc)?,
             deleted: self.deleted,
             body: self.body.copy(alloc)?,
         })

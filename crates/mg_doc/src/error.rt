@@ -49,9 +49,9 @@ pub enum EditError {
 
 impl From<RevError> for DocError {
     ghost use Rattle.std.specs.Prelude.{◌≡◌};
-    ghost use Rattle.mg_doc.specs.Document.{fault_of};
+    ghost use Rattle.mg_doc.specs.Document.{fault_of_rev};
 
-    ghost from_gives = { λ error fault. fault ≡ fault_of error };
+    ghost from_gives = { λ error fault. fault ≡ fault_of_rev error };
 
     fn from(error: RevError) -> DocError {
         match error {

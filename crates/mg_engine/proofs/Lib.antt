@@ -7,5 +7,4 @@ mod Reading
 mod Resharding
 mod Telling
 pub mod Whole
-mod Printed
 mod Entries

@@ -10,12 +10,12 @@ use Rattle.mg_query.specs.declared.error.PageError.{PageError}
 use Rattle.mg_query.specs.declared.error.PageError.TheVariants as page_fault
 use Rattle.mg_query.specs.declared.error.QueryError.{QueryError}
 use Rattle.mg_query.specs.declared.error.QueryError.TheVariants as query_fault
-use Rattle.mg_engine.specs.Commands.{Answer, refusal_of, refused, told_or_refused}
+use Rattle.mg_engine.specs.Commands.{Answer, refusal_of_query, refused, told_or_refused}
 use Rattle.mg_engine.specs.Faults.{of_page, of_query}
 use Rattle.mg_engine.specs.Told.{Tells}
 
 -- the refusal of a query that was not read
-pub not_read : (f : Result Query QueryError → Answer) → ((e : QueryError) → f (Err e) ≡ refused (refusal_of e)) → (e : QueryError) (r : Result Query QueryError) → Fails e r → Tells (Err (of_query e)) (f r)
+pub not_read : (f : Result Query QueryError → Answer) → ((e : QueryError) → f (Err e) ≡ refused (refusal_of_query e)) → (e : QueryError) (r : Result Query QueryError) → Fails e r → Tells (Err (of_query e)) (f r)
 not_read f each query_fault.Shape r h = ap f h ∙ each query_fault.Shape
 not_read f each query_fault.InvalidOperator r h = ap f h ∙ each query_fault.InvalidOperator
 not_read f each query_fault.BadArg r h = ap f h ∙ each query_fault.BadArg

@@ -45,16 +45,16 @@ edits_of new_edits no_items = Ok []
 edits_of new_edits (item v vs) = then_read (edit_of new_edits v) (λ e. then_read (edits_of new_edits vs) (λ es. Ok (e ∷ es)))
 
 -- a document's fault as a refusal of the whole bulk
-abbrev pub refusal_of : DocError → Refusal
-refusal_of document_fault.BadMember = BadMember
-refusal_of document_fault.BadId = BadId
-refusal_of document_fault.BadRev = BadRev
-refusal_of document_fault.NoMemory = OutOfMemory
+abbrev pub refusal_of_document : DocError → Refusal
+refusal_of_document document_fault.BadMember = BadMember
+refusal_of_document document_fault.BadId = BadId
+refusal_of_document document_fault.BadRev = BadRev
+refusal_of_document document_fault.NoMemory = OutOfMemory
 
 -- the edits, or the first fault as a refusal
 abbrev pub edits_or_refusal : Result (List Edit) DocError → Result (List Edit) Refusal
 edits_or_refusal (Ok es) = Ok es
-edits_or_refusal (Err e) = Err (refusal_of e)
+edits_or_refusal (Err e) = Err (refusal_of_document e)
 
 -- the edits of a body that is read whole, or why the bulk is refused: its shape first, then its documents in order
 abbrev pub edits_read : Option Bulk → Result (List Edit) Refusal
@@ -72,8 +72,8 @@ abbrev pub number_text : ℕ → List ℕ
 number_text n = codes "0000000000000000" ++ encode_lower (to_be_bytes w64 n)
 
 -- an edit without an id takes the number after the last one
-abbrev pub named : ℕ → Edit → Edit
-named n e = if is_some e.id then e else record e { id = Some (number_text (number_after n)) }
+abbrev pub with_made_id : ℕ → Edit → Edit
+with_made_id n e = if is_some e.id then e else record e { id = Some (number_text (number_after n)) }
 
 -- the number that was given last, after the edit
 abbrev pub number_with : ℕ → Edit → ℕ
@@ -82,7 +82,7 @@ number_with n e = if is_some e.id then n else number_after n
 -- each edit without an id takes the counter's next number, in order
 abbrev pub numbered : ℕ → List Edit → List Edit
 numbered n [] = []
-numbered n (e ∷ es) = named n e ∷ numbered (number_with n e) es
+numbered n (e ∷ es) = with_made_id n e ∷ numbered (number_with n e) es
 
 -- the number that was given last, after all of them
 abbrev pub last_number : ℕ → List Edit → ℕ

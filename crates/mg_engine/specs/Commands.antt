@@ -110,13 +110,13 @@ dropped false = refused Missing
 -- ---- `_find` and `_explain`
 
 -- a query's fault as a refusal
-abbrev pub refusal_of : QueryError → Refusal
-refusal_of query_fault.Shape = WrongShape
-refusal_of query_fault.InvalidOperator = InvalidOperator
-refusal_of query_fault.BadArg = BadArg
-refusal_of query_fault.BadBookmark = BadBookmark
-refusal_of query_fault.MixedSort = MixedSort
-refusal_of query_fault.NoMemory = OutOfMemory
+abbrev pub refusal_of_query : QueryError → Refusal
+refusal_of_query query_fault.Shape = WrongShape
+refusal_of_query query_fault.InvalidOperator = InvalidOperator
+refusal_of_query query_fault.BadArg = BadArg
+refusal_of_query query_fault.BadBookmark = BadBookmark
+refusal_of_query query_fault.MixedSort = MixedSort
+refusal_of_query query_fault.NoMemory = OutOfMemory
 
 -- why a query that was read is not answered, as a refusal
 abbrev pub refusal_for : Unanswered → Refusal
@@ -129,14 +129,14 @@ told_or_refused value (Ok a) = done (value a)
 told_or_refused value (Err why) = refused (refusal_for why)
 
 -- the answer to a query: its page, or its refusal
-abbrev pub found : World → Result Query QueryError → Answer
-found w (Ok q) = told_or_refused page_value (answer_of w.indexes q (candidates_of w.docs))
-found w (Err e) = refused (refusal_of e)
+abbrev pub answer_of_query : World → Result Query QueryError → Answer
+answer_of_query w (Ok q) = told_or_refused page_value (answer_of w.indexes q (candidates_of w.docs))
+answer_of_query w (Err e) = refused (refusal_of_query e)
 
 -- the explanation of a query, or its refusal
 abbrev pub explained : World → Result Query QueryError → Answer
 explained w (Ok q) = told_or_refused (λ v. v) (explanation_of w.name w.indexes q)
-explained w (Err e) = refused (refusal_of e)
+explained w (Err e) = refused (refusal_of_query e)
 
 -- ---- `GET` of a document
 
@@ -175,7 +175,7 @@ reply_of w (bulk v) = bulk_answer w (bulk_of v)
 reply_of w (create_index v) = created w (definition_of v)
 reply_of w (drop_index ddoc name) = dropped (is_some (definition_at (design_document ddoc) name w.indexes))
 reply_of w list_indexes = done (indexes_value w.indexes)
-reply_of w (find v) = found w (query_of v)
+reply_of w (find v) = answer_of_query w (query_of v)
 reply_of w (explain v) = explained w (query_of v)
 reply_of w (get id conflicts) = got id conflicts (finite.get w.docs id)
 reply_of w (reshard v) = resharded (shards_asked v)

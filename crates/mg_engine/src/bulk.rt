@@ -2,7 +2,7 @@
 ghost use Rattle.std.specs.Prelude.{◌≡◌, codes, IfOk, is_some, option_map, string_bytes, true};
 ghost use Rattle.mg_value.specs.View.{view, items_view};
 ghost use Rattle.mg_doc.specs.Document.{is_object};
-ghost use Rattle.mg_engine.specs.Bulk.{are_objects, bulk_of, edits_of, edits_or_refusal, last_number, named, number_text, number_with, numbered, of_objects, shaped};
+ghost use Rattle.mg_engine.specs.Bulk.{are_objects, bulk_of, edits_of, edits_or_refusal, last_number, with_made_id, number_text, number_with, numbered, of_objects, shaped};
 ghost use Rattle.mg_engine.specs.BulkView.{bulk_seen};
 ghost use Rattle.mg_engine.specs.Faults.{Gives};
 
@@ -108,7 +108,7 @@ pub(crate) fn numbered(
 
 // The edit with an id, and the number that was given last.
 fn named(alloc: Global, edit: Edit, last: u64) -> Result<(Edit, u64), NoMemory>
-    ensures edit { IfOk result (λ r. r.0 ≡ named last edit) }
+    ensures edit { IfOk result (λ r. r.0 ≡ with_made_id last edit) }
     ensures last { IfOk result (λ r. r.1 ≡ number_with last edit) }
 {
     if edit.id().is_some() {

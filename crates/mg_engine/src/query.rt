@@ -6,7 +6,7 @@ ghost use Rattle.mg_query.specs.Page.{candidates_of};
 ghost use Rattle.mg_query.specs.Query.{query_of};
 ghost use Rattle.mg_query.specs.Seen.{query_seen};
 ghost use Rattle.mg_query.specs.Served.{AreWhole};
-ghost use Rattle.mg_engine.specs.Commands.{Answer, explain as explain_command, explained as explained_of, find, found, reply_of};
+ghost use Rattle.mg_engine.specs.Commands.{Answer, explain as explain_command, explained as explained_of, find, answer_of_query, reply_of};
 ghost use Rattle.mg_engine.specs.Stands.{Holds};
 ghost use Rattle.mg_shard.specs.Shard.{shards_seen};
 ghost use Rattle.mg_engine.specs.Told.{Tells};
@@ -78,7 +78,7 @@ fn page_line<R: Threads + Sync, G: Gate + Sync>(
     requires most { workers ≤ 32 }
     requires indexes { All (λ s. s.definitions ≡ catalog.now) (shards_seen shards.now) }
     ensures { (place : Placing) (w : World) → ShardsStandFor place (shards_seen shards.now) w.docs → AreWhole (candidates_of w.docs)
-        → w.indexes ≡ catalog.now → Tells result (found w (query_of (view body.now))) }
+        → w.indexes ≡ catalog.now → Tells result (answer_of_query w (query_of (view body.now))) }
 {
     let query = Query::read(alloc, body)?;
     answer_line(rt, alloc, catalog, shards, &query, workers, gate)
@@ -98,7 +98,7 @@ fn answer_line<R: Threads + Sync, G: Gate + Sync>(
     requires most { workers ≤ 32 }
     requires indexes { All (λ s. s.definitions ≡ catalog.now) (shards_seen shards.now) }
     ensures { (place : Placing) (w : World) → ShardsStandFor place (shards_seen shards.now) w.docs → AreWhole (candidates_of w.docs)
-        → w.indexes ≡ catalog.now → Tells result (found w (Ok (query_seen query.now))) }
+        → w.indexes ≡ catalog.now → Tells result (answer_of_query w (Ok (query_seen query.now))) }
 {
     match page_text(rt, alloc, query, catalog, shards, workers, gate) {
         Ok((text, _)) => {

@@ -6,7 +6,8 @@ use Rattle.std.proofs.Math.Seq.{take-suc}
 use Rattle.std.proofs.KnownBytes.{Appends-trans}
 use Rattle.std.specs.Io.KnownBytes.{Appends}
 use Rattle.mg_http.specs.declared.device.Fault.{Fault}
-use Rattle.mg_http.specs.Device.{WritesPart, Writes, Gathers}
+use Rattle.mg_http.specs.Device.{WritesPart, Writes}
+use Rattle.mg_http.specs.Gathered.{Gathers}
 
 -- a part of what follows what was written
 pub part_then : (x y z : Option (List ℕ)) (front rest : List ℕ) → Appends x y front → WritesPart y z rest → WritesPart x z (front ++ rest)

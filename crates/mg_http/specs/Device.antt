@@ -24,9 +24,3 @@ WritesPart old new bytes = (sent : List ℕ) × IsPrefix sent bytes × Appends o
 abbrev pub Writes : {A : Type 0} → Option (List ℕ) → Option (List ℕ) → List ℕ → Result A Fault → Type 0
 Writes old new bytes (Ok a) = Appends old new bytes
 Writes old new bytes (Err e) = WritesPart old new bytes
-
--- of what was held and the piece behind it all was written but what is held now, or at an error a front
-abbrev pub Gathers
-    : {A : Type 0} → Option (List ℕ) → Option (List ℕ) → List ℕ → List ℕ → List ℕ → Result A Fault → Type 0
-Gathers old new held piece left (Ok a) = (sent : List ℕ) × (held ++ piece ≡ sent ++ left) × Appends old new sent
-Gathers old new held piece left (Err e) = WritesPart old new (held ++ piece)

@@ -1,4 +1,5 @@
 pub mod Device
+pub mod Gathered
 pub mod Fields
 pub mod Head
 pub mod Inbox

@@ -8,13 +8,13 @@ use Rattle.mg_http.specs.declared.place.Place.{Place}
 use Rattle.mg_http.specs.Routes as spec
 
 -- a part
-abbrev pub part_of : Part → spec.Part
-part_of (Literal segment) = spec.literal segment.now
-part_of Parameter = spec.parameter
+abbrev pub part_seen : Part → spec.Part
+part_seen (Literal segment) = spec.literal segment.now
+part_seen Parameter = spec.parameter
 
 -- a row of the table
 abbrev pub route_of : Route → spec.Route
-route_of r = record { method = r.method.now; path = map part_of r.path.now; asks = r.action }
+route_of r = record { method = r.method.now; path = map part_seen r.path.now; asks = r.action }
 
 -- a place
 abbrev pub place_in : Place → spec.Place

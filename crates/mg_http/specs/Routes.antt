@@ -88,9 +88,9 @@ abbrev pub enter : Place → List ℕ → Place
 enter place segment = enter_as (goes_on (literal segment) place.routes_left) place segment
 
 -- where the segments lead: the first one names the database
-abbrev pub place_of : List (List ℕ) → Place
-place_of [] = record { routes_left = []; parameters = [] }
-place_of (name ∷ below) =
+abbrev pub place_of_route : List (List ℕ) → Place
+place_of_route [] = record { routes_left = []; parameters = [] }
+place_of_route (name ∷ below) =
     fold enter (record { routes_left = if length name == 0 then [] else routes; parameters = percent_decode name ∷ [] }) below
 
 -- the segments of a path, which begins with a slash

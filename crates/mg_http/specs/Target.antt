@@ -10,7 +10,7 @@ use Rattle.mg_engine.specs.Commands.{Asked, get, list_indexes, drop_index}
 use Rattle.mg_http.specs.declared.routes.Endpoint.{Endpoint}
 use Rattle.mg_http.specs.declared.routes.Action.{Action}
 use Rattle.mg_http.specs.declared.routes.Action.TheVariants.{Body, Document, ListIndexes, DropIndex, DropDesignIndex}
-use Rattle.mg_http.specs.Routes.{Route, Place, place_of, segments_of, ends_here, is_asked}
+use Rattle.mg_http.specs.Routes.{Route, Place, place_of_route, segments_of, ends_here, is_asked}
 
 -- what is asked: what an endpoint does with the value that the body is, a command, or a refusal
 pub data Request : Type 0 where
@@ -73,4 +73,4 @@ request_at db method query place =
 
 -- what a method and a target ask of the database
 abbrev pub request_of : List ℕ → List ℕ → List ℕ → Request
-request_of db method target = request_at db method (query_in target) (place_of (segments_of (path_in target)))
+request_of db method target = request_at db method (query_in target) (place_of_route (segments_of (path_in target)))

@@ -75,7 +75,8 @@ impl<R: Read> Device<R> {
 }
 
 impl<W: Write> Device<W> {
-    ghost use Rattle.mg_http.specs.Device.{inner_of, has_failed, Writes, Gathers};
+    ghost use Rattle.mg_http.specs.Device.{inner_of, has_failed, Writes};
+    ghost use Rattle.mg_http.specs.Gathered.{Gathers};
 
     /// Writes the bytes.
     ///

@@ -5,8 +5,8 @@ ghost use Rattle.std.specs.Iterator.{YieldsFirstRef, item_count};
 ghost use Rattle.std.specs.List.{list_any};
 ghost use Rattle.std.specs.Option.{option_map};
 ghost use Rattle.std.specs.Cow.{cow_slice_items};
-ghost use Rattle.mg_http.specs.RouteViews.{part_of, route_of, place_in};
-ghost use Rattle.mg_http.specs.Routes.{literal, routes, same_part, route_behind, behind, begins_with, goes_on, enter, place_of, segments_of, ends_here, is_asked};
+ghost use Rattle.mg_http.specs.RouteViews.{part_seen, route_of, place_in};
+ghost use Rattle.mg_http.specs.Routes.{literal, routes, same_part, route_behind, behind, begins_with, goes_on, enter, place_of_route, segments_of, ends_here, is_asked};
 ghost use Rattle.mg_http.specs.Segments.{segments_left};
 
 use crate::decode::decoded;
@@ -64,7 +64,7 @@ impl<'a> Iterator for Segments<'a> {
 
 /// Whether two parts are the same.
 fn same_part(a: Part<'_>, b: Part<'_>) -> bool
-    ensures { result ≡ same_part (part_of a.entry) (part_of b.entry) }
+    ensures { result ≡ same_part (part_seen a.entry) (part_seen b.entry) }
 {
     match (a, b) {
         (Part::Literal(a), Part::Literal(b)) => a == b,
@@ -76,7 +76,7 @@ fn same_part(a: Part<'_>, b: Part<'_>) -> bool
 
 /// What is left of the route behind the part, if its path begins with it.
 fn route_behind(route: &Route, part: Part<'_>) -> Option<Route>
-    ensures { option_map route_of result ≡ route_behind (part_of part.entry) (route_of route.now) }
+    ensures { option_map route_of result ≡ route_behind (part_seen part.entry) (route_of route.now) }
 {
     let (first, rest) = route.path.split_first()?;
     if same_part(*first, part) {
@@ -105,7 +105,7 @@ fn push_some(routes: &mut Vec<Route>, left: Option<Route>) -> Result<(), AllocEr
 
 /// What is left of the routes on which one can go on by the part.
 fn behind(alloc: Global, routes: &[Route], part: Part<'_>) -> Result<Vec<Route>, AllocError>
-    ensures { IfOk result (λ v. map route_of v.items ≡ behind (part_of part.entry) (map route_of routes.now)) }
+    ensures { IfOk result (λ v. map route_of v.items ≡ behind (part_seen part.entry) (map route_of routes.now)) }
 {
     let mut behind = Vec::new(alloc);
     for route in routes {
@@ -209,7 +209,7 @@ impl Place {
 
     /// Where the path leads.
     pub(crate) fn of(alloc: Global, table: &Table, path: &[u8]) -> Result<Place, AllocError>
-        ensures { IfOk result (λ p. place_in p ≡ place_of (segments_of path.now)) }
+        ensures { IfOk result (λ p. place_in p ≡ place_of_route (segments_of path.now)) }
     {
         let mut segments = Segments::new(path);
         let Some(name) = segments.next() else {

@@ -131,8 +131,8 @@ is_plain v =
 -- ---- the definition
 
 -- what is given, or the digest of the fields; a design document that is not given is named by that digest too
-abbrev pub named : Option (List ℕ) → Option (List ℕ) → Columns → IndexDefinition
-named ddoc name c =
+abbrev pub definition_named : Option (List ℕ) → Option (List ℕ) → Columns → IndexDefinition
+definition_named ddoc name c =
     let digest = fields_digest c.direction c.texts in
     record { ddoc = option_map_or design_document ddoc (design_front ++ digest); name = unwrap_or name digest; texts = c.texts; columns = c.steps; direction = c.direction }
 
@@ -143,7 +143,7 @@ definition_of v =
     or_fault Shape (text_given (member_of (codes "ddoc") v)) >>= (λ ddoc.
     or_fault Shape (text_given (member_of (codes "name") v)) >>= (λ name.
     columns_read (member_of_index (codes "fields") v) >>= (λ columns.
-    Ok (named ddoc name columns))))
+    Ok (definition_named ddoc name columns))))
     else Err Shape
 
 -- a path's fault as the body's

@@ -12,7 +12,7 @@ use crate::listing::fields_json;
 use crate::reader;
 use mg_collate::Direction;
 use mg_path::Path;
-use mg_value::{Json, NoMemory};
+use mg_value::{Json, NoMemory, copy_texts};
 use std::alloc::Global;
 use std::cmp::Ordering;
 use std::marker::Model;
@@ -116,7 +116,7 @@ impl IndexDef {
         Ok(IndexDef {
             ddoc: self.ddoc.clone()?,
             name: self.name.clone()?,
-            texts: copied_texts(alloc, &self.texts)?,
+            texts: copy_texts(alloc, &self.texts)?,
             columns: copied_paths(alloc, &self.columns)?,
             direction: self.direction,
         })
@@ -152,16 +152,6 @@ fn are_same_texts(texts: &[String], others: &[String]) -> bool
     ensures { result ≡ path_eq (map string_bytes texts.now) (map string_bytes others.now) }
 {
     texts == others
-}
-
-fn copied_texts(alloc: Global, texts: &[String]) -> Result<Vec<String>, NoMemory>
-    ensures { IfOk result (λ copy. map string_bytes copy.items ≡ map string_bytes texts.now) }
-{
-    let mut copy = Vec::with_capacity(alloc, texts.len())?;
-    for text in texts {
-        copy.push(text.clone()?)?;
-    }
-    Ok(copy)
 }
 
 fn copied_paths(alloc: Global, paths: &[Path]) -> Result<Vec<Path>, NoMemory>

@@ -2,7 +2,7 @@
 ghost use Rattle.std.specs.Prelude.{◌≡◌, IfOk, Some, option_map};
 ghost use Rattle.mg_value.specs.Value.{object};
 ghost use Rattle.mg_value.specs.View.{view, members_view};
-ghost use Rattle.mg_index.specs.Reading.{Gives, or_fault, definition_of, columns_read, is_plain as asks_plainly, is_json_type as names_json, is_no_filter as keeps_all, is_not_partitioned as has_one_part, member_of_index as member_in_index, named as named_by, text_given as given_text};
+ghost use Rattle.mg_index.specs.Reading.{Gives, or_fault, definition_of, columns_read, is_plain as asks_plainly, is_json_type as names_json, is_no_filter as keeps_all, is_not_partitioned as has_one_part, member_of_index as member_in_index, definition_named as named_by, text_given as given_text};
 ghost use Rattle.mg_index.specs.View.{columns_seen};
 
 use crate::column::{Columns, read_columns};

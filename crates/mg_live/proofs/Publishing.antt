@@ -16,7 +16,7 @@ use Rattle.mg_live.specs.Machine.{Commit, after_write, are_full, write_reply}
 use Rattle.mg_live.specs.Points.{IsAfter}
 use Rattle.mg_live.specs.Published.{IsOf, Nexts, Publishes, commits_of}
 use Rattle.mg_live.specs.Sitting.{Sitting, Writes}
-use Rattle.mg_live.specs.Rules.{commit_seen, commits_seen, entry_of}
+use Rattle.mg_live.specs.Rules.{commit_seen, commits_seen, log_entry}
 use Rattle.mg_live.specs.declared.history.Entry.{Entry}
 use Rattle.mg_live.specs.declared.history.Front.{Front}
 use Rattle.mg_live.specs.declared.point.Point.{Point}
@@ -79,10 +79,10 @@ has_room name log c r is taken =
     subst (λ (n : ℕ). n ≢ 18446744073709551615) (length-map log commit_seen) (room_for name cs c (answered r (write_reply name cs c) true is taken))
 
 -- the commits after it
-more : (log after : List Entry) (seat : ℕ) (c : Command) → after ≡ log ++ entry_of seat c ∷ [] → commits_seen after ≡ commits_seen log ++ (seat, asked c) ∷ []
-more log after seat c is = ap commits_seen is ∙ map-append commit_seen log (entry_of seat c ∷ [])
+more : (log after : List Entry) (seat : ℕ) (c : Command) → after ≡ log ++ log_entry seat c ∷ [] → commits_seen after ≡ commits_seen log ++ (seat, asked c) ∷ []
+more log after seat c is = ap commits_seen is ∙ map-append commit_seen log (log_entry seat c ∷ [])
 
-pub one_more : (name : List ℕ) (log after : List Entry) (seat : ℕ) (c : Command) (r : Reply) → said r ≡ Some (write_reply name (commits_seen log) (asked c)) → accepts r ≡ true → after ≡ log ++ entry_of seat c ∷ []
+pub one_more : (name : List ℕ) (log after : List Entry) (seat : ℕ) (c : Command) (r : Reply) → said r ≡ Some (write_reply name (commits_seen log) (asked c)) → accepts r ≡ true → after ≡ log ++ log_entry seat c ∷ []
     → Nexts name (commits_seen log) seat (asked c) (said r) (Some (commits_seen after))
 one_more name log after seat c r is taken added =
     let cs = commits_seen log in
@@ -90,7 +90,7 @@ one_more name log after seat c r is taken added =
     rw is (refl, accepted, more log after seat c added)
 
 -- the point after it
-pub there : (name : List ℕ) (log after : List Entry) (seat : ℕ) (c : Command) (r : Reply) (p : Point) → said r ≡ Some (write_reply name (commits_seen log) (asked c)) → accepts r ≡ true → after ≡ log ++ entry_of seat c ∷ []
+pub there : (name : List ℕ) (log after : List Entry) (seat : ℕ) (c : Command) (r : Reply) (p : Point) → said r ≡ Some (write_reply name (commits_seen log) (asked c)) → accepts r ≡ true → after ≡ log ++ log_entry seat c ∷ []
     → IsAfter name p (after_write name (commits_seen log) seat (asked c)) → IsAfter name p (commits_seen after)
 there name log after seat c r p is taken added at =
     let cs = commits_seen log in

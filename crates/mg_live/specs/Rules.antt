@@ -19,8 +19,8 @@ abbrev pub Adds : Step Entry → View Entry ℕ → ℕ → View Entry ℕ → T
 Adds s v found w = MatchBool (found == s.old) (w.0 ≡ v.0 ++ s.ask ∷ []) (length w.0 ≡ found)
 
 -- the entry of a seat's command
-abbrev pub entry_of : ℕ → Command → Entry
-entry_of seat c = record { seat = seat; command = c }
+abbrev pub log_entry : ℕ → Command → Entry
+log_entry seat c = record { seat = seat; command = c }
 
 -- the commit that an entry is
 abbrev pub commit_seen : Entry → Commit

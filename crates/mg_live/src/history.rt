@@ -1,7 +1,7 @@
 //! The history of a database: its commits, each added in one step. It takes no memory but its length.
 ghost use Rattle.std.specs.Prelude.{◌≡◌, ◌≢◌, ◌≤◌, ◌<◌, ◌++◌, ◌∷◌, [], length, MatchBool, IfSome};
 ghost use Rattle.mg_live.specs.Laws.{IsPrefix};
-ghost use Rattle.mg_live.specs.Rules.{commits_seen, entry_of, head_of};
+ghost use Rattle.mg_live.specs.Rules.{commits_seen, log_entry, head_of};
 
 use logbook::{Gain, Offer, Plain, Play, Rule, Seen, Start, Word};
 use mg_engine::Command;
@@ -62,9 +62,9 @@ impl Play<Entry, u64> for Add {
 
 impl<'a> Plain<Write<'a>, Entry, u64> for Add {
     ghost use Rattle.std.specs.Prelude.{None};
-    ghost use Rattle.mg_live.specs.Rules.{entry_of};
+    ghost use Rattle.mg_live.specs.Rules.{log_entry};
 
-    ghost ask = { λ write. entry_of write.seat write.command.now };
+    ghost ask = { λ write. log_entry write.seat write.command.now };
 
     ghost state = { λ write. None };
 }
@@ -157,7 +157,7 @@ impl Front {
     pub(crate) fn with(&self, head: &Head, write: &Write<'_>) -> Option<Front>
         requires head { head.now.word ≡ head_of self.now.seen.book }
         requires room { length self.now.seen.log ≢ 18446744073709551615 }
-        ensures { IfSome result (λ f. (f.seen.log ≡ self.now.seen.log ++ entry_of write.now.seat write.now.command.now ∷ []) × (f.seen.book ≡ self.now.seen.book)) }
+        ensures { IfSome result (λ f. (f.seen.log ≡ self.now.seen.log ++ log_entry write.now.seat write.now.command.now ∷ []) × (f.seen.book ≡ self.now.seen.book)) }
     {
         let mut seen = self.seen.again();
         let mut offer: Offer<Entry, u64, Law, Nothing> = seen.plain::<Nothing, Write<'_>, Add>(

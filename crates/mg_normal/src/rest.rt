@@ -6,7 +6,7 @@ ghost use Rattle.mg_normal.specs.View.{form_of, forms_view, atoms_view};
 use crate::atom::{Atom, is_negated};
 use crate::form::Form;
 use mg_path::Path;
-use mg_value::NoMemory;
+use mg_value::{NoMemory, copy_texts};
 use std::alloc::Global;
 
 // Moves the operators that the form asks under no choice into atoms, on the part at the steps, and
@@ -37,7 +37,7 @@ pub(crate) fn take_atoms(
         Form::At(path, inner) => take_below(alloc, path, Box::into_inner(inner), steps, atoms),
         Form::Ask(op, sense) => {
             atoms.push(Atom {
-                steps: copied(alloc, steps)?,
+                steps: copy_texts(alloc, steps)?,
                 op,
                 negated: is_negated(sense),
             })?;
@@ -105,14 +105,4 @@ fn extend(steps: &mut Vec<String>, more: &[String]) -> Result<(), NoMemory>
         steps.push(step.clone()?)?;
     }
     Ok(())
-}
-
-fn copied(alloc: Global, steps: &[String]) -> Result<Vec<String>, NoMemory>
-    ensures { IfOk result (λ copies. map string_bytes copies.items ≡ map string_bytes steps.now) }
-{
-    let mut copies = Vec::with_capacity(alloc, steps.len())?;
-    for step in steps {
-        copies.push(step.clone()?)?;
-    }
-    Ok(copies)
 }

@@ -73,23 +73,15 @@ pub struct Hints {
 }
 
 impl Hints {
-    pub fn new(alloc: Global) -> Hints {
-        Hints {
-            numbers: Vec::new(alloc),
-        }
+    /// None yet, with room for so many and one more.
+    pub fn with_room(alloc: Global, count: usize) -> Result<Hints, AllocError> {
+        let numbers = Vec::with_capacity(alloc, count.saturating_add(1))?;
+        Ok(Hints { numbers })
     }
 
     pub fn push(&mut self, number: u64) -> Result<(), AllocError> {
         self.numbers.push(number)?;
         Ok(())
-    }
-
-    pub fn copied(&self, alloc: Global) -> Result<Hints, AllocError> {
-        let mut numbers = Vec::with_capacity(alloc, self.numbers.len().saturating_add(1))?;
-        for number in &self.numbers {
-            numbers.push(*number)?;
-        }
-        Ok(Hints { numbers })
     }
 
     /// Puts the number of an element in, where it has its place.

@@ -43,11 +43,12 @@ pub fn find<T: Keyed, Q: Probe<T>>(
     Err(low)
 }
 
-/// A page of the elements, each of them shared.
+/// A page of the elements, each of them shared, with room for one more. Their numbers are made again, which looks at each of
+/// them before its count goes up: so the processor fetches them side by side, and the counting waits for none.
 pub fn page_of<T: Keyed>(alloc: Global, elements: &[Arc<T>]) -> Result<Page<T>, AllocError>
     ensures { IfOk result (λ p. values p.elements.items ≡ values elements.now) }
 {
-    let mut hints = Hints::new(alloc);
+    let mut hints = Hints::with_room(alloc, elements.len())?;
     for element in elements {
         hints.push(number_of(element))?;
     }
@@ -105,9 +106,7 @@ impl<T: Keyed> Part<T> for Page<T> {
     }
 
     fn copy(&self, alloc: Global) -> Result<Page<T>, AllocError> {
-        let elements = copied(alloc, &self.elements)?;
-        let hints = self.hints.copied(alloc)?;
-        Ok(Page { elements, hints })
+        page_of(alloc, &self.elements)
     }
 
     fn halves(

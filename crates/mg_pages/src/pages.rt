@@ -39,7 +39,7 @@ fn root_of<T: Keyed>(alloc: Global, element: Arc<T>) -> Result<Root<T>, AllocErr
     ensures whole { IfOk result (λ r. level_whole high_whole high_seen r) }
     ensures seen { IfOk result (λ r. root_seen r ≡ arc_value element ∷ []) }
 {
-    let mut hints = Hints::new(alloc);
+    let mut hints = Hints::with_room(alloc, 1)?;
     hints.push(number_of(&element))?;
     let elements = vec_of(alloc, element)?;
     let low = level_of::<T, Page<T>>(alloc, Page { elements, hints })?;

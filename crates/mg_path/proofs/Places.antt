@@ -11,7 +11,7 @@ use Rattle.std.proofs.lemmas.Option.{slice_get-map, slice_get_past, slice_get-ge
 use Rattle.mg_value.specs.Value.{Value, item_list}
 use Rattle.mg_value.specs.View.{view, items_of, items_view}
 use Rattle.mg_value.specs.declared.value.Json.{Json}
-use Rattle.mg_path.specs.Part.{place_of}
+use Rattle.mg_path.specs.Part.{item_place}
 
 item_list-items_of : (vs : List Value) → item_list (items_of vs) ≡ vs
 item_list-items_of [] = refl
@@ -38,7 +38,7 @@ numerals : IsNumeralModel (λ ds. all_ascii_digits ds ≡ true) (digits_value 10
 numerals = numerals_by_value _ tells_all_ascii_digits
 
 Named : List ℕ → Option ℕ → Type 0
-Named step r = MatchOption r ((n : ℕ) → place_of step ≡ Some n → 2 ^ 64 ≤ n) (λ n. place_of step ≡ Some n)
+Named step r = MatchOption r ((n : ℕ) → item_place step ≡ Some n → 2 ^ 64 ≤ n) (λ n. item_place step ≡ Some n)
 
 far_digits : (b : Bool) (v : ℕ) → (b ≡ true → v < 2 ^ 64 → ⊥) → (n : ℕ) → cond b (Some v) None ≡ Some n → 2 ^ 64 ≤ n
 far_digits true v h n e = grind (arith, h refl)
@@ -55,7 +55,7 @@ read_place c cs (Err e) low h =
 
 -- the number that is read of digits without a leading zero
 pub parsed_place : {E : Type 0} (step : List ℕ) (r : Result ℕ E) (first : ℕ) → ParsesUnsigned 64 10 step r → slice_get step 0 ≡ Some first → 49 ≤ first
-    → MatchOption (result_ok r) ((n : ℕ) → place_of step ≡ Some n → 2 ^ 64 ≤ n) (λ n. place_of step ≡ Some n)
+    → MatchOption (result_ok r) ((n : ℕ) → item_place step ≡ Some n → 2 ^ 64 ≤ n) (λ n. item_place step ≡ Some n)
 unfolding Named
 parsed_place [] r first h is low = cc
 parsed_place (c ∷ cs) r first h is low =

@@ -45,13 +45,13 @@ is_place [] = false
 is_place (c ∷ cs) = if c == 48 then is_empty cs else all_ascii_digits (c ∷ cs)
 
 -- the place in an array that a step names, from 0, however large the number
-abbrev pub place_of : List ℕ → Option ℕ
-place_of step = if is_place step then Some (digits_value 10 step) else None
+abbrev pub item_place : List ℕ → Option ℕ
+item_place step = if is_place step then Some (digits_value 10 step) else None
 
 -- the part one step into a value: the member of that name, or the item at that place
 abbrev pub part_at : List ℕ → Value → Option Value
 part_at step (object ms) = get_member step ms
-part_at step (list vs) = option_and_then (λ n. slice_get (item_list vs) n) (place_of step)
+part_at step (list vs) = option_and_then (λ n. slice_get (item_list vs) n) (item_place step)
 part_at step _ = None
 
 -- the part of a value that the steps lead to

@@ -2,7 +2,7 @@ ghost use Rattle.std.specs.Prelude.{◌≡◌, ◌≤◌, ◌^◌, ℕ, Some, ma
 ghost use Rattle.std.specs.Option.{option_and_then};
 ghost use Rattle.mg_value.specs.Value.{item_list};
 ghost use Rattle.mg_value.specs.View.{view, items_view};
-ghost use Rattle.mg_path.specs.Part.{part_of, part_at as part_of_step, place_of as place_named};
+ghost use Rattle.mg_path.specs.Part.{part_of, part_at as part_of_step, item_place as place_named};
 
 use mg_value::Json;
 

@@ -6,7 +6,7 @@ ghost use Rattle.mg_path.specs.Part.{steps_of, part_of};
 use crate::error::PathError;
 use crate::part::part_of;
 use crate::pieces::{has_empty_piece, pieces};
-use mg_value::{Json, NoMemory};
+use mg_value::{Json, NoMemory, copy_texts};
 use std::alloc::Global;
 use std::marker::Model;
 
@@ -91,10 +91,7 @@ impl Path {
     pub fn copy(&self, alloc: Global) -> Result<Path, NoMemory>
         ensures { IfOk result (λ path. path ≡ self.now) }
     {
-        let mut steps = Vec::with_capacity(alloc, self.steps.len())?;
-        for step in &self.steps {
-            steps.push(step.clone()?)?;
-        }
+        let steps = copy_texts(alloc, &self.steps)?;
         Ok(Path { steps })
     }
 }

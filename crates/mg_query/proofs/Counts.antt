@@ -21,8 +21,9 @@ use Rattle.mg_shard.specs.Histories.{Histories}
 use Rattle.mg_shard.specs.Rows.{row_of}
 use Rattle.mg_shard.specs.Shard.{ShardView}
 use Rattle.mg_shard.proofs.Standing.{same_docs}
-use Rattle.mg_query.specs.Page.{candidate_of, candidates_of, found, is_asked, row_by}
-use Rattle.mg_query.specs.Paged.{count_handed, counts_handed, shard_rows}
+use Rattle.mg_query.specs.Page.{candidate_of, candidates_of, candidates_found, is_asked, row_by}
+use Rattle.mg_query.specs.Paged.{count_handed, counts_handed}
+use Rattle.mg_query.specs.Lent.{shard_rows}
 use Rattle.mg_query.specs.Query.{Query}
 use Rattle.mg_query.specs.Served.{AreWhole, IsWhole}
 use Rattle.mg_query.proofs.Answered.{all_found_by, follows, is_wanted_by}
@@ -81,8 +82,8 @@ module _ (complete : RangesAreComplete) (q : Query) (columns : List Steps) (norm
       (listed_sorted asked (row_of columns) (is_wanted_by q columns) q.direction (docs_of s.documents)
       ∙ ap (rows_of q.direction rows) docs
       ∙ all_found (row_by columns) document (is_asked q) (follows q) rows q.direction cs each))
-      ∙ length-take most (map (row_by columns) (found columns q cs))
-      ∙ ap (min most) (length-map (found columns q cs) (row_by columns))
+      ∙ length-take most (map (row_by columns) (candidates_found columns q cs))
+      ∙ ap (min most) (length-map (candidates_found columns q cs) (row_by columns))
 
   each_count : (place : Placing) (n k : ℕ) (hs : Histories) (shards : List ShardView) → ((i : ℕ) (s : ShardView) → slice_get shards i ≡ Some s → StandFor s.documents (histories_on place n (k + i) hs)) → AreWhole (candidates_of hs)
       → map (λ s. length (shard_rows normal columns q s)) shards ≡ map (λ i. count_handed columns q (histories_on place n i hs)) (range_with_len k (length shards))

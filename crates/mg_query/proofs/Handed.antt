@@ -33,7 +33,8 @@ use Rattle.mg_shard.specs.Histories.{Histories}
 use Rattle.mg_shard.specs.Rows.{row_of}
 use Rattle.mg_shard.specs.Shard.{ShardView}
 use Rattle.mg_query.specs.Page.{candidates_of, page_rows, row_by}
-use Rattle.mg_query.specs.Paged.{IsWithin, row_at, shard_rows}
+use Rattle.mg_query.specs.Paged.{IsWithin}
+use Rattle.mg_query.specs.Lent.{row_at, shard_rows}
 use Rattle.mg_query.specs.Query.{Query}
 use Rattle.mg_query.specs.Served.{AreWhole}
 use Rattle.mg_query.proofs.Answered.{is_wanted_by, rows_of_answer}

@@ -19,7 +19,7 @@ use Rattle.mg_shard.specs.Documents.{KeptDocuments, StandFor, kept_of}
 use Rattle.mg_shard.specs.Histories.{Histories}
 use Rattle.mg_shard.specs.Shard.{ShardView}
 use Rattle.mg_query.specs.Page.{Candidate, candidates_of, is_after, is_asked, order_by as candidate_order, page_rows, row_by}
-use Rattle.mg_query.specs.Paged.{LendEach, Lends}
+use Rattle.mg_query.specs.Lent.{LendEach, Lends}
 use Rattle.mg_query.specs.Query.{Query}
 use Rattle.mg_query.proofs.Chained.{all_kept, all_sorted}
 use Rattle.mg_query.proofs.Kept.{IsKnown, all_known, kept_history}

@@ -17,7 +17,7 @@ use Rattle.mg_scan.specs.Hit.{hit_document, hit_form, hit_row}
 use Rattle.mg_scan.specs.declared.hit.Hit.{Hit}
 use Rattle.mg_shard.specs.Documents.{kept_of}
 use Rattle.mg_query.specs.Page.{Candidate, bookmark_after, bookmark_at, columns_of, ddoc_of, name_of, page_value, projected, shown_of}
-use Rattle.mg_query.specs.Paged.{LendEach, Lends, shows_whole}
+use Rattle.mg_query.specs.Lent.{LendEach, Lends, shows_whole}
 use Rattle.mg_query.specs.Query.{Query}
 use Rattle.mg_query.proofs.Lent.{lends_last, lends_next, lends_no_more, lends_none}
 

@@ -5,7 +5,7 @@ use Rattle.mg_bookmark.specs.Bookmark.{CanBeSpelled, Place, bookmark_read}
 use Rattle.mg_index.specs.Choice.{Source}
 use Rattle.mg_merge.specs.Merged.{joined}
 use Rattle.mg_shard.specs.Histories.{Histories}
-use Rattle.mg_query.specs.Page.{Candidate, bookmark_after, bookmark_at, candidates_of, columns_of, ddoc_of, found, name_of, page_rows, row_by}
+use Rattle.mg_query.specs.Page.{Candidate, bookmark_after, bookmark_at, candidates_of, columns_of, ddoc_of, candidates_found, name_of, page_rows, row_by}
 use Rattle.mg_query.specs.Query.{Query}
 
 -- the query with its page beginning after another place, or with the first document
@@ -37,7 +37,7 @@ AreChained s q cs place (page ∷ pages) =
 abbrev pub PagesJoinWhere : (Source → Query → Candidate → Type 0) → Type 0
 PagesJoinWhere Holds =
     (s : Source) (q : Query) (hs : Histories) (pages : List (List Candidate)) → q.skip ≡ 0 → 1 ≤ q.limit → AllByRecursion (Holds s q) (candidates_of hs)
-    → AreChained s q (candidates_of hs) None pages → joined pages ≡ found (columns_of s) (beginning_after q None) (candidates_of hs)
+    → AreChained s q (candidates_of hs) None pages → joined pages ≡ candidates_found (columns_of s) (beginning_after q None) (candidates_of hs)
 
 -- they do where the key of each document nests at most 125 deep
 abbrev pub PagesJoin : Type 0

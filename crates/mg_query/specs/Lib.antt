@@ -6,3 +6,4 @@ pub mod Served
 pub mod Explain
 pub mod Laws
 pub mod Paged
+pub mod Lent

@@ -82,12 +82,12 @@ abbrev pub is_after : List Steps → Query → Candidate → Bool
 is_after columns q c = option_map_or (λ p. is_gt (directed_order q.direction (row_by columns c) (p.key, p.id))) q.bookmark true
 
 -- all documents that are found after the bookmark, in order
-abbrev pub found : List Steps → Query → List Candidate → List Candidate
-found columns q cs = filter (is_after columns q) (sorted (order_by columns q.direction) (filter (is_asked q) cs))
+abbrev pub candidates_found : List Steps → Query → List Candidate → List Candidate
+candidates_found columns q cs = filter (is_after columns q) (sorted (order_by columns q.direction) (filter (is_asked q) cs))
 
 -- those of the page
 abbrev pub page_rows : List Steps → Query → List Candidate → List Candidate
-page_rows columns q cs = take q.limit (drop q.skip (found columns q cs))
+page_rows columns q cs = take q.limit (drop q.skip (candidates_found columns q cs))
 
 -- a document, with its conflicts where they are asked for
 abbrev pub with_asked : Query → Candidate → Value

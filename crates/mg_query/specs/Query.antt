@@ -50,16 +50,16 @@ or_fault e None = Err e
 or_fault e (Some x) = Ok x
 
 -- a selector's fault as the query's
-abbrev pub fault_of : SelError → QueryError
-fault_of selector_fault.InvalidOperator = InvalidOperator
-fault_of selector_fault.BadArg = BadArg
-fault_of selector_fault.Shape = Shape
-fault_of selector_fault.NoMemory = NoMemory
+abbrev pub fault_of_selector : SelError → QueryError
+fault_of_selector selector_fault.InvalidOperator = InvalidOperator
+fault_of_selector selector_fault.BadArg = BadArg
+fault_of_selector selector_fault.Shape = Shape
+fault_of_selector selector_fault.NoMemory = NoMemory
 
 -- a selector that was read, or its fault as the query's
 abbrev pub selector_or_fault : Result Selector SelError → Result Selector QueryError
 selector_or_fault (Ok s) = Ok s
-selector_or_fault (Err e) = Err (fault_of e)
+selector_or_fault (Err e) = Err (fault_of_selector e)
 
 -- a path's fault as the query's
 abbrev pub fault_of_path : PathError → QueryError

@@ -5,7 +5,7 @@ use Rattle.mg_value.specs.Value.{Value}
 use Rattle.mg_value.specs.View.{view}
 use Rattle.mg_value.specs.declared.value.Json.{Json}
 use Rattle.mg_selector.specs.View.{selector_of}
-use Rattle.mg_bookmark.specs.Seen.{place_of}
+use Rattle.mg_bookmark.specs.Seen.{bookmark_place}
 use Rattle.mg_index.specs.View.{hint_of}
 use Rattle.mg_query.specs.Query.{Query, told_fields_of}
 use Rattle.mg_query.specs.declared.error.QueryError.{QueryError}
@@ -26,7 +26,7 @@ query_seen q = record {
   sort = q.sort.paths.items;
   direction = q.sort.direction;
   hint = hint_of q.hint;
-  bookmark = option_map place_of q.bookmark;
+  bookmark = option_map bookmark_place q.bookmark;
   conflicts = q.conflicts;
   told_selector = view q.told_selector.now;
   told_fields = told_fields_of (lent q.told_fields);

@@ -17,9 +17,9 @@ Refuses BadBookmark r = r ≡ Err bad_bookmark
 Refuses NoMemory r = Unit {0}
 
 -- what a call returned is the answer, unless a growth was refused
-abbrev pub Answers : {X Y : Type 0} → (X → Y) → Result X PageError → Result Y Unanswered → Type 0
-Answers seen (Ok x) r = r ≡ Ok (seen x)
-Answers seen (Err e) r = Refuses e r
+abbrev pub PageAnswers : {X Y : Type 0} → (X → Y) → Result X PageError → Result Y Unanswered → Type 0
+PageAnswers seen (Ok x) r = r ≡ Ok (seen x)
+PageAnswers seen (Err e) r = Refuses e r
 
 -- the index that serves a query
 abbrev pub source_seen : code.Source → Source

@@ -6,9 +6,10 @@ ghost use Rattle.mg_shard.specs.Shard.{shards_seen};
 ghost use Rattle.mg_shard.specs.Dealt.{Placing, ShardsStandFor};
 ghost use Rattle.mg_shard.specs.Histories.{Histories};
 ghost use Rattle.mg_query.specs.Page.{Candidate, answer_of, bookmark_after, candidates_of, columns_of, shown_of};
-ghost use Rattle.mg_query.specs.Paged.{IsWithin, LendEach, handed_of, page_seen, text_of};
+ghost use Rattle.mg_query.specs.Paged.{IsWithin, handed_of, page_seen, text_of};
+ghost use Rattle.mg_query.specs.Lent.{LendEach};
 ghost use Rattle.mg_query.specs.Seen.{query_seen};
-ghost use Rattle.mg_query.specs.Served.{Answers, AreWhole, source_seen};
+ghost use Rattle.mg_query.specs.Served.{PageAnswers, AreWhole, source_seen};
 
 use crate::error::PageError;
 use crate::found::{after_skip, find};
@@ -48,13 +49,13 @@ pub fn page<R: Threads + Sync, G: Gate + Sync>(
     requires indexes { All (λ s. s.definitions ≡ catalog.now) (shards_seen shards.now) }
     ensures answers { (place : Placing) (hs : Histories)
         → ShardsStandFor place (shards_seen shards.now) hs → AreWhole (candidates_of hs)
-        → Answers (λ r. page_seen r.0) result
+        → PageAnswers (λ r. page_seen r.0) result
         (answer_of catalog.now (query_seen query.now) (candidates_of hs)) }
     ensures work { IfOk result
         (λ r. IsWithin (length shards.now) (query.now.skip + query.now.limit) r.1) }
     ensures handed { (place : Placing) (hs : Histories)
         → ShardsStandFor place (shards_seen shards.now) hs → AreWhole (candidates_of hs)
-        → Answers (λ r. r.1.handed) result
+        → PageAnswers (λ r. r.1.handed) result
         (handed_of catalog.now (query_seen query.now) place (length shards.now) hs) }
 {
     let found = find(rt, alloc, query, catalog, shards, workers, gate)?;
@@ -81,13 +82,13 @@ pub fn page_text<R: Threads + Sync, G: Gate + Sync>(
     requires indexes { All (λ s. s.definitions ≡ catalog.now) (shards_seen shards.now) }
     ensures answers { (place : Placing) (hs : Histories)
         → ShardsStandFor place (shards_seen shards.now) hs → AreWhole (candidates_of hs)
-        → Answers (λ r. r.0.items) result
+        → PageAnswers (λ r. r.0.items) result
         (text_of (answer_of catalog.now (query_seen query.now) (candidates_of hs))) }
     ensures work { IfOk result
         (λ r. IsWithin (length shards.now) (query.now.skip + query.now.limit) r.1) }
     ensures handed { (place : Placing) (hs : Histories)
         → ShardsStandFor place (shards_seen shards.now) hs → AreWhole (candidates_of hs)
-        → Answers (λ r. r.1.handed) result
+        → PageAnswers (λ r. r.1.handed) result
         (handed_of catalog.now (query_seen query.now) place (length shards.now) hs) }
 {
     let found = find(rt, alloc, query, catalog, shards, workers, gate)?;

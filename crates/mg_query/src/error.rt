@@ -77,9 +77,9 @@ impl From<PathError> for QueryError {
 
 impl From<SelError> for QueryError {
     ghost use Rattle.std.specs.Prelude.{◌≡◌};
-    ghost use Rattle.mg_query.specs.Query.{fault_of};
+    ghost use Rattle.mg_query.specs.Query.{fault_of_selector};
 
-    ghost from_gives = { λ s e. e ≡ fault_of s };
+    ghost from_gives = { λ s e. e ≡ fault_of_selector s };
 
     fn from(fault: SelError) -> QueryError {
         match fault {

@@ -4,7 +4,7 @@ ghost use Rattle.mg_value.specs.View.{view, items_view};
 ghost use Rattle.mg_query.specs.Explain.{explanation_of, told_of};
 ghost use Rattle.mg_query.specs.Query.{told_fields_of};
 ghost use Rattle.mg_query.specs.Seen.{lent, query_seen};
-ghost use Rattle.mg_query.specs.Served.{Answers};
+ghost use Rattle.mg_query.specs.Served.{PageAnswers};
 
 use crate::error::PageError;
 use crate::query::Query;
@@ -28,7 +28,7 @@ pub fn explain(
     query: &Query<'_>,
     catalog: &Catalog,
 ) -> Result<Json, PageError>
-    ensures { Answers view result (explanation_of db.now catalog.now (query_seen query.now)) }
+    ensures { PageAnswers view result (explanation_of db.now catalog.now (query_seen query.now)) }
 {
     let normal = Normal::of(alloc, &query.selector)?;
     let source = served_by(query, &normal, catalog)?;

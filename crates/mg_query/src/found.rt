@@ -9,9 +9,10 @@ ghost use Rattle.mg_selector.specs.View.{selector_of};
 ghost use Rattle.mg_shard.specs.Dealt.{Placing, ShardsStandFor};
 ghost use Rattle.mg_shard.specs.Histories.{Histories};
 ghost use Rattle.mg_query.specs.Page.{candidates_of, columns_of, page_rows, served_by as served_of};
-ghost use Rattle.mg_query.specs.Paged.{IsWithin, LendEach, counts_handed, row_at, shard_rows};
+ghost use Rattle.mg_query.specs.Paged.{IsWithin, counts_handed};
+ghost use Rattle.mg_query.specs.Lent.{LendEach, row_at, shard_rows};
 ghost use Rattle.mg_query.specs.Seen.{query_seen};
-ghost use Rattle.mg_query.specs.Served.{Answers, AreWhole, IsListed, source_seen};
+ghost use Rattle.mg_query.specs.Served.{PageAnswers, AreWhole, IsListed, source_seen};
 
 use crate::error::PageError;
 use crate::query::Query;
@@ -49,7 +50,7 @@ pub(crate) fn find<'a, R: Threads + Sync, G: Gate + Sync>(
 ) -> Result<Found<'a>, PageError>
     requires workers { (0 < workers) × (workers ≤ 32) }
     requires indexes { All (λ s. s.definitions ≡ catalog.now) (shards_seen shards.now) }
-    ensures source { Answers (λ f. source_seen f.source) result
+    ensures source { PageAnswers (λ f. source_seen f.source) result
         (served_of catalog.now (query_seen query.now)) }
     ensures hits { IfOk result (λ f. (place : Placing) (hs : Histories)
         → ShardsStandFor place (shards_seen shards.now) hs → AreWhole (candidates_of hs)

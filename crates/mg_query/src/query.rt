@@ -3,7 +3,7 @@ ghost use Rattle.mg_value.specs.View.{view};
 ghost use Rattle.mg_query.specs.Given.{given as given_of, given_seen, query_given};
 ghost use Rattle.mg_query.specs.Query.{or_fault, query_of};
 ghost use Rattle.mg_bookmark.specs.Bookmark.{bookmark_read};
-ghost use Rattle.mg_bookmark.specs.Seen.{place_of};
+ghost use Rattle.mg_bookmark.specs.Seen.{bookmark_place};
 ghost use Rattle.mg_query.specs.Seen.{Gives, lent, query_seen};
 
 use crate::error::QueryError;
@@ -102,7 +102,7 @@ fn query_with<'a>(
 
 // The place that a bookmark's text names, none for `nil`.
 fn read_bookmark(alloc: Global, text: &str) -> Result<Option<Bookmark>, QueryError>
-    ensures { Gives (option_map place_of) result
+    ensures { Gives (option_map bookmark_place) result
         (or_fault QueryError.BadBookmark (bookmark_read text.now)) }
 {
     match Bookmark::decode(alloc, text) {

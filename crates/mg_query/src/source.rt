@@ -2,7 +2,7 @@
 ghost use Rattle.std.specs.Prelude.{◌≡◌, List, Some, IfOk, length, option_map};
 ghost use Rattle.mg_value.specs.View.{view, items_view};
 ghost use Rattle.mg_value.specs.Value.{item_list};
-ghost use Rattle.mg_bookmark.specs.Seen.{place_of};
+ghost use Rattle.mg_bookmark.specs.Seen.{bookmark_place};
 ghost use Rattle.mg_index.specs.Choice.{all_docs, choice_of, id_path};
 ghost use Rattle.mg_index.specs.Definition.{IndexDefinition};
 ghost use Rattle.mg_normal.specs.Normal.{normal_atoms};
@@ -13,7 +13,7 @@ ghost use Rattle.mg_selector.specs.View.{selector_of};
 ghost use Rattle.mg_query.specs.Explain.{listed_source};
 ghost use Rattle.mg_query.specs.Page.{columns_of, ddoc_of, fits as fits_source, is_ddoc as is_same_ddoc, is_place_in as is_place_of_source, name_of, served_by as served_of};
 ghost use Rattle.mg_query.specs.Seen.{query_seen};
-ghost use Rattle.mg_query.specs.Served.{Answers, Chooses, IsListed, source_seen};
+ghost use Rattle.mg_query.specs.Served.{PageAnswers, Chooses, IsListed, source_seen};
 
 use crate::error::PageError;
 use crate::query::Query;
@@ -45,7 +45,7 @@ pub(crate) fn served_by<'a>(
     catalog: &'a Catalog,
 ) -> Result<Source<'a>, PageError>
     requires { IsNormalOf (selector_of query.now.selector) normal.now }
-    ensures answers { Answers source_seen result (served_of catalog.now (query_seen query.now)) }
+    ensures answers { PageAnswers source_seen result (served_of catalog.now (query_seen query.now)) }
     ensures listed { IfOk result (λ s. IsListed catalog.now (source_seen s)) }
 {
     let source = chosen(query, normal, catalog)?;
@@ -84,7 +84,7 @@ fn fits(source: Source<'_>, query: &Query<'_>) -> bool
 
 fn is_place_in(source: Source<'_>, query: &Query<'_>, bookmark: &Bookmark) -> bool
     ensures { result ≡ is_place_of_source (source_seen source.entry) (query_seen query.now)
-        (place_of bookmark.now) }
+        (bookmark_place bookmark.now) }
 {
     is_ddoc(bookmark.ddoc.as_deref(), source.ddoc())
         && bookmark.name.as_str() == source.name()

@@ -7,7 +7,7 @@ ghost use Rattle.mg_value.specs.View.{items_of};
 ghost use Rattle.mg_index.specs.Definition.{Steps};
 ghost use Rattle.mg_scan.specs.Hit.{hit_text};
 ghost use Rattle.mg_query.specs.Page.{Candidate, page_value, shown_of};
-ghost use Rattle.mg_query.specs.Paged.{LendEach, Lends, shows_whole};
+ghost use Rattle.mg_query.specs.Lent.{LendEach, Lends, shows_whole};
 ghost use Rattle.mg_query.specs.Seen.{query_seen};
 
 use crate::query::Query;

@@ -7,7 +7,8 @@ use Rattle.std.specs.declared.cmp.Ordering.{Ordering}
 use Rattle.std.specs.declared.cmp.Ordering.TheVariants.{Less, Equal, Greater}
 use Rattle.std.proofs.lemmas.Bool.Decides.{nat_tests}
 use Rattle.mg_revtree.specs.Revision.{Revision, revision_order, same_revision}
-use Rattle.mg_revtree.specs.History.{Link, or_else}
+use Rattle.std.specs.Option.{option_or}
+use Rattle.mg_revtree.specs.History.{Link}
 use Rattle.mg_revtree.specs.Tree.{find, IsBelow, AreSorted}
 use Rattle.mg_revtree.specs.Steps.{put, IsPlace, IsGap}
 use Rattle.mg_revtree.proofs.Same.{two, same_is, apart, revision_total, less_apart, equal_same}
@@ -111,11 +112,11 @@ sorted-set x y (l ∷ ls) (suc i) is e h = (below_set l.rev x y ls i is e h.0, s
 -- ---- what is found
 
 -- a link put at its revision's place
-pub find-set : (l x y : Link) (ls : List Link) (i : ℕ) → IsPlace l.rev ls i → x ≡ get_or ls i x → y ≡ record x { parent = or_else x.parent l.parent } → (r : Revision) → find r (set ls i y) ≡ put l r (find r ls)
+pub find-set : (l x y : Link) (ls : List Link) (i : ℕ) → IsPlace l.rev ls i → x ≡ get_or ls i x → y ≡ record x { parent = option_or x.parent l.parent } → (r : Revision) → find r (set ls i y) ≡ put l r (find r ls)
 find-set l x y [] i place is to r = absurd place
 find-set l x y (z ∷ ls) zero place is to r =
     let e : l.rev ≡ z.rev = same_is l.rev z.rev place in
-    let n : y ≡ record z { parent = or_else z.parent l.parent } = subst (λ (w : Link). y ≡ record w { parent = or_else w.parent l.parent }) is to in
+    let n : y ≡ record z { parent = option_or z.parent l.parent } = subst (λ (w : Link). y ≡ record w { parent = option_or w.parent l.parent }) is to in
     rw (n, e) (elim (two (same_revision r z.rev)) [ inl t ↦ rw t refl | inr f ↦ rw f refl ])
 find-set l x y (z ∷ ls) (suc i) place is to r = elim (two (same_revision r z.rev)) [
   | inl t ↦ rw (t, apart r l.rev z.rev place.0 t) refl

@@ -1,7 +1,8 @@
 -- Paths that give no revision two parents are accepted in every order.
 use Rattle.std.proofs.Common.{◌≡◌, true, Option, Some, None, List, [], ◌∷◌, ◌++◌, inl, inr, refl, sym, ◌∙◌, append_assoc}
 use Rattle.mg_revtree.specs.Revision.{Revision, same_revision}
-use Rattle.mg_revtree.specs.History.{Link, parent_of, or_else, agrees, fit, links, all_links}
+use Rattle.std.specs.Option.{option_or}
+use Rattle.mg_revtree.specs.History.{Link, parent_of, agrees, fit, links, all_links}
 use Rattle.mg_revtree.specs.Laws.{AmongLinks, AcceptedInEveryOrder}
 use Rattle.mg_revtree.proofs.Same.{two, same_is, same_refl}
 use Rattle.mg_revtree.proofs.Joins.{all_links-append}
@@ -19,11 +20,11 @@ among_right l (k ∷ ls) ms a = inr (among_right l ls ms a)
 pub parent_among : (r q : Revision) (ls : List Link) → parent_of r ls ≡ Some q → (l : Link) × AmongLinks l ls × (r ≡ l.rev) × (l.parent ≡ Some q)
 parent_among r q [] e = cc
 parent_among r q (k ∷ ls) e = elim (two (same_revision r k.rev)) [
-  | inl t ↦ given k.parent refl (let f : or_else k.parent (parent_of r ls) ≡ Some q = rw t at e in f) (same_is r k.rev t) (parent_among r q ls)
+  | inl t ↦ given k.parent refl (let f : option_or k.parent (parent_of r ls) ≡ Some q = rw t at e in f) (same_is r k.rev t) (parent_among r q ls)
   | inr n ↦ let f : parent_of r ls ≡ Some q = rw n at e in let d = parent_among r q ls f in (d.0, inr d.1, d.2, d.3)
 ]
   where
-    given : (o : Option Revision) → k.parent ≡ o → or_else o (parent_of r ls) ≡ Some q → r ≡ k.rev → (parent_of r ls ≡ Some q → (l : Link) × AmongLinks l ls × (r ≡ l.rev) × (l.parent ≡ Some q)) → (l : Link) × AmongLinks l (k ∷ ls) × (r ≡ l.rev) × (l.parent ≡ Some q)
+    given : (o : Option Revision) → k.parent ≡ o → option_or o (parent_of r ls) ≡ Some q → r ≡ k.rev → (parent_of r ls ≡ Some q → (l : Link) × AmongLinks l ls × (r ≡ l.rev) × (l.parent ≡ Some q)) → (l : Link) × AmongLinks l (k ∷ ls) × (r ≡ l.rev) × (l.parent ≡ Some q)
     given None o f is rest = let d = rest f in (d.0, inr d.1, d.2, d.3)
     given (Some x) o f is rest = (k, inl refl, is, o ∙ f)
 

@@ -1,7 +1,8 @@
 -- What the links of a history say after one more.
 use Rattle.std.proofs.Common.{◌≡◌, true, false, ◌||◌, ◌&&◌, Option, Some, None, List, [], ◌∷◌, ◌++◌, inl, inr, refl, ap, sym, ◌∙◌, append_assoc}
 use Rattle.mg_revtree.specs.Revision.{Revision, same_revision}
-use Rattle.mg_revtree.specs.History.{Link, History, agrees, gives, is_known, parent_of, has_child, is_at, links, all_links, or_else}
+use Rattle.std.specs.Option.{option_or}
+use Rattle.mg_revtree.specs.History.{Link, History, agrees, gives, is_known, parent_of, has_child, is_at, links, all_links}
 use Rattle.mg_revtree.specs.Tree.{node}
 use Rattle.mg_revtree.specs.Steps.{agrees_found, held_found, put}
 use Rattle.mg_revtree.proofs.Same.{two, same_is}
@@ -10,11 +11,11 @@ pub known-append : (r : Revision) (ls ms : List Link) → is_known r (ls ++ ms) 
 known-append r [] ms = refl
 known-append r (l ∷ ls) ms = elim (two (same_revision r l.rev)) [ inl t ↦ rw t refl | inr f ↦ rw f (known-append r ls ms) ]
 
-pub or_else_assoc : {A : Type 0} (a b c : Option A) → or_else (or_else a b) c ≡ or_else a (or_else b c)
+pub or_else_assoc : {A : Type 0} (a b c : Option A) → option_or (option_or a b) c ≡ option_or a (option_or b c)
 or_else_assoc None b c = refl
 or_else_assoc (Some x) b c = refl
 
-pub parent-append : (r : Revision) (ls ms : List Link) → parent_of r (ls ++ ms) ≡ or_else (parent_of r ls) (parent_of r ms)
+pub parent-append : (r : Revision) (ls ms : List Link) → parent_of r (ls ++ ms) ≡ option_or (parent_of r ls) (parent_of r ms)
 parent-append r [] ms = refl
 parent-append r (l ∷ ls) ms = elim (two (same_revision r l.rev)) [
   | inl t ↦ rw (t, parent-append r ls ms) (sym (or_else_assoc l.parent (parent_of r ls) (parent_of r ms)))
@@ -37,7 +38,7 @@ unknown_parent r (l ∷ ls) h = elim (two (same_revision r l.rev)) [
   | inr f ↦ let k : is_known r ls ≡ false = rw f at h in rw f (unknown_parent r ls k)
 ]
 
-or_none : {A : Type 0} (a : Option A) → a ≡ or_else a None
+or_none : {A : Type 0} (a : Option A) → a ≡ option_or a None
 or_none None = refl
 or_none (Some x) = refl
 
@@ -53,7 +54,7 @@ node-put-before r ls ms l new = rw (known-append r ls ms, parent-append r ls ms,
   | inr f ↦ rw f refl
 ])
   where
-    rest : (a b : Option Revision) → or_else (or_else a None) b ≡ or_else a (or_else b None)
+    rest : (a b : Option Revision) → option_or (option_or a None) b ≡ option_or a (option_or b None)
     rest None None = refl
     rest None (Some y) = refl
     rest (Some x) b = refl

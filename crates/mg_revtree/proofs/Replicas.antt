@@ -3,7 +3,8 @@ use Rattle.std.proofs.Common.{◌≡◌, Bool, true, false, ◌||◌, ◌&&◌, 
 use Rattle.std.specs.List.{list_all}
 use Rattle.mg_value.specs.Value.{Value}
 use Rattle.mg_revtree.specs.Revision.{Revision, run_from, same_revision}
-use Rattle.mg_revtree.specs.History.{Path, History, Link, newest_of, agrees, are_held, fit, gives, is_whole, is_at, is_known, parent_of, or_else, has_child, marked, links, all_links, leaf_at}
+use Rattle.std.specs.Option.{option_or}
+use Rattle.mg_revtree.specs.History.{Path, History, Link, newest_of, agrees, are_held, fit, gives, is_whole, is_at, is_known, parent_of, has_child, marked, links, all_links, leaf_at}
 use Rattle.mg_revtree.specs.Changes.{found_of, path_of, with_path}
 use Rattle.mg_revtree.specs.Tree.{StandsFor, Tree}
 use Rattle.mg_revtree.specs.declared.error.Merged.TheVariants.{Known}
@@ -78,7 +79,7 @@ given_parent r a (k ∷ ls) l (inr b) is e = elim (two (same_revision r k.rev)) 
   | inr f ↦ rw f (given_parent r a ls l b is e)
 ]
   where
-    either : (o p : Option Revision) → is_some p ≡ true → is_some (or_else o p) ≡ true
+    either : (o p : Option Revision) → is_some p ≡ true → is_some (option_or o p) ≡ true
     either None p h = h
     either (Some x) p h = refl
 
@@ -218,11 +219,11 @@ module _ (h : History) (p : Path) (whole : (l : Link) → AmongLinks l (links p.
   whole_parent : (r : Revision) → parent_of r (all_links (with_path h p)) ≡ parent_of r (all_links h)
   whole_parent r = ap (parent_of r) (all_links-one h p) ∙ parent-append r (all_links h) (links p.revs) ∙ go (parent_of r (links p.revs)) refl
     where
-      or_none : (o : Option Revision) → or_else o None ≡ o
+      or_none : (o : Option Revision) → option_or o None ≡ o
       or_none None = refl
       or_none (Some x) = refl
 
-      go : (o : Option Revision) → parent_of r (links p.revs) ≡ o → or_else (parent_of r (all_links h)) (parent_of r (links p.revs)) ≡ parent_of r (all_links h)
+      go : (o : Option Revision) → parent_of r (links p.revs) ≡ o → option_or (parent_of r (all_links h)) (parent_of r (links p.revs)) ≡ parent_of r (all_links h)
       go None e = rw e (or_none (parent_of r (all_links h)))
       go (Some q) e =
           let d = parent_among r q (links p.revs) e in
@@ -238,11 +239,11 @@ module _ (h : History) (p : Path) (whole : (l : Link) → AmongLinks l (links p.
     ])
   ])
     where
-      kept : (a b : Option (Bool × Value)) → is_some a ≡ true → or_else a b ≡ a
+      kept : (a b : Option (Bool × Value)) → is_some a ≡ true → option_or a b ≡ a
       kept None b e = cc
       kept (Some x) b e = refl
 
-      or_none : (o : Option (Bool × Value)) → or_else o None ≡ o
+      or_none : (o : Option (Bool × Value)) → option_or o None ≡ o
       or_none None = refl
       or_none (Some x) = refl
 

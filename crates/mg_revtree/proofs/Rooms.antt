@@ -9,10 +9,11 @@ use Rattle.std.proofs.lemmas.List.{drop-append-le, drop-set-lt, drop-take, drop_
 use Rattle.std.proofs.Math.Seq.{drop_at, take-set-lt, take_at}
 use Rattle.std.proofs.lemmas.Bool.Decides.{nat_tests}
 use Rattle.mg_revtree.specs.Revision.{Revision, revision_order, run_from}
-use Rattle.mg_revtree.specs.History.{Link, links, newest_of, or_else}
+use Rattle.std.specs.Option.{option_or}
+use Rattle.mg_revtree.specs.History.{Link, links, newest_of}
 use Rattle.mg_revtree.specs.Tree.{AreNodes, AreSorted, IsBelow, find, node}
 use Rattle.mg_revtree.specs.Steps.{IsGap, IsPlace, put}
-use Rattle.mg_revtree.specs.Nodes.{AreWithin, IsWithin, NodeWithin, ParentWithin, PartsWithin, link_in, links_in, part_of}
+use Rattle.mg_revtree.specs.Nodes.{AreWithin, IsWithin, NodeWithin, ParentWithin, PartsWithin, link_in, links_in, text_of_part}
 use Rattle.mg_revtree.specs.Room.{AreFrom, Joins, used}
 use Rattle.mg_revtree.specs.declared.node.Node.{Node}
 use Rattle.mg_revtree.specs.declared.node.Part.{Part}
@@ -141,7 +142,7 @@ module _ (t : List ℕ) (x : Node) (ns : List Node) (till from : ℕ) where
       let ls = map (link_in t) (take till ns) in
       let ms = map (link_in t) (drop from ns) in
       let front : AreSorted ls = sorted_front ls ms (subst AreSorted links_used sorted) in
-      let gap : IsGap (link_in t x).rev (map (link_in t) (used ns till from)) at = subst (λ (ks : List Link). IsGap (link_in t x).rev ks at) (sym links_used) (gap_append (link_in t x).rev ls ms at (gaps front) (from_above x.pos (part_of t x.id) ms above)) in
+      let gap : IsGap (link_in t x).rev (map (link_in t) (used ns till from)) at = subst (λ (ks : List Link). IsGap (link_in t x).rev ks at) (sym links_used) (gap_append (link_in t x).rev ls ms at (gaps front) (from_above x.pos (text_of_part t x.id) ms above)) in
       let all = map (link_in t) (used ns till from) in
       let place : map (link_in t) new ≡ insert all at (link_in t x) = ap (map (link_in t)) is ∙ map-insert (link_in t) (used ns till from) at x in
       record {
@@ -151,7 +152,7 @@ module _ (t : List ℕ) (x : Node) (ns : List Node) (till from : ℕ) where
       }
 
   -- joined to the known one
-  module _ (at : ℕ) (d kept now : Node) (room : till ≤ from) (lt : at < length (take till ns)) (kept_is : kept ≡ get_or ns at d) (now_is : now ≡ record kept { parent = or_else kept.parent x.parent }) where
+  module _ (at : ℕ) (d kept now : Node) (room : till ≤ from) (lt : at < length (take till ns)) (kept_is : kept ≡ get_or ns at d) (now_is : now ≡ record kept { parent = option_or kept.parent x.parent }) where
     below_till : at < till
     below_till = omega (arith, length-take till ns)
 
@@ -196,7 +197,7 @@ module _ (t : List ℕ) (x : Node) (ns : List Node) (till from : ℕ) where
 pub record Goes (t : List ℕ) (start : ℕ) (ps : List Part) (i pos : ℕ) (now after : List Node) (ls : List Link) : Type 0 where
   pub so_far : List Link
   pub nodes : AreNodes (links_in t now) so_far
-  pub rest : ls ++ links (run_from start (map (part_of t) ps)) ≡ so_far ++ links (run_from pos (map (part_of t) (drop i ps)))
+  pub rest : ls ++ links (run_from start (map (text_of_part t) ps)) ≡ so_far ++ links (run_from pos (map (text_of_part t) (drop i ps)))
   pub above : AreFrom (start + 1 - i) (links_in t after)
 
 module _ (t : List ℕ) (start : ℕ) (ps : List Part) where
@@ -210,19 +211,19 @@ module _ (t : List ℕ) (start : ℕ) (ps : List Part) where
         above = rw none tt;
       }
 
-  pub goes_on : (i pos : ℕ) (now after new later : List Node) (ls : List Link) (x : Node) → Goes t start ps i pos now after ls → i < length ps → length ps ≤ start + 1 → pos ≡ start - i → x.pos ≡ pos → x.id ≡ get_or ps i x.id → option_map {U = Revision} (λ p. (pos - 1, part_of t p)) x.parent ≡ newest_of (run_from (pos - 1) (map (part_of t) (drop (i + 1) ps))) → (AreSorted (links_in t now) → AreFrom (x.pos + 1) (links_in t after) → Joins t x now new later) → Goes t start ps (i + 1) (pos - 1) new later ls
+  pub goes_on : (i pos : ℕ) (now after new later : List Node) (ls : List Link) (x : Node) → Goes t start ps i pos now after ls → i < length ps → length ps ≤ start + 1 → pos ≡ start - i → x.pos ≡ pos → x.id ≡ get_or ps i x.id → option_map {U = Revision} (λ p. (pos - 1, text_of_part t p)) x.parent ≡ newest_of (run_from (pos - 1) (map (text_of_part t) (drop (i + 1) ps))) → (AreSorted (links_in t now) → AreFrom (x.pos + 1) (links_in t after) → Joins t x now new later) → Goes t start ps (i + 1) (pos - 1) new later ls
   goes_on i pos now after new later ls x g lt run at here id newest joins =
       let up : start + 1 - i ≡ x.pos + 1 = omega (arith, here, at) in
       let down : x.pos ≡ start + 1 - (i + 1) = omega (arith, here, at) in
       let j : Joins t x now new later = joins g.nodes.sorted (subst (λ (n : ℕ). AreFrom n (links_in t after)) up g.above) in
-      let rest = run_from (pos - 1) (map (part_of t) (drop (i + 1) ps)) in
+      let rest = run_from (pos - 1) (map (text_of_part t) (drop (i + 1) ps)) in
       let link = λ (n : ℕ) (s : List ℕ) (o : Option Revision). (let l : Link = record { rev = (n, s); parent = o } in l) in
-      let head : link pos (part_of t (get_or ps i x.id)) (newest_of rest) ≡ link_in t x =
-      ap (λ (p : Part). link pos (part_of t p) (newest_of rest)) (sym id)
-      ∙ ap (link pos (part_of t x.id)) (sym newest)
-      ∙ ap (λ (n : ℕ). link n (part_of t x.id) (option_map {U = Revision} (λ p. (n - 1, part_of t p)) x.parent)) (sym here) in
-      let split : links (run_from pos (map (part_of t) (drop i ps))) ≡ link_in t x ∷ links rest =
-      ap (λ (qs : List Part). links (run_from pos (map (part_of t) qs))) (drop_more ps i x.id lt) ∙ ap (λ (l : Link). l ∷ links rest) head in
+      let head : link pos (text_of_part t (get_or ps i x.id)) (newest_of rest) ≡ link_in t x =
+      ap (λ (p : Part). link pos (text_of_part t p) (newest_of rest)) (sym id)
+      ∙ ap (link pos (text_of_part t x.id)) (sym newest)
+      ∙ ap (λ (n : ℕ). link n (text_of_part t x.id) (option_map {U = Revision} (λ p. (n - 1, text_of_part t p)) x.parent)) (sym here) in
+      let split : links (run_from pos (map (text_of_part t) (drop i ps))) ≡ link_in t x ∷ links rest =
+      ap (λ (qs : List Part). links (run_from pos (map (text_of_part t) qs))) (drop_more ps i x.id lt) ∙ ap (λ (l : Link). l ∷ links rest) head in
       record {
         so_far = g.so_far ++ link_in t x ∷ [];
         nodes = nodes-put (link_in t x) (links_in t now) (links_in t new) g.so_far g.nodes j.kept j.sorted;
@@ -230,10 +231,10 @@ module _ (t : List ℕ) (start : ℕ) (ps : List Part) where
         above = subst (λ (n : ℕ). AreFrom n (links_in t later)) down j.above;
       }
 
-  pub goes_last : (i pos : ℕ) (now after : List Node) (ls : List Link) → Goes t start ps i pos now after ls → length ps ≤ i → AreNodes (links_in t now) (ls ++ links (run_from start (map (part_of t) ps)))
+  pub goes_last : (i pos : ℕ) (now after : List Node) (ls : List Link) → Goes t start ps i pos now after ls → length ps ≤ i → AreNodes (links_in t now) (ls ++ links (run_from start (map (text_of_part t) ps)))
   goes_last i pos now after ls g past =
       let none : drop i ps ≡ [] = drop_all i ps past in
-      let all : ls ++ links (run_from start (map (part_of t) ps)) ≡ g.so_far = g.rest ∙ ap (λ (qs : List Part). g.so_far ++ links (run_from pos (map (part_of t) qs))) none ∙ append-nil g.so_far in
+      let all : ls ++ links (run_from start (map (text_of_part t) ps)) ≡ g.so_far = g.rest ∙ ap (λ (qs : List Part). g.so_far ++ links (run_from pos (map (text_of_part t) qs))) none ∙ append-nil g.so_far in
       subst (AreNodes (links_in t now)) (sym all) g.nodes
 
 -- the parent that is read of a run is within its parts

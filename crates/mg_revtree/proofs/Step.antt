@@ -2,7 +2,8 @@
 use Rattle.std.proofs.Common.{◌≡◌, Bool, true, false, not, ◌||◌, if◌then◌else◌, Option, Some, None, is_some, List, [], ◌∷◌, ◌++◌, append-nil, filter, inl, inr, refl, ap, sym, ◌∙◌, subst}
 use Rattle.mg_value.specs.Value.{Value}
 use Rattle.mg_revtree.specs.Revision.{Revision, same_revision}
-use Rattle.mg_revtree.specs.History.{Link, Leaf, Path, History, is_known, has_child, is_at, newest_of, links, all_links, marked, leaf_at, or_else}
+use Rattle.std.specs.Option.{option_or}
+use Rattle.mg_revtree.specs.History.{Link, Leaf, Path, History, is_known, has_child, is_at, newest_of, links, all_links, marked, leaf_at}
 use Rattle.mg_revtree.specs.Tree.{StandsFor, AreNodes, node, find, leaf_in}
 use Rattle.mg_revtree.specs.Changes.{path_of, with_path}
 use Rattle.mg_revtree.specs.Steps.{ranked}
@@ -16,21 +17,21 @@ use Rattle.mg_revtree.proofs.Leaves.{apart-filter, apart-ranked, leaf_in-filter,
 abbrev pub mark_of : Revision → Path → Option (Bool × Value)
 mark_of r p = if is_at r (newest_of p.revs) then Some (p.deleted, p.body) else None
 
-marked-append : (r : Revision) (h : History) (p : Path) → marked r (h ++ p ∷ []) ≡ or_else (marked r h) (mark_of r p)
+marked-append : (r : Revision) (h : History) (p : Path) → marked r (h ++ p ∷ []) ≡ option_or (marked r h) (mark_of r p)
 marked-append r [] p = refl
 marked-append r (q ∷ h) p = elim (two (is_at r (newest_of q.revs))) [ inl t ↦ rw t refl | inr f ↦ rw f (marked-append r h p) ]
 
 pub all_links-one : (h : History) (p : Path) → all_links (h ++ p ∷ []) ≡ all_links h ++ links p.revs
 all_links-one h p = all_links-append h (p ∷ []) ∙ ap (λ ls. all_links h ++ ls) (append-nil (links p.revs))
 
-pub leaf_at-append : (r : Revision) (h : History) (p : Path) → leaf_at r (h ++ p ∷ []) ≡ (if has_child r (all_links h) || has_child r (links p.revs) then None else or_else (marked r h) (mark_of r p))
+pub leaf_at-append : (r : Revision) (h : History) (p : Path) → leaf_at r (h ++ p ∷ []) ≡ (if has_child r (all_links h) || has_child r (links p.revs) then None else option_or (marked r h) (mark_of r p))
 leaf_at-append r h p = rw (all_links-one h p, has_child-append r (all_links h) (links p.revs), marked-append r h p) refl
 
-or_else_some : {A : Type 0} (a b : Option A) → is_some a ≡ true → a ≡ or_else a b
+or_else_some : {A : Type 0} (a b : Option A) → is_some a ≡ true → a ≡ option_or a b
 or_else_some None b h = cc
 or_else_some (Some x) b h = refl
 
-or_else_none : {A : Type 0} (a : Option A) → a ≡ or_else a None
+or_else_none : {A : Type 0} (a : Option A) → a ≡ option_or a None
 or_else_none None = refl
 or_else_none (Some x) = refl
 

@@ -3,9 +3,10 @@ use Rattle.std.proofs.Common.{◌≡◌, ℕ, zero, suc, ◌+◌, ◌-◌, ◌<�
 use Rattle.std.specs.List.{insert}
 use Rattle.std.proofs.lemmas.List.{map-set, get_or-map, take-append-le, drop-append-le, map_push, map_more}
 use Rattle.mg_revtree.specs.Revision.{Revision}
-use Rattle.mg_revtree.specs.History.{Link, or_else}
+use Rattle.std.specs.Option.{option_or}
+use Rattle.mg_revtree.specs.History.{Link}
 use Rattle.mg_revtree.specs.Tree.{AreSorted, find}
-use Rattle.mg_revtree.specs.Nodes.{part_of, link_in, IsWithin, ParentWithin, NodeWithin, AreWithin, PartsWithin, Grows}
+use Rattle.mg_revtree.specs.Nodes.{text_of_part, link_in, IsWithin, ParentWithin, NodeWithin, AreWithin, PartsWithin, Grows}
 use Rattle.mg_revtree.specs.Steps.{put, IsPlace, IsGap}
 use Rattle.mg_revtree.specs.declared.node.Part.{Part}
 use Rattle.mg_revtree.specs.declared.node.Node.{Node}
@@ -14,10 +15,10 @@ use Rattle.mg_revtree.proofs.Find.{find-set, gap_none, place_find, place_is, pla
 -- ---- a text that grows
 
 module _ (xs ys : List ℕ) where
-  pub part-grown : (p : Part) → IsWithin (length xs) p → part_of (xs ++ ys) p ≡ part_of xs p
+  pub part-grown : (p : Part) → IsWithin (length xs) p → text_of_part (xs ++ ys) p ≡ text_of_part xs p
   part-grown p h = rw (drop-append-le p.from xs ys (omega arith)) (take-append-le p.len (drop p.from xs) ys (omega (arith, length-drop p.from xs)))
 
-  parent-grown : (n : ℕ) (o : Option Part) → ParentWithin (length xs) o → option_map {U = Revision} (λ p. (n - 1, part_of (xs ++ ys) p)) o ≡ option_map {U = Revision} (λ p. (n - 1, part_of xs p)) o
+  parent-grown : (n : ℕ) (o : Option Part) → ParentWithin (length xs) o → option_map {U = Revision} (λ p. (n - 1, text_of_part (xs ++ ys) p)) o ≡ option_map {U = Revision} (λ p. (n - 1, text_of_part xs p)) o
   parent-grown n None h = refl
   parent-grown n (Some p) h = rw (part-grown p h) refl
 
@@ -28,7 +29,7 @@ module _ (xs ys : List ℕ) where
   links-grown [] h = refl
   links-grown (x ∷ ns) h = rw (link-grown x h.0, links-grown ns h.1) refl
 
-  pub parts-grown : (ps : List Part) → PartsWithin (length xs) ps → map (part_of (xs ++ ys)) ps ≡ map (part_of xs) ps
+  pub parts-grown : (ps : List Part) → PartsWithin (length xs) ps → map (text_of_part (xs ++ ys)) ps ≡ map (text_of_part xs) ps
   parts-grown [] h = refl
   parts-grown (p ∷ ps) h = rw (part-grown p h.0, parts-grown ps h.1) refl
 
@@ -72,7 +73,7 @@ within-insert n [] (suc i) x w h = (w, tt)
 within-insert n (y ∷ ns) (suc i) x w h = (h.0, within-insert n ns i x w h.1)
 
 -- the id of the node at a revision's place
-pub part_at : (t : List ℕ) (r : Revision) (ns : List Node) (i : ℕ) (d : Node) → i < length ns → IsPlace r (map (link_in t) ns) i → part_of t (get_or ns i d).id ≡ r.1
+pub part_at : (t : List ℕ) (r : Revision) (ns : List Node) (i : ℕ) (d : Node) → i < length ns → IsPlace r (map (link_in t) ns) i → text_of_part t (get_or ns i d).id ≡ r.1
 part_at t r ns i d lt place = ap (λ (q : Revision). q.1) (place_is r (map (link_in t) ns) i (link_in t (get_or ns i d)) place (sym (get_or-map (link_in t) ns i d (link_in t (get_or ns i d)) lt)))
 
 -- a search says whether the revision is found
@@ -80,7 +81,7 @@ pub place_knows : {A : Type 0} (f : A → Link) (r : Revision) (xs : List A) (o 
 place_knows f r xs (Ok i) s found absent = sym (place_some r (map f xs) i (found.1 s))
 place_knows f r xs (Err i) s found absent = rw (gap_none r (map f xs) i (absent.1 s)) refl
 
-or_within : (n : ℕ) (a b : Option Part) → ParentWithin n a → ParentWithin n b → ParentWithin n (or_else a b)
+or_within : (n : ℕ) (a b : Option Part) → ParentWithin n a → ParentWithin n b → ParentWithin n (option_or a b)
 or_within n None b h w = w
 or_within n (Some p) b h w = h
 
@@ -97,15 +98,15 @@ first [] = None
 first (p ∷ ps) = Some p
 
 module _ (t : List ℕ) where
-  joined_parent : (n : ℕ) (a b : Option Part) → option_map {U = Revision} (λ p. (n - 1, part_of t p)) (or_else a b) ≡ or_else (option_map {U = Revision} (λ p. (n - 1, part_of t p)) a) (option_map {U = Revision} (λ p. (n - 1, part_of t p)) b)
+  joined_parent : (n : ℕ) (a b : Option Part) → option_map {U = Revision} (λ p. (n - 1, text_of_part t p)) (option_or a b) ≡ option_or (option_map {U = Revision} (λ p. (n - 1, text_of_part t p)) a) (option_map {U = Revision} (λ p. (n - 1, text_of_part t p)) b)
   joined_parent n None b = refl
   joined_parent n (Some p) b = refl
 
-  joined_link : (kept given : Node) → kept.pos ≡ given.pos → link_in t (record kept { parent = or_else kept.parent given.parent }) ≡ record (link_in t kept) { parent = or_else (link_in t kept).parent (link_in t given).parent }
+  joined_link : (kept given : Node) → kept.pos ≡ given.pos → link_in t (record kept { parent = option_or kept.parent given.parent }) ≡ record (link_in t kept) { parent = option_or (link_in t kept).parent (link_in t given).parent }
   joined_link kept given e = rw (joined_parent kept.pos kept.parent given.parent, e) refl
 
   -- the node at place i, joined to what is given
-  module _ (given kept now : Node) (ns : List Node) (i : ℕ) (lt : i < length ns) (is : kept ≡ get_or ns i kept) (joined : now ≡ record kept { parent = or_else kept.parent given.parent }) where
+  module _ (given kept now : Node) (ns : List Node) (i : ℕ) (lt : i < length ns) (is : kept ≡ get_or ns i kept) (joined : now ≡ record kept { parent = option_or kept.parent given.parent }) where
     kept_at : link_in t kept ≡ get_or (map (link_in t) ns) i (link_in t kept)
     kept_at = ap (link_in t) is ∙ sym (get_or-map (link_in t) ns i kept (link_in t kept) lt)
 
@@ -121,7 +122,7 @@ module _ (t : List ℕ) where
       same_place : kept.pos ≡ given.pos
       same_place = ap (λ (r : Revision). r.0) (place_is (link_in t given).rev (map (link_in t) ns) i (link_in t kept) place kept_at)
 
-      now_is : link_in t now ≡ record (link_in t kept) { parent = or_else (link_in t kept).parent (link_in t given).parent }
+      now_is : link_in t now ≡ record (link_in t kept) { parent = option_or (link_in t kept).parent (link_in t given).parent }
       now_is = ap (link_in t) joined ∙ joined_link kept given same_place
 
       pub find-joined : (r : Revision) → find r (map (link_in t) (set ns i now)) ≡ put (link_in t given) r (find r (map (link_in t) ns))
@@ -147,7 +148,7 @@ module _ (xs ys : List ℕ) (g : Grows xs ys) where
   pub grown-links : (ns : List Node) → AreWithin (length xs) ns → map (link_in ys) ns ≡ map (link_in xs) ns
   grown-links ns h = rw (g.is) (links-grown xs g.more ns h)
 
-  pub grown-parts : (ps : List Part) → PartsWithin (length xs) ps → map (part_of ys) ps ≡ map (part_of xs) ps
+  pub grown-parts : (ps : List Part) → PartsWithin (length xs) ps → map (text_of_part ys) ps ≡ map (text_of_part xs) ps
   grown-parts ps h = rw (g.is) (parts-grown xs g.more ps h)
 
 pub grown-grown : (xs ys zs : List ℕ) → Grows xs ys → Grows ys zs → Grows xs zs
@@ -157,9 +158,9 @@ grown-grown xs ys zs g k = record {
 }
 
 -- one more part
-pub parts-step : {X : Type 0} (f : X → List ℕ) (t t' : List ℕ) (k : Grows t t') (ps : List Part) (p : Part) (xs : List X) (i : ℕ) (x : X) → PartsWithin (length t) ps → map (part_of t) ps ≡ map f (take i xs) → part_of t' p ≡ f x → i < length xs → x ≡ get_or xs i x → map (part_of t') (ps ++ p ∷ []) ≡ map f (take (i + 1) xs)
+pub parts-step : {X : Type 0} (f : X → List ℕ) (t t' : List ℕ) (k : Grows t t') (ps : List Part) (p : Part) (xs : List X) (i : ℕ) (x : X) → PartsWithin (length t) ps → map (text_of_part t) ps ≡ map f (take i xs) → text_of_part t' p ≡ f x → i < length xs → x ≡ get_or xs i x → map (text_of_part t') (ps ++ p ∷ []) ≡ map f (take (i + 1) xs)
 parts-step f t t' k ps p xs i x within done new lt is =
-    map_push (part_of t') ps p ∙ ap (λ ss. ss ++ part_of t' p ∷ []) (grown-parts t t' k ps within ∙ done) ∙ ap (λ s. map f (take i xs) ++ s ∷ []) (new ∙ ap f is) ∙ sym (map_more f xs i x lt)
+    map_push (text_of_part t') ps p ∙ ap (λ ss. ss ++ text_of_part t' p ∷ []) (grown-parts t t' k ps within ∙ done) ∙ ap (λ s. map f (take i xs) ++ s ∷ []) (new ∙ ap f is) ∙ sym (map_more f xs i x lt)
 
 pub first-within : (n : ℕ) (ps : List Part) (i : ℕ) → PartsWithin n ps → ParentWithin n (first (drop i ps))
 first-within n [] zero h = tt

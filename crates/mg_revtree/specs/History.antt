@@ -1,6 +1,7 @@
 -- Revision histories, after the replication and conflict model of CouchDB: the paths that a document accepted, in order.
 use Rattle.std.specs.Prelude.{◌≡◌, List, [], ◌∷◌, ◌++◌, Bool, true, false, not, ◌||◌, ◌&&◌, if◌then◌else◌, Option, Some, None, option_and_then, option_map}
-use Rattle.std.specs.List.{filter_map, list_all}
+use Rattle.std.specs.List.{filter_map, flat_map, list_all, list_any}
+use Rattle.std.specs.Option.{option_or}
 use Rattle.std.specs.Ordering.{on, then_cmp, bool_cmp, is_lt}
 use Rattle.std.specs.declared.cmp.Ordering.{Ordering}
 use Rattle.mg_value.specs.Value.{Value}
@@ -35,23 +36,16 @@ links (r ∷ rs) = record { rev = r; parent = newest_of rs } ∷ links rs
 
 -- those of all paths
 abbrev pub all_links : History → List Link
-all_links [] = []
-all_links (p ∷ h) = links p.revs ++ all_links h
+all_links = flat_map (λ p. links p.revs)
 
 -- whether a revision stands in some path
 abbrev pub is_known : Revision → List Link → Bool
-is_known r [] = false
-is_known r (l ∷ ls) = same_revision r l.rev || is_known r ls
-
--- the first of two places that has something
-abbrev pub or_else : {A : Type 0} → Option A → Option A → Option A
-or_else None b = b
-or_else (Some a) b = Some a
+is_known r = list_any (λ l. same_revision r l.rev)
 
 -- what comes behind a revision in a path, of the first path where something does
 abbrev pub parent_of : Revision → List Link → Option Revision
 parent_of r [] = None
-parent_of r (l ∷ ls) = if same_revision r l.rev then or_else l.parent (parent_of r ls) else parent_of r ls
+parent_of r (l ∷ ls) = if same_revision r l.rev then option_or l.parent (parent_of r ls) else parent_of r ls
 
 -- whether a place that may be empty has this revision
 abbrev pub is_at : Revision → Option Revision → Bool
@@ -60,8 +54,7 @@ is_at r (Some q) = same_revision r q
 
 -- whether a revision is the parent of another
 abbrev pub has_child : Revision → List Link → Bool
-has_child r [] = false
-has_child r (l ∷ ls) = is_at r l.parent || has_child r ls
+has_child r = list_any (λ l. is_at r l.parent)
 
 -- ---- leaves and the winner
 

@@ -5,12 +5,12 @@ use Rattle.mg_revtree.specs.declared.node.Part.{Part}
 use Rattle.mg_revtree.specs.declared.node.Node.{Node}
 
 -- the bytes of a part
-abbrev pub part_of : List ℕ → Part → List ℕ
-part_of texts p = take p.len (drop p.from texts)
+abbrev pub text_of_part : List ℕ → Part → List ℕ
+text_of_part texts p = take p.len (drop p.from texts)
 
 -- the link that a node stands for: a parent is at the position below
 abbrev pub link_in : List ℕ → Node → Link
-link_in texts n = record { rev = (n.pos, part_of texts n.id); parent = option_map (λ p. (n.pos - 1, part_of texts p)) n.parent }
+link_in texts n = record { rev = (n.pos, text_of_part texts n.id); parent = option_map (λ p. (n.pos - 1, text_of_part texts p)) n.parent }
 
 -- the links that nodes stand for
 abbrev pub links_in : List ℕ → List Node → List Link

@@ -4,13 +4,14 @@ use Rattle.std.specs.Ordering.{is_lt}
 use Rattle.std.specs.declared.cmp.Ordering.TheVariants.{Less, Equal}
 use Rattle.mg_value.specs.Value.{null}
 use Rattle.mg_revtree.specs.Revision.{Revision, revision_order, same_revision}
-use Rattle.mg_revtree.specs.History.{Link, Leaf, or_else, agrees, gives, leaf_order}
+use Rattle.std.specs.Option.{option_or}
+use Rattle.mg_revtree.specs.History.{Link, Leaf, agrees, gives, leaf_order}
 use Rattle.mg_revtree.specs.Tree.{BeforeAll, IsBelow, leaf_in}
 
 -- what is kept of a revision after one more link of it
 abbrev pub joined : Option (Option Revision) → Option Revision → Option (Option Revision)
 joined None q = Some q
-joined (Some p) q = Some (or_else p q)
+joined (Some p) q = Some (option_or p q)
 
 -- the parent that is kept once a link is joined
 abbrev pub put : Link → Revision → Option (Option Revision) → Option (Option Revision)

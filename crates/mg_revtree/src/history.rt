@@ -4,7 +4,7 @@ ghost use Rattle.mg_revtree.specs.Revision.{is_revision_id, run_from, run_of};
 ghost use Rattle.mg_revtree.specs.History.{newest_of};
 
 use crate::revision::{Rev, is_id};
-use mg_value::NoMemory;
+use mg_value::{NoMemory, copy_texts};
 use std::alloc::Global;
 use std::marker::Model;
 
@@ -61,11 +61,10 @@ impl History {
     }
 
     /// An equal path. Errors: `NoMemory` where a growth was refused. Cost: the length of its ids.
-    pub fn copy(&self) -> Result<History, NoMemory>
+    pub fn copy(&self, alloc: Global) -> Result<History, NoMemory>
         ensures { IfOk result (λ path. path ≡ self.now) }
     {
-        let alloc = *self.ids.allocator();
-        let ids = copied_ids(alloc, &self.ids)?;
+        let ids = copy_texts(alloc, &self.ids)?;
         Ok(History {
             start: self.start,
             ids,
@@ -80,17 +79,6 @@ impl History {
     {
         (self.start, self.ids.as_slice())
     }
-}
-
-// Equal ids.
-fn copied_ids(alloc: Global, ids: &[String]) -> Result<Vec<String>, NoMemory>
-    ensures { IfOk result (λ copy. map string_bytes copy.items ≡ map string_bytes ids.now) }
-{
-    let mut copy = Vec::with_capacity(alloc, ids.len())?;
-    for id in ids {
-        copy.push(id.clone()?)?;
-    }
-    Ok(copy)
 }
 
 // Whether each text is the id of a revision.

@@ -107,10 +107,9 @@ impl Links {
     }
 
     /// Equal links. Cost: two blocks of memory are copied, and nothing is done for a revision.
-    pub fn copy(&self) -> Result<Links, NoMemory>
+    pub fn copy(&self, alloc: Global) -> Result<Links, NoMemory>
         ensures { IfOk result (λ links. links ≡ self.now) }
     {
-        let alloc = *self.nodes.allocator();
         Ok(Links {
             texts: copied(alloc, &self.texts, SPARE_BYTES)?,
             nodes: copied(alloc, &self.nodes, SPARE_NODES)?,

@@ -1,7 +1,8 @@
 ghost use Rattle.std.specs.Prelude.{◌≡◌, ◌-◌, option_copied, option_map, string_bytes};
 ghost use Rattle.mg_revtree.specs.Revision.{revision_order};
-ghost use Rattle.mg_revtree.specs.History.{agrees, gives, or_else};
-ghost use Rattle.mg_revtree.specs.Nodes.{link_in, part_of};
+ghost use Rattle.std.specs.Option.{option_or};
+ghost use Rattle.mg_revtree.specs.History.{agrees, gives};
+ghost use Rattle.mg_revtree.specs.Nodes.{link_in, text_of_part};
 
 use std::cmp::Ordering;
 
@@ -15,7 +16,7 @@ pub struct Part {
 impl Part {
     /// The bytes of the id. What lies beyond the texts is cut off.
     pub fn of(self, texts: &[u8]) -> &[u8]
-        ensures { result.now ≡ part_of texts.now self }
+        ensures { result.now ≡ text_of_part texts.now self }
     {
         let rest = &texts[texts.len().min(self.from)..];
         &rest[..rest.len().min(self.len)]
@@ -41,7 +42,7 @@ impl Node {
 
     /// Takes a parent where none is known.
     pub fn join(&mut self, parent: Option<Part>)
-        ensures { self.new ≡ record self.old { parent = or_else self.old.parent parent } }
+        ensures { self.new ≡ record self.old { parent = option_or self.old.parent parent } }
     {
         if self.parent.is_none() {
             self.parent = parent;

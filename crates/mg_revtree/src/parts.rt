@@ -1,6 +1,6 @@
 ghost use Rattle.std.specs.Prelude.{◌≡◌, IfOk, length, map, string_bytes};
 ghost use Rattle.mg_revtree.specs.Tree.{AreSorted};
-ghost use Rattle.mg_revtree.specs.Nodes.{AreWithin, Grows, IsWithin, PartsWithin, links_in, part_of};
+ghost use Rattle.mg_revtree.specs.Nodes.{AreWithin, Grows, IsWithin, PartsWithin, links_in, text_of_part};
 
 use crate::lookup::place;
 use crate::node::{Node, Part};
@@ -9,7 +9,7 @@ use mg_value::NoMemory;
 // Adds an id to the texts.
 fn add(texts: &mut Vec<u8>, id: &[u8]) -> Result<Part, NoMemory>
     ensures grows { Grows texts.old.items texts.new.items }
-    ensures part { IfOk result (λ p. IsWithin (length texts.new.items) p × (part_of texts.new.items p ≡ id.now)) }
+    ensures part { IfOk result (λ p. IsWithin (length texts.new.items) p × (text_of_part texts.new.items p ≡ id.now)) }
 {
     let from = texts.len();
     texts.extend_from_slice(id)?;
@@ -23,7 +23,7 @@ fn add(texts: &mut Vec<u8>, id: &[u8]) -> Result<Part, NoMemory>
 fn part_for(texts: &mut Vec<u8>, nodes: &[Node], pos: u32, id: &String) -> Result<Part, NoMemory>
     ensures grows { Grows texts.old.items texts.new.items }
     ensures within { IfOk result (λ p. AreWithin (length texts.old.items) nodes.now → IsWithin (length texts.new.items) p) }
-    ensures part { IfOk result (λ p. AreSorted (links_in texts.old.items nodes.now) → part_of texts.new.items p ≡ string_bytes id.now) }
+    ensures part { IfOk result (λ p. AreSorted (links_in texts.old.items nodes.now) → text_of_part texts.new.items p ≡ string_bytes id.now) }
 {
     match place(texts, nodes, pos, id.as_bytes()) {
         Ok(at) => Ok(nodes[at].id),
@@ -40,7 +40,7 @@ pub fn parts_for(
 ) -> Result<Vec<Part>, NoMemory>
     ensures grows { Grows texts.old.items texts.new.items }
     ensures within { IfOk result (λ ps. AreWithin (length texts.old.items) nodes.now → PartsWithin (length texts.new.items) ps.items) }
-    ensures parts { IfOk result (λ ps. AreWithin (length texts.old.items) nodes.now → AreSorted (links_in texts.old.items nodes.now) → map (part_of texts.new.items) ps.items ≡ map string_bytes ids.now) }
+    ensures parts { IfOk result (λ ps. AreWithin (length texts.old.items) nodes.now → AreSorted (links_in texts.old.items nodes.now) → map (text_of_part texts.new.items) ps.items ≡ map string_bytes ids.now) }
     ensures len { IfOk result (λ ps. length ps.items ≡ length ids.now) }
 {
     let mut parts = Vec::with_capacity(*texts.allocator(), ids.len())?;

@@ -86,12 +86,12 @@ impl Rev {
     }
 
     /// An equal revision. Cost: the length of the id.
-    pub fn copy(&self) -> Result<Rev, NoMemory>
+    pub fn copy(&self, alloc: Global) -> Result<Rev, NoMemory>
         ensures { IfOk result (λ rev. rev ≡ self.now) }
     {
         Ok(Rev {
             pos: self.pos,
-            id: self.id.clone()?,
+            id: String::from_str(alloc, &self.id)?,
         })
     }
 }

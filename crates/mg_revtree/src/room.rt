@@ -3,7 +3,7 @@ ghost use Rattle.std.specs.List.{insert};
 ghost use Rattle.mg_revtree.specs.Revision.{run_from};
 ghost use Rattle.mg_revtree.specs.History.{Link, links};
 ghost use Rattle.mg_revtree.specs.Tree.{AreNodes, AreSorted};
-ghost use Rattle.mg_revtree.specs.Nodes.{AreWithin, PartsWithin, NodeWithin, links_in, part_of};
+ghost use Rattle.mg_revtree.specs.Nodes.{AreWithin, PartsWithin, NodeWithin, links_in, text_of_part};
 ghost use Rattle.mg_revtree.specs.Room.{AreFrom, Joins, used};
 
 use crate::lookup::place;
@@ -58,7 +58,7 @@ fn join(texts: &[u8], nodes: &mut [Node], room: Room, node: Node) -> Room
 fn join_each(texts: &[u8], nodes: &mut [Node], known: usize, start: u32, parts: &[Part]) -> Room
     requires room { known + length parts.now ≤ length nodes.old }
     requires run { length parts.now ≤ start + 1 }
-    ensures nodes { (ls : List Link) → AreNodes (links_in texts.now (take known nodes.old)) ls → AreNodes (links_in texts.now (used nodes.new result.till result.from)) (ls ++ links (run_from start (map (part_of texts.now) parts.now))) }
+    ensures nodes { (ls : List Link) → AreNodes (links_in texts.now (take known nodes.old)) ls → AreNodes (links_in texts.now (used nodes.new result.till result.from)) (ls ++ links (run_from start (map (text_of_part texts.now) parts.now))) }
     ensures within { (n : ℕ) → AreWithin n (take known nodes.old) → PartsWithin n parts.now → AreWithin n (used nodes.new result.till result.from) }
     ensures ordered { result.till ≤ result.from }
     ensures inside { result.from ≤ length nodes.new }
@@ -103,7 +103,7 @@ const UNUSED: Node = Node {
 pub fn join_all(texts: &[u8], nodes: &mut Vec<Node>, start: u32, parts: &[Part])
     requires room { vec_len nodes.old + length parts.now ≤ vec_capacity nodes.old }
     requires run { length parts.now ≤ start + 1 }
-    ensures nodes { (ls : List Link) → AreNodes (links_in texts.now nodes.old.items) ls → AreNodes (links_in texts.now nodes.new.items) (ls ++ links (run_from start (map (part_of texts.now) parts.now))) }
+    ensures nodes { (ls : List Link) → AreNodes (links_in texts.now nodes.old.items) ls → AreNodes (links_in texts.now nodes.new.items) (ls ++ links (run_from start (map (text_of_part texts.now) parts.now))) }
     ensures within { (n : ℕ) → AreWithin n nodes.old.items → PartsWithin n parts.now → AreWithin n nodes.new.items }
 {
     let known = nodes.len();

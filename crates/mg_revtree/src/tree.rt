@@ -113,12 +113,11 @@ impl RevTree {
 
     /// An equal tree, which shares the leaves with their bodies. Cost: two blocks with the known revisions are copied,
     /// and one count goes up for each leaf.
-    pub fn copy(&self) -> Result<RevTree, NoMemory>
+    pub fn copy(&self, alloc: Global) -> Result<RevTree, NoMemory>
         ensures { IfOk result (λ tree. tree ≡ self.now) }
     {
-        let alloc = *self.leaves.allocator();
         Ok(RevTree {
-            links: self.links.copy()?,
+            links: self.links.copy(alloc)?,
             leaves: copy_leaves(alloc, &self.leaves)?,
         })
     }

@@ -7,7 +7,8 @@ use Rattle.std.specs.declared.vec.Vec.{Vec}
 use Rattle.mg_collate.specs.Row.{rows_view}
 use Rattle.mg_collate.specs.declared.row.Row.{Row}
 use Rattle.mg_index.specs.Definition.{IndexDefinition}
-use Rattle.mg_scan.specs.Built.{AreRowsAt, AreRowsFrom, HasRowsAt, with_index}
+use Rattle.mg_scan.specs.Built.{with_index}
+use Rattle.mg_scan.specs.Building.{AreRowsAt, AreRowsFrom, HasRowsAt}
 use Rattle.mg_shard.specs.Shard.{shards_seen, ShardView}
 use Rattle.mg_scan.proofs.Maps.{get-map, get-set, some_is}
 use Rattle.mg_shard.specs.Documents.{docs_of}

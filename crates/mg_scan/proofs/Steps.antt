@@ -15,7 +15,7 @@ use Rattle.mg_range.specs.Place.{place_of}
 use Rattle.std.specs.FinMap.{get}
 use Rattle.std.specs.Option.{option_and_then, option_map_or}
 use Rattle.mg_scan.specs.declared.hit.Hit.{Hit}
-use Rattle.mg_shard.specs.Documents.{Kept, KeptDocuments, entry_of, form_of, id_of, kept_of}
+use Rattle.mg_shard.specs.Documents.{Kept, KeptDocuments, kept_entry, form_of, id_of, kept_of}
 use Rattle.mg_shard.specs.Own.{all_columns}
 use Rattle.mg_shard.specs.Rows.{key_of, row_of}
 use Rattle.mg_shard.specs.declared.document.Document.{Document}
@@ -132,14 +132,14 @@ keyed id None = refl
 keyed id (Some form) = refl
 
 -- the row of a document, by the key that it lends
-pub row_lent : (d : Document) (o : Option Items) → o ≡ option_and_then (key_of all_columns) (form_of d) → entry_row (entry_of d) ≡ option_map (λ key. (key, id_of d)) o
+pub row_lent : (d : Document) (o : Option Items) → o ≡ option_and_then (key_of all_columns) (form_of d) → entry_row (kept_entry d) ≡ option_map (λ key. (key, id_of d)) o
 row_lent d o e = keyed (id_of d) (form_of d) ∙ ap (option_map (λ key. (key, id_of d))) (sym e)
 
-pub rows_none : (d : Document) (ds : List Document) → None ≡ option_and_then (key_of all_columns) (form_of d) → entry_rows (map entry_of (d ∷ ds)) ≡ entry_rows (map entry_of ds)
-rows_none d ds e = ap (λ o. cons_option o (entry_rows (map entry_of ds))) (row_lent d None e)
+pub rows_none : (d : Document) (ds : List Document) → None ≡ option_and_then (key_of all_columns) (form_of d) → entry_rows (map kept_entry (d ∷ ds)) ≡ entry_rows (map kept_entry ds)
+rows_none d ds e = ap (λ o. cons_option o (entry_rows (map kept_entry ds))) (row_lent d None e)
 
-pub rows_some : (d : Document) (ds : List Document) (key : Items) → Some key ≡ option_and_then (key_of all_columns) (form_of d) → entry_rows (map entry_of (d ∷ ds)) ≡ (key, id_of d) ∷ entry_rows (map entry_of ds)
-rows_some d ds key e = ap (λ o. cons_option o (entry_rows (map entry_of ds))) (row_lent d (Some key) e)
+pub rows_some : (d : Document) (ds : List Document) (key : Items) → Some key ≡ option_and_then (key_of all_columns) (form_of d) → entry_rows (map kept_entry (d ∷ ds)) ≡ (key, id_of d) ∷ entry_rows (map kept_entry ds)
+rows_some d ds key e = ap (λ o. cons_option o (entry_rows (map kept_entry ds))) (row_lent d (Some key) e)
 
 -- whether the selector holds of it
 pub holds_of : (normal : NormalForm) (ds : KeptDocuments) (d : Document) → get ds (id_of d) ≡ Some (kept_of d)

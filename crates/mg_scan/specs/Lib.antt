@@ -2,6 +2,7 @@ pub mod Scan
 pub mod Found
 pub mod Hit
 pub mod Built
+pub mod Building
 pub mod Walked
 pub mod Search
 pub mod Worked

@@ -16,13 +16,13 @@ pub record Gives (search : Search) (s : ShardView) (hits : List Hit) : Type 0 wh
   pub documents : AreHitsOf s.documents hits
 
 -- they are what it finds in the i-th shard
-pub record Answers (search : Search) (shards : List ShardView) (i : ℕ) (hits : List Hit) : Type 0 where
+pub record HitsAnswer (search : Search) (shards : List ShardView) (i : ℕ) (hits : List Hit) : Type 0 where
   pub gives : (s : ShardView) → slice_get shards i ≡ Some s → Gives search s hits
 
 -- each piece of work has the hits of its shard
 abbrev pub AllDone : Search → List ShardView → List Done → Type 0
-AllDone search shards ds = AllByRecursion (λ d. Answers search shards d.shard d.hits.items) ds
+AllDone search shards ds = AllByRecursion (λ d. HitsAnswer search shards d.shard d.hits.items) ds
 
 -- a full slot has the hits of its shard
 abbrev pub AllSlots : Search → List ShardView → List (Option (Vec Hit Global)) → Type 0
-AllSlots search shards slots = (i : ℕ) (v : Vec Hit Global) → slice_get slots i ≡ Some (Some v) → Answers search shards i v.items
+AllSlots search shards slots = (i : ℕ) (v : Vec Hit Global) → slice_get slots i ≡ Some (Some v) → HitsAnswer search shards i v.items

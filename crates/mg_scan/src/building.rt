@@ -1,6 +1,7 @@
 //! Indexes built over shards, their keys extracted in parallel.
 ghost use Rattle.std.specs.Prelude.{◌≡◌, ◌+◌, ◌^◌, ◌<◌, ◌≤◌, Some, length, map, slice_get, vec_len, IfOk};
-ghost use Rattle.mg_scan.specs.Built.{AreRowsAt, AreRowsFrom, HasRowsAt, with_index};
+ghost use Rattle.mg_scan.specs.Built.{with_index};
+ghost use Rattle.mg_scan.specs.Building.{AreRowsAt, AreRowsFrom, HasRowsAt};
 ghost use Rattle.mg_shard.specs.Shard.{shards_seen};
 
 use crate::gate::{Gate, Place};

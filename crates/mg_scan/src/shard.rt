@@ -8,7 +8,7 @@ ghost use Rattle.mg_normal.specs.Normal.{normal_holds};
 ghost use Rattle.mg_range.specs.Place.{place_of};
 ghost use Rattle.mg_value.specs.View.{items_view, view};
 ghost use Rattle.mg_index.specs.Catalog.{definition_at};
-ghost use Rattle.mg_shard.specs.Documents.{KeptDocuments, docs_of, entry_of, form_of, id_of, kept_of};
+ghost use Rattle.mg_shard.specs.Documents.{KeptDocuments, docs_of, kept_entry, form_of, id_of, kept_of};
 ghost use Rattle.mg_shard.specs.Own.{all_columns};
 ghost use Rattle.mg_scan.specs.Hit.{AreHitsOf, IsHitOf, hit_row, hit_rows};
 ghost use Rattle.mg_scan.specs.Scan.{scanned};
@@ -99,7 +99,7 @@ fn hits_of_documents<'a>(
     search: Search<'_>,
 ) -> Result<Vec<Hit<'a>>, NoMemory>
     requires { AllByRecursion (λ d. get shard.now.documents (id_of d) ≡ Some (kept_of d)) documents }
-    ensures rows { IfOk result (λ v. hit_rows v.items ≡ walked_by search.entry shard.now.documents search.entry.take (entry_rows (map entry_of documents.entry))) }
+    ensures rows { IfOk result (λ v. hit_rows v.items ≡ walked_by search.entry shard.now.documents search.entry.take (entry_rows (map kept_entry documents.entry))) }
     ensures documents { IfOk result (λ v. AreHitsOf shard.now.documents v.items) }
 {
     let _ = shard;

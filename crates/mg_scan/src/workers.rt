@@ -2,7 +2,7 @@
 ghost use Rattle.std.specs.Prelude.{◌≡◌, ◌<◌, length, vec_len, All, IfOk, IfSome};
 ghost use Rattle.std.specs.List.{AllZip};
 ghost use Rattle.mg_shard.specs.Shard.{shards_seen};
-ghost use Rattle.mg_scan.specs.Worked.{AllDone, AllSlots, Answers, Gives};
+ghost use Rattle.mg_scan.specs.Worked.{AllDone, AllSlots, HitsAnswer, Gives};
 
 use crate::gate::{Gate, Place};
 use crate::hit::Hit;
@@ -30,7 +30,7 @@ fn one<'a, G: Gate>(
     gate: &G,
 ) -> Result<Vec<Hit<'a>>, NoMemory>
     requires { i < length shards.now }
-    ensures { IfOk result (λ v. Answers search.entry (shards_seen shards.now) i v.items) }
+    ensures { IfOk result (λ v. HitsAnswer search.entry (shards_seen shards.now) i v.items) }
 {
     gate.at(Place::ShardBegun(i));
     let shard: &Shard = &shards[i];
@@ -128,7 +128,7 @@ fn taken<'a>(
 ) -> Option<Vec<Hit<'a>>>
     requires inside { i < vec_len slots.old }
     requires slots { AllSlots search (shards_seen shards.now) slots.old.items }
-    ensures hits { IfSome result (λ v. Answers search.entry (shards_seen shards.now) i v.items) }
+    ensures hits { IfSome result (λ v. HitsAnswer search.entry (shards_seen shards.now) i v.items) }
     ensures slots { AllSlots search.entry (shards_seen shards.now) slots.new.items }
     ensures len { vec_len slots.new ≡ vec_len slots.old }
 {
@@ -146,8 +146,8 @@ fn or_scan<'a, G: Gate>(
     gate: &G,
 ) -> Result<Vec<Hit<'a>>, NoMemory>
     requires inside { i < length shards.now }
-    requires found { IfSome found (λ v. Answers search (shards_seen shards.now) i v.items) }
-    ensures { IfOk result (λ v. Answers search.entry (shards_seen shards.now) i v.items) }
+    requires found { IfSome found (λ v. HitsAnswer search (shards_seen shards.now) i v.items) }
+    ensures { IfOk result (λ v. HitsAnswer search.entry (shards_seen shards.now) i v.items) }
 {
     match found {
         Some(hits) => Ok(hits),

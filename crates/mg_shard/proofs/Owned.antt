@@ -15,7 +15,7 @@ use Rattle.mg_revtree.specs.Revision.{revision_text}
 use Rattle.mg_value.specs.Value.{Value, null, flag, whole, text, list, object, Members, no_members, member, no_items, item, get_member, member_of, put, with_member}
 use Rattle.mg_value.specs.View.{view}
 use Rattle.mg_value.specs.declared.value.Json.{Json}
-use Rattle.mg_shard.specs.Documents.{Kept, entry_of, form_at, form_of, id_of, kept_of, shown}
+use Rattle.mg_shard.specs.Documents.{Kept, kept_entry, form_at, form_of, id_of, kept_of, shown}
 use Rattle.mg_shard.specs.Own.{HasOwnId, IsServedOwn, all_columns}
 use Rattle.mg_shard.specs.Rows.{key_of}
 use Rattle.mg_shard.specs.declared.document.Document.{Document}
@@ -90,13 +90,13 @@ own_step : (q : List ℕ) (d : Document) (form : Value) (o : Option Kept) (b : B
 own_step q d form o true is rest e = subst (λ (i : List ℕ). HasOwnId i form) (sym (bytes_exact q (id_of d) (tied (bytes_cmp q (id_of d)) is))) (own_document d form e)
 own_step q d form o false is rest e = rest e
 
-own_found : (q : List ℕ) (ds : List Document) (form : Value) → option_and_then (λ k. k.1) (find bytes_cmp q (map entry_of ds)) ≡ Some form → HasOwnId q form
+own_found : (q : List ℕ) (ds : List Document) (form : Value) → option_and_then (λ k. k.1) (find bytes_cmp q (map kept_entry ds)) ≡ Some form → HasOwnId q form
 own_found q [] form e = absurd cc
-own_found q (d ∷ ds) form e = own_step q d form (find bytes_cmp q (map entry_of ds)) (is_eq (bytes_cmp q (id_of d))) refl (own_found q ds form) e
+own_found q (d ∷ ds) form e = own_step q d form (find bytes_cmp q (map kept_entry ds)) (is_eq (bytes_cmp q (id_of d))) refl (own_found q ds form) e
 
 -- a document that is served with an `_id` is served with its own
 pub own_shown : (q : List ℕ) (ds : List Document) (form : Value) → form_at (shown ds) q ≡ Some form → HasOwnId q form
-own_shown q ds form e = own_found q ds form (ap (option_and_then (λ (k : Kept). k.1)) (sym (get-from_entries nat_list_cmp_total (map entry_of ds) q)) ∙ e)
+own_shown q ds form e = own_found q ds form (ap (option_and_then (λ (k : Kept). k.1)) (sym (get-from_entries nat_list_cmp_total (map kept_entry ds) q)) ∙ e)
 
 -- ---- what is found under an id has it
 

@@ -18,7 +18,7 @@ use Rattle.mg_pages.specs.Identified.{id_order}
 use Rattle.mg_pages.specs.Order.{Ascends}
 use Rattle.mg_revtree.specs.History.{History}
 use Rattle.mg_shard.specs.Dealt.{Placing, ShardsStandFor, histories_on}
-use Rattle.mg_shard.specs.Documents.{Kept, KeptDocuments, StandsAt, entry_of, id_of, kept_of, shown}
+use Rattle.mg_shard.specs.Documents.{Kept, KeptDocuments, StandsAt, kept_entry, id_of, kept_of, shown}
 use Rattle.mg_shard.specs.Histories.{Histories}
 use Rattle.mg_shard.specs.Index.{definitions_of, indexes_seen}
 use Rattle.mg_shard.specs.Redealt.{AreRedealt, all_shown, documents_in, kept_in}
@@ -138,26 +138,26 @@ one_dealt place from to done i m k v at below is r =
 
 -- ---- the documents of a shard that are left to deal
 
-absent_above : (d : Document) (ds : List Document) → AllByRecursion (λ y. id_order id_of d y ≡ Less) ds → find bytes_cmp (id_of d) (map entry_of ds) ≡ None
+absent_above : (d : Document) (ds : List Document) → AllByRecursion (λ y. id_order id_of d y ≡ Less) ds → find bytes_cmp (id_of d) (map kept_entry ds) ≡ None
 absent_above d [] h = refl
-absent_above d (x ∷ ds) h = ap (λ r. cond (is_eq r) (Some (kept_of x)) (find bytes_cmp (id_of d) (map entry_of ds))) h.0 ∙ absent_above d ds h.1
+absent_above d (x ∷ ds) h = ap (λ r. cond (is_eq r) (Some (kept_of x)) (find bytes_cmp (id_of d) (map kept_entry ds))) h.0 ∙ absent_above d ds h.1
 
 left_step : (e : Bool) (v : Kept) (o p : Option Kept) → (e ≡ true → o ≡ None) → option_or o (cond e (Some v) p) ≡ option_or (cond e (Some v) o) p
 left_step true v o p none = ap (λ x. option_or x (Some v)) (none refl)
 left_step false v o p none = refl
 
-shown_get : (ds : List Document) (q : List ℕ) → get (shown ds) q ≡ find bytes_cmp q (map entry_of ds)
-shown_get ds q = get-from_entries nat_list_cmp_total (map entry_of ds) q
+shown_get : (ds : List Document) (q : List ℕ) → get (shown ds) q ≡ find bytes_cmp q (map kept_entry ds)
+shown_get ds q = get-from_entries nat_list_cmp_total (map kept_entry ds) q
 
 -- a document that is dealt is no longer left
 pub left_less : (d : Document) (rest : List Document) (done : KeptDocuments) (q : List ℕ) → Ascends (id_order id_of) (d ∷ rest)
     → option_or (get (shown rest) q) (get (insert done (id_of d) (kept_of d)) q) ≡ option_or (get (shown (d ∷ rest)) q) (get done q)
 left_less d rest done q h =
     let e = eq_by_cmp bytes_cmp q (id_of d) in
-    let o = find bytes_cmp q (map entry_of rest) in
+    let o = find bytes_cmp q (map kept_entry rest) in
     ap (λ x. option_or x (get (insert done (id_of d) (kept_of d)) q)) (shown_get rest q)
     ∙ ap (option_or o) (get-insert nat_list_cmp_total done (id_of d) (kept_of d) q)
-    ∙ left_step e (kept_of d) o (get done q) (λ tie. ap (λ x. find bytes_cmp x (map entry_of rest)) (same_id q (id_of d) tie) ∙ absent_above d rest h.0)
+    ∙ left_step e (kept_of d) o (get done q) (λ tie. ap (λ x. find bytes_cmp x (map kept_entry rest)) (same_id q (id_of d) tie) ∙ absent_above d rest h.0)
     ∙ ap (λ x. option_or x (get done q)) (sym (shown_get (d ∷ rest) q))
 
 -- at first none is dealt

@@ -64,16 +64,16 @@ abbrev pub kept_of : Document → Kept
 kept_of d = (d.tree, form_of d)
 
 -- an id with its document
-abbrev pub entry_of : Document → List ℕ × Kept
-entry_of d = (string_bytes d.id, kept_of d)
+abbrev pub kept_entry : Document → List ℕ × Kept
+kept_entry d = (string_bytes d.id, kept_of d)
 
 -- documents by their ids
 abbrev pub shown : List Document → KeptDocuments
-shown ds = from_entries (map entry_of ds)
+shown ds = from_entries (map kept_entry ds)
 
 -- the served ones among these, in their order
 abbrev pub served_docs : List Document → List ServedDocument
-served_docs ds = filter_map (λ d. doc_entry (entry_of d)) ds
+served_docs ds = filter_map (λ d. doc_entry (kept_entry d)) ds
 
 -- what an id and a form that are lent say
 abbrev pub lent : Bor (List ℕ) × Bor Json → ServedDocument

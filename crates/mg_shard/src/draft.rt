@@ -145,7 +145,7 @@ fn copied(alloc: Global, tree: Option<&RevTree>) -> Result<RevTree, NoMemory>
         → StandsFor t (history_at hs id)) }
 {
     match tree {
-        Some(tree) => Ok(tree.copy()?),
+        Some(tree) => Ok(tree.copy(alloc)?),
         None => Ok(RevTree::new(alloc)),
     }
 }

@@ -5,7 +5,7 @@ ghost use Rattle.std.specs.FinMap.{entries, get};
 ghost use Rattle.std.specs.declared.cmp.Ordering.{Ordering};
 ghost use Rattle.mg_value.specs.View.{view};
 ghost use Rattle.mg_value.specs.Text.{compact};
-ghost use Rattle.mg_shard.specs.Documents.{Kept, docs_of, entry_of, form_at, id_of, kept_of, tree_at, StandFor};
+ghost use Rattle.mg_shard.specs.Documents.{Kept, docs_of, kept_entry, form_at, id_of, kept_of, tree_at, StandFor};
 ghost use Rattle.mg_shard.specs.Own.{HasOwnId};
 ghost use Rattle.mg_shard.specs.Walk.{beyond};
 ghost use Rattle.mg_shard.specs.declared.document.Document.{Document};
@@ -153,8 +153,8 @@ impl Shard {
         place: &Q,
         direction: Direction,
     ) -> Documents<'_>
-        ensures { (order : List ℕ × Kept → Ordering) → ((d : Document) → Q.against place.now d ≡ order (entry_of d))
-            → map entry_of result ≡ beyond direction order (entries self.now.documents) }
+        ensures { (order : List ℕ × Kept → Ordering) → ((d : Document) → Q.against place.now d ≡ order (kept_entry d))
+            → map kept_entry result ≡ beyond direction order (entries self.now.documents) }
     {
         self.documents.ascends();
         Walk::beyond(&self.documents, place, direction)

@@ -49,9 +49,12 @@ mutual
   members_numbers no_members h = tt
   members_numbers (member k v ms) h = (numbers v h.1, members_numbers ms h.2)
 
+-- the tokens of a value are printed as its compact text
+pub printed : (v : Value) → print (tokens_of v) ≡ compact v
+printed v = print-outline (data_of v) ∙ compact_text-data_of v
+
 -- the compact text of a value, where that is UTF-8 and nests at most 127 deep
 pub reads_compact : (v : Value) → IsHeld v → depth v ≤ 127 → IsUtf8 (compact v) → Reads (compact v) v
 reads_compact v held shallow utf8 =
-    let printed : compact v ≡ print (tokens_of v) = sym (print-outline (data_of v) ∙ compact_text-data_of v) in
-    let same : tokens (compact v) ≡ tokens_of v = ap tokens printed ∙ tokens-print (tokens_of v) (ArePrintable-json_tokens (outline (data_of v)) (numbers v held)) in
+    let same : tokens (compact v) ≡ tokens_of v = ap tokens (sym (printed v)) ∙ tokens-print (tokens_of v) (ArePrintable-json_tokens (outline (data_of v)) (numbers v held)) in
     (data_of v, (utf8, read-tokens_of v (compact v) same held shallow), whole_of-data_of v held)

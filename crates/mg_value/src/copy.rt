@@ -1,4 +1,4 @@
-ghost use Rattle.std.specs.Prelude.{◌≡◌, IfOk};
+ghost use Rattle.std.specs.Prelude.{◌≡◌, IfOk, map, string_bytes};
 ghost use Rattle.mg_value.specs.View.{view, items_view, members_view};
 
 use crate::error::NoMemory;
@@ -46,6 +46,19 @@ fn copied_members(
     for (name, member) in members.iter() {
         let copied_name = name.clone()?;
         drop(copies.insert(copied_name, copied(alloc, member)?)?);
+    }
+    Ok(copies)
+}
+
+/// Equal texts, in a list of their own.
+///
+/// Errors: `NoMemory` where a growth was refused. Cost: the length of the texts.
+pub fn copy_texts(alloc: Global, texts: &[String]) -> Result<Vec<String>, NoMemory>
+    ensures { IfOk result (λ copies. map string_bytes copies.items ≡ map string_bytes texts.now) }
+{
+    let mut copies = Vec::with_capacity(alloc, texts.len())?;
+    for text in texts {
+        copies.push(text.clone()?)?;
     }
     Ok(copies)
 }

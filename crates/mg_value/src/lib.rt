@@ -8,7 +8,7 @@ mod reader;
 mod value;
 mod writer;
 
-pub use copy::copy_items;
+pub use copy::{copy_items, copy_texts};
 pub use error::{NoMemory, ReadError};
 pub use reader::read;
 pub use value::Json;

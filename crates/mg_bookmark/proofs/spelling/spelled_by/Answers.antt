@@ -4,7 +4,7 @@ use Rattle.std.proofs.lemmas.Result.{err_from_is_err_and}
 use Rattle.mg_value.specs.Text.{Reads}
 use Rattle.mg_value.specs.View.{view}
 use Rattle.mg_bookmark.specs.Decoding.{IsDecoded}
-use Rattle.mg_bookmark.specs.Seen.{place_of}
+use Rattle.mg_bookmark.specs.Seen.{bookmark_place}
 use Rattle.mg_bookmark.specs.declared.error.BookmarkError.TheVariants.{Invalid}
 use Rattle.mg_bookmark.proofs.Readings.{unread_bytes, unread_value, unread_spelling}
 use Rattle.mg_bookmark.proofs.spelling.spelled_by.Goals as goal
@@ -28,5 +28,5 @@ returns-clause-unread c = λ _.
     let bytes = c.in_ok-bytes.bytes.items in
     let value = view c.in_ok-value.value in
     let read = subst (λ b. Reads b value) c.deref.ensures.value c.in_ok-value.ensures.ok in
-    unread_spelling c.args.text.now bytes value (place_of c.in_ok-bookmark.bookmark) c.in_ok-bytes.ensures.ok read c.in_ok-bookmark.ensures.ok c.in_ok-same.ensures.low
+    unread_spelling c.args.text.now bytes value (bookmark_place c.in_ok-bookmark.bookmark) c.in_ok-bytes.ensures.ok read c.in_ok-bookmark.ensures.ok c.in_ok-same.ensures.low
     (λ same. iff_false c.in_ok-same.ensures.same c.if-same.false (c.deref-2.ensures.value ∙ same))

@@ -1,6 +1,6 @@
 use Rattle.std.proofs.Common.{Ok, option_copied, subst}
 use Rattle.mg_value.specs.Value.{Value}
-use Rattle.mg_doc.specs.Applied.{Brings}
+use Rattle.mg_doc.specs.Brought.{Brings}
 use Rattle.mg_doc.specs.Edit.{extended}
 use Rattle.mg_doc.proofs.apply.extend_by_copy.Goals as goal
 

@@ -3,7 +3,7 @@ use Rattle.std.proofs.lemmas.Result.{err_from_is_err_and}
 use Rattle.mg_value.specs.View.{view}
 use Rattle.mg_revtree.specs.Revision.{Revision}
 use Rattle.mg_revtree.specs.History.{fits}
-use Rattle.mg_doc.specs.Applied.{Brings}
+use Rattle.mg_doc.specs.Brought.{Brings}
 use Rattle.mg_doc.specs.Conversions.{error_of_merge}
 use Rattle.mg_doc.specs.Edit.{replicated}
 use Rattle.mg_doc.specs.declared.error.EditError.{EditError}

@@ -4,7 +4,7 @@ use Rattle.json.specs.Token.{begin_array}
 use Rattle.mg_value.specs.Held.{items_tokens_of, tokens_of}
 use Rattle.mg_value.specs.Value.{list}
 use Rattle.mg_engine.specs.Outcomes.{entries_told}
-use Rattle.mg_engine.proofs.Printed.{printed}
+use Rattle.mg_value.proofs.Compact.{printed}
 use Rattle.mg_engine.proofs.entry.entries_line.Goals as goal
 
 pub returns : goal.returns

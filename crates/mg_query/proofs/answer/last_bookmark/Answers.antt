@@ -2,7 +2,7 @@ use Rattle.std.proofs.Common.{◌≡◌, List, sym, ap₂, ◌∙◌}
 use Rattle.std.specs.Prelude.{string_bytes}
 use Rattle.mg_bookmark.specs.Bookmark.{spelled}
 use Rattle.mg_query.specs.Page.{Candidate, bookmark_after, columns_of, ddoc_of, name_of}
-use Rattle.mg_query.specs.Paged.{LendEach}
+use Rattle.mg_query.specs.Lent.{LendEach}
 use Rattle.mg_query.specs.Seen.{query_seen}
 use Rattle.mg_query.specs.Served.{source_seen}
 use Rattle.mg_query.proofs.Showing.{bookmark_last, ok_weaker}

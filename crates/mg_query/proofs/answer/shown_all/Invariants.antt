@@ -2,7 +2,7 @@ use Rattle.std.proofs.Common.{◌≡◌, ◌++◌, List, map, drop}
 use Rattle.mg_value.specs.View.{view}
 use Rattle.mg_index.specs.Definition.{Steps}
 use Rattle.mg_query.specs.Page.{Candidate, shown_of}
-use Rattle.mg_query.specs.Paged.{LendEach}
+use Rattle.mg_query.specs.Lent.{LendEach}
 use Rattle.mg_query.specs.Seen.{query_seen}
 use Rattle.mg_query.proofs.answer.shown_all.Given as goal
 

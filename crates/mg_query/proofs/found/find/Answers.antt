@@ -7,7 +7,8 @@ use Rattle.mg_shard.specs.Shard.{shards_seen}
 use Rattle.mg_scan.specs.Hit.{hit_row}
 use Rattle.mg_scan.specs.declared.hit.Hit.{Hit}
 use Rattle.mg_query.specs.Page.{candidates_of, columns_of, page_rows}
-use Rattle.mg_query.specs.Paged.{IsWithin, LendEach, counts_handed}
+use Rattle.mg_query.specs.Paged.{IsWithin, counts_handed}
+use Rattle.mg_query.specs.Lent.{LendEach}
 use Rattle.mg_query.specs.Seen.{query_seen}
 use Rattle.mg_query.specs.Served.{source_seen}
 use Rattle.mg_query.proofs.Counts.{handed_counts}

@@ -3,7 +3,7 @@ use Rattle.mg_value.specs.Text.{compact}
 use Rattle.mg_index.specs.Definition.{Steps}
 use Rattle.mg_scan.specs.Hit.{hit_text}
 use Rattle.mg_query.specs.Page.{Candidate, shown_of}
-use Rattle.mg_query.specs.Paged.{Lends}
+use Rattle.mg_query.specs.Lent.{Lends}
 use Rattle.mg_query.specs.Seen.{query_seen}
 use Rattle.mg_query.proofs.Showing.{ok_weaker, shown_whole}
 use Rattle.mg_query.proofs.text.with_document.Goals as goal

@@ -4,7 +4,7 @@ use Rattle.mg_value.specs.Value.{list}
 use Rattle.mg_value.specs.View.{items_of}
 use Rattle.mg_index.specs.Definition.{Steps}
 use Rattle.mg_query.specs.Page.{Candidate, shown_of}
-use Rattle.mg_query.specs.Paged.{LendEach}
+use Rattle.mg_query.specs.Lent.{LendEach}
 use Rattle.mg_query.specs.Seen.{query_seen}
 use Rattle.mg_query.proofs.text.with_documents.Given as goal
 

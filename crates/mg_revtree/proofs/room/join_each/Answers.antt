@@ -1,6 +1,6 @@
 use Rattle.std.proofs.Common.{◌+◌, ◌-◌, ◌<◌, ◌∙◌, ℕ, length, refl, sym, ap, subst, arith, append-nil, take, drop, get_or, option_map}
 use Rattle.std.proofs.lemmas.List.{drop_all, get_or_default}
-use Rattle.mg_revtree.specs.Nodes.{ParentWithin, part_of}
+use Rattle.mg_revtree.specs.Nodes.{ParentWithin, text_of_part}
 use Rattle.mg_revtree.specs.Revision.{Revision}
 use Rattle.mg_revtree.specs.Room.{used}
 use Rattle.mg_revtree.specs.declared.node.Node.{Node}
@@ -31,7 +31,7 @@ loop-i-preserved c =
     let lt : i < length ps = c.loop-i-test.true in
     let x : Node = record { pos = c.loop-i.pos; id = get_or ps i d; parent = c.copied.result } in
     let got = c.get.ensures.lookup.3 in
-    let newest = ap (option_map {U = Revision} (λ p. (c.loop-i.pos - 1, part_of t p))) c.copied.ensures ∙ newest_got (part_of t) (c.loop-i.pos - 1) ps (i + 1) c.get.result got in
+    let newest = ap (option_map {U = Revision} (λ p. (c.loop-i.pos - 1, text_of_part t p))) c.copied.ensures ∙ newest_got (text_of_part t) (c.loop-i.pos - 1) ps (i + 1) c.get.result got in
     let down = c.saturating_sub-pos.ensures in
     record {
       pos = omega (arith, down, v.pos);

@@ -1,5 +1,6 @@
 use Rattle.std.proofs.Common.{◌≡◌, vec_len, length, map, take}
-use Rattle.mg_scan.specs.Built.{AreRowsAt, with_index}
+use Rattle.mg_scan.specs.Built.{with_index}
+use Rattle.mg_scan.specs.Building.{AreRowsAt}
 use Rattle.mg_shard.specs.Shard.{shards_seen}
 use Rattle.mg_scan.proofs.building.with_all.Given as goal
 

@@ -7,7 +7,7 @@ use Rattle.mg_scan.specs.Search.{entry_rows, walked_by}
 use Rattle.mg_scan.specs.Walked.{holds_at, is_late_row}
 use Rattle.mg_scan.proofs.Steps.{held, hits_one, key_late, neither, one_left, room, rows_some, walk_end, walk_one, walk_over}
 use Rattle.mg_scan.proofs.shard.hits_of_documents.Goals as goal
-use Rattle.mg_shard.specs.Documents.{entry_of, id_of, kept_of}
+use Rattle.mg_shard.specs.Documents.{kept_entry, id_of, kept_of}
 use Rattle.mg_shard.specs.declared.document.Document.{Document}
 use Rattle.mg_value.specs.View.{items_view}
 
@@ -17,8 +17,8 @@ returns-clause-rows c =
     let s = c.args.search in
     let ds = c.args.shard.now.documents in
     let hits = l.hits.items in
-    walk_end (is_late_row s.direction s.range.now) (λ r. holds_at s.normal.now ds r.1) s.take (length hits) (walked_by s ds s.take (entry_rows (map entry_of c.args.documents))) (hit_rows hits)
-    (l.invariant.rows ∙ ap (λ (xs : List Document). hit_rows hits ++ walked_by s ds (s.take - length hits) (entry_rows (map entry_of xs))) c.in-None.ensures.steps.0)
+    walk_end (is_late_row s.direction s.range.now) (λ r. holds_at s.normal.now ds r.1) s.take (length hits) (walked_by s ds s.take (entry_rows (map kept_entry c.args.documents))) (hit_rows hits)
+    (l.invariant.rows ∙ ap (λ (xs : List Document). hit_rows hits ++ walked_by s ds (s.take - length hits) (entry_rows (map kept_entry xs))) c.in-None.ensures.steps.0)
 
 pub returns-then-is_over-clause-rows : goal.returns-then-is_over-clause-rows
 returns-then-is_over-clause-rows c =
@@ -29,11 +29,11 @@ returns-then-is_over-clause-rows c =
     let key = c.in-Some-id_key.key.now in
     let hits = l.hits.items in
     let r : RowValue = (items_view key, id_of d) in
-    let rest = entry_rows (map entry_of c.next.new.self) in
+    let rest = entry_rows (map kept_entry c.next.new.self) in
     let long : length hits ≡ c.len.result = sym l.hits.ok.0 ∙ sym c.len.ensures in
     let over : (nat_le s.take (length hits) || is_late_row s.direction s.range.now r) ≡ true = ap₂ (λ n b. nat_le s.take n || b) long (key_late s key (id_of d)) ∙ sym c.is_over.ensures ∙ c.if-is_over.true in
-    walk_over (is_late_row s.direction s.range.now) (λ x. holds_at s.normal.now ds x.1) s.take (length hits) (walked_by s ds s.take (entry_rows (map entry_of c.args.documents))) (hit_rows hits) r rest over
-    (l.invariant.rows ∙ ap (λ (xs : List Document). hit_rows hits ++ walked_by s ds (s.take - length hits) (entry_rows (map entry_of xs))) c.in-Some.ensures.steps
+    walk_over (is_late_row s.direction s.range.now) (λ x. holds_at s.normal.now ds x.1) s.take (length hits) (walked_by s ds s.take (entry_rows (map kept_entry c.args.documents))) (hit_rows hits) r rest over
+    (l.invariant.rows ∙ ap (λ (xs : List Document). hit_rows hits ++ walked_by s ds (s.take - length hits) (entry_rows (map kept_entry xs))) c.in-Some.ensures.steps
     ∙ ap (λ rows. hit_rows hits ++ walked_by s ds (s.take - length hits) rows) (rows_some d c.next.new.self (items_view key) c.in-Some-id_key.ensures))
 
 pub loop-document-preserved : goal.loop-document-preserved
@@ -45,15 +45,15 @@ loop-document-preserved c =
     let key = c.in-Some-id_key.key.now in
     let hits = l.hits.items in
     let r : RowValue = (items_view key, id_of d) in
-    let rest = entry_rows (map entry_of c.next.new.self) in
-    let total = walked_by s ds s.take (entry_rows (map entry_of c.args.documents)) in
+    let rest = entry_rows (map kept_entry c.next.new.self) in
+    let total = walked_by s ds s.take (entry_rows (map kept_entry c.args.documents)) in
     let long : length hits ≡ c.len.result = sym l.hits.ok.0 ∙ sym c.len.ensures in
     let on_time = neither _ _ (sym c.is_over.ensures ∙ c.if-is_over.false) in
     let free = room s.take c.len.result on_time.0 in
     let less : length hits < s.take = omega (arith, long, free) in
     let left = subst (λ (xs : List Document). AllByRecursion (λ x. get ds (id_of x) ≡ Some (kept_of x)) xs) c.in-Some.ensures.steps l.invariant.left in
     let sum : total ≡ hit_rows hits ++ walked_by s ds (s.take - length hits) (r ∷ rest) =
-    l.invariant.rows ∙ ap (λ (xs : List Document). hit_rows hits ++ walked_by s ds (s.take - length hits) (entry_rows (map entry_of xs))) c.in-Some.ensures.steps
+    l.invariant.rows ∙ ap (λ (xs : List Document). hit_rows hits ++ walked_by s ds (s.take - length hits) (entry_rows (map kept_entry xs))) c.in-Some.ensures.steps
     ∙ ap (λ rows. hit_rows hits ++ walked_by s ds (s.take - length hits) rows) (rows_some d c.next.new.self (items_view key) c.in-Some-id_key.ensures) in
     record {
       some = rw c.in_ok-push_if.ensures (one_left s.take hits c.hit_of.result less);

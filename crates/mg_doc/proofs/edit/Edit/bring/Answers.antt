@@ -1,7 +1,8 @@
 use Rattle.std.proofs.Common.{◌≡◌, ◌∙◌, Option, Ok, Err, None, Result, option_copied, sym, ap, subst}
 use Rattle.std.proofs.lemmas.Result.{err_from_is_err_and}
 use Rattle.mg_revtree.specs.Revision.{Revision}
-use Rattle.mg_doc.specs.Applied.{Applied, Brings, Foreseen}
+use Rattle.mg_doc.specs.Applied.{Applied, Foreseen}
+use Rattle.mg_doc.specs.Brought.{Brings}
 use Rattle.mg_doc.specs.Document.{Edit}
 use Rattle.mg_doc.specs.Edit.{Accepted, accepted_by, accepted_of, extended, first_refusal, replicated}
 use Rattle.mg_doc.specs.contracts.edit.Edit.{the_view}

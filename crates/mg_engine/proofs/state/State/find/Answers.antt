@@ -4,7 +4,7 @@ use Rattle.mg_query.specs.Query.{query_of}
 use Rattle.mg_shard.specs.Dealt.{ShardsStandFor}
 use Rattle.mg_shard.specs.Shard.{ShardView, shards_seen}
 use Rattle.mg_value.specs.View.{view}
-use Rattle.mg_engine.specs.Commands.{found}
+use Rattle.mg_engine.specs.Commands.{answer_of_query}
 use Rattle.mg_engine.specs.Stands.{Shown}
 use Rattle.mg_engine.proofs.Whole.{are_whole}
 use Rattle.mg_engine.proofs.state.State.find.Goals as goal
@@ -18,4 +18,4 @@ pub returns : goal.returns
 returns g c = λ place w h.
     let catalog : w.indexes ≡ c.deref.result.now = sym (c.deref.ensures ∙ ap (λ (s : Shown). s.catalog) c.self.view_is ∙ h.indexes) in
     let documents = subst (λ (ss : List ShardView). ShardsStandFor place ss w.docs) (sym c.whole_shards.ensures.shards) h.documents in
-    c.in_ok-reply.ensures (found w (query_of (view c.args.body.now))) (c.page_line-line.ensures place w documents (are_whole w.docs h.objects) catalog)
+    c.in_ok-reply.ensures (answer_of_query w (query_of (view c.args.body.now))) (c.page_line-line.ensures place w documents (are_whole w.docs h.objects) catalog)

@@ -1,5 +1,5 @@
 use Rattle.std.proofs.Common.{sym, ◌∙◌, ap}
-use Rattle.mg_live.specs.Rules.{entry_of}
+use Rattle.mg_live.specs.Rules.{log_entry}
 use Rattle.mg_live.proofs.Adding.{adds_moves}
 use Rattle.mg_live.proofs.history.Front.with.Goals as goal
 
@@ -16,5 +16,5 @@ compare_exchange-found-requires c =
       book,
       pen.0 ∙ book,
       offer.0,
-      rw (ap (λ w. w.key) h, pen.1, offer.1, offer.3, ap (λ s. s.log) again) (adds_moves s.seen.log (entry_of write.seat write.command.now) s.count (sym s.counted)),
+      rw (ap (λ w. w.key) h, pen.1, offer.1, offer.3, ap (λ s. s.log) again) (adds_moves s.seen.log (log_entry write.seat write.command.now) s.count (sym s.counted)),
     )

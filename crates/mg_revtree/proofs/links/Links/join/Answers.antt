@@ -2,7 +2,7 @@ use Rattle.std.proofs.Common.{◌≡◌, ◌∙◌, ◌++◌, ℕ, List, length,
 use Rattle.mg_revtree.specs.Revision.{run_from}
 use Rattle.mg_revtree.specs.History.{Link, links}
 use Rattle.mg_revtree.specs.Tree.{AreNodes, AreSorted}
-use Rattle.mg_revtree.specs.Nodes.{link_in, part_of, AreWithin, PartsWithin}
+use Rattle.mg_revtree.specs.Nodes.{link_in, text_of_part, AreWithin, PartsWithin}
 use Rattle.mg_revtree.specs.declared.node.Node.{Node}
 use Rattle.mg_revtree.proofs.Texts.{grown-length, grown-links, within-more}
 use Rattle.mg_revtree.proofs.links.Links.join.Goals as goal
@@ -34,7 +34,7 @@ returns-clause-nodes c = λ ls nodes.
     let e : c.deref.result.now ≡ ns = c.deref.ensures.value ∙ c.reserve.ensures.items in
     let kept : AreNodes (map (link_in t) ns) ls = subst (λ (ks : List Link). AreNodes ks ls) (sym c.self.view_is) nodes in
     let seen : map (link_in u) c.reserve.new.self.items ≡ map (link_in t) ns = ap (λ (x : List ℕ). map (link_in x) c.reserve.new.self.items) c.deref-2.ensures.value ∙ ap (map (link_in t')) c.reserve.ensures.items ∙ grown-links t t' c.in-Ok.ensures.grows ns w in
-    let parts : map (part_of t') c.in-Ok.parts.items ≡ map string_bytes c.args.ids.now = c.in-Ok.ensures.parts (subst (AreWithin (length t)) (sym e) w) (subst (λ (k : List Node). AreSorted (map (link_in t) k)) (sym e) kept.sorted) in
-    let all : map (part_of u) c.deref-3.result.now ≡ map string_bytes c.args.ids.now = ap (λ (x : List ℕ). map (part_of x) c.deref-3.result.now) c.deref-2.ensures.value ∙ ap (map (part_of t')) c.deref-3.ensures.value ∙ parts in
+    let parts : map (text_of_part t') c.in-Ok.parts.items ≡ map string_bytes c.args.ids.now = c.in-Ok.ensures.parts (subst (AreWithin (length t)) (sym e) w) (subst (λ (k : List Node). AreSorted (map (link_in t) k)) (sym e) kept.sorted) in
+    let all : map (text_of_part u) c.deref-3.result.now ≡ map string_bytes c.args.ids.now = ap (λ (x : List ℕ). map (text_of_part x) c.deref-3.result.now) c.deref-2.ensures.value ∙ ap (map (text_of_part t')) c.deref-3.ensures.value ∙ parts in
     let now = c.join_all.ensures.nodes ls (subst (λ (ks : List Link). AreNodes ks ls) (sym seen) kept) in
     subst (λ (x : List ℕ). AreNodes (map (link_in x) c.join_all.new.nodes.items) (ls ++ links (run_from c.args.start (map string_bytes c.args.ids.now)))) c.deref-2.ensures.value (subst (λ (ss : List (List ℕ)). AreNodes (map (link_in u) c.join_all.new.nodes.items) (ls ++ links (run_from c.args.start ss))) all now)

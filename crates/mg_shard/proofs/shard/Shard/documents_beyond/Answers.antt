@@ -1,6 +1,6 @@
 use Rattle.std.proofs.Common.{◌∙◌, ap, map, sym}
 use Rattle.std.specs.FinMap.{entries}
-use Rattle.mg_shard.specs.Documents.{entry_of}
+use Rattle.mg_shard.specs.Documents.{kept_entry}
 use Rattle.mg_shard.specs.Walk.{beyond}
 use Rattle.mg_shard.proofs.Shown.{entries-shown}
 use Rattle.mg_shard.proofs.Walks.{beyond-map}
@@ -10,5 +10,5 @@ pub returns : goal.returns
 returns g c = λ order same.
     let ds = c.self.inside.documents in
     let direction = c.args.direction in
-    ap (map entry_of) c.beyond.ensures ∙ beyond-map entry_of _ order same direction ds
+    ap (map kept_entry) c.beyond.ensures ∙ beyond-map kept_entry _ order same direction ds
     ∙ ap (beyond direction order) (sym (entries-shown ds c.ascends.ensures) ∙ ap (λ v. entries v.documents) c.self.view_is)

@@ -1,0 +1,21 @@
+-- A path that an edit brings to a tree. These words serve private clauses.
+use Rattle.std.specs.Prelude.{◌≡◌, List, ◌∷◌, Bool, Option, Some, None, Result, Ok, Err}
+use Rattle.mg_value.specs.Value.{Value}
+use Rattle.mg_revtree.specs.Revision.{Revision}
+use Rattle.mg_revtree.specs.History.{History}
+use Rattle.mg_revtree.specs.Changes.{path_of, with_path}
+use Rattle.mg_revtree.specs.Tree.{Tree, StandsFor}
+use Rattle.mg_doc.specs.Applied.{refusal_told}
+use Rattle.mg_doc.specs.Edit.{Accepted}
+use Rattle.mg_doc.specs.declared.error.EditError.{EditError}
+use Rattle.mg_doc.specs.declared.error.Refused.{Refused}
+
+-- what is said where an error tells a refusal
+abbrev pub Missing : {A : Type 0} → Result A Refused → Option Refused → Type 0
+Missing said (Some refused) = said ≡ Err refused
+Missing said None = Unit {0}
+
+-- a path that is accepted, after which the tree stands for the history with it, or why none is
+abbrev pub Brings : History → Bool → Value → Result Accepted Refused → Result Revision EditError → Tree → Type 0
+Brings h deleted body said (Ok r) t = (rs : List Revision) × (said ≡ Ok (r, rs)) × StandsFor t (with_path h (path_of (r ∷ rs) deleted body))
+Brings h deleted body said (Err x) t = Missing said (refusal_told x)

@@ -1,0 +1,11 @@
+-- A reply that is written by pieces. This word serves private clauses.
+use Rattle.std.specs.Prelude.{◌≡◌, ℕ, List, ◌++◌, Option, Result, Ok, Err}
+use Rattle.std.specs.Io.KnownBytes.{Appends}
+use Rattle.mg_http.specs.Device.{WritesPart}
+use Rattle.mg_http.specs.declared.device.Fault.{Fault}
+
+-- of what was held and the piece behind it all was written but what is held now, or at an error a front
+abbrev pub Gathers
+    : {A : Type 0} → Option (List ℕ) → Option (List ℕ) → List ℕ → List ℕ → List ℕ → Result A Fault → Type 0
+Gathers old new held piece left (Ok a) = (sent : List ℕ) × (held ++ piece ≡ sent ++ left) × Appends old new sent
+Gathers old new held piece left (Err e) = WritesPart old new (held ++ piece)

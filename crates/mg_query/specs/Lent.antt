@@ -1,0 +1,42 @@
+-- The hits of a page, which lend documents, and the lists that shards hand over. These words serve private clauses.
+use Rattle.std.specs.Prelude.{◌≡◌, ◌+◌, ◌==◌, Bool, not, ◌&&◌, List, length, option_map}
+use Rattle.std.specs.List.{AllZip}
+use Rattle.mg_value.specs.Text.{compact}
+use Rattle.mg_collate.specs.Row.{RowValue}
+use Rattle.mg_bookmark.specs.Bookmark.{Place}
+use Rattle.mg_index.specs.Definition.{Steps}
+use Rattle.mg_normal.specs.Normal.{NormalForm, normal_atoms}
+use Rattle.mg_range.specs.Range.{range_of}
+use Rattle.mg_revtree.specs.Tree.{StandsFor}
+use Rattle.mg_scan.specs.Found.{asked}
+use Rattle.mg_scan.specs.Hit.{hit_document, hit_form, hit_row, hit_text}
+use Rattle.mg_scan.specs.Scan.{scanned}
+use Rattle.mg_scan.specs.declared.hit.Hit.{Hit}
+use Rattle.mg_shard.specs.Documents.{docs_of, kept_of}
+use Rattle.mg_shard.specs.Shard.{ShardView}
+use Rattle.mg_query.specs.Page.{Candidate, row_by}
+use Rattle.mg_query.specs.Query.{Query}
+
+-- the row after which a page begins that follows this place
+abbrev pub row_at : Place → RowValue
+row_at p = (p.key, p.id)
+
+-- what a shard lists for a query, in an index of these columns: so many rows at most as the page has and passes over
+abbrev pub shard_rows : NormalForm → List Steps → Query → ShardView → List RowValue
+shard_rows normal columns q s =
+    scanned (asked normal (range_of (normal_atoms normal) columns) (option_map row_at q.bookmark) (q.skip + q.limit) q.direction columns) (docs_of s.documents)
+
+-- the query shows documents as they are served: with no conflicts, and at no fields
+abbrev pub shows_whole : Query → Bool
+shows_whole q = not q.conflicts && (length q.fields == 0)
+
+-- the hit lends the document of a candidate, and its row in an index of these columns
+pub record Lends (columns : List Steps) (h : Hit) (c : Candidate) : Type 0 where
+  pub row : hit_row h ≡ row_by columns c
+  pub form : hit_form h ≡ c.form
+  pub text : hit_text h ≡ compact c.form
+  pub tree : StandsFor (kept_of (hit_document h)).0 c.history
+
+-- the hits lend those of candidates, one each
+abbrev pub LendEach : List Steps → List Hit → List Candidate → Type 0
+LendEach columns hits cs = AllZip (Lends columns) hits cs
