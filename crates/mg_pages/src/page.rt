@@ -43,8 +43,8 @@ pub fn find<T: Keyed, Q: Probe<T>>(
     Err(low)
 }
 
-/// A page of the elements, each of them shared, with room for one more. Their numbers are made again, which looks at each of
-/// them before its count goes up: so the processor fetches them side by side, and the counting waits for none.
+/// A page of the elements, each of them shared, with room for one more. Their numbers are made again, so each of them is looked
+/// at before its count goes up, and the processor can fetch them side by side.
 pub fn page_of<T: Keyed>(alloc: Global, elements: &[Arc<T>]) -> Result<Page<T>, AllocError>
     ensures { IfOk result (λ p. values p.elements.items ≡ values elements.now) }
 {
