@@ -1,6 +1,6 @@
 -- The entries of a shard's documents: what is kept of each, its row among all documents, and these in order.
 use lib.Dec.{T}
-use Rattle.std.proofs.Common.{◌≡◌, ℕ, Bool, true, false, ◌&&◌, cond, List, [], ◌∷◌, ◌++◌, Option, Some, None, codes, map, option_map, Ordering, Less, Equal, Greater, is_eq, is_gt, is_lt, reverse, refl, ap, ap₂, sym, ◌∙◌, subst}
+use Rattle.std.proofs.Common.{◌≡◌, ℕ, Bool, true, false, ◌&&◌, cond, List, [], ◌∷◌, Option, Some, None, codes, map, option_map, Ordering, Less, Equal, Greater, is_eq, is_gt, is_lt, reverse, refl, ap, ap₂, sym, ◌∙◌}
 use Rattle.std.proofs.lemmas.Cmp.{nat_list_cmp_total, tied_itself}
 use Rattle.std.proofs.lemmas.List.{reverse-append}
 use Rattle.std.specs.FinMap.Entries.{below_all}
@@ -20,12 +20,12 @@ use Rattle.mg_scan.specs.Begins.{id_rows}
 use Rattle.mg_shard.specs.Documents.{Kept, KeptDocuments, doc_entry, docs_of, form_at}
 use Rattle.mg_shard.specs.Histories.{ServedDocument}
 use Rattle.mg_shard.specs.Own.{HasOwnId, all_columns}
-use Rattle.mg_shard.specs.Rows.{key_of, row_of, rows_of}
+use Rattle.mg_shard.specs.Rows.{row_of, rows_of}
 use Rattle.mg_shard.specs.Walk.{beyond}
 use Rattle.mg_shard.proofs.Rows.{sorted_is}
 use Rattle.mg_shard.proofs.Shown.{bytes_cmp}
 use Rattle.mg_shard.proofs.Walks.{filter_map-reverse}
-use Rattle.mg_value.specs.Value.{Value, Items, no_items, item, text}
+use Rattle.mg_value.specs.Value.{Value, no_items, item, text}
 
 abbrev pub Entry : Type 0
 Entry = List ℕ × Kept

@@ -10,13 +10,12 @@ use Rattle.mg_index.specs.Catalog.{definition_at}
 use Rattle.mg_index.specs.Definition.{IndexDefinition, Steps}
 use Rattle.mg_scan.specs.Found.{found_in}
 use Rattle.mg_scan.specs.Hit.{AreHitsOf, hit_rows}
-use Rattle.mg_scan.specs.Scan.{Request, scanned}
+use Rattle.mg_scan.specs.Scan.{scanned}
 use Rattle.mg_scan.specs.Search.{asked_by, begin_at, entry_rows, walked_by}
 use Rattle.mg_scan.specs.Walked.{id_row}
 use Rattle.mg_scan.specs.Worked.{Gives}
 use Rattle.mg_scan.specs.declared.hit.Hit.{Hit}
 use Rattle.mg_scan.specs.declared.search.Search.{Search}
-use Rattle.mg_scan.specs.declared.target.Target.{Target}
 use Rattle.mg_scan.specs.declared.target.Target.TheVariants.{AllDocs, Index}
 use Rattle.mg_scan.proofs.Entries.{Entry, all_beyond, all_forms, all_kept, all_mapped, all_rows, own_rows, rows-beyond}
 use Rattle.mg_scan.proofs.Walking.{found_rows}

@@ -1,7 +1,7 @@
 -- One step of a search: what is found so far, and what is left.
 use Rattle.std.proofs.Common.{◌≡◌, ℕ, zero, suc, ◌+◌, ◌-◌, ◌<◌, ◌≤◌, Bool, true, false, ◌||◌, nat_le, List, [], ◌∷◌, ◌++◌, Option, Some, None, IfSome, option_map, map, length, if◌then◌else◌, refl, ap, ap₂, sym, ◌∙◌, subst, arith, append_assoc, append-nil}
 use Rattle.std.proofs.lemmas.Bool.{leb-false, leb-true}
-use Rattle.std.specs.List.{AllByRecursion, cons_option}
+use Rattle.std.specs.List.{cons_option}
 use Rattle.mg_collate.specs.Row.{RowValue, row_view}
 use Rattle.mg_collate.specs.declared.row.Row.{Row}
 use Rattle.mg_scan.specs.Hit.{AreHitsOf, IsHitOf, hit_row, hit_rows}
@@ -19,8 +19,8 @@ use Rattle.mg_shard.specs.Documents.{Kept, KeptDocuments, kept_entry, form_of, i
 use Rattle.mg_shard.specs.Own.{all_columns}
 use Rattle.mg_shard.specs.Rows.{key_of, row_of}
 use Rattle.mg_shard.specs.declared.document.Document.{Document}
-use Rattle.mg_value.specs.Value.{Value, Items, item_list}
-use Rattle.mg_value.specs.View.{items_of, items_view, view}
+use Rattle.mg_value.specs.Value.{Value, Items}
+use Rattle.mg_value.specs.View.{items_view, view}
 use Rattle.mg_value.specs.declared.value.Json.{Json}
 
 pub if_some : {X : Type 0} (b : Bool) (x y : X) → Some x ≡ (if b then Some y else None) → (b ≡ true) × (x ≡ y)

@@ -1,6 +1,6 @@
 -- What a search finds on its way is what is asked: the rows that are reached, up to the first late one, are those in the range and after
 -- the row that is named.
-use Rattle.std.proofs.Common.{◌≡◌, ℕ, zero, suc, Bool, true, false, ◌&&◌, not, cond, List, [], ◌∷◌, ◌++◌, Option, Some, None, option_map, Ordering, Less, Equal, Greater, is_gt, is_lt, take, reverse, if◌then◌else◌, refl, ap, ap₂, sym, ◌∙◌, subst}
+use Rattle.std.proofs.Common.{◌≡◌, ℕ, zero, suc, Bool, true, false, ◌&&◌, not, cond, List, [], ◌∷◌, ◌++◌, Option, Some, None, option_map, Less, Greater, is_gt, is_lt, take, reverse, if◌then◌else◌, refl, ap, ap₂, sym, ◌∙◌}
 use Rattle.std.proofs.lemmas.List.{reverse-append}
 use Rattle.std.proofs.lemmas.List.Elements.{filter-append}
 use Rattle.std.specs.List.{AllByRecursion, cons_option, filter, filter_map}
@@ -14,13 +14,13 @@ use Rattle.mg_collate.proofs.Directed.{directed_total, sorted_descending}
 use Rattle.mg_collate.proofs.Sorting.{NoneBelow, Rises, rises_sorted}
 use Rattle.mg_index.specs.Definition.{Steps}
 use Rattle.mg_normal.specs.Normal.{NormalForm, normal_holds}
-use Rattle.mg_range.specs.Place.{has_key, is_place_within, place_of}
+use Rattle.mg_range.specs.Place.{is_place_within}
 use Rattle.mg_range.specs.Range.{Range}
 use Rattle.mg_range.specs.declared.place.Place.{Place}
 use Rattle.mg_range.specs.declared.place.Place.TheVariants.{Before, Within, Past}
-use Rattle.mg_scan.specs.Scan.{Request, asked_documents, comes_after, is_wanted, scanned}
-use Rattle.mg_scan.specs.Walked.{begin_order, holds_at, is_beyond, is_early, is_late, is_late_row, reaches, walked}
-use Rattle.mg_scan.specs.Begins.{NotAfter, late_rises, place_row, reached}
+use Rattle.mg_scan.specs.Scan.{Request, comes_after, is_wanted, scanned}
+use Rattle.mg_scan.specs.Walked.{begin_order, holds_at, is_beyond, is_early, is_late, is_late_row, walked}
+use Rattle.mg_scan.specs.Begins.{late_rises, place_row, reached}
 use Rattle.mg_shard.specs.Documents.{KeptDocuments, docs_of, form_at}
 use Rattle.mg_shard.specs.Histories.{ServedDocument}
 use Rattle.mg_shard.specs.Rows.{key_of, row_of, rows_of}

@@ -1,11 +1,11 @@
 -- Laws that the code cites: rows in a direction: those that a search passes over come first, then those that it looks at, then those that are late.
-use Rattle.std.proofs.Common.{◌≡◌, ℕ, ◌≤◌, Bool, true, false, ◌&&◌, not, List, [], ◌∷◌, Option, Some, None, option_map, Ordering, Less, Equal, Greater, is_gt, if◌then◌else◌, refl, ap, ap₂, sym, ◌∙◌, arith}
+use Rattle.std.proofs.Common.{◌≡◌, ℕ, ◌≤◌, Bool, true, false, ◌&&◌, not, List, Option, Some, None, option_map, Ordering, Less, Equal, Greater, is_gt, if◌then◌else◌, refl, ap, ap₂, sym, ◌∙◌, arith}
 use Rattle.std.proofs.lemmas.Cmp.{upto}
 use Rattle.std.specs.Cmp.{IsTotalOrder}
 use Rattle.std.specs.Cmp.Lexicographic.{slice_cmp}
 use Rattle.std.specs.Ordering.{is_le, nat_cmp, ordering_reverse, ordering_then}
 use Rattle.mg_collate.specs.Direction.{directed}
-use Rattle.mg_collate.specs.Order.{items_order, value_order}
+use Rattle.mg_collate.specs.Order.{value_order}
 use Rattle.mg_collate.specs.Row.{RowValue, directed_order, row_order, row_value_order, row_value_order_total, row_view}
 use Rattle.mg_collate.specs.declared.direction.Direction.{Direction}
 use Rattle.mg_collate.specs.declared.direction.Direction.TheVariants.{Asc, Desc}
@@ -18,7 +18,6 @@ use Rattle.mg_range.specs.Range.{Range}
 use Rattle.mg_range.specs.declared.place.Place.{Place}
 use Rattle.mg_range.specs.declared.place.Place.TheVariants.{Before, Within, Past}
 use Rattle.mg_range.proofs.Together.{rows_together}
-use Rattle.mg_scan.specs.Scan.{comes_after}
 use Rattle.mg_scan.specs.Search.{after_of, begin_at}
 use Rattle.mg_scan.specs.Walked.{begin_order, id_row, is_beyond, is_early, is_late, is_late_row, reaches}
 use Rattle.mg_scan.specs.declared.search.Search.{Search}

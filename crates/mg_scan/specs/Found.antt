@@ -1,9 +1,8 @@
 -- What is searched in a shard, and what a scan of shards finds in each.
 use Rattle.std.specs.Prelude.{ℕ, List, [], Option, Some, option_map}
 use Rattle.std.specs.Option.{option_map_or}
-use Rattle.mg_collate.specs.Row.{RowValue, row_view}
+use Rattle.mg_collate.specs.Row.{RowValue}
 use Rattle.mg_collate.specs.declared.direction.Direction.{Direction}
-use Rattle.mg_collate.specs.declared.row.Row.{Row}
 use Rattle.mg_index.specs.Catalog.{definition_at}
 use Rattle.mg_index.specs.Definition.{IndexDefinition, Steps}
 use Rattle.mg_normal.specs.Normal.{NormalForm}

@@ -1,6 +1,6 @@
 -- What a scan finds in a shard: of the rows of an index, which are made of the documents as a JSON index of CouchDB has them, those of
 -- the documents that the selector holds of, in a range of keys, after a row, and no more than a number of them.
-use Rattle.std.specs.Prelude.{ℕ, List, [], ◌∷◌, Bool, true, ◌&&◌, codes, Option, Some, None, take, filter}
+use Rattle.std.specs.Prelude.{ℕ, List, Bool, true, ◌&&◌, Option, Some, take, filter}
 use Rattle.std.specs.List.{filter_map}
 use Rattle.std.specs.Option.{option_map_or}
 use Rattle.std.specs.Ordering.{is_gt}

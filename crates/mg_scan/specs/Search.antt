@@ -1,5 +1,5 @@
 -- For private clauses: what the code's search asks.
-use Rattle.std.specs.Prelude.{ℕ, Bool, List, Option, option_map, map, None}
+use Rattle.std.specs.Prelude.{ℕ, List, Option, option_map}
 use Rattle.std.specs.Option.{option_and_then}
 use Rattle.std.specs.List.{filter_map}
 use Rattle.std.specs.declared.cmp.Ordering.{Ordering}

@@ -13,7 +13,6 @@ use Rattle.mg_range.specs.Place.{place_of}
 use Rattle.mg_range.specs.Range.{Range}
 use Rattle.mg_range.specs.declared.place.Place.{Place}
 use Rattle.mg_range.specs.declared.place.Place.TheVariants.{Before, Past}
-use Rattle.mg_scan.specs.Scan.{Request, comes_after}
 use Rattle.mg_shard.specs.Documents.{KeptDocuments, form_at}
 use Rattle.mg_value.specs.Value.{item, item_list, no_items, text}
 

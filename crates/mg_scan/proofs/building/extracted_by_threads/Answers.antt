@@ -1,4 +1,4 @@
-use Rattle.std.proofs.Common.{length, vec_len, ◌≤◌, ◌∙◌, arith}
+use Rattle.std.proofs.Common.{◌∙◌, arith}
 use Rattle.mg_shard.specs.Shard.{shards_seen}
 use Rattle.mg_scan.proofs.Builds.{rows-joined}
 use Rattle.mg_scan.proofs.building.extracted_by_threads.Goals as goal

@@ -1,4 +1,3 @@
-use Rattle.std.proofs.Common.{sym, ap, ◌∙◌}
 use Rattle.mg_scan.proofs.Builds.{rows_there, shard_at}
 use Rattle.mg_scan.proofs.building.rows_at.Goals as goal
 

@@ -1,8 +1,8 @@
-use Rattle.std.proofs.Common.{◌≡◌, ◌||◌, ◌-◌, ◌++◌, ◌<◌, ◌∷◌, List, Some, None, length, map, nat_le, false, true, ap, ap₂, sym, ◌∙◌, subst, arith, if◌then◌else◌}
+use Rattle.std.proofs.Common.{◌≡◌, ◌||◌, ◌-◌, ◌++◌, ◌<◌, ◌∷◌, List, Some, length, map, nat_le, true, ap, ap₂, sym, ◌∙◌, subst, arith}
 use Rattle.std.specs.FinMap.{get}
 use Rattle.std.specs.List.{AllByRecursion}
 use Rattle.mg_collate.specs.Row.{RowValue}
-use Rattle.mg_scan.specs.Hit.{AreHitsOf, hit_rows}
+use Rattle.mg_scan.specs.Hit.{hit_rows}
 use Rattle.mg_scan.specs.Search.{entry_rows, walked_by}
 use Rattle.mg_scan.specs.Walked.{holds_at, is_late_row}
 use Rattle.mg_scan.proofs.Steps.{held, hits_one, key_late, neither, one_left, room, rows_some, walk_end, walk_one, walk_over}

@@ -1,9 +1,8 @@
-use Rattle.std.proofs.Common.{◌≡◌, ◌||◌, ◌-◌, ◌++◌, ◌<◌, ◌∷◌, List, length, nat_le, false, true, ap, ap₂, sym, ◌∙◌, subst, arith}
-use Rattle.mg_collate.specs.Row.{RowValue, row_view, rows_view}
-use Rattle.mg_scan.specs.Hit.{AreHitsOf, hit_rows}
+use Rattle.std.proofs.Common.{◌≡◌, ◌||◌, ◌-◌, ◌++◌, ◌<◌, ◌∷◌, length, nat_le, true, ap, ap₂, sym, ◌∙◌, arith}
+use Rattle.mg_collate.specs.Row.{row_view, rows_view}
+use Rattle.mg_scan.specs.Hit.{hit_rows}
 use Rattle.mg_scan.specs.Search.{walked_by}
 use Rattle.mg_scan.specs.Walked.{holds_at, is_late_row}
-use Rattle.mg_scan.specs.declared.hit.Hit.{Hit}
 use Rattle.mg_scan.proofs.Steps.{hits_one, neither, one_left, room, row_late, walk_end, walk_one, walk_over}
 use Rattle.mg_scan.proofs.shard.hits_of_rows.Goals as goal
 

@@ -1,4 +1,4 @@
-use Rattle.std.proofs.Common.{◌+◌, ap, ◌∙◌, arith}
+use Rattle.std.proofs.Common.{arith}
 use Rattle.mg_shard.specs.Shard.{shards_seen}
 use Rattle.mg_scan.proofs.Maps.{slots-snoc}
 use Rattle.mg_scan.proofs.workers.empty_slots.Goals as goal

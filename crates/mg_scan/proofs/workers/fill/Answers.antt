@@ -2,7 +2,7 @@ use Rattle.std.proofs.Common.{List, [], ◌∷◌, subst}
 use Rattle.std.specs.List.{AllByRecursion}
 use Rattle.mg_pages.proofs.Sorted.{all_left, all_right}
 use Rattle.mg_shard.specs.Shard.{shards_seen}
-use Rattle.mg_scan.specs.Worked.{AllDone, HitsAnswer}
+use Rattle.mg_scan.specs.Worked.{HitsAnswer}
 use Rattle.mg_scan.specs.declared.workers.Done.{Done}
 use Rattle.mg_scan.proofs.Maps.{slots-set}
 use Rattle.mg_scan.proofs.workers.fill.Goals as goal

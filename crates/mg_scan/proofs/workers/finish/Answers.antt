@@ -1,5 +1,5 @@
 use Rattle.std.proofs.Common.{◌∙◌, arith}
-use Rattle.mg_scan.proofs.Maps.{lists-all, lists-more}
+use Rattle.mg_scan.proofs.Maps.{lists-more}
 use Rattle.mg_scan.proofs.workers.finish.Goals as goal
 
 pub loop-i-preserved : goal.loop-i-preserved

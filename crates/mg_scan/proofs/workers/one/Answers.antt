@@ -1,4 +1,3 @@
-use Rattle.std.proofs.Common.{◌∙◌}
 use Rattle.mg_scan.proofs.Maps.{answers}
 use Rattle.mg_scan.proofs.workers.one.Goals as goal
 
