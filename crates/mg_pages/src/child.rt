@@ -55,6 +55,15 @@ fn copy<T: Drop, P: Drop>(child: &Child<T, P>) -> Result<Child<T, P>, AllocError
     Ok(Child { node, hint })
 }
 
+/// How many owners the nodes of children have in all, wrapped at 64 bits; for what `owners_of` is for.
+pub fn owners_of_nodes<T: Drop, P: Drop>(parts: &[Child<T, P>]) -> usize {
+    let mut owners = 0usize;
+    for child in parts {
+        owners = owners.wrapping_add(Arc::strong_count(&child.node));
+    }
+    owners
+}
+
 /// The same children, each of which shares its part, with room for one more.
 pub fn copied_children<T: Drop, P: Drop>(
     alloc: Global,
@@ -63,6 +72,7 @@ pub fn copied_children<T: Drop, P: Drop>(
     ensures { IfOk result (λ v. children v.items ≡ children parts.now) }
 {
     let mut copies = Vec::with_capacity(alloc, parts.len().saturating_add(1))?;
+    let _ = owners_of_nodes(parts);
     for child in parts {
         let own = copy(child)?;
         copies.push(own)?;

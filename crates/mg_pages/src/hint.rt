@@ -79,6 +79,13 @@ impl Hints {
         Ok(Hints { numbers })
     }
 
+    /// The same numbers, with room for one more.
+    pub fn copied(&self, alloc: Global) -> Result<Hints, AllocError> {
+        let mut numbers = Vec::with_capacity(alloc, self.numbers.len().saturating_add(1))?;
+        numbers.extend_from_slice(&self.numbers)?;
+        Ok(Hints { numbers })
+    }
+
     pub fn push(&mut self, number: u64) -> Result<(), AllocError> {
         self.numbers.push(number)?;
         Ok(())

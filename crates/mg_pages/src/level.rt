@@ -7,7 +7,9 @@ ghost use Rattle.mg_pages.specs.Search.{AllBelow, AllAbove};
 ghost use Rattle.mg_pages.specs.Runs.{IsRun, IsEndRun};
 ghost use Rattle.mg_pages.specs.Parts.{values, children, child_seen, child_value, child_whole, AreWhole};
 
-use crate::child::{Child, Node, child_of, copied_children, put_into, take_out_of};
+use crate::child::{
+    Child, Node, child_of, copied_children, owners_of_nodes, put_into, take_out_of,
+};
 use crate::hint::next_guess;
 use crate::keyed::{Keyed, Probe};
 use crate::part::{LIMIT, Part};
@@ -15,9 +17,16 @@ use std::alloc::{AllocError, Global};
 use std::sync::Arc;
 
 /// Parts one after another, each with its last element beside it.
-#[derive(Drop)]
 pub struct Level<T, P> {
     pub(crate) parts: Vec<Child<T, P>>,
+}
+
+impl<T: Drop, P: Drop> Drop for Level<T, P> {
+    fn drop(self) {
+        let Level { parts } = self;
+        let _ = owners_of_nodes(&parts);
+        drop(parts);
+    }
 }
 
 // Where the first part is whose last element has no number below that of the key.

@@ -7,16 +7,24 @@ ghost use Rattle.mg_pages.specs.Parts.{values};
 
 use crate::hint::{Hints, next_guess, number_of};
 use crate::keyed::{Keyed, Probe};
-use crate::part::{LIMIT, Part, copied};
+use crate::part::{LIMIT, Part, copied, owners_of};
 use std::alloc::{AllocError, Global};
 use std::cmp::Ordering;
 use std::sync::Arc;
 
 /// Some elements, each of them shared, and their numbers.
-#[derive(Drop)]
 pub struct Page<T> {
     pub(crate) elements: Vec<Arc<T>>,
     pub(crate) hints: Hints,
+}
+
+impl<T: Drop> Drop for Page<T> {
+    fn drop(self) {
+        let Page { elements, hints } = self;
+        let _ = owners_of(&elements);
+        drop(elements);
+        drop(hints);
+    }
 }
 
 // Where the element is that ties with a key, or else where one would have its place.
@@ -43,8 +51,7 @@ pub fn find<T: Keyed, Q: Probe<T>>(
     Err(low)
 }
 
-/// A page of the elements, each of them shared, with room for one more. Their numbers are made again, so each of them is looked
-/// at before its count goes up, and the processor can fetch them side by side.
+/// A page of the elements, each of them shared, with room for one more.
 pub fn page_of<T: Keyed>(alloc: Global, elements: &[Arc<T>]) -> Result<Page<T>, AllocError>
     ensures { IfOk result (λ p. values p.elements.items ≡ values elements.now) }
 {
@@ -106,7 +113,9 @@ impl<T: Keyed> Part<T> for Page<T> {
     }
 
     fn copy(&self, alloc: Global) -> Result<Page<T>, AllocError> {
-        page_of(alloc, &self.elements)
+        let elements = copied(alloc, &self.elements)?;
+        let hints = self.hints.copied(alloc)?;
+        Ok(Page { elements, hints })
     }
 
     fn halves(

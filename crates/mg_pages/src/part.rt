@@ -93,11 +93,23 @@ pub trait Part<T: Keyed>: Drop + Sized {
         ensures err_whole { OnErr result (is_whole self.new) };
 }
 
+/// How many owners shared things have in all, wrapped at 64 bits. A count that goes up or down waits until its block has come
+/// from memory, and the next one waits for it; counts that are only read are fetched side by side. So what is copied or dropped
+/// is looked at first.
+pub fn owners_of<X: Drop>(things: &[Arc<X>]) -> usize {
+    let mut owners = 0usize;
+    for thing in things {
+        owners = owners.wrapping_add(Arc::strong_count(thing));
+    }
+    owners
+}
+
 /// The same elements, each of them shared, with room for one more.
 pub fn copied<X: Drop>(alloc: Global, things: &[Arc<X>]) -> Result<Vec<Arc<X>>, AllocError>
     ensures { IfOk result (λ v. values v.items ≡ values things.now) }
 {
     let mut copies = Vec::with_capacity(alloc, things.len().saturating_add(1))?;
+    let _ = owners_of(things);
     for thing in things {
         let copy = thing.clone()?;
         copies.push(copy)?;
