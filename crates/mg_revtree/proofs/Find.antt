@@ -1,5 +1,5 @@
 -- What a link put into the kept links changes.
-use Rattle.std.proofs.Common.{◌≡◌, ℕ, zero, suc, ◌<◌, ◌≤◌, true, false, Some, None, is_some, List, [], ◌∷◌, inl, inr, Result, Ok, Err, IfOk, IfErr, nat_lt, length, get_or, map, set, refl, ap, sym, ◌∙◌, subst, arith}
+use Rattle.std.proofs.Common.{◌≡◌, ℕ, zero, suc, ◌<◌, ◌≤◌, false, Some, None, List, [], ◌∷◌, inl, inr, Result, Ok, Err, IfOk, IfErr, nat_lt, length, get_or, map, set, refl, ap, sym, ◌∙◌, subst, arith}
 use Rattle.std.specs.List.{insert, HoldsAt}
 use Rattle.std.specs.List.Sorted.{IsBinarySearchResult, IsNonDecreasingBy, IsPartitionPoint, IsSearchInRange}
 use Rattle.std.specs.Ordering.{is_eq, ordering_index, ordering_reverse}
@@ -79,7 +79,7 @@ module _ {A : Type 0} (f : A → Link) where
   searched r xs (Ok i) bound by = ((bound, λ s. place_found r xs i bound s by), tt)
   searched r xs (Err i) bound by = (tt, (bound, λ s. gap_found r xs i bound (by (rising xs r s))))
 
-below_none : (r : Revision) (ls : List Link) → IsBelow r ls → find r ls ≡ None
+pub below_none : (r : Revision) (ls : List Link) → IsBelow r ls → find r ls ≡ None
 below_none r [] h = refl
 below_none r (l ∷ ls) h = let e : same_revision r l.rev ≡ false = ap is_eq (h.0) in rw e (below_none r ls h.1)
 
@@ -148,8 +148,3 @@ pub place_is : (r : Revision) (ls : List Link) (i : ℕ) (x : Link) → IsPlace 
 place_is r [] i x place is = absurd place
 place_is r (y ∷ ls) zero x place is = ap (λ (z : Link). z.rev) is ∙ sym (same_is r y.rev place)
 place_is r (y ∷ ls) (suc i) x place is = place_is r ls i x place.1 is
-
-pub place_some : (r : Revision) (ls : List Link) (i : ℕ) → IsPlace r ls i → is_some (find r ls) ≡ true
-place_some r [] i place = absurd place
-place_some r (y ∷ ls) zero place = rw place refl
-place_some r (y ∷ ls) (suc i) place = rw (place.0) (place_some r ls i place.1)

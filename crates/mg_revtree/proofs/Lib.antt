@@ -5,6 +5,8 @@ pub mod Find
 pub mod Joins
 pub mod Texts
 pub mod Rooms
+pub mod Kept
+pub mod Folds
 pub mod Leaves
 pub mod Ranks
 pub mod Places

@@ -118,6 +118,11 @@ sorted_front (l ∷ ls) ms h = (below_front l.rev ls ms h.0, sorted_front ls ms 
     below_front r [] ms h = tt
     below_front r (k ∷ ks) ms h = (h.0, below_front r ks ms h.1)
 
+-- and the last of them
+pub sorted_back : (ls ms : List Link) → AreSorted (ls ++ ms) → AreSorted ms
+sorted_back [] ms h = h
+sorted_back (l ∷ ls) ms h = sorted_back ls ms h.1
+
 -- ---- one more link
 
 -- what is kept after one more link

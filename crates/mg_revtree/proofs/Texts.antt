@@ -1,16 +1,16 @@
 -- Parts of a text, and the nodes made of them.
-use Rattle.std.proofs.Common.{◌≡◌, ℕ, zero, suc, ◌+◌, ◌-◌, ◌<◌, ◌≤◌, Bool, Option, Some, None, is_some, Result, Ok, Err, is_ok, IfOk, IfErr, List, [], ◌∷◌, ◌++◌, length, length-append, length-drop, append_assoc, get_or, map, option_map, set, take, drop, refl, ap, sym, ◌∙◌, subst, arith}
+use Rattle.std.proofs.Common.{◌≡◌, ℕ, zero, suc, ◌+◌, ◌-◌, ◌<◌, ◌≤◌, Option, Some, None, List, [], ◌∷◌, ◌++◌, length, length-append, length-drop, append_assoc, get_or, map, option_map, set, take, drop, refl, ap, sym, ◌∙◌, subst, arith}
 use Rattle.std.specs.List.{insert}
 use Rattle.std.proofs.lemmas.List.{map-set, get_or-map, take-append-le, drop-append-le, map_push, map_more}
 use Rattle.mg_revtree.specs.Revision.{Revision}
 use Rattle.std.specs.Option.{option_or}
-use Rattle.mg_revtree.specs.History.{Link}
 use Rattle.mg_revtree.specs.Tree.{AreSorted, find}
 use Rattle.mg_revtree.specs.Nodes.{text_of_part, link_in, IsWithin, ParentWithin, NodeWithin, AreWithin, PartsWithin, Grows}
-use Rattle.mg_revtree.specs.Steps.{put, IsPlace, IsGap}
+use Rattle.mg_revtree.specs.Steps.{put, IsPlace}
+use Rattle.mg_revtree.specs.Known.{parent_below}
 use Rattle.mg_revtree.specs.declared.node.Part.{Part}
 use Rattle.mg_revtree.specs.declared.node.Node.{Node}
-use Rattle.mg_revtree.proofs.Find.{find-set, gap_none, place_find, place_is, place_some, sorted-set}
+use Rattle.mg_revtree.proofs.Find.{find-set, place_find, place_is, sorted-set}
 
 -- ---- a text that grows
 
@@ -76,12 +76,7 @@ within-insert n (y ∷ ns) (suc i) x w h = (h.0, within-insert n ns i x w h.1)
 pub part_at : (t : List ℕ) (r : Revision) (ns : List Node) (i : ℕ) (d : Node) → i < length ns → IsPlace r (map (link_in t) ns) i → text_of_part t (get_or ns i d).id ≡ r.1
 part_at t r ns i d lt place = ap (λ (q : Revision). q.1) (place_is r (map (link_in t) ns) i (link_in t (get_or ns i d)) place (sym (get_or-map (link_in t) ns i d (link_in t (get_or ns i d)) lt)))
 
--- a search says whether the revision is found
-pub place_knows : {A : Type 0} (f : A → Link) (r : Revision) (xs : List A) (o : Result ℕ ℕ) → AreSorted (map f xs) → IfOk o (λ i. (i < length xs) × (AreSorted (map f xs) → IsPlace r (map f xs) i)) → IfErr o (λ i. (i ≤ length xs) × (AreSorted (map f xs) → IsGap r (map f xs) i)) → is_ok o ≡ is_some (find r (map f xs))
-place_knows f r xs (Ok i) s found absent = sym (place_some r (map f xs) i (found.1 s))
-place_knows f r xs (Err i) s found absent = rw (gap_none r (map f xs) i (absent.1 s)) refl
-
-or_within : (n : ℕ) (a b : Option Part) → ParentWithin n a → ParentWithin n b → ParentWithin n (option_or a b)
+pub or_within : (n : ℕ) (a b : Option Part) → ParentWithin n a → ParentWithin n b → ParentWithin n (option_or a b)
 or_within n None b h w = w
 or_within n (Some p) b h w = h
 
@@ -107,7 +102,7 @@ module _ (t : List ℕ) where
 
   -- the node at place i, joined to what is given
   module _ (given kept now : Node) (ns : List Node) (i : ℕ) (lt : i < length ns) (is : kept ≡ get_or ns i kept) (joined : now ≡ record kept { parent = option_or kept.parent given.parent }) where
-    kept_at : link_in t kept ≡ get_or (map (link_in t) ns) i (link_in t kept)
+    pub kept_at : link_in t kept ≡ get_or (map (link_in t) ns) i (link_in t kept)
     kept_at = ap (link_in t) is ∙ sym (get_or-map (link_in t) ns i kept (link_in t kept) lt)
 
     pub sorted-joined : AreSorted (map (link_in t) ns) → AreSorted (map (link_in t) (set ns i now))
@@ -122,22 +117,20 @@ module _ (t : List ℕ) where
       same_place : kept.pos ≡ given.pos
       same_place = ap (λ (r : Revision). r.0) (place_is (link_in t given).rev (map (link_in t) ns) i (link_in t kept) place kept_at)
 
-      now_is : link_in t now ≡ record (link_in t kept) { parent = option_or (link_in t kept).parent (link_in t given).parent }
+      pub now_is : link_in t now ≡ record (link_in t kept) { parent = option_or (link_in t kept).parent (link_in t given).parent }
       now_is = ap (link_in t) joined ∙ joined_link kept given same_place
 
       pub find-joined : (r : Revision) → find r (map (link_in t) (set ns i now)) ≡ put (link_in t given) r (find r (map (link_in t) ns))
       find-joined = rw (map-set (link_in t) ns i now) (find-set (link_in t given) (link_in t kept) (link_in t now) (map (link_in t) ns) i place kept_at now_is)
 
-  -- ---- what a revision has been given
+  -- ---- what is kept of a revision
 
-  -- the node at a revision's place tells what the revision has been given
-  pub told-at : {X : Type 0} (F : Option Revision → Option Revision → Bool) (G : Option (Option Revision) → Option Revision → Bool) (same : (p q : Option Revision) → F p q ≡ G (Some p) q) (f : X → List ℕ) (pos : ℕ) (id : List ℕ) (ns : List Node) (i : ℕ) (d : Node) (o : Option X) (b : Bool) → i < length ns → IsPlace (pos, id) (map (link_in t) ns) i → b ≡ F (link_in t (get_or ns i d)).parent (option_map {U = Revision} (λ p. ((get_or ns i d).pos - 1, f p)) o) → b ≡ G (find (pos, id) (map (link_in t) ns)) (option_map {U = Revision} (λ p. (pos - 1, f p)) o)
-  told-at F G same f pos id ns i d o b lt place h =
-      let x = get_or ns i d in
-      let is : link_in t x ≡ get_or (map (link_in t) ns) i (link_in t x) = sym (get_or-map (link_in t) ns i d (link_in t x) lt) in
-      let e : x.pos ≡ pos = ap (λ (r : Revision). r.0) (place_is (pos, id) (map (link_in t) ns) i (link_in t x) place is) in
-      let g : find (pos, id) (map (link_in t) ns) ≡ Some (link_in t x).parent = place_find (pos, id) (map (link_in t) ns) i (link_in t x) place is in
-      h ∙ ap (λ (n : ℕ). F (link_in t x).parent (option_map {U = Revision} (λ p. (n - 1, f p)) o)) e ∙ same (link_in t x).parent (option_map {U = Revision} (λ p. (pos - 1, f p)) o) ∙ ap (λ v. G v (option_map {U = Revision} (λ p. (pos - 1, f p)) o)) (sym g)
+  -- the node at a revision's place tells what is kept of it
+  pub kept-at : (pos : ℕ) (id : List ℕ) (ns : List Node) (i : ℕ) (x : Node) (o : Option (List ℕ)) → i < length ns → IsPlace (pos, id) (map (link_in t) ns) i → x ≡ get_or ns i x → parent_below x.pos o ≡ (link_in t x).parent → Some (parent_below pos o) ≡ find (pos, id) (map (link_in t) ns)
+  kept-at pos id ns i x o lt place is h =
+      let at : link_in t x ≡ get_or (map (link_in t) ns) i (link_in t x) = ap (link_in t) is ∙ sym (get_or-map (link_in t) ns i x (link_in t x) lt) in
+      let e : x.pos ≡ pos = ap (λ (r : Revision). r.0) (place_is (pos, id) (map (link_in t) ns) i (link_in t x) place at) in
+      ap Some (ap (λ (n : ℕ). parent_below n o) (sym e) ∙ h) ∙ sym (place_find (pos, id) (map (link_in t) ns) i (link_in t x) place at)
 
 -- ---- a text that grew
 
@@ -147,6 +140,9 @@ module _ (xs ys : List ℕ) (g : Grows xs ys) where
 
   pub grown-links : (ns : List Node) → AreWithin (length xs) ns → map (link_in ys) ns ≡ map (link_in xs) ns
   grown-links ns h = rw (g.is) (links-grown xs g.more ns h)
+
+  pub grown-part : (p : Part) → IsWithin (length xs) p → text_of_part ys p ≡ text_of_part xs p
+  grown-part p h = rw (g.is) (part-grown xs g.more p h)
 
   pub grown-parts : (ps : List Part) → PartsWithin (length xs) ps → map (text_of_part ys) ps ≡ map (text_of_part xs) ps
   grown-parts ps h = rw (g.is) (parts-grown xs g.more ps h)

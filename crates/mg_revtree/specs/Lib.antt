@@ -7,3 +7,4 @@ pub mod Steps
 pub mod Laws
 pub mod Room
 pub mod Losers
+pub mod Known

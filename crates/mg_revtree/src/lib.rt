@@ -2,13 +2,16 @@
 #![tactic(auto)]
 
 mod error;
+mod fold;
 mod history;
+mod known;
 pub mod laws;
 mod leaf;
 mod leaf_list;
 mod links;
 mod lookup;
 mod node;
+mod older;
 mod parts;
 mod revision;
 mod room;

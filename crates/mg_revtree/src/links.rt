@@ -1,9 +1,11 @@
-ghost use Rattle.std.specs.Prelude.{◌≡◌, ◌+◌, ◌≤◌, ◌++◌, List, [], IfOk, OnErr, OnOk, is_some, length, map, string_bytes};
+ghost use Rattle.std.specs.Prelude.{◌≡◌, ◌+◌, ◌≤◌, ◌++◌, List, [], IfOk, OnErr, OnOk, length, map, option_copied, option_map, string_bytes};
 ghost use Rattle.mg_revtree.specs.Revision.{run_from};
-ghost use Rattle.mg_revtree.specs.History.{Link, are_held, fit, links};
+ghost use Rattle.mg_revtree.specs.History.{Link, links};
 ghost use Rattle.mg_revtree.specs.Tree.{AreNodes, AreSorted, find};
+ghost use Rattle.mg_revtree.specs.Known.{parent_below, with_links};
 
-use crate::lookup::{all_agree, all_held, place};
+use crate::fold::folded;
+use crate::lookup::place;
 use crate::node::Node;
 use crate::parts::parts_for;
 use crate::room::join_all;
@@ -14,7 +16,7 @@ use std::marker::Model;
 // The room that a copy leaves, so that an edit of it does not move it once more.
 const SPARE_BYTES: usize = 64;
 
-const SPARE_NODES: usize = 2;
+pub const SPARE_NODES: usize = 2;
 
 // Equal items, with room for some more.
 fn copied<T: Copy>(alloc: Global, items: &[T], more: usize) -> Result<Vec<T>, NoMemory>
@@ -25,7 +27,7 @@ fn copied<T: Copy>(alloc: Global, items: &[T], more: usize) -> Result<Vec<T>, No
     Ok(made)
 }
 
-/// The known revisions with their parents, in the order of the revisions. Contracts see the list of them.
+/// Revisions with their parents, in the order of the revisions. Contracts see the list of them.
 ///
 /// The id of each revision is kept once, in one text of all ids, and a revision with its parent is a node of a few
 /// numbers: no revision has a block of memory of its own.
@@ -62,31 +64,30 @@ impl Links {
         }
     }
 
-    /// Whether a revision is known. Cost: the logarithm of the known revisions.
-    pub fn knows(&self, pos: u32, id: &String) -> bool
-        ensures { AreSorted self.now → result ≡ is_some (find (pos, string_bytes id.now) self.now) }
+    /// The number of revisions.
+    pub fn len(&self) -> usize
+        ensures { result ≡ length self.now }
     {
-        place(&self.texts, &self.nodes, pos, id.as_bytes()).is_ok()
+        self.nodes.len()
     }
 
-    /// Whether a run, given by its start and its ids, newest first, gives no known revision another parent.
-    /// Cost: the length of the run times the logarithm of the known revisions.
-    pub fn fits(&self, start: u32, ids: &[String]) -> bool
-        ensures { (ls : List Link) → AreNodes self.now ls → result ≡ fit ls (links (run_from start (map string_bytes ids.now))) }
-    {
-        all_agree(&self.texts, &self.nodes, start, ids)
+    /// Where the memory comes from.
+    pub fn allocator(&self) -> Global {
+        *self.nodes.allocator()
     }
 
-    /// Whether all revisions of a run, given by its start and its ids, newest first, are known with the parents that
-    /// the run gives them. Cost: as that of `fits`.
-    pub fn holds(&self, start: u32, ids: &[String]) -> bool
-        ensures { (ls : List Link) → AreNodes self.now ls → result ≡ are_held ls (links (run_from start (map string_bytes ids.now))) }
+    /// What is kept of a revision: the id of its parent, where that is known. Cost: the logarithm of the revisions.
+    pub fn kept(&self, pos: u32, id: &[u8]) -> Option<Option<&[u8]>>
+        ensures { AreSorted self.now → option_map (λ p. parent_below pos (option_copied p)) result ≡ find (pos, id.now) self.now }
     {
-        all_held(&self.texts, &self.nodes, start, ids)
+        match place(&self.texts, &self.nodes, pos, id) {
+            Ok(at) => Some(self.nodes[at].parent_id(&self.texts)),
+            Err(_) => None,
+        }
     }
 
-    /// Adds a run, given by its start and its ids, newest first, or nothing where memory is refused. Cost: as that of
-    /// `fits`, and one pass over the run and the nodes that are above its lowest unknown revision: none where the run
+    /// Adds a run, given by its start and its ids, newest first, or nothing where memory is refused. Cost: the
+    /// length of the run times the logarithm of the revisions, and one pass over the run and the nodes that are above its lowest unknown revision: none where the run
     /// goes on a line at its end.
     pub fn join(&mut self, start: u32, ids: &[String]) -> Result<(), NoMemory>
         requires { length ids.now ≤ start + 1 }
@@ -114,5 +115,18 @@ impl Links {
             texts: copied(alloc, &self.texts, SPARE_BYTES)?,
             nodes: copied(alloc, &self.nodes, SPARE_NODES)?,
         })
+    }
+
+    /// These links with newer ones. Cost: a block of memory is copied, and one is made as `folded` says.
+    pub fn with(&self, alloc: Global, newer: &Links) -> Result<Links, NoMemory>
+        ensures { IfOk result (λ links. AreSorted self.now → AreSorted newer.now → links ≡ with_links self.now newer.now) }
+    {
+        let mut texts = copied(
+            alloc,
+            &self.texts,
+            newer.texts.len().saturating_add(SPARE_BYTES),
+        )?;
+        let nodes = folded(alloc, &mut texts, &self.nodes, &newer.texts, &newer.nodes)?;
+        Ok(Links { texts, nodes })
     }
 }

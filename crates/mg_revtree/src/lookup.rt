@@ -5,6 +5,7 @@ ghost use Rattle.mg_revtree.specs.Tree.{AreNodes, AreSorted, find};
 ghost use Rattle.mg_revtree.specs.Nodes.{links_in};
 ghost use Rattle.mg_revtree.specs.Steps.{IsGap, IsPlace, agrees_found, held_found};
 
+use crate::known::Known;
 use crate::node::Node;
 
 /// Where a revision is, or where it would go.
@@ -16,22 +17,22 @@ pub fn place(texts: &[u8], nodes: &[Node], pos: u32, id: &[u8]) -> Result<usize,
 }
 
 // Whether a parent that a revision is given is no other than its known one.
-fn agrees(texts: &[u8], nodes: &[Node], pos: u32, id: &String, parent: Option<&String>) -> bool
-    ensures { AreSorted (links_in texts.now nodes.now) → result ≡ agrees_found (find (pos, string_bytes id.now) (links_in texts.now nodes.now)) (option_map (λ p. (pos - 1, string_bytes p)) (option_copied parent.entry)) }
+fn agrees(known: &Known, pos: u32, id: &String, parent: Option<&String>) -> bool
+    ensures { result ≡ agrees_found (find (pos, string_bytes id.now) known.now) (option_map (λ p. (pos - 1, string_bytes p)) (option_copied parent.entry)) }
 {
-    match place(texts, nodes, pos, id.as_bytes()) {
-        Ok(at) => nodes[at].agrees(texts, parent),
-        Err(_) => true,
+    match (known.kept(pos, id.as_bytes()), parent) {
+        (Some(Some(kept)), Some(given)) => kept.cmp(given.as_bytes()).is_eq(),
+        _ => true,
     }
 }
 
 /// Whether all parents that a run gives are no others than the known ones.
-pub fn all_agree(texts: &[u8], nodes: &[Node], start: u32, ids: &[String]) -> bool
-    ensures { (ls : List Link) → AreNodes (links_in texts.now nodes.now) ls → result ≡ fit ls (links (run_from start (map string_bytes ids.now))) }
+pub fn all_agree(known: &Known, start: u32, ids: &[String]) -> bool
+    ensures { (ls : List Link) → AreNodes known.now ls → result ≡ fit ls (links (run_from start (map string_bytes ids.now))) }
 {
     let mut pos = start;
     for (i, id) in ids.iter().enumerate() {
-        if !agrees(texts, nodes, pos, id, ids.get(i + 1)) {
+        if !agrees(known, pos, id, ids.get(i + 1)) {
             return false;
         }
         pos = pos.saturating_sub(1);
@@ -40,22 +41,23 @@ pub fn all_agree(texts: &[u8], nodes: &[Node], start: u32, ids: &[String]) -> bo
 }
 
 // Whether a revision is known, with the parent that it is given, if it is given one.
-fn holds(texts: &[u8], nodes: &[Node], pos: u32, id: &String, parent: Option<&String>) -> bool
-    ensures { AreSorted (links_in texts.now nodes.now) → result ≡ held_found (find (pos, string_bytes id.now) (links_in texts.now nodes.now)) (option_map (λ p. (pos - 1, string_bytes p)) (option_copied parent.entry)) }
+fn holds(known: &Known, pos: u32, id: &String, parent: Option<&String>) -> bool
+    ensures { result ≡ held_found (find (pos, string_bytes id.now) known.now) (option_map (λ p. (pos - 1, string_bytes p)) (option_copied parent.entry)) }
 {
-    match place(texts, nodes, pos, id.as_bytes()) {
-        Ok(at) => nodes[at].gives(texts, parent),
-        Err(_) => false,
+    match (known.kept(pos, id.as_bytes()), parent) {
+        (Some(Some(kept)), Some(given)) => kept.cmp(given.as_bytes()).is_eq(),
+        (Some(_), None) => true,
+        _ => false,
     }
 }
 
 /// Whether all revisions of a run are known, with the parents that the run gives them.
-pub fn all_held(texts: &[u8], nodes: &[Node], start: u32, ids: &[String]) -> bool
-    ensures { (ls : List Link) → AreNodes (links_in texts.now nodes.now) ls → result ≡ are_held ls (links (run_from start (map string_bytes ids.now))) }
+pub fn all_held(known: &Known, start: u32, ids: &[String]) -> bool
+    ensures { (ls : List Link) → AreNodes known.now ls → result ≡ are_held ls (links (run_from start (map string_bytes ids.now))) }
 {
     let mut pos = start;
     for (i, id) in ids.iter().enumerate() {
-        if !holds(texts, nodes, pos, id, ids.get(i + 1)) {
+        if !holds(known, pos, id, ids.get(i + 1)) {
             return false;
         }
         pos = pos.saturating_sub(1);

@@ -1,8 +1,8 @@
-ghost use Rattle.std.specs.Prelude.{◌≡◌, ◌-◌, option_copied, option_map, string_bytes};
+ghost use Rattle.std.specs.Prelude.{◌≡◌, option_copied};
 ghost use Rattle.mg_revtree.specs.Revision.{revision_order};
 ghost use Rattle.std.specs.Option.{option_or};
-ghost use Rattle.mg_revtree.specs.History.{agrees, gives};
 ghost use Rattle.mg_revtree.specs.Nodes.{link_in, text_of_part};
+ghost use Rattle.mg_revtree.specs.Known.{parent_below};
 
 use std::cmp::Ordering;
 
@@ -49,24 +49,13 @@ impl Node {
         }
     }
 
-    /// Whether a parent that is given is no other than the known one.
-    pub fn agrees(&self, texts: &[u8], parent: Option<&String>) -> bool
-        ensures { result ≡ agrees (link_in texts.now self.now).parent (option_map (λ p. (self.now.pos - 1, string_bytes p)) (option_copied parent.entry)) }
+    /// The id of the parent, if that is known.
+    pub fn parent_id(self, texts: &[u8]) -> Option<&[u8]>
+        ensures { parent_below self.pos (option_copied result) ≡ (link_in texts.now self).parent }
     {
-        match (self.parent, parent) {
-            (Some(kept), Some(given)) => kept.of(texts).cmp(given.as_bytes()).is_eq(),
-            _ => true,
-        }
-    }
-
-    /// Whether a parent that is given, if one is, is the known one.
-    pub fn gives(&self, texts: &[u8], parent: Option<&String>) -> bool
-        ensures { result ≡ gives (link_in texts.now self.now).parent (option_map (λ p. (self.now.pos - 1, string_bytes p)) (option_copied parent.entry)) }
-    {
-        match (self.parent, parent) {
-            (Some(kept), Some(given)) => kept.of(texts).cmp(given.as_bytes()).is_eq(),
-            (None, Some(_)) => false,
-            (_, None) => true,
+        match self.parent {
+            Some(parent) => Some(parent.of(texts)),
+            None => None,
         }
     }
 }

@@ -19,15 +19,15 @@ fn add(texts: &mut Vec<u8>, id: &[u8]) -> Result<Part, NoMemory>
     })
 }
 
-// The part of an id, which is added where the revision is unknown.
-fn part_for(texts: &mut Vec<u8>, nodes: &[Node], pos: u32, id: &String) -> Result<Part, NoMemory>
+/// The part of an id, which is added where the revision is unknown.
+pub fn part_for(texts: &mut Vec<u8>, nodes: &[Node], pos: u32, id: &[u8]) -> Result<Part, NoMemory>
     ensures grows { Grows texts.old.items texts.new.items }
     ensures within { IfOk result (λ p. AreWithin (length texts.old.items) nodes.now → IsWithin (length texts.new.items) p) }
-    ensures part { IfOk result (λ p. AreSorted (links_in texts.old.items nodes.now) → text_of_part texts.new.items p ≡ string_bytes id.now) }
+    ensures part { IfOk result (λ p. AreSorted (links_in texts.old.items nodes.now) → text_of_part texts.new.items p ≡ id.now) }
 {
-    match place(texts, nodes, pos, id.as_bytes()) {
+    match place(texts, nodes, pos, id) {
         Ok(at) => Ok(nodes[at].id),
-        Err(_) => add(texts, id.as_bytes()),
+        Err(_) => add(texts, id),
     }
 }
 
@@ -46,7 +46,7 @@ pub fn parts_for(
     let mut parts = Vec::with_capacity(*texts.allocator(), ids.len())?;
     let mut pos = start;
     for id in ids {
-        let part = part_for(texts, nodes, pos, id)?;
+        let part = part_for(texts, nodes, pos, id.as_bytes())?;
         parts.push(part)?;
         pos = pos.saturating_sub(1);
     }

@@ -9,9 +9,9 @@ ghost use Rattle.mg_revtree.specs.Steps.{base_in, ids_over};
 
 use crate::error::{MergeError, Merged, Refusal, TreeError};
 use crate::history::History;
+use crate::known::Known;
 use crate::leaf::{Leaf, Shared};
 use crate::leaf_list::{add_leaf, copy_leaves, is_leaf, kept_among, unleaf};
-use crate::links::Links;
 use crate::revision::Rev;
 use mg_value::{Json, NoMemory};
 use std::alloc::Global;
@@ -45,11 +45,12 @@ fn ids_over(alloc: Global, id: String, parent: Option<&Rev>) -> Result<Vec<Strin
 }
 
 /// The revision tree of a document: its known revisions with their parents, and its leaves with their marks
-/// and bodies. A body is kept once, at its leaf, and a revision's id once, and once more where it is a leaf. A contract
-/// speaks of every history that the tree stands for.
+/// and bodies. A body is kept once, at its leaf, and a revision's id once, once more where an older and a newer list of the
+/// known revisions both have it, and once more where it is a leaf. A contract speaks of every history that the tree stands
+/// for.
 #[derive(Drop)]
 pub struct RevTree {
-    links: Links,
+    links: Known,
     leaves: Vec<Shared>,
 }
 
@@ -69,7 +70,7 @@ impl RevTree {
         ensures { StandsFor result [] }
     {
         RevTree {
-            links: Links::new(alloc),
+            links: Known::new(alloc),
             leaves: Vec::new(alloc),
         }
     }
@@ -111,8 +112,9 @@ impl RevTree {
         Ok(kept_among(alloc, &self.leaves[1..])?)
     }
 
-    /// An equal tree, which shares the leaves with their bodies. Cost: two blocks with the known revisions are copied,
-    /// and one count goes up for each leaf.
+    /// An equal tree, which shares the leaves with their bodies, and all known revisions but the newer ones. Cost: two
+    /// blocks with the newer known revisions are copied, which are at most 64, or at most four times the root of the number of
+    /// the known ones; and one count goes up for each leaf.
     pub fn copy(&self, alloc: Global) -> Result<RevTree, NoMemory>
         ensures { IfOk result (λ tree. tree ≡ self.now) }
     {
@@ -178,9 +180,10 @@ impl RevTree {
     ///
     /// Errors: `BadHistory` where the path contradicts a parent that is known already, and else `NoMemory` where a
     /// growth is refused; neither a bad path nor one that is known whole needs memory. A refusal leaves the tree as it
-    /// was. Cost: the length of the path times the logarithm of the known revisions and that of the leaves, a word for each leaf, and one pass
-    /// over the known revisions that are above the lowest unknown one of the path: none where the path goes on the line
-    /// with the highest positions. Source: the replication model of CouchDB.
+    /// was. Cost: the length of the path times the logarithm of the known revisions and that of the leaves, a word for each
+    /// leaf, and one pass over the newer known revisions that are above the lowest unknown one of the path: none where the
+    /// path goes on the line with the highest positions. Where these and the path's are more than 64, and more than four
+    /// times the root of the number of the older ones, all known revisions are copied besides. Source: the replication model of CouchDB.
     pub fn merge(&mut self, path: &History, deleted: bool, body: Json) -> Result<Merged, MergeError>
         ensures accepted { OnOk result ((h : Paths) → StandsFor self.old h → StandsFor self.new (with_path h (path_of path.now deleted (view body)))) }
         ensures found { IfOk result (λ m. (h : Paths) → StandsFor self.old h → m ≡ found_of h path.now) }

@@ -1,4 +1,4 @@
-use Rattle.std.proofs.Common.{◌≡◌, ◌++◌, [], ◌∷◌, length, length-append, string_bytes, sym, ap, subst, arith}
+use Rattle.std.proofs.Common.{◌≡◌, ◌∙◌, ◌++◌, [], ◌∷◌, length, length-append, string_bytes, sym, ap, subst, arith}
 use Rattle.mg_revtree.specs.Tree.{AreSorted}
 use Rattle.mg_revtree.proofs.Texts.{grown-grown, grown-length, grown-links, parts-more, parts-push, parts-step, within-more}
 use Rattle.mg_revtree.proofs.parts.parts_for.Goals as goal
@@ -17,6 +17,6 @@ loop-id-preserved c =
     record {
       grows = grown-grown t0 t t' i.grows k;
       within = λ w. rw pushed (parts-push (length t') ps p (parts-more (length t) (length t') (grown-length t t' k) ps (i.within w)) (c.in_ok-part.ensures.within (within-more (length t0) (length t) (grown-length t0 t i.grows) ns w)));
-      parts = λ w s. rw pushed (parts-step string_bytes t t' k ps p c.args.ids.now c.loop-id.id-index c.id-item.result (i.within w) (i.parts w s) (c.in_ok-part.ensures.part (subst AreSorted (sym (grown-links t0 t i.grows ns w)) s)) c.loop-id-test.true c.id-item.is);
+      parts = λ w s. rw pushed (parts-step string_bytes t t' k ps p c.args.ids.now c.loop-id.id-index c.id-item.result (i.within w) (i.parts w s) (c.in_ok-part.ensures.part (subst AreSorted (sym (grown-links t0 t i.grows ns w)) s) ∙ c.as_bytes.ensures.value) c.loop-id-test.true c.id-item.is);
       len = omega (arith, ap length pushed, length-append ps (p ∷ []), i.len);
     }

@@ -1,0 +1,32 @@
+-- How the known revisions are kept in two lists: an older one, which the copies of a tree share, and a newer one.
+use Rattle.std.specs.Prelude.{◌≡◌, ℕ, ◌-◌, List, [], ◌∷◌, Option, Some, None, option_map}
+use Rattle.std.specs.Ordering.{match_ordering}
+use Rattle.std.specs.declared.cmp.Ordering.TheVariants.{Less}
+use Rattle.std.specs.Option.{option_or}
+use Rattle.mg_revtree.specs.Revision.{Revision, revision_order}
+use Rattle.mg_revtree.specs.History.{Link}
+use Rattle.mg_revtree.specs.Steps.{joined}
+
+-- links in order with one more: where its revision is there, its parent is taken if none is known, and else it goes to its place
+abbrev pub with_link : Link → List Link → List Link
+with_link l [] = l ∷ []
+with_link l (m ∷ ms) = match_ordering (revision_order l.rev m.rev) (l ∷ m ∷ ms) (record m { parent = option_or m.parent l.parent } ∷ ms) (m ∷ with_link l ms)
+
+-- older links in order with newer ones
+abbrev pub with_links : List Link → List Link → List Link
+with_links older [] = older
+with_links older (l ∷ newer) = with_links (with_link l older) newer
+
+-- links whose revisions are all less than a revision
+abbrev pub AreBelow : Revision → List Link → Type 0
+AreBelow r [] = Unit {0}
+AreBelow r (l ∷ ls) = (revision_order l.rev r ≡ Less) × AreBelow r ls
+
+-- what is kept of a revision, given what older links keep of it and what newer ones do
+abbrev pub kept_by_both : Option (Option Revision) → Option (Option Revision) → Option (Option Revision)
+kept_by_both o None = o
+kept_by_both o (Some q) = joined o q
+
+-- the parent of a revision at a position, given by the parent's id: it is at the position below
+abbrev pub parent_below : ℕ → Option (List ℕ) → Option Revision
+parent_below n id = option_map (λ s. (n - 1, s)) id

@@ -1,0 +1,92 @@
+ghost use Rattle.std.specs.Prelude.{◌≡◌, [], IfOk, length, option_copied, option_map};
+ghost use Rattle.mg_revtree.specs.Tree.{AreSorted, find};
+ghost use Rattle.mg_revtree.specs.Known.{parent_below, with_links};
+
+use crate::links::Links;
+use mg_value::NoMemory;
+use std::alloc::Global;
+use std::marker::Model;
+use std::sync::Arc;
+
+/// Links that the copies of a tree share, and that stay as they are. Contracts see the list of them. Without links there
+/// is no block of memory.
+#[derive(Drop)]
+pub struct Older {
+    links: Option<Arc<Links>>,
+}
+
+impl Model for Older {
+    ghost use Rattle.std.specs.Prelude.{List, [], option_map};
+    ghost use Rattle.std.specs.Arc.{arc_value};
+    ghost use Rattle.std.specs.Coded.{coded_list};
+    ghost use Rattle.std.specs.Option.{unwrap_or};
+    ghost use Rattle.mg_revtree.specs.History.{Link};
+    ghost use Rattle.mg_revtree.specs.Tree.{link_code};
+
+    ghost Value = { List Link };
+
+    ghost coded = { coded_list link_code };
+
+    ghost view = { λ o. unwrap_or (option_map arc_value o.links) [] };
+}
+
+impl Older {
+    /// No links. Takes no memory.
+    pub fn none() -> Older
+        ensures { result ≡ [] }
+    {
+        Older { links: None }
+    }
+
+    /// Links to be shared.
+    pub fn new(alloc: Global, links: Links) -> Result<Older, NoMemory>
+        ensures { IfOk result (λ older. older ≡ links) }
+    {
+        Ok(Older {
+            links: Some(Arc::new(alloc, links)?),
+        })
+    }
+
+    /// The number of revisions.
+    pub fn len(&self) -> usize
+        ensures { result ≡ length self.now }
+    {
+        match &self.links {
+            Some(links) => links.len(),
+            None => 0,
+        }
+    }
+
+    /// What is kept of a revision: the id of its parent, where that is known. Cost: the logarithm of the revisions.
+    pub fn kept(&self, pos: u32, id: &[u8]) -> Option<Option<&[u8]>>
+        ensures { AreSorted self.now → option_map (λ p. parent_below pos (option_copied p)) result ≡ find (pos, id.now) self.now }
+    {
+        match &self.links {
+            Some(links) => links.kept(pos, id),
+            None => None,
+        }
+    }
+
+    /// The same links once more. Takes no memory.
+    pub fn share(&self) -> Result<Older, NoMemory>
+        ensures { IfOk result (λ older. older ≡ self.now) }
+    {
+        match &self.links {
+            Some(links) => Ok(Older {
+                links: Some(links.clone()?),
+            }),
+            None => Ok(Older::none()),
+        }
+    }
+
+    /// These links with newer ones. Cost: as that of `Links::with`, and where there are none of these, as that of
+    /// `Links::copy`.
+    pub fn with(&self, alloc: Global, newer: &Links) -> Result<Links, NoMemory>
+        ensures { IfOk result (λ links. AreSorted self.now → AreSorted newer.now → links ≡ with_links self.now newer.now) }
+    {
+        match &self.links {
+            Some(older) => older.with(alloc, newer),
+            None => newer.copy(alloc),
+        }
+    }
+}
