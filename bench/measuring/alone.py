@@ -45,7 +45,7 @@ def edit_often(program, count):
 def edits(path, share):
     """Edits of one document."""
     rows = []
-    for count in (int(2000 * share), int(4000 * share), int(8000 * share)):
+    for count in (int(4000 * share), int(8000 * share), int(16000 * share)):
         with contextlib.closing(Program(path, Corpus(BULK))) as program:
             used = edit_often(program, count).figures()["processor_us"]
         rows.append((f"{count:,} edits of one document, us of processor each", f"{used:.0f}"))

@@ -80,7 +80,7 @@ def line_in_a_bulk(n):
 
 
 def line_one_by_one(n):
-    """A line of n edits of one document, in a bulk each: a product of bulks and revisions."""
+    """A line of n edits of one document, in a bulk each."""
     edits, entries = line(n)
     return b"".join(post(b"_bulk_docs", b'{"docs":[%s]}' % edit) for edit in edits), b"[%s]\n" % entries[-1]
 
@@ -113,6 +113,6 @@ def refused_at_the_end(n):
 SHAPES = [Shape(forked_paths, 300_000, 1_000_000), Shape(known_path, 300_000, 1_000_000), Shape(combed_paths, 12_000, 100_000),
           Shape(leaves, 16_000, 20_000), Shape(falling_leaves, 8_000, 20_000, 2), Shape(low_leaves, 20_000, 40_000, 2),
           Shape(leaves_one_by_one, 3_000, 10_000, 2),
-          Shape(conflicts, 16_000, 20_000), Shape(line_in_a_bulk, 40_000, 100_000), Shape(line_one_by_one, 3_000, 20_000, 2),
+          Shape(conflicts, 16_000, 20_000), Shape(line_in_a_bulk, 40_000, 100_000), Shape(line_one_by_one, 8_000, 20_000),
           Shape(refused_edits, 40_000, 200_000), Shape(tiny_documents, 60_000, 1_000_000), Shape(documents_without_an_id, 40_000, 200_000),
           Shape(refused_at_the_end, 40_000, 200_000)]
