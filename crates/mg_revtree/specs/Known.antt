@@ -1,11 +1,10 @@
 -- How the known revisions are kept in two lists: an older one, which the copies of a tree share, and a newer one.
-use Rattle.std.specs.Prelude.{◌≡◌, ℕ, ◌-◌, List, [], ◌∷◌, Option, Some, None, option_map}
+use Rattle.std.specs.Prelude.{◌≡◌, ℕ, ◌-◌, List, [], ◌∷◌, Option, option_map}
 use Rattle.std.specs.Ordering.{match_ordering}
 use Rattle.std.specs.declared.cmp.Ordering.TheVariants.{Less}
 use Rattle.std.specs.Option.{option_or}
 use Rattle.mg_revtree.specs.Revision.{Revision, revision_order}
 use Rattle.mg_revtree.specs.History.{Link}
-use Rattle.mg_revtree.specs.Steps.{joined}
 
 -- links in order with one more: where its revision is there, its parent is taken if none is known, and else it goes to its place
 abbrev pub with_link : Link → List Link → List Link
@@ -21,11 +20,6 @@ with_links older (l ∷ newer) = with_links (with_link l older) newer
 abbrev pub AreBelow : Revision → List Link → Type 0
 AreBelow r [] = Unit {0}
 AreBelow r (l ∷ ls) = (revision_order l.rev r ≡ Less) × AreBelow r ls
-
--- what is kept of a revision, given what older links keep of it and what newer ones do
-abbrev pub kept_by_both : Option (Option Revision) → Option (Option Revision) → Option (Option Revision)
-kept_by_both o None = o
-kept_by_both o (Some q) = joined o q
 
 -- the parent of a revision at a position, given by the parent's id: it is at the position below
 abbrev pub parent_below : ℕ → Option (List ℕ) → Option Revision

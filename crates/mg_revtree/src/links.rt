@@ -86,9 +86,9 @@ impl Links {
         }
     }
 
-    /// Adds a run, given by its start and its ids, newest first, or nothing where memory is refused. Cost: the
-    /// length of the run times the logarithm of the revisions, and one pass over the run and the nodes that are above its lowest unknown revision: none where the run
-    /// goes on a line at its end.
+    /// Adds a run, given by its start and its ids, newest first, or nothing where memory is refused. Cost: the length of the
+    /// run times the logarithm of the revisions, and one pass over the run and the nodes that are above its lowest unknown
+    /// revision: none where the run goes on a line at its end.
     pub fn join(&mut self, start: u32, ids: &[String]) -> Result<(), NoMemory>
         requires { length ids.now ≤ start + 1 }
         ensures nodes { OnOk result ((ls : List Link) → AreNodes self.old ls → AreNodes self.new (ls ++ links (run_from start (map string_bytes ids.now)))) }
