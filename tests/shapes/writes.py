@@ -39,13 +39,13 @@ def leaves(n):
 
 
 def falling_leaves(n):
-    """n leaves of one document, in one bulk, the best one first: each new revision moves those above it, so a product of the
-    bulk's revisions and the document's."""
+    """n leaves of one document, in one bulk, the best one first: each new revision moves the newer ones above it, of which there
+    are at most four times the root of the older ones."""
     return replicas([b'{"_id":"d","_rev":"1-%06x"}' % (n - i) for i in range(n)]), ADDED
 
 
 def low_leaves(n):
-    """A path of n revisions, and in one bulk n / 10 leaves of position 1, below all of these: a product of the two."""
+    """A path of n revisions, and in one bulk n / 10 leaves of position 1, below all of these."""
     low = [b'{"_id":"d","_rev":"1-z%x"}' % i for i in range(n // 10)]
     return replicas([of_path([b"%x" % i for i in range(n, 0, -1)])]) + replicas(low), ADDED
 
@@ -111,7 +111,7 @@ def refused_at_the_end(n):
 
 
 SHAPES = [Shape(forked_paths, 300_000, 1_000_000), Shape(known_path, 300_000, 1_000_000), Shape(combed_paths, 12_000, 100_000),
-          Shape(leaves, 16_000, 20_000), Shape(falling_leaves, 8_000, 20_000, 2), Shape(low_leaves, 20_000, 40_000, 2),
+          Shape(leaves, 16_000, 20_000), Shape(falling_leaves, 8_000, 20_000), Shape(low_leaves, 20_000, 40_000),
           Shape(leaves_one_by_one, 3_000, 10_000, 2),
           Shape(conflicts, 16_000, 20_000), Shape(line_in_a_bulk, 40_000, 100_000), Shape(line_one_by_one, 8_000, 20_000),
           Shape(refused_edits, 40_000, 200_000), Shape(tiny_documents, 60_000, 1_000_000), Shape(documents_without_an_id, 40_000, 200_000),
