@@ -30,22 +30,29 @@ fn short_hint(bytes: &[u8]) -> u64 {
     hint
 }
 
-/// The number of a key: that of its first value, by type and then by what begins the value.
+/// The number of a key: that of its first value.
 pub fn key_hint(key: &[Json]) -> u64 {
-    match key.first() {
+    value_hint(key.first())
+}
+
+/// The number of a value, by type and then by what begins the value. It is even: where a search stands before or behind all that have
+/// the value, it begins by the odd number below or above.
+pub fn value_hint(value: Option<&Json>) -> u64 {
+    match value {
         None | Some(Json::Null) => 0,
         Some(Json::Flag(false)) => 1 << 61,
         Some(Json::Flag(true)) => 2 << 61,
-        Some(Json::Whole(number)) => (3 << 61) | (whole_hint(*number) >> 3),
-        Some(Json::Text(text)) => (4 << 61) | (text_hint(text.as_str()) >> 3),
+        Some(Json::Whole(number)) => (3 << 61) | whole_hint(*number),
+        Some(Json::Text(text)) => (4 << 61) | ((text_hint(text.as_str()) >> 4) << 1),
         Some(Json::List(_)) => 5 << 61,
         Some(Json::Object(_)) => 6 << 61,
     }
 }
 
-// The number of a whole number.
+// The number of a whole number: all of it, unless it is beyond 2^59.
 fn whole_hint(number: i64) -> u64 {
-    u64::from_be_bytes(number.to_be_bytes()) ^ (1 << 63)
+    let near = number.max(-(1 << 59)).min((1 << 59) - 1);
+    u64::from_be_bytes(near.to_be_bytes()).wrapping_add(1 << 59) << 1
 }
 
 /// Where a search goes on: at the guess, then beside it, and then in the middle.
@@ -81,9 +88,16 @@ impl Hints {
 
     /// The same numbers, with room for one more.
     pub fn copied(&self, alloc: Global) -> Result<Hints, AllocError> {
-        let mut numbers = Vec::with_capacity(alloc, self.numbers.len().saturating_add(1))?;
-        numbers.extend_from_slice(&self.numbers)?;
-        Ok(Hints { numbers })
+        hints_of(alloc, &self.numbers)
+    }
+
+    /// The numbers of the first so many elements, and those of the others, each with room for one more.
+    pub fn halves(&self, alloc: Global, count: usize) -> Result<(Hints, Hints), AllocError> {
+        let count = count.min(self.numbers.len());
+        let (front, back) = self.numbers.split_at(count);
+        let front = hints_of(alloc, front)?;
+        let back = hints_of(alloc, back)?;
+        Ok((front, back))
     }
 
     pub fn push(&mut self, number: u64) -> Result<(), AllocError> {
@@ -117,6 +131,13 @@ impl Hints {
             _ => first,
         }
     }
+}
+
+// These numbers, with room for one more.
+fn hints_of(alloc: Global, given: &[u64]) -> Result<Hints, AllocError> {
+    let mut numbers = Vec::with_capacity(alloc, given.len().saturating_add(1))?;
+    numbers.extend_from_slice(given)?;
+    Ok(Hints { numbers })
 }
 
 // Where the first number is that is not below one.

@@ -60,7 +60,7 @@ fn place<T: Keyed, P: Part<T>, Q: Probe<T>>(parts: &[Child<T, P>], key: &Q) -> u
 {
     let mut low = 0;
     let mut high = parts.len() - 1;
-    let guess = guess_among::<T, P, Q>(parts, key);
+    let guess = guess_among::<T, P, Q>(parts, key).min(high);
     while low < high {
         let middle = next_guess(low, high, guess);
         let child = &parts[middle];

@@ -17,7 +17,7 @@ mod row;
 mod sides;
 
 pub use back::Back;
-pub use hint::text_hint;
+pub use hint::{text_hint, value_hint};
 pub use identified::Identified;
 pub use iter::Iter;
 pub use keyed::{Keyed, Probe};

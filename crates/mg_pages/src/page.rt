@@ -133,9 +133,17 @@ impl<T: Keyed> Part<T> for Page<T> {
         {
             return Ok(None);
         }
-        let (front, back) = self.elements.split_at(self.elements.len() / 2);
-        let front = page_of(alloc, front)?;
-        let back = page_of(alloc, back)?;
+        let middle = self.elements.len() / 2;
+        let (front, back) = self.elements.split_at(middle);
+        let (front_hints, back_hints) = self.hints.halves(alloc, middle)?;
+        let front = Page {
+            elements: copied(alloc, front)?,
+            hints: front_hints,
+        };
+        let back = Page {
+            elements: copied(alloc, back)?,
+            hints: back_hints,
+        };
         Ok(Some((front, back)))
     }
 

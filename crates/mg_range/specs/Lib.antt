@@ -1,5 +1,6 @@
 pub mod Range
 pub mod Place
+pub mod Enter
 pub mod Listed
 pub mod Laws
 pub mod View

@@ -1,15 +1,17 @@
-ghost use Rattle.std.specs.Prelude.{◌≡◌, ℕ, List, [], ◌∷◌, IfOk, is_none, length, map};
+ghost use Rattle.std.specs.Prelude.{◌≡◌, ℕ, List, [], ◌∷◌, IfOk, is_none, length, map, option_map};
 ghost use Rattle.mg_value.specs.Value.{Value, text as string};
 ghost use Rattle.mg_value.specs.View.{view as json_view};
 ghost use Rattle.mg_normal.specs.Normal.{normal_atoms};
 ghost use Rattle.mg_range.specs.Listed.{range_value};
 ghost use Rattle.mg_range.specs.Place.{has_key, place_of};
-ghost use Rattle.mg_range.specs.Range.{in_range, range_of};
+ghost use Rattle.mg_range.specs.Enter.{limit_entered};
+ghost use Rattle.mg_range.specs.Range.{in_range, limit_at, range_of};
 
 use crate::listed::{empty_json, span_json};
 use crate::place::Place;
 use crate::span::{Span, place_in, span_of};
 use crate::text;
+use mg_collate::Direction;
 use mg_normal::Normal;
 use mg_path::Path;
 use mg_value::{Json, NoMemory};
@@ -87,6 +89,22 @@ impl KeyRange {
             Some(span) => text::place_in(span, text),
             None => Place::Past,
         }
+    }
+
+    /// The limit on the first column at which a pass in the direction enters the range: the value, and whether keys with the value
+    /// itself may be in the range. None where there is no limit on that side, or no key in the range. Takes no memory. Cost: none.
+    pub fn entered_at(&self, direction: Direction) -> Option<(&Json, bool)>
+        ensures { option_map (λ l. limit_at (json_view l.0.now) l.1) result ≡ limit_entered direction self.now }
+    {
+        let span = self.span.as_ref()?;
+        if let Some(value) = span.equal.first() {
+            return Some((value, true));
+        }
+        let limit = match direction {
+            Direction::Asc => span.lower.as_ref()?,
+            Direction::Desc => span.upper.as_ref()?,
+        };
+        Some((&limit.value, limit.inclusive))
     }
 
     /// Whether a value that is fixed breaks another bound on its column, or the lower limit is above the

@@ -1,8 +1,9 @@
 //! Searches as places: where they begin among rows, and among documents.
 use crate::search::{Search, begin_at_id, begin_at_row};
-use mg_collate::Row;
-use mg_pages::{Keyed, Probe, text_hint};
+use mg_collate::{Direction, Row};
+use mg_pages::{Keyed, Probe, text_hint, value_hint};
 use mg_shard::Document;
+use mg_value::Json;
 use std::cmp::Ordering;
 
 /// Where a search begins: before the first row, in its direction, that its range does not come after and that comes after the row that
@@ -24,7 +25,7 @@ impl<'a> Probe<Row> for Begin<'a> {
     fn hint(&self) -> u64 {
         match self.search.after {
             Some(after) => after.hint(),
-            None => 0,
+            None => row_hint(self.search),
         }
     }
 
@@ -46,11 +47,32 @@ impl<'a> Probe<Document> for Begin<'a> {
     fn hint(&self) -> u64 {
         match self.search.after {
             Some(after) => text_hint(after.id.as_str()),
-            None => 0,
+            None => id_hint(self.search),
         }
     }
 
     fn against(&self, element: &Document) -> Ordering {
         begin_at_id(self.search, element.id())
+    }
+}
+
+// The number beside those of the rows that have the value at which the range is entered: on the side on which they come first, where
+// they may be in the range, and else on the other one.
+fn row_hint(search: Search<'_>) -> u64 {
+    let is_up = search.direction == Direction::Asc;
+    match search.range.entered_at(search.direction) {
+        Some((value, inclusive)) if is_up == inclusive => value_hint(Some(value)).saturating_sub(1),
+        Some((value, _)) => value_hint(Some(value)).saturating_add(1),
+        None if is_up => 0,
+        None => u64::MAX,
+    }
+}
+
+// The number of the id at which the range is entered.
+fn id_hint(search: Search<'_>) -> u64 {
+    match search.range.entered_at(search.direction) {
+        Some((Json::Text(id), _)) => text_hint(id.as_str()),
+        _ if search.direction == Direction::Asc => 0,
+        _ => u64::MAX,
     }
 }
