@@ -34,11 +34,13 @@ class Session(Connection):
 
 
 class Piped(Program):
-    """The program with one session over pipes, and one worker. Its processor time is that of its one thread, in nanoseconds, by /proc."""
+    """The program with one session over pipes, and one worker, under a tool if there is one. Its processor time is that of its one
+    thread, in nanoseconds, by /proc."""
 
-    def __init__(self, path, corpus, shards):
+    def __init__(self, path, corpus, shards, tool=()):
         self.corpus = corpus
-        self.process = subprocess.Popen([path, "db", str(shards), "1", "1", "-"], stdin=subprocess.PIPE, stdout=subprocess.PIPE)
+        words = [*tool, path, "db", str(shards), "1", "1", "-"]
+        self.process = subprocess.Popen(words, stdin=subprocess.PIPE, stdout=subprocess.PIPE)
         self.connection = Session(self.process, corpus)
 
     def client(self):
