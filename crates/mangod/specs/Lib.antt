@@ -1,5 +1,7 @@
 pub mod Arguments
 pub mod Conversations
 pub mod Ends
+pub mod Faults
+pub mod Pace
 pub mod Program
 pub mod View

@@ -2,75 +2,57 @@
 ghost use Rattle.std.specs.Prelude.{◌≡◌, List};
 ghost use Rattle.mangod.specs.Conversations.{Conversation, InTurn};
 
+use crate::faults::{Disposal, afterwards};
+use crate::line::{Incoming, Line, Outgoing};
+use crate::lobby::Lobby;
 use mg_http::{Device, Service, session};
 use std::alloc::Global;
-use std::io;
-use std::io::ErrorKind;
-use std::net::{TcpListener, TcpStream};
+use std::net::TcpStream;
 use std::sync::Wait;
 use std::thread::Threads;
-use std::time::Duration;
+use std::time::{Clock, Instant};
 
-/// How many seconds a read or a write of a connection may wait for its client.
-const PATIENCE: u64 = 60;
-
-/// Serves connections one after another, at most so many where a number is given, and else until the listener fails. What one
-/// client does ends its own connection alone.
-pub(crate) fn serve_connections<H: Wait + Threads + Sync, S: Service>(
+/// Serves the connections of a lobby on which bytes come, one after another, at most so many where a number is given, and else until
+/// the listener fails. What one client does ends its own connection alone, and a client that pauses goes back to the lobby.
+pub(crate) fn serve_connections<H: Wait + Threads + Sync + Clock, S: Service>(
     rt: &H,
     alloc: Global,
     db: &str,
-    listener: &TcpListener,
+    lobby: &Lobby,
     service: &mut S,
     turns: Option<u64>,
 )
     ensures { (talks : List Conversation) × InTurn S.answers db.now service.old talks service.new }
 {
     for _turn in 0..turns.unwrap_or(u64::MAX) {
-        match next_connection(listener) {
-            Some(stream) => converse(rt, alloc, db, &stream, service),
-            None => return,
+        let Some(stream) = lobby.next(rt) else {
+            return;
+        };
+        match converse(rt, alloc, db, lobby, &stream, service) {
+            Disposal::Keep => lobby.admit_paused(rt, stream),
+            Disposal::CloseGently => lobby.admit_closing(rt, stream),
+            Disposal::Close => {}
         }
     }
 }
 
-// The next connection, none where the listener failed. An accept that was interrupted, or whose client had gone before it was
-// accepted, is tried again.
-fn next_connection(listener: &TcpListener) -> Option<TcpStream> {
-    for _accept in 0..u64::MAX {
-        match listener.accept() {
-            Ok((stream, _)) => return Some(stream),
-            Err(error) => match error.kind() {
-                ErrorKind::Interrupted | ErrorKind::ConnectionAborted => {}
-                _ => return None,
-            },
-        }
-    }
-    None
-}
-
-// Holds a session over a connection. One that cannot be given its time limits is closed.
-fn converse<H: Wait + Threads + Sync, S: Service>(
+// Holds a session over a connection until its client pauses or its end, and says what becomes of it.
+fn converse<H: Wait + Threads + Sync + Clock, S: Service>(
     rt: &H,
     alloc: Global,
     db: &str,
+    lobby: &Lobby,
     stream: &TcpStream,
     service: &mut S,
-)
+) -> Disposal
     ensures { (talks : List Conversation) × InTurn S.answers db.now service.old talks service.new }
 {
-    if limit_waits(stream).is_err() {
-        return;
-    }
-    let mut reader = Device::new(stream);
-    let mut writer = Device::new(stream);
-    session(rt, alloc, db, &mut reader, &mut writer, service);
-}
-
-// Lets reads and writes fail that wait too long, and sends each reply at once.
-fn limit_waits(stream: &TcpStream) -> io::Result<()> {
-    let patience = Some(Duration::from_secs(PATIENCE));
-    stream.set_read_timeout(patience)?;
-    stream.set_write_timeout(patience)?;
-    stream.set_nodelay(true)
+    let Ok(began) = Instant::now(rt) else {
+        return Disposal::Close;
+    };
+    let line = Line::new(rt, stream, lobby, began);
+    let mut reader = Device::new(Incoming::new(&line));
+    let mut writer = Device::new(Outgoing::new(&line));
+    let end = session(rt, alloc, db, &mut reader, &mut writer, service);
+    afterwards(end, line.has_paused())
 }

@@ -5,6 +5,10 @@ mod arguments;
 mod config;
 mod connections;
 mod ends;
+mod faults;
+mod line;
+mod lobby;
+mod pace;
 mod program;
 mod seats;
 

@@ -12,17 +12,19 @@ ghost use Rattle.mangod.specs.View.{ending_seen};
 use crate::arguments::settings;
 use crate::config::Settings;
 use crate::ends::{CANNOT_LISTEN, Ending, NO_MEMORY, STOPPED, WRONG_WORDS};
+use crate::lobby::Lobby;
 use crate::seats::{serve_seats, services};
 use mg_engine::Engine;
 use mg_http::{Device, Solo};
 use mg_live::{Database, History, Live, Waiting};
 use mg_shard::Md5Placement;
 use mg_value::NoMemory;
-use std::io::{Eprint, Read, Write};
+use std::io::{Eprint, ErrorKind, Read, Write};
 use std::net::{Net, TcpListener, TcpStream};
 use std::sync::Wait;
 use std::sync::ledger::Blank;
 use std::thread::Threads;
+use std::time::Clock;
 
 /// Does what the words ask for, if they are right: one session over the input and the output where the address is `-`, and else
 /// sessions with the clients that connect to the address. The history and the ledger are those of the database `D`.
@@ -35,6 +37,7 @@ pub(crate) fn run<
         + Copy
         + Drop
         + AllocGlobal
+        + Clock
         + Eprint
         + Net<Listener = TcpListener, Stream = TcpStream>,
     R: Read,
@@ -107,6 +110,7 @@ fn listen<
         + Copy
         + Drop
         + AllocGlobal
+        + Clock
         + Eprint
         + Net<Listener = TcpListener, Stream = TcpStream>,
 >(rt: H, settings: Settings<'_>, blank: Blank, history: History) -> Ending
@@ -138,8 +142,15 @@ fn listen<
     let Ok(listener) = TcpListener::bind(&rt, settings.addr) else {
         return CANNOT_LISTEN;
     };
+    let lobby = match Lobby::open(&rt, alloc, listener) {
+        Ok(lobby) => lobby,
+        Err(error) => match error.kind() {
+            ErrorKind::OutOfMemory => return NO_MEMORY,
+            _ => return CANNOT_LISTEN,
+        },
+    };
     let _ = eprintln!(rt; "mangod: listening");
-    let served = serve_seats(&rt, alloc, settings.db, &listener, services, None);
+    let served = serve_seats(&rt, alloc, settings.db, &lobby, services, None);
     drop(live);
     match served {
         Ok(_) => STOPPED,

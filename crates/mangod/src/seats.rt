@@ -2,14 +2,15 @@
 ghost use Rattle.std.specs.Prelude.{◌≡◌, ◌≤◌, IfOk, map};
 
 use crate::connections::serve_connections;
+use crate::lobby::Lobby;
 use mg_http::SeatService;
 use mg_live::{Database, Ends, Seat, Waiting};
 use mg_value::NoMemory;
 use std::alloc::Global;
-use std::net::TcpListener;
 use std::sync::Wait;
 use std::thread;
 use std::thread::Threads;
+use std::time::Clock;
 
 /// A service for each seat, by so many workers.
 pub(crate) fn services<D: Database, C: Ends>(
@@ -33,32 +34,35 @@ pub(crate) fn services<D: Database, C: Ends>(
 /// seat waits until another has ended.
 ///
 /// Errors: `NoMemory` where a growth was refused.
-pub(crate) fn serve_seats<D: Database + Send + Sync, H: Wait + Threads + Send + Sync + Copy + Drop>(
+pub(crate) fn serve_seats<
+    D: Database + Send + Sync,
+    H: Wait + Threads + Clock + Send + Sync + Copy + Drop,
+>(
     rt: &H,
     alloc: Global,
     db: &str,
-    listener: &TcpListener,
+    lobby: &Lobby,
     services: Vec<SeatService<D, Waiting<H>>>,
     turns: Option<u64>,
 ) -> Result<Vec<SeatService<D, Waiting<H>>>, NoMemory> {
     let services = thread::map_vec(
         rt,
         services,
-        &|service| attend(rt, alloc, db, listener, service, turns),
+        &|service| attend(rt, alloc, db, lobby, service, turns),
     )?;
     Ok(services)
 }
 
 // Serves the connections of one seat.
-fn attend<D: Database, C: Ends, H: Wait + Threads + Sync>(
+fn attend<D: Database, C: Ends, H: Wait + Threads + Clock + Sync>(
     rt: &H,
     alloc: Global,
     db: &str,
-    listener: &TcpListener,
+    lobby: &Lobby,
     service: SeatService<D, C>,
     turns: Option<u64>,
 ) -> SeatService<D, C> {
     let mut service = service;
-    serve_connections(rt, alloc, db, listener, &mut service, turns);
+    serve_connections(rt, alloc, db, lobby, &mut service, turns);
     service
 }

@@ -1,10 +1,11 @@
 use Rattle.std.proofs.Common.{[], ◌∷◌, refl}
 use Rattle.mangod.proofs.connections.converse.Goals as goal
 
-pub returns-then-is_err : goal.returns-then-is_err
-returns-then-is_err g c = ([], refl)
+pub returns-in_default : goal.returns-in_default
+returns-in_default g c = ([], refl)
 
 pub returns : goal.returns
 returns g c =
-    let talk = c.session.ensures.talk in
-    (record { bytes = talk.0; written = talk.1; end = c.session.result } ∷ [], (c.session.new.service, talk.4, refl))
+    let held = c.session-end in
+    let talk = held.ensures.talk in
+    (record { bytes = talk.0; written = talk.1; end = held.result } ∷ [], (held.new.service, talk.4, refl))

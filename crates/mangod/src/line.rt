@@ -1,0 +1,219 @@
+//! A connection as its session reads and writes it: within time limits, and back in the lobby between messages.
+ghost use Rattle.std.specs.Prelude.{◌≡◌, ◌≤◌, length};
+ghost use Rattle.std.specs.Io.{ReadsAtMost, WritesAtMost};
+
+use crate::lobby::Lobby;
+use crate::pace::{PAUSE_MILLIS, Phase, is_turn_over, seconds_left};
+use std::cell::Cell;
+use std::io;
+use std::io::{ErrorKind, Read, Write};
+use std::net::TcpStream;
+use std::time::{Clock, Duration, Instant};
+
+/// What the reader and the writer of one connection share.
+#[derive(Drop)]
+pub(crate) struct Line<'a, H> {
+    rt: &'a H,
+    stream: &'a TcpStream,
+    lobby: &'a Lobby,
+    /// When the session began.
+    began: Instant,
+    phase: Cell<Phase>,
+    /// When the message, the reply or the silence began.
+    since: Cell<Instant>,
+    /// How many milliseconds the system lets a read wait, and how many seconds a write. 0: not set yet.
+    read_wait: Cell<u64>,
+    write_wait: Cell<u64>,
+    has_paused: Cell<bool>,
+}
+
+impl<'a, H: Clock> Line<'a, H> {
+    /// A connection that is idle now.
+    pub(crate) fn new(
+        rt: &'a H,
+        stream: &'a TcpStream,
+        lobby: &'a Lobby,
+        began: Instant,
+    ) -> Line<'a, H> {
+        Line {
+            rt,
+            stream,
+            lobby,
+            began,
+            phase: Cell::new(Phase::Idle),
+            since: Cell::new(began),
+            read_wait: Cell::new(0),
+            write_wait: Cell::new(0),
+            has_paused: Cell::new(false),
+        }
+    }
+
+    /// Whether the input was ended between two messages, while the client may still send one.
+    pub(crate) fn has_paused(&self) -> bool {
+        self.has_paused.get()
+    }
+
+    /// Goes over to a phase, which begins now where it is another activity.
+    fn enter(&self, phase: Phase, is_new: bool) -> io::Result<()> {
+        if is_new {
+            self.since.set(Instant::now(self.rt)?);
+        }
+        self.phase.set(phase);
+        Ok(())
+    }
+
+    /// Ends the input for now.
+    fn pause(&self) -> usize
+        ensures { result ≡ 0 }
+    {
+        self.has_paused.set(true);
+        0
+    }
+
+    /// How many seconds the message or the reply has left.
+    ///
+    /// Errors: `TimedOut` where it has taken too long.
+    fn seconds_left(&self) -> io::Result<u64> {
+        match seconds_left(self.since.get().elapsed(self.rt)?) {
+            0 => Err(io::Error::from(ErrorKind::TimedOut)),
+            left => Ok(left),
+        }
+    }
+
+    /// Lets reads wait so long.
+    fn limit_read(&self, millis: u64) -> io::Result<()> {
+        if self.read_wait.get() != millis {
+            self.stream
+                .set_read_timeout(Some(Duration::from_millis(millis)))?;
+            self.read_wait.set(millis);
+        }
+        Ok(())
+    }
+
+    /// Lets writes wait so long.
+    fn limit_write(&self, seconds: u64) -> io::Result<()> {
+        if self.write_wait.get() != seconds {
+            self.stream
+                .set_write_timeout(Some(Duration::from_secs(seconds)))?;
+            self.write_wait.set(seconds);
+        }
+        Ok(())
+    }
+
+    /// Reads while no message is under way. The input ends for now where no byte comes soon, or where others need the thread.
+    fn read_idle(&self, piece: &mut [u8]) -> io::Result<usize>
+        ensures { ReadsAtMost result piece.new }
+    {
+        if is_turn_over(self.began.elapsed(self.rt)?) && !self.lobby.is_watched() {
+            return Ok(self.pause());
+        }
+        self.limit_read(PAUSE_MILLIS)?;
+        let mut stream = self.stream;
+        match stream.read(piece) {
+            Err(error) if is_nothing_yet(error.kind()) => Ok(self.pause()),
+            read => read,
+        }
+    }
+
+    /// Reads within a message.
+    fn read_more(&self, piece: &mut [u8]) -> io::Result<usize>
+        ensures { ReadsAtMost result piece.new }
+    {
+        self.limit_read(self.seconds_left()?.saturating_mul(1000))?;
+        let mut stream = self.stream;
+        stream.read(piece)
+    }
+}
+
+// Whether a read that failed so only found nothing.
+fn is_nothing_yet(kind: ErrorKind) -> bool {
+    matches!(
+        kind,
+        ErrorKind::WouldBlock | ErrorKind::TimedOut | ErrorKind::Interrupted
+    )
+}
+
+/// Reads a connection. The last byte of what came is given by a read of its own, so that its session's replies show where the
+/// messages end (`Phase`).
+#[derive(Drop)]
+pub(crate) struct Incoming<'a, H> {
+    line: &'a Line<'a, H>,
+    kept: Option<u8>,
+}
+
+impl<'a, H: Clock> Incoming<'a, H> {
+    /// A reader that has read nothing.
+    pub(crate) fn new(line: &'a Line<'a, H>) -> Incoming<'a, H> {
+        Incoming { line, kept: None }
+    }
+
+    /// Keeps the last of so many bytes back, if there are others, and returns how many are given.
+    fn keep_last(&mut self, piece: &[u8], count: usize) -> usize
+        requires { count ≤ length piece.now }
+        ensures { result ≤ count }
+    {
+        if count < 2 {
+            return count;
+        }
+        self.kept = Some(piece[count - 1]);
+        count - 1
+    }
+}
+
+impl<H: Clock> Read for Incoming<'_, H> {
+    fn read(&mut self, piece: &mut [u8]) -> io::Result<usize> {
+        if piece.is_empty() {
+            return Ok(0);
+        }
+        let line = self.line;
+        let before = line.phase.get();
+        let phase = before.at_read();
+        line.enter(phase, phase != before)?;
+        let count = match self.kept.take() {
+            Some(byte) => {
+                piece[0] = byte;
+                1
+            }
+            None => {
+                let count = match phase {
+                    Phase::Idle => line.read_idle(piece)?,
+                    _ => line.read_more(piece)?,
+                };
+                self.keep_last(piece, count)
+            }
+        };
+        if count > 0 {
+            line.enter(Phase::after_bytes(count), phase == Phase::Idle)?;
+        }
+        Ok(count)
+    }
+}
+
+/// Writes a connection.
+#[derive(Drop)]
+pub(crate) struct Outgoing<'a, H> {
+    line: &'a Line<'a, H>,
+}
+
+impl<'a, H: Clock> Outgoing<'a, H> {
+    /// A writer that has written nothing.
+    pub(crate) fn new(line: &'a Line<'a, H>) -> Outgoing<'a, H> {
+        Outgoing { line }
+    }
+}
+
+impl<H: Clock> Write for Outgoing<'_, H> {
+    fn write(&mut self, piece: &[u8]) -> io::Result<usize> {
+        let line = self.line;
+        let before = line.phase.get();
+        let phase = before.at_write();
+        line.enter(phase, phase != before)?;
+        line.limit_write(line.seconds_left()?)?;
+        let mut stream = line.stream;
+        stream.write(piece)
+    }
+
+    fn flush(&mut self) -> io::Result<()> {
+        Ok(())
+    }
+}
