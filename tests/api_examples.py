@@ -1,12 +1,13 @@
 #!/usr/bin/env python3
-"""Sends every request of docs/API.md to the program and compares the replies.
+"""Sends every request of docs/REFERENCE.md and of tests/requests.md to the program, and compares the replies.
 
-usage: api_examples.py --program PATH [--document FILE]
+usage: api_examples.py --program PATH [--document FILE ..]
 
 An example is a block ```http-request (a line with the method and the target, then the body) and right after it a
 block ```http-reply (a line with the status, then the body). The examples under one heading `##` are one
-conversation: one process `PATH db 1 1 1 -`, which has no document at first. Prints each difference; the last line is
-'N passed, M failed', and the exit status is 0 where M is 0.
+conversation: one process `PATH db 1 1 1 -`, which has no document at first. An example that stands before the first heading, or
+is laid out otherwise, is a fault. Prints each difference; the last line is 'N passed, M failed', and the exit status is 0 where M
+is 0.
 """
 import argparse
 import re
@@ -16,6 +17,7 @@ from dataclasses import dataclass
 from pathlib import Path
 
 SECONDS = 60
+TOP = Path(__file__).resolve().parent.parent
 BLOCK = re.compile(r"^```(http-request|http-reply)\n(.*?)^```$", re.MULTILINE | re.DOTALL)
 HEADING = re.compile(r"^## (.*)$", re.MULTILINE)
 
@@ -105,24 +107,35 @@ def run(program, examples):
     return faults
 
 
+def tried(program, name, examples):
+    """How many examples of a section were not as wanted."""
+    try:
+        faults = run(program, examples)
+    except subprocess.TimeoutExpired:
+        faults = [[f"the program did not end in {SECONDS} seconds"] for _ in examples]
+    for place, (example, found) in enumerate(zip(examples, faults), start=1):
+        for fault in found:
+            print(f"{name}, example {place}, {example.request}:\n    {fault}")
+    return sum(map(bool, faults))
+
+
 def main():
     parser = argparse.ArgumentParser()
     parser.add_argument("--program", required=True, type=Path)
-    parser.add_argument("--document", type=Path, default=Path(__file__).resolve().parent.parent / "docs" / "API.md")
+    parser.add_argument("--document", type=Path, nargs="+", default=[TOP / "docs" / "REFERENCE.md", TOP / "tests" / "requests.md"])
     options = parser.parse_args()
     passed = failed = 0
-    for heading, examples in sections_of(options.document.read_text(encoding="utf-8")):
-        try:
-            faults = run(options.program.resolve(), examples)
-        except subprocess.TimeoutExpired:
-            faults = [[f"the program did not end in {SECONDS} seconds"] for _ in examples]
-        for place, (example, found) in enumerate(zip(examples, faults), start=1):
-            passed += not found
-            failed += bool(found)
-            for fault in found:
-                print(f"{heading}, example {place}, {example.request}:\n    {fault}")
-    if passed + failed == 0:
-        sys.exit("the document has no example")
+    for document in options.document:
+        text = document.read_text(encoding="utf-8")
+        named, sent = text.count("```http-request"), 0
+        for heading, examples in sections_of(text):
+            wrong = tried(options.program.resolve(), f"{document.name}, {heading}", examples)
+            failed += wrong
+            passed += len(examples) - wrong
+            sent += len(examples)
+        if sent != named or named == 0:
+            print(f"{named} requests stand in {document.name}, {sent} were sent")
+            failed += 1
     print(f"{passed} passed, {failed} failed")
     sys.exit(1 if failed else 0)
 

@@ -6,12 +6,13 @@ usage: bounds.py --program PATH [--only NAME ..] [--full]
 The shapes are those of the folder shapes/. In the gate the larger input is four times the smaller one, with --full it is
 twice as large, at greater sizes. A shape passes where its larger input takes at most a half more than its share of the
 processor time and of the memory: `times` that of the smaller one, or `times` squared where the documents name a product of two
-parts that both grow. Five hundredths of a second and 2 MiB on either side are not counted. The replies have to be right: they
+parts that both grow. From both times that of a sixteenth of the smaller input is taken away, so what is the same for each size is not
+counted, nor are 2 MiB of memory. The sizes grow until what is left of the smaller input's is a tenth of a second of processor time;
+where a body can have no more bytes, all are sent to as many processes as together take that. The replies have to be right: they
 end in the bytes that the shape gives, and the next message is answered. A time that is too long is measured up to three times. Last,
-values and selectors as deep as a body may be go through the program with a stack of 1 MiB. The last line is 'N passed,
-M failed'.
+values and selectors as deep as a body may be go through the program with a stack of 1 MiB. The last line is 'N passed, M failed'.
 """
-import argparse
+import math
 import os
 import resource
 import subprocess
@@ -19,12 +20,15 @@ import sys
 import tempfile
 import time
 
+from common.arguments import arguments
 from common.tally import Tally
 from model.talk import reply
 from shapes import queries, values, writes
 
 SECONDS = 1800
-SLACK = 0.05
+LEAST = 0.1
+MOST_ROUNDS = 100
+TINY = 16
 ROOM = 2 << 20
 STACK = 1 << 20
 LAST = b"GET /db/%00 HTTP/1.1\r\n\r\n"
@@ -53,9 +57,8 @@ def wait_for(process, output, text):
     return False
 
 
-def measure(program, shape, size):
+def measure(program, shape, given, text):
     """The processor time and the memory of an input, none where a reply is not right."""
-    given, text = shape.make(size)
     words = [program, "db", shape.shards, shape.workers, "1", "-"]
     before = resource.getrusage(resource.RUSAGE_CHILDREN)
     with tempfile.TemporaryFile() as output:
@@ -74,24 +77,45 @@ def measure(program, shape, size):
     return after.ru_utime + after.ru_stime - before.ru_utime - before.ru_stime, memory
 
 
-def compare(program, shape, small, large, tally):
+def grown(program, shape, small, times):
+    """A size at which the smaller input takes a tenth of a second, or the greatest that it may have; and how many processes take that."""
+    while True:
+        found = in_all(program, shape, [shape.make(small // TINY), shape.make(small)], 1)
+        used = found[0][0] if found else LEAST
+        if used >= LEAST:
+            return small, 1
+        if 2 * small * times > shape.full:
+            return small, min(MOST_ROUNDS, math.ceil(LEAST / max(used, LEAST / MOST_ROUNDS)))
+        small *= 2
+
+
+def in_all(program, shape, inputs, rounds):
+    """For each input but the first the processor time of so many processes beyond that of the first input, and the most memory of one; none
+    where a reply is not right."""
+    found = [[measure(program, shape, *one) for one in inputs] for _ in range(rounds)]
+    if any(None in one for one in found):
+        return None
+    first, *others = [(sum(used for used, _ in column), max(memory for _, memory in column)) for column in zip(*found)]
+    return [(used - first[0], memory) for used, memory in others]
+
+
+def compare(program, shape, small, times, tally):
     """One shape at two sizes."""
-    share = 1.5 * (large / small) ** shape.power
-    found = []
+    small, rounds = grown(program, shape, small, times)
+    inputs = [shape.make(size) for size in (small // TINY, small, small * times)]
+    tiny = TINY**-shape.power
+    share = 1.5 * (times**shape.power - tiny) / (1 - tiny)
     for _ in range(3):
-        found.append((measure(program, shape, small), measure(program, shape, large)))
-        if None in found[-1] or found[-1][1][0] - SLACK <= share * (found[-1][0][0] + SLACK):
+        found = in_all(program, shape, inputs, rounds)
+        if found is None or found[1][0] <= share * found[0][0]:
             break
-    one, other = found[-1]
-    print(f"{shape.name}: {small} in {told(one)}, {large} in {told(other)}", flush=True)
-    tally.expect(f"{shape.name}: right replies", None in (one, other), False)
-    if one and other:
-        tally.expect(f"{shape.name}: time", other[0] - SLACK <= share * (one[0] + SLACK), True)
-        tally.expect(f"{shape.name}: memory", other[1] - ROOM <= share * (one[1] + ROOM), True)
-
-
-def told(found):
-    return f"{found[0]:.2f} s and {found[1] / 2**20:.0f} MiB" if found else "wrong replies"
+    tally.expect(f"{shape.name}: right replies", found is not None, True)
+    if found:
+        (one, little), (other, much) = found
+        print(f"{shape.name}: {small} in {one:.2f} s and {little / 2**20:.0f} MiB, {small * times} in {other:.2f} s and {much / 2**20:.0f} MiB"
+              f"{f', {rounds} processes' if rounds > 1 else ''}", flush=True)
+        tally.expect(f"{shape.name}: time", other <= share * one, True)
+        tally.expect(f"{shape.name}: memory", much - ROOM <= share * (little + ROOM), True)
 
 
 def deepest(program, tally):
@@ -119,19 +143,15 @@ def deepest(program, tally):
 
 
 def main():
-    parser = argparse.ArgumentParser(description=__doc__.split("\n")[0])
-    parser.add_argument("--program", required=True)
-    parser.add_argument("--only", nargs="*", default=[])
-    parser.add_argument("--full", action="store_true")
-    args = parser.parse_args()
-    tally = Tally()
-    for shape in values.SHAPES + queries.SHAPES + writes.SHAPES:
-        if not args.only or shape.name in args.only:
-            size, times = (shape.full, 2) if args.full else (shape.gate, 4)
-            compare(args.program, shape, size // times, size, tally)
-    deepest(args.program, tally)
-    print(f"{tally.passed} passed, {tally.failed} failed")
-    return 1 if tally.failed else 0
+    words, tally = arguments(__doc__, only=[]), Tally()
+    shapes = values.SHAPES + queries.SHAPES + writes.SHAPES
+    tally.expect("shapes that are none", sorted(set(words.only) - {shape.name for shape in shapes}), [])
+    for shape in shapes:
+        if not words.only or shape.name in words.only:
+            size, times = (shape.full, 2) if words.full else (shape.gate, 4)
+            compare(words.program, shape, size // times, times, tally)
+    deepest(words.program, tally)
+    return tally.end()
 
 
 if __name__ == "__main__":

@@ -4,21 +4,25 @@
 usage: clients.py --program PATH [--shards N]
 
 The program speaks over its standard input and output. For each connection that a socket of 127.0.0.1 accepts, one process
-`PATH db SHARDS 1 1 -` is started whose standard input and output are that connection. Prints each fault; the last line
-is 'N passed, M failed'. Without curl, its part is left out, and a line says so.
+`PATH db SHARDS 1 1 -` is started whose standard input and output are that connection. How each process ends is compared too. It needs
+`curl`. Prints each fault; the last line is 'N passed, M failed'.
 """
 import argparse
 import http.client
 import json
-import shutil
 import socket
 import subprocess
 import sys
 import threading
+import time
 
 from common.tally import Tally
 
 SECONDS = 30
+ENDED = (0, b"")
+HEAD = "HTTP/1.1 {}\r\nContent-Type: application/json\r\nContent-Length: {}\r\n\r\n"
+NO_DOCUMENT = (HEAD.format("404 Not Found", 41) + '{"error":"not_found","reason":"missing"}\n').encode()
+EMPTY = (HEAD.format("200 OK", 29) + '{"bookmark":"nil","docs":[]}\n').encode()
 
 
 class Bridge:
@@ -28,26 +32,30 @@ class Bridge:
         self.command = [program, "db", str(shards), "1", "1", "-"]
         self.listener = socket.create_server(("127.0.0.1", 0))
         self.port = self.listener.getsockname()[1]
-        self.ended = []
+        self.served = []
         threading.Thread(target=self.accept, daemon=True).start()
 
     def accept(self):
         while True:
             connection, _ = self.listener.accept()
-            threading.Thread(target=self.serve, args=(connection,), daemon=True).start()
+            with connection:
+                self.served.append(subprocess.Popen(self.command, stdin=connection, stdout=connection, stderr=subprocess.PIPE))
 
-    def serve(self, connection):
-        with connection:
-            process = subprocess.Popen(self.command, stdin=connection, stdout=connection, stderr=subprocess.PIPE)
-            _, line = process.communicate(timeout=SECONDS)
-            self.ended.append((process.returncode, line))
+    def ends(self, count=1):
+        """How the processes ended that were started since the last call, which are so many."""
+        limit = time.monotonic() + SECONDS
+        while len(self.served) < count and time.monotonic() < limit:
+            time.sleep(0.01)
+        served, self.served = self.served, []
+        lines = [process.communicate(timeout=SECONDS)[1] for process in served]
+        return [(process.returncode, line) for process, line in zip(served, lines)]
 
 
 def python_client(bridge, tally):
     connection = http.client.HTTPConnection("127.0.0.1", bridge.port, timeout=SECONDS)
 
-    def ask(method, target, body=None, headers={}):
-        connection.request(method, target, body, headers)
+    def ask(method, target, body=None, headers=None):
+        connection.request(method, target, body, headers or {})
         reply = connection.getresponse()
         return reply.status, reply.read(), reply.getheader("Content-Length")
 
@@ -75,8 +83,8 @@ def python_client(bridge, tally):
     tally.expect("one connection for all", connection.sock is first, True)
     status, _, _ = ask("GET", "/db/none", headers={"Connection": "close"})
     tally.expect("a last message that closes", status, 404)
-    first.settimeout(SECONDS)
     connection.close()
+    tally.expect("the end", bridge.ends(), [ENDED])
 
 
 def answered_before_more_is_sent(bridge, tally):
@@ -89,7 +97,8 @@ def answered_before_more_is_sent(bridge, tally):
                 if not piece:
                     break
                 text += piece
-            tally.expect("a reply before more is sent", text.split(b"\r\n")[0], b"HTTP/1.1 404 Not Found")
+            tally.expect("a reply before more is sent", text, NO_DOCUMENT)
+    tally.expect("its end", bridge.ends(), [ENDED])
 
 
 def byte_by_byte(bridge, tally):
@@ -102,7 +111,7 @@ def byte_by_byte(bridge, tally):
         text = b""
         while piece := client.recv(65536):
             text += piece
-    tally.expect("a message byte by byte", text.partition(b"\r\n\r\n")[2], b'{"bookmark":"nil","docs":[]}\n')
+    tally.expect("a message byte by byte", (text, bridge.ends()), (EMPTY, [ENDED]))
 
 
 def curl_client(bridge, tally):
@@ -125,7 +134,8 @@ def curl_client(bridge, tally):
     code, out = curl("--http1.0", at + "/db/none")
     tally.expect("curl: version 1.0", (code, out), (0, b'{"error":"not_found","reason":"missing"}\n'))
     code, out = curl("-H", "Transfer-Encoding: chunked", "-d", "{}", at + "/db/_find", "-o", "/dev/null", "-w", "%{http_code}")
-    tally.expect("curl: a chunked body", out, b"411")
+    tally.expect("curl: a chunked body", (code, out), (0, b"411"))
+    tally.expect("curl: the ends", bridge.ends(5), [ENDED] * 4 + [(1, b"mangod: refused\n")])
 
 
 def main():
@@ -137,12 +147,10 @@ def main():
     python_client(bridge, tally)
     answered_before_more_is_sent(bridge, tally)
     byte_by_byte(bridge, tally)
-    if shutil.which("curl"):
+    if tally.needs("curl"):
         curl_client(bridge, tally)
-    else:
-        print("curl is not here: its part is left out")
-    print(f"{tally.passed} passed, {tally.failed} failed")
-    sys.exit(tally.failed > 0 or tally.passed == 0)
+    sys.exit(tally.end())
 
 
-main()
+if __name__ == "__main__":
+    main()

@@ -4,8 +4,9 @@
 usage: conversations.py --program PATH [--shards 1,2,7,64] [--workers 1,2,32] [--reshards 3 64,1,3] [--only NAME ..] [--folder FOLDER]
 
 A conversation is run by one process `PATH db SHARDS WORKERS 1 -` for each number of shards and of workers; its database
-has no document at first, and all its messages are sent at once. For each list of --reshards it is run once more, with a
-`_placement` between every two messages that asks for these numbers of shards in turn, and the same replies. In a file:
+has no document at first, and all its messages are sent at once. For each list of --reshards it is run once more with each of these
+numbers, with a `_placement` between every two messages that asks for the numbers of the list in turn, and the same replies. In a
+file:
 
   ## NAME: what it shows        begins a conversation
   + DOCUMENT DOCUMENT ..        a bulk of a replica, "_rev":"1-a" where a document gives none; the reply is 201 [] where no
@@ -21,8 +22,8 @@ has no document at first, and all its messages are sent at once. For each list o
   ! LINE                        the program ends with status 1 and the line `mangod: LINE`, and not with 0 and no line
 
 A line that begins with a blank goes on with the line before it; `#` and a blank begin a comment. `--only` takes names of
-conversations and of files. Prints each fault; a conversation passes or fails in each run. The last line is 'N passed, M
-failed', and the exit status is 0 where M is 0.
+conversations and of files. Prints each fault; a conversation passes or fails as one in all its runs. The last line is 'N passed,
+M failed', and the exit status is 0 where M is 0.
 """
 import argparse
 import itertools
@@ -32,6 +33,8 @@ import subprocess
 import sys
 from dataclasses import dataclass, field
 from pathlib import Path
+
+from common.tally import Tally
 
 SECONDS = 60
 PHRASES = {
@@ -276,13 +279,13 @@ def with_reshards(exchanges, counts):
     return [*said, exchanges[-1]]
 
 
-def run(program, conversation, shards, workers, reshards=()):
+def run(program, conversation, shards, workers, reshards=(), environment=None):
     """Each fault: the line of the file, and what was wrong."""
     call = [program, "db", str(shards), str(workers), "1", "-"]
     exchanges = with_reshards(conversation.exchanges, reshards) if reshards else conversation.exchanges
     messages = b"".join(exchange.message for exchange in exchanges)
     try:
-        done = subprocess.run(call, input=messages, capture_output=True, timeout=SECONDS)
+        done = subprocess.run(call, input=messages, capture_output=True, timeout=SECONDS, env=environment)
     except subprocess.TimeoutExpired:
         return [(conversation.exchanges[0].place, f"the program did not end in {SECONDS} seconds")]
     replies, left = replies_in(done.stdout)
@@ -328,21 +331,17 @@ def main():
     parser.add_argument("--only", nargs="+", default=[])
     parser.add_argument("--folder", type=Path, default=Path(__file__).resolve().parent / "conversations")
     options = parser.parse_args()
-    passed = failed = 0
-    plain = [(shards, workers, ()) for shards in options.shards for workers in options.workers]
-    dealt = [(options.shards[0], options.workers[-1], counts) for counts in options.reshards]
+    tally = Tally()
+    settings = list(itertools.product(options.shards, options.workers, [(), *options.reshards]))
     for conversation in chosen(options.folder, options.only):
-        for shards, workers, reshards in plain + dealt:
-            faults = run(options.program.resolve(), conversation, shards, workers, reshards)
-            passed += not faults
-            failed += bool(faults)
-            for place, fault in faults:
-                where = f"{conversation.file.name}:{place}, {conversation.name}"
-                print(f"{where}, {shards} shards, {workers} workers, reshards {list(reshards)}: {fault}")
-    if passed + failed == 0:
-        sys.exit("the folder has no conversation")
-    print(f"{passed} passed, {failed} failed")
-    sys.exit(1 if failed else 0)
+        faults = []
+        for shards, workers, reshards in settings:
+            where = f"{shards} shards, {workers} workers, reshards {list(reshards)}"
+            for place, fault in run(options.program.resolve(), conversation, shards, workers, reshards):
+                faults.append(f"\n  line {place}, {where}: {fault}")
+        tally.count(f"{conversation.file.name}: {conversation.name}", faults)
+    print(f"each conversation on {len(settings)} settings (numbers of shards and of workers, reshards between the messages or none):")
+    sys.exit(tally.end())
 
 
 if __name__ == "__main__":

@@ -1,15 +1,14 @@
 #!/usr/bin/env python3
-"""Runs each program of examples/ against servers, and compares what it prints with tests/examples/NAME.txt.
+"""Runs the first programs of examples/ against servers, and compares what it prints with tests/examples/NAME.txt.
 
 usage: examples.py --program PATH
 
-The texts were written from the rules, and not by the program: orders and refusals from docs/PROFILE.md, the id of a revision as the
-MD5 of the text `[deleted, parent, body]`. Each example is run on new servers with 1, 4 and 64 shards. Without curl the report is left
-out, and a line says so. The last line is 'N passed, M failed'.
+The texts were written from the rules, and not by the program: orders and refusals from docs/REFERENCE.md, the id of a revision as the
+MD5 of the text `[deleted, parent, body]`. Each example is run on new servers with 1, 4 and 64 shards, and passes or fails as one. The
+report needs `curl`. The last line is 'N passed, M failed'.
 """
 import argparse
 import contextlib
-import shutil
 import subprocess
 import sys
 from pathlib import Path
@@ -21,6 +20,9 @@ SECONDS = 60
 TOP = Path(__file__).resolve().parent.parent
 # each example, and how many servers it is given
 EXAMPLES = {"client.py": 1, "replicas.py": 2, "report.sh": 1}
+# those that scripts of their own run: journal*.py, from_couchdb.py, compare.py
+ELSEWHERE = ["compare_couchdb.py", "from_couchdb.py", "journal.py", "journal_file.py"]
+SHARDS = (1, 4, 64)
 
 
 def printed(program, example, servers, shards):
@@ -38,15 +40,15 @@ def main():
     parser.add_argument("--program", required=True, type=Path)
     words = parser.parse_args()
     tally = Tally()
+    tally.expect("the examples", sorted(file.name for file in (TOP / "examples").iterdir() if file.is_file()), sorted([*EXAMPLES, *ELSEWHERE]))
     for example, servers in EXAMPLES.items():
-        if example == "report.sh" and shutil.which("curl") is None:
-            print("curl is not here: report.sh is left out")
+        if example == "report.sh" and not tally.needs("curl"):
             continue
         wanted = (TOP / "tests" / "examples" / example).with_suffix(".txt").read_text(encoding="utf-8")
-        for shards in (1, 4, 64):
-            tally.expect(f"{example}, {shards} shards", printed(words.program.resolve(), example, servers, shards), (0, wanted, ""))
-    print(f"{tally.passed} passed, {tally.failed} failed")
-    sys.exit(tally.failed > 0 or tally.passed == 0)
+        found = {shards: printed(words.program.resolve(), example, servers, shards) for shards in SHARDS}
+        tally.expect(example, found, dict.fromkeys(SHARDS, (0, wanted, "")))
+    print(f"each example on {len(SHARDS)} numbers of shards:")
+    sys.exit(tally.end())
 
 
 if __name__ == "__main__":

@@ -7,14 +7,16 @@ A seed makes one conversation: new edits, replicas, deletions and conflicts of a
 fourth seed, so that an index has several pages of rows), indexes that come, change their columns and go, and queries by
 them. The model (the folder model/) keeps the revisions of each document and no rows: it finds the winner by CouchDB's rule,
 and a page by sorting all documents in the order of CouchDB's collation. One process `PATH db SHARDS WORKERS 1 -` for each seed, number of
-shards and number of workers. Prints the first reply that differs; the last line is 'N passed, M failed'.
+shards and number of workers; a seed passes or fails as one. Prints the first reply that differs; the last line is 'N passed, M failed'.
 """
 import argparse
+import itertools
 import random
 import subprocess
 import sys
 from urllib.parse import quote
 
+from common.tally import Tally
 from conversations import PHRASES
 from model.documents import Document, text_of
 from model.values import compact
@@ -85,14 +87,14 @@ class Talk:
         return path[: self.random.choice([1, 2, len(path), len(path)])]
 
     def edit(self, new_edits):
-        id = self.random.choice(self.ids)
-        document = self.world.documents.get(id, Document())
+        name = self.random.choice(self.ids)
+        document = self.world.documents.get(name, Document())
         path = self.new_path(document) if new_edits else self.replica_path(document)
-        return id, path, self.chance(0.2), self.body()
+        return name, path, self.chance(0.2), self.body()
 
     def spelled(self, edit):
-        id, path, deleted, body = edit
-        document = {**body, "_id": id}
+        name, path, deleted, body = edit
+        document = {**body, "_id": name}
         if deleted or self.chance(0.1):
             document["_deleted"] = deleted
         if path and (len(path) > 1 or self.chance(0.3)):
@@ -117,10 +119,10 @@ class Talk:
 
     def deletions(self):
         """Deletes the leaves of a document that are not deleted, the last one now and then excepted."""
-        id = self.random.choice(self.ids)
-        document = self.world.documents.get(id, Document())
+        name = self.random.choice(self.ids)
+        document = self.world.documents.get(name, Document())
         leaves = [leaf for leaf in document.leaves() if not document.held[leaf][0]]
-        edits = [(id, [leaf], True, self.body()) for leaf in leaves[self.chance(0.2) :]]
+        edits = [(name, [leaf], True, self.body()) for leaf in leaves[self.chance(0.2) :]]
         return self.send([self.spelled(edit) for edit in edits], True, [self.world.entry(edit, True) for edit in edits])
 
     def change_indexes(self):
@@ -197,11 +199,11 @@ class Talk:
         return body
 
     def get(self):
-        id, conflicts = self.random.choice(self.ids), self.chance(0.5)
-        document = self.world.documents.get(id)
-        served = document and document.served(id, conflicts)
+        name, conflicts = self.random.choice(self.ids), self.chance(0.5)
+        document = self.world.documents.get(name)
+        served = document and document.served(name, conflicts)
         missing = {"error": "not_found", "reason": "deleted" if document else "missing"}
-        self.say("GET", quote(id, safe="") + ("?conflicts=true" if conflicts else ""), None, 200 if served else 404, served or missing)
+        self.say("GET", quote(name, safe="") + ("?conflicts=true" if conflicts else ""), None, 200 if served else 404, served or missing)
 
 
 def fault(program, talk, shards, workers):
@@ -227,17 +229,16 @@ def main():
     words.add_argument("--seeds", default="1,2,3,4")
     words.add_argument("--edits", type=int, default=1500)
     args = words.parse_args()
-    passed = failed = 0
+    tally = Tally()
+    settings = list(itertools.product(args.shards.split(","), args.workers.split(",")))
     for seed in args.seeds.split(","):
-        talk = Talk(int(seed), args.edits)
-        for shards in args.shards.split(","):
-            for workers in args.workers.split(","):
-                found = fault(args.program, talk, shards, workers)
-                passed, failed = passed + (not found), failed + bool(found)
-                if found:
-                    print(f"seed {seed}, {shards} shards, {workers} workers, {found}")
-    print(f"{passed} passed, {failed} failed")
-    return 1 if failed else 0
+        talk, faults = Talk(int(seed), args.edits), []
+        for shards, workers in settings:
+            found = fault(args.program, talk, shards, workers)
+            faults += [f"\n  {shards} shards, {workers} workers, {found}"] if found else []
+        tally.count(f"seed {seed}, {len(talk.exchanges)} messages", faults)
+    print(f"each conversation on {len(settings)} pairs of shards and workers:")
+    return tally.end()
 
 
 if __name__ == "__main__":

@@ -6,12 +6,16 @@ usage: program.py --program PATH
 The words are `DB SHARDS WORKERS SESSIONS ADDR`. Right ones hold one session over the input, here one query of an empty
 database. The last line is 'N passed, M failed', and the exit status is 0 where M is 0.
 """
-import argparse
 import subprocess
 import sys
 
+from common.arguments import arguments
+from common.tally import Tally
+
 SECONDS = 60
 QUERY = b'POST /%s/_find HTTP/1.1\r\nContent-Length: 15\r\n\r\n{"selector":{}}'
+BAD_HEAD = (b'HTTP/1.1 400 Bad Request\r\nContent-Type: application/json\r\nContent-Length: 50\r\n\r\n'
+            b'{"error":"bad_head","reason":"Bad request head."}\n')
 PAGE = b'HTTP/1.1 200 OK\r\nContent-Type: application/json\r\nContent-Length: 29\r\n\r\n{"bookmark":"nil","docs":[]}\n'
 USAGE = b"mangod: usage: mangod DB SHARDS WORKERS SESSIONS ADDR\n"
 
@@ -30,7 +34,7 @@ WRONG = [
 # what comes in, what goes out, the status and the line
 SESSIONS = [
     ("an input that ends", b"", b"", 0, b""),
-    ("a head that is none", b"X\r\n", None, 1, b"mangod: refused\n"),
+    ("a head that is none", b"X\r\n", BAD_HEAD, 1, b"mangod: refused\n"),
 ]
 
 
@@ -48,8 +52,7 @@ def checks(program):
         words = line.split("|") if line else []
         yield line, run(program, words, QUERY % b"db"), (2, b"", USAGE)
     for name, given, output, status, line in SESSIONS:
-        found = run(program, ["db", "1", "1", "1", "-"], given)
-        yield name, found, (status, found[1] if output is None else output, line)
+        yield name, run(program, ["db", "1", "1", "1", "-"], given), (status, output, line)
     closed = subprocess.run(f"exec 0<&-; {program} db 1 1 1 -", shell=True, capture_output=True, timeout=SECONDS)
     yield "an input that is closed", (closed.returncode, closed.stdout, closed.stderr), (1, b"", b"mangod: read fault\n")
     full = subprocess.run(f"{program} db 1 1 1 - > /dev/full", shell=True, input=QUERY % b"db", capture_output=True, timeout=SECONDS)
@@ -57,18 +60,11 @@ def checks(program):
 
 
 def main():
-    words = argparse.ArgumentParser(description=__doc__.split("\n")[0])
-    words.add_argument("--program", required=True)
-    args = words.parse_args()
-    passed = failed = 0
-    for name, found, wanted in checks(args.program):
-        if found == wanted:
-            passed += 1
-        else:
-            failed += 1
-            print(f"{name!r}: {found}\n    wanted {wanted}")
-    print(f"{passed} passed, {failed} failed")
-    return 1 if failed else 0
+    words, tally = arguments(__doc__), Tally()
+    for name, found, wanted in checks(words.program):
+        tally.expect(repr(name), found, wanted)
+    return tally.end()
 
 
-sys.exit(main())
+if __name__ == "__main__":
+    sys.exit(main())

@@ -7,17 +7,18 @@ The messages are those of tests/conversations with their bodies changed at rando
 members renamed, dropped and repeated, bytes turned over, and lengths made right again. So each is whole, and its reply has to be
 the model's (the folder model/), byte for byte. A session ends with a tail: a message with a head changed at random, or bytes
 drawn at random. What comes back for the tail is whole replies, and the end is one of a session's ends: the input ended, the last
-message asked to close, or it was refused, and then the last reply is a refusal that ends a session. Over TCP the bytes are sent in
-pieces of random sizes, and one program serves all clients, two at a time: a client after a tail is answered as the model says.
-A million bytes each way, with --full ten million. The last line is 'N passed, M failed'.
+message asked to close, or it was refused, and then the last reply is a refusal that ends a session. Over TCP one program serves all
+clients, two at a time: their connections are open side by side, and pieces of their messages, of random sizes, are sent in random
+turns. A message counts from its last byte on, so the model has the order of the commands; a client after a tail is answered as the
+model says. A million bytes each way, with --full ten million. The last line is 'N passed, M failed'.
 """
-import argparse
 import copy
 import json
 import random
 import subprocess
 import sys
 
+from common.arguments import arguments
 from common.refusal import ENDS, SECONDS
 from common.server import listening
 from common.tally import Tally
@@ -175,29 +176,40 @@ def over_input(program, seed, count, tally):
         number += 1
 
 
-def client(port, source, database):
-    """One connection: its bytes, and what is wrong, none where it is right."""
-    messages, wire, sent = [source.message() for _ in range(10)], Wire(port), 0
-    try:
-        for message in messages:
-            at = 0
-            while at < len(message):
-                size = source.random.choice([1, 7, 100, 5000])
-                wire.send(message[at : at + size])
-                at += size
-            sent += len(message)
-            wanted, got = database.answer(message), wire.reply()
-            if got != wanted:
-                return sent, f"{message!r}\n  got    {got[:400]!r}\n  wanted {wanted[:400]!r}"
-        tail = source.tail(True)
-        wire.send(tail)
-        if source.random.random() < 0.8:
-            wire.finish()
-            fault = tail_fault(wire.rest(), None, True)
-            return sent + len(tail), fault and f"tail {tail[:300]!r}: {fault}"
-        return sent + len(tail), None
-    finally:
-        wire.close()
+class Client:
+    """A connection that sends piece after piece, and what is wrong with its replies, none where they are right."""
+
+    def __init__(self, port, source, database):
+        self.source, self.database, self.wire = source, database, Wire(port)
+        self.sent, self.at, self.fault = 0, 0, None
+        self.messages = [source.message() for _ in range(10)]
+
+    def step(self):
+        """Sends a piece of a message, and where that is its last one reads the reply; or sends the tail. Whether more is to be sent."""
+        if not self.messages:
+            self.fault = self.end()
+            return False
+        message, size = self.messages[0], self.source.random.choice([1, 7, 100, 5000])
+        self.wire.send(message[self.at : self.at + size])
+        self.at += size
+        if self.at < len(message):
+            return True
+        self.sent, self.at, self.messages = self.sent + len(message), 0, self.messages[1:]
+        wanted, got = self.database.answer(message), self.wire.reply()
+        if got != wanted:
+            self.fault = f"{message!r}\n  got    {got[:400]!r}\n  wanted {wanted[:400]!r}"
+        return got == wanted
+
+    def end(self):
+        """Sends a tail that writes nothing, and mostly waits for what comes; what is wrong with that."""
+        tail = self.source.tail(True)
+        self.sent += len(tail)
+        self.wire.send(tail)
+        if self.source.random.random() >= 0.8:
+            return None
+        self.wire.finish()
+        fault = tail_fault(self.wire.rest(), None, True)
+        return fault and f"tail {tail[:300]!r}: {fault}"
 
 
 def over_tcp(words, seed, count, tally):
@@ -205,27 +217,36 @@ def over_tcp(words, seed, count, tally):
     while sent < count:
         database, source = Database(), Source(f"tcp {seed}/{number}")
         with listening(words, 2) as port:
-            for turn in range(20):
-                length, fault = client(port, source, database)
-                tally.expect(f"client {turn} of run {number}, seed {seed}", fault, None)
-                sent += length
+            sent += two_at_a_time(port, source, database, f"run {number}, seed {seed}", tally)
         number += 1
 
 
+def two_at_a_time(port, source, database, label, tally):
+    """Twenty clients, of whom the next one begins when one of the two before has ended; how many bytes they sent."""
+    sent, turn = 0, 2
+    clients = [Client(port, source, database) for _ in range(turn)]
+    while clients:
+        one = source.random.choice(clients)
+        if one.step():
+            continue
+        one.wire.close()
+        clients.remove(one)
+        tally.expect(f"a client of {label}", one.fault, None)
+        sent += one.sent
+        if turn < 20:
+            clients.append(Client(port, source, database))
+            turn += 1
+    return sent
+
+
 def main():
-    parser = argparse.ArgumentParser(description=__doc__.split("\n")[0])
-    parser.add_argument("--program", required=True)
-    parser.add_argument("--full", action="store_true")
-    parser.add_argument("--seed", type=int, default=1)
-    parser.add_argument("--bytes", type=int)
-    words = parser.parse_args()
+    words = arguments(__doc__, seed=1, bytes=0)
     words.shards, words.workers = "7", "2"
     count = words.bytes or (10_000_000 if words.full else 1_000_000)
     tally = Tally()
     over_input(words.program, words.seed, count, tally)
     over_tcp(words, words.seed, count, tally)
-    print(f"{tally.passed} passed, {tally.failed} failed")
-    return 1 if tally.failed else 0
+    return tally.end()
 
 
 if __name__ == "__main__":

@@ -1,44 +1,63 @@
 #!/usr/bin/env python3
-"""Runs the first conversation of README.md in a shell, and compares what it writes with what README.md says.
+"""Runs commands of README.md in a shell, and compares what they write with what has to be written.
 
-usage: readme.py --program PATH
+usage: readme.py --program PATH [--part conversation|command]
 
-The commands are those of the `sh` blocks of the section, in one shell; what they write has to be the `text` blocks, joined. The
-program's path and port are put in their place. Without curl nothing is run, and a line says so. The last line is 'N passed, M
-failed'.
+`conversation` is the first conversation. The commands are those of the `sh` blocks of the section, in one shell; what they write
+has to be the `text` blocks, joined. The program's path and port are put in their place. It needs `curl`.
+`command` is the first `sh` block, word for word, which builds and runs the program without proving it: its output has to end in the
+bytes of crates/mangod/stdout. It needs `rt`, and takes two and a half minutes of processor time. The last line is
+'N passed, M failed'.
 """
 import argparse
 import re
-import shutil
 import socket
 import subprocess
 import sys
 from pathlib import Path
 
+from common.tally import Tally
+
 SECONDS = 60
+PATIENCE = 1800
+TOP = Path(__file__).resolve().parent.parent
+
+
+def blocks(text, kind):
+    return re.findall(rf"^```{kind}\n(.*?)^```$", text, re.S | re.M)
+
+
+def conversation(text, program, tally):
+    section = text[text.index("## A first conversation"):text.index("## What is proved")]
+    commands, wanted = ("".join(blocks(section, kind)) for kind in ("sh", "text"))
+    with socket.create_server(("127.0.0.1", 0)) as server:
+        port = str(server.getsockname()[1])
+    commands = commands.replace("crates/mangod/out/mangod", str(program)).replace("5984", port)
+    done = subprocess.run(["bash", "-c", f"trap 'kill %1' EXIT\n{commands}"], capture_output=True, text=True, timeout=SECONDS)
+    tally.expect("the first conversation", (done.stdout, done.stderr), (wanted, "mangod: listening\n"))
+
+
+def command(text, _program, tally):
+    block = blocks(text, "sh")[0]
+    done = subprocess.run(["bash", "-c", block], cwd=TOP, stdin=subprocess.DEVNULL, capture_output=True, timeout=PATIENCE)
+    wanted = (TOP / "crates" / "mangod" / "stdout").read_bytes()
+    tally.expect(f"the status of {block!r}", done.returncode, 0)
+    tally.expect("what it writes", done.stdout[-len(wanted):], wanted)
+
+
+# each part, and the command that it needs
+PARTS = {"conversation": (conversation, "curl"), "command": (command, "rt")}
 
 
 def main():
     parser = argparse.ArgumentParser(description=__doc__.split("\n")[0])
-    parser.add_argument("--program", required=True, type=Path)
-    words = parser.parse_args()
-    if shutil.which("curl") is None:
-        print("curl is not here: nothing was run")
-        print("0 passed, 0 failed")
-        return
-    text = (Path(__file__).resolve().parent.parent / "README.md").read_text(encoding="utf-8")
-    section = text[text.index("## A first conversation"):text.index("## What is proved")]
-    commands = "\n".join(re.findall(r"```sh\n(.*?)```", section, re.S))
-    wanted = "".join(re.findall(r"```text\n(.*?)```", section, re.S))
-    with socket.create_server(("127.0.0.1", 0)) as server:
-        port = str(server.getsockname()[1])
-    commands = commands.replace("crates/mangod/out/mangod", str(words.program.resolve())).replace("5984", port)
-    done = subprocess.run(["bash", "-c", f"trap 'kill %1' EXIT\n{commands}"], capture_output=True, text=True, timeout=SECONDS)
-    passed = done.stdout == wanted and done.stderr == "mangod: listening\n"
-    if not passed:
-        print(f"it wrote {done.stdout!r} and {done.stderr!r}\n  wanted {wanted!r}")
-    print(f"{int(passed)} passed, {int(not passed)} failed")
-    sys.exit(not passed)
+    parser.add_argument("--program", required=True, type=lambda path: Path(path).resolve())
+    parser.add_argument("--part", choices=PARTS, default="conversation")
+    words, tally = parser.parse_args(), Tally()
+    part, needed = PARTS[words.part]
+    if tally.needs(needed):
+        part((TOP / "README.md").read_text(encoding="utf-8"), words.program, tally)
+    sys.exit(tally.end())
 
 
 if __name__ == "__main__":

@@ -8,22 +8,23 @@ then there: the indexes, each document with its conflicts, and the rows of each 
 with 1 and 7 shards and 1 and 2 workers; the shim refuse/refuse.c refuses its nth request for memory, or that and all after it, for
 each n until a run meets no refusal (without --full for a dozen n, spread over all, and for each n one by one of two conversations
 with 7 shards and 2 workers). A run is right where
-- nothing was written and the program ended by `mangod: out of memory` (the session never began); or
+- nothing was written and the program ended by `mangod: out of memory` (the session never began), and what was refused is one of the
+  requests that a session without input makes; or
 - each reply is `out_of_memory`, or the model's (the folder model/) to the list without the commands that were answered so;
-  and the session ended at the end of input, or refused what came after a last reply `out_of_memory`.
+  and the session ended at the end of input, or refused what came after a last reply `out_of_memory`. Where one request was refused
+  at most one reply is `out_of_memory`, and where none was, none is.
 Then bulks and queries that need a hundred MiB and more come to a program that the system grants 60 MiB: each is answered
 `out_of_memory`, three times over, and afterwards small commands are answered as in an empty database. The model itself has to
-give each reply that the conversation's file names. A conversation at a number of shards and workers passes or fails as one, and
-it fails too where no refusal was ever answered. The last line is 'N passed, M failed'; without a C compiler a line before it
-says how many conversations were left out.
+give each reply that the conversation's file names. A conversation passes or fails as one, on all numbers of shards and workers, and
+it fails too where no command was ever refused. The shim needs a C compiler, `cc`. The last line is 'N passed, M failed'.
 """
-import argparse
 import json
 import resource
 import subprocess
 import sys
 from pathlib import Path
 
+from common.arguments import arguments
 from common.refusal import ENDS, ONWARD, SECONDS, refusals
 from common.tally import Tally
 from conversations import conversations_in, post, replies_in
@@ -99,45 +100,55 @@ class Talk:
 def refuse_each(refusal, words, talk, onward, step, begin):
     """Refuses request after request until a run meets no refusal; the faults, and the messages that were refused in some run."""
     given = b"".join(talk.messages)
+    start = requests(refusal, words, b"")
     faults, seen, first = [], set(), begin
     while True:
         refusal.reset()
         refusal.refuse("memory", first, ONWARD if onward else first)
         found, refused = talk.fault(*refusal.run(words, given))
         seen.update(refused)
+        met = refusal.refused("memory")
+        if refused == ["start"] and first > start:
+            found = "the session never began"
+        if len(refused) > (len(talk.messages) if onward else 1) * met:
+            found = f"{len(refused)} times out of memory, {met} requests were refused"
         if found:
             faults.append(f"from request {first}: {found}" if onward else f"request {first}: {found}")
-        if refusal.calls("memory") < first:
-            if refused:
-                faults.append("out of memory, and none was refused")
+        if not met:
             return faults, seen
         first += step
 
 
-def requests(refusal, words, talk):
+def requests(refusal, words, given):
     """How many requests for memory there are where none is refused."""
     refusal.reset()
-    refusal.run(words, b"".join(talk.messages))
+    refusal.run(words, given)
     return refusal.calls("memory")
+
+
+def faults_of(refusal, program, talk, place, full):
+    """The faults of a conversation at a setting."""
+    shards, workers = SETTINGS[place]
+    words = [program, "db", shards, workers, "1", "-"]
+    step = 1 if full else max(1, requests(refusal, words, b"".join(talk.messages)) // RUNS)
+    faults, seen = [], set()
+    for onward in (False, True):
+        is_each = full or (talk.name in EACH and not onward and place == len(SETTINGS) - 1)
+        begin = 1 if is_each else 1 + (2 * place + onward) * step // 8
+        found, refused = refuse_each(refusal, words, talk, onward, 1 if is_each else step, begin)
+        faults += found
+        seen |= set(refused)
+    if full and not seen >= {"start", 0}:
+        faults.append("the start or the first message was never refused")
+    if not seen - {"start"}:
+        faults.append("no message was ever refused")
+    return [f"{shards} shards, {workers} workers: {fault}" for fault in faults]
 
 
 def check(refusal, program, talk, full, tally):
     tally.expect(f"{talk.name}: the model", list(talk.model_faults()), [])
-    for place, (shards, workers) in enumerate(SETTINGS):
-        words = [program, "db", shards, workers, "1", "-"]
-        step = 1 if full else max(1, requests(refusal, words, talk) // RUNS)
-        faults, seen = [], set()
-        for onward in (False, True):
-            is_each = full or (talk.name in EACH and not onward and (shards, workers) == SETTINGS[-1])
-            begin = 1 if is_each else 1 + (2 * place + onward) * step // 8
-            found, refused = refuse_each(refusal, words, talk, onward, 1 if is_each else step, begin)
-            faults += found
-            seen |= refused
-        tally.expect(f"{talk.name}, {shards} shards, {workers} workers", faults[:3], [])
-        if full:
-            tally.expect(f"{talk.name}: what was refused in some run", seen >= {"start", 0}, True)
-        else:
-            tally.expect(f"{talk.name}: some message was refused", bool(seen), True)
+    faults = [fault for place in range(len(SETTINGS)) for fault in faults_of(refusal, program, talk, place, full)]
+    tally.count(talk.name, faults[:3])
 
 
 def limited(program, first, tally):
@@ -153,22 +164,17 @@ def limited(program, first, tally):
 
 
 def main():
-    words = argparse.ArgumentParser(description=__doc__.split("\n")[0])
-    words.add_argument("--program", required=True)
-    words.add_argument("--full", action="store_true")
-    words.add_argument("--only", nargs="*", default=[])
-    args = words.parse_args()
+    args = arguments(__doc__, only=[])
     found = {talk.name: talk for file in sorted(FOLDER.glob("*.txt")) for talk in conversations_in(file)}
     names = args.only or NAMES
     tally = Tally()
     limited(args.program, Talk(found[NAMES[0]]), tally)
-    with refusals() as refusal:
-        if refusal is None:
-            print(f"no C compiler is here: {len(names)} conversations are left out")
-        for name in names if refusal else []:
-            check(refusal, args.program, Talk(found[name]), args.full, tally)
-    print(f"{tally.passed} passed, {tally.failed} failed")
-    return 1 if tally.failed else 0
+    if tally.needs("cc"):
+        with refusals() as refusal:
+            for name in names:
+                check(refusal, args.program, Talk(found[name]), args.full, tally)
+        print(f"each conversation on {len(SETTINGS)} pairs of shards and workers:")
+    return tally.end()
 
 
 if __name__ == "__main__":

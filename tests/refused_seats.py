@@ -4,15 +4,14 @@
 usage: refused_seats.py --program PATH [--full]
 
 One client sends a command while the shim refuse/refuse.c refuses the nth request for memory that is made for it, or that and
-all after it, for each n until none is met (without --full not each). Its reply is `out_of_memory` or the model's (the folder
-model/); then the other client, for whom nothing is refused, sees all indexes and documents as the model has them: nothing of a
-command that was answered `out_of_memory`, and everything of one that was accepted. A connection may end after `out_of_memory`,
-and the next one is served. Then two clients write at once while requests are refused at random (seeded), and afterwards exactly
-what was accepted is found. The start is refused memory too: it ends by `mangod: out of memory`, or clients are served. Last,
-threads are refused: a worker that does not start changes no reply, and a seat whose thread does not start leaves the other.
-The last line is 'N passed, M failed'; without a C compiler a line before it says that all is left out.
+all after it, for each n until none is met (without --full not each). Its reply is `out_of_memory`, which it may be only where a
+request was refused, or the model's (the folder model/); then the other client, for whom nothing is refused, sees all indexes and
+documents as the model has them: nothing of a command that was answered `out_of_memory`, and everything of one that was accepted. A
+connection may end after `out_of_memory`, and the next one is served. Then two clients make bulks, indexes, reshards and queries at once
+while requests are refused at random (seeded), and afterwards exactly what was accepted is found. The start is refused memory too: it
+ends by `mangod: out of memory`, or clients are served. Last, a session is refused its thread, which leaves the other. The shim needs a
+C compiler, `cc`. The last line is 'N passed, M failed'.
 """
-import argparse
 import json
 import random
 import subprocess
@@ -20,16 +19,16 @@ import sys
 import threading
 import time
 
+from common.arguments import arguments
 from common.refusal import ONWARD, refusals
 from common.server import free_port, listening
 from common.tally import Tally
 from common.wire import Wire
-from conversations import conversations_in, post
+from conversations import post
 from model.talk import OUT_OF_MEMORY, Database
-from refused_memory import FOLDER, Talk
 
-WORKER_SETTINGS = [("7", "2"), ("7", "32"), ("64", "3")]
 WRITES = 60
+NUMBERS = [3, 64, 1, 16]
 
 
 def bulk(documents, **more):
@@ -44,10 +43,15 @@ def index(column, name):
     return post("_index", json.dumps({"index": {"fields": [column]}, "ddoc": "x", "name": name}).encode())
 
 
+def reshard(turn):
+    return post("_placement", b'{"shards":%d}' % NUMBERS[turn % len(NUMBERS)])
+
+
 LIST = b"GET /db/_index HTTP/1.1\r\n\r\n"
 CLOSING_LIST = b"GET /db/_index HTTP/1.1\r\nConnection: close\r\n\r\n"
 ALL = find(selector={}, limit=100_000, conflicts=True)
 BY_INDEX = find(selector={"n": {"$gt": None}}, fields=["_id", "n"], limit=100_000)
+BY_NUMBER = find(selector={"n": {"$gte": 30}}, fields=["_id", "n"], limit=100_000)
 
 
 def edited(database, turn):
@@ -69,6 +73,7 @@ COMMANDS = {
     "an explanation": lambda database, turn: post("_explain", b'{"selector":{"n":{"$gte":3,"$lt":9}},"sort":["n"]}'),
     "the indexes": lambda database, turn: LIST,
     "a document": lambda database, turn: b"GET /db/e?conflicts=true HTTP/1.1\r\n\r\n",
+    "a reshard": lambda database, turn: reshard(turn),
 }
 
 
@@ -96,13 +101,13 @@ class Seats:
         return None if got == wanted else f"{message[:80]!r}: {got[-300:]!r}\n    wanted {wanted[-300:]!r}"
 
     def refused(self, message, first, onward):
-        """Whether the first client's command was refused memory, what is wrong, and whether a request was met that was refused."""
+        """Whether the first client's command was answered `out_of_memory`, what is wrong, and whether a request was refused."""
         self.refusal.reset()
         self.refusal.refuse("memory", first, ONWARD if onward else first)
         got = self.one.ask(message)
-        met = self.refusal.calls("memory") >= first
-        self.refusal.reset()
-        if got == OUT_OF_MEMORY:
+        met = self.refusal.refused("memory") > 0
+        self.refusal.relent("memory")
+        if got == OUT_OF_MEMORY and met:
             if self.one.ask(LIST) == b"":
                 self.one.close()
                 self.one = Wire(self.port)
@@ -134,7 +139,7 @@ def two_seats(port, refusal, full, label, tally):
 
 def connections(port, refusal, label, tally):
     """Memory that is refused from when a client comes: it is answered so or not at all, and the next one is served."""
-    faults = []
+    faults, met = [], 0
     wanted = Database().answer(LIST)
     for client in both_seats(port):
         client.close()
@@ -144,55 +149,81 @@ def connections(port, refusal, label, tally):
         client = Wire(port)
         got = client.ask(CLOSING_LIST)
         client.close()
-        refusal.reset()
-        if got not in (b"", OUT_OF_MEMORY, wanted):
+        met += refusal.refused("memory") > 0
+        allowed = (b"", OUT_OF_MEMORY, wanted) if refusal.refused("memory") else (wanted,)
+        refusal.relent("memory")
+        if got not in allowed:
             faults.append(got)
         client = Wire(port)
         if (got := client.ask(LIST)) != wanted:
             faults.append(got)
         client.close()
     tally.expect(f"{label}: clients that come while memory is refused", faults, [])
+    tally.expect(f"{label}: a client's session was refused memory", met > 0, True)
 
 
-def write(port, writer, found):
-    """Writes documents, and notes of each what the reply was. A connection may end unanswered at its begin, where the session
-    got no memory, and after a reply `out_of_memory`; that is noted as that reply."""
-    client, may_end = Wire(port), True
-    for turn in range(WRITES):
-        name = f"w{writer}-{turn}"
-        message = bulk([{"_id": name, "n": turn, "v": ["z" * 30]}])
-        got = client.ask(message)
-        found[name] = (OUT_OF_MEMORY if got == b"" and may_end else got, Database().answer(message))
-        may_end = got in (b"", OUT_OF_MEMORY)
-        if got == b"":
-            client.close()
-            client = Wire(port)
-    client.close()
+class Writer:
+    """A client that makes bulks, indexes, reshards and queries, and the model of what was accepted of it: documents and indexes that no
+    other client touches. A connection may end unanswered at its begin, where the session got no memory, which is counted as a reply
+    `out_of_memory`, and after such a reply."""
+
+    def __init__(self, port, number):
+        self.port, self.number = port, number
+        self.database, self.refused, self.strange = Database(), 0, []
+
+    def messages(self):
+        for turn in range(WRITES):
+            yield bulk([{"_id": f"w{self.number}-{turn}", "n": turn, "v": ["z" * 30], "w": self.number}])
+            if turn % 6 == 1:
+                yield index(["n", "v"][turn % 4 // 2], f"i{self.number}-{turn}")
+            if turn % 6 == 3:
+                yield reshard(turn)
+            if turn % 6 == 5:
+                yield find(selector={"w": self.number}, fields=["_id", "n"], limit=1000)
+
+    def run(self):
+        client, before = Wire(self.port), None
+        for message in self.messages():
+            got = client.ask(message)
+            if got == OUT_OF_MEMORY or (got == b"" and before is None):
+                self.refused += 1
+            elif not (got == b"" and before == OUT_OF_MEMORY) and (wanted := self.database.answer(message)) != got:
+                self.strange.append((got[-300:], wanted[-300:]))
+            before = got
+            if got == b"":
+                client.close()
+                client, before = Wire(self.port), None
+        client.close()
 
 
 def at_once(port, refusal, label, seed, tally):
     """Two writers, and requests that are refused at random meanwhile."""
-    chance, found = random.Random(seed), {}
+    chance = random.Random(seed)
     for client in both_seats(port):
         client.close()
-    writers = [threading.Thread(target=write, args=(port, writer, found)) for writer in range(2)]
+    writers = [Writer(port, number) for number in range(2)]
+    threads = [threading.Thread(target=writer.run) for writer in writers]
     refusal.reset()
-    for writer in writers:
-        writer.start()
-    while any(writer.is_alive() for writer in writers):
-        first = refusal.calls("memory") + chance.randint(1, 120)
+    for thread in threads:
+        thread.start()
+    while any(thread.is_alive() for thread in threads):
+        first = refusal.calls("memory") + chance.randint(1, 240)
         refusal.refuse("memory", first, first + chance.choice([0, 0, 1, 5]))
-        for writer in writers:
-            writer.join(0.001)
-    refusal.reset()
-    strange = [reply for reply, wanted in found.values() if reply not in (OUT_OF_MEMORY, wanted)]
-    tally.expect(f"{label}: replies to two writers", strange[:3], [])
-    accepted = sorted(name for name, (reply, wanted) in found.items() if reply == wanted)
-    tally.expect(f"{label}: some are accepted and some not", 0 < len(accepted) < 2 * WRITES, True)
+        for thread in threads:
+            thread.join(0.001)
+    refusal.relent("memory")
+    tally.expect(f"{label}: replies to two writers", [writer.strange[:3] for writer in writers], [[], []])
+    count, met = sum(writer.refused for writer in writers), refusal.refused("memory")
+    tally.expect(f"{label}: {count} commands out of memory, {met} requests refused", 0 < count <= met, True)
+    accepted = Database()
+    for writer in writers:
+        accepted.documents.update(writer.database.documents)
+        accepted.indexes.update(writer.database.indexes)
     client = Wire(port)
-    page = json.loads(client.ask(find(selector={"v": {"$size": 1}}, fields=["_id"], limit=1000)).partition(b"\r\n\r\n")[2])
-    tally.expect(f"{label}: exactly the accepted ones are found", [row["_id"] for row in page["docs"]], accepted)
+    found = {message: client.ask(message) for message in (ALL, LIST, BY_NUMBER)}
     client.close()
+    tally.expect(f"{label}: exactly what was accepted is found", found, {message: accepted.answer(message) for message in found})
+    tally.expect(f"{label}: some documents were accepted", 0 < len(accepted.documents) <= 2 * WRITES, True)
 
 
 def starts(refusal, words, tally):
@@ -211,8 +242,8 @@ def starts(refusal, words, tally):
                 program.kill()
                 program.wait()
             else:
-                line = program.stderr.read().removeprefix(b"mangod: listening\n")
-                tally.expect(f"request {first} of the start refused", (program.wait(), line), (1, b"mangod: out of memory\n"))
+                line, met = program.stderr.read().removeprefix(b"mangod: listening\n"), refusal.refused("memory") > 0
+                tally.expect(f"request {first} of the start refused", (program.wait(), line, met), (1, b"mangod: out of memory\n", True))
                 ended += 1
             program.stderr.close()
     tally.expect("some starts ended and some served", ended > 20 and served > 20, True)
@@ -227,29 +258,12 @@ def first_reply(program, port, refusal):
         except ConnectionError:
             time.sleep(0.002)
             continue
-        refusal.reset()
+        refusal.relent("memory")
         got = client.ask(LIST)
         client.close()
         if got not in (b"", OUT_OF_MEMORY):
             return got
     return b""
-
-
-def no_workers(refusal, program, tally):
-    """Threads that are refused, all or one of them, change no reply of a session."""
-    found = {talk.name: talk for file in sorted(FOLDER.glob("*.txt")) for talk in conversations_in(file)}
-    started = 0
-    for name in ["ties-across-shards", "type-order", "choice-of-index", "missing-fields", "work"]:
-        talk = Talk(found[name])
-        for shards, workers in WORKER_SETTINGS:
-            for first, last in [(1, ONWARD), (1, 1), (2, 2), (3, ONWARD)]:
-                refusal.reset()
-                refusal.refuse("threads", first, last)
-                output, end = refusal.run([program, "db", shards, workers, "1", "-"], b"".join(talk.messages))
-                started += refusal.calls("threads")
-                label = f"{name}, {shards} shards, {workers} workers, threads refused from {first}"
-                tally.expect(label, (talk.fault(output, end)[0], OUT_OF_MEMORY in output), (None, False))
-    tally.expect("threads were asked for", started > 0, True)
 
 
 def no_second_seat(refusal, words, tally):
@@ -266,30 +280,26 @@ def no_second_seat(refusal, words, tally):
         tally.expect("a thread was asked for", refusal.calls("threads") > 0, True)
 
 
+def refused(refusal, words, tally):
+    for words.shards, words.workers in [("7", "2"), ("1", "1")]:
+        label = f"{words.shards} shards, {words.workers} workers"
+        with listening(words, 2, refusal.environment) as port:
+            two_seats(port, refusal, words.full, label, tally)
+        with listening(words, 2, refusal.environment) as port:
+            connections(port, refusal, label, tally)
+        for seed in range(12 if words.full else 3):
+            with listening(words, 2, refusal.environment) as port:
+                at_once(port, refusal, f"{label}, seed {seed}", seed, tally)
+    starts(refusal, words, tally)
+    no_second_seat(refusal, words, tally)
+
+
 def main():
-    parser = argparse.ArgumentParser(description=__doc__.split("\n")[0])
-    parser.add_argument("--program", required=True)
-    parser.add_argument("--full", action="store_true")
-    words = parser.parse_args()
-    tally = Tally()
-    with refusals() as refusal:
-        if refusal is None:
-            print(f"no C compiler is here: {len(COMMANDS)} commands and the threads are left out")
-        for words.shards, words.workers in [("7", "2"), ("1", "1")] if refusal else []:
-            label = f"{words.shards} shards, {words.workers} workers"
-            with listening(words, 2, refusal.environment) as port:
-                two_seats(port, refusal, words.full, label, tally)
-            with listening(words, 2, refusal.environment) as port:
-                connections(port, refusal, label, tally)
-            for seed in range(12 if words.full else 3):
-                with listening(words, 2, refusal.environment) as port:
-                    at_once(port, refusal, f"{label}, seed {seed}", seed, tally)
-        if refusal:
-            starts(refusal, words, tally)
-            no_workers(refusal, words.program, tally)
-            no_second_seat(refusal, words, tally)
-    print(f"{tally.passed} passed, {tally.failed} failed")
-    return 1 if tally.failed else 0
+    words, tally = arguments(__doc__), Tally()
+    if tally.needs("cc"):
+        with refusals() as refusal:
+            refused(refusal, words, tally)
+    return tally.end()
 
 
 if __name__ == "__main__":

@@ -10,7 +10,8 @@ The data are the files *.json of the folder sessions/ beside this script. A file
   cuts     true: each front of the bytes is a conversation of its own, which has the replies that were due by then
 Bytes are text (each character is a byte up to U+00FF), or a list of texts and of {"repeat": TEXT, "times": N}.
 A reply is [STATUS, BODY] or [STATUS, BODY, "silent"], which leaves out the body's bytes and keeps their length.
-One process `PATH db SHARDS WORKERS 1 -` a conversation. Prints each fault; the last line is 'N passed, M failed'.
+One process `PATH db SHARDS WORKERS 1 -` a conversation and number of shards, and one with the first of these for each front of its bytes;
+a conversation passes or fails as one. Prints each fault; the last line is 'N passed, M failed'.
 """
 import argparse
 import json
@@ -18,6 +19,7 @@ import subprocess
 import sys
 from pathlib import Path
 
+from common.tally import Tally
 from conversations import PHRASES
 
 SECONDS = 120
@@ -83,19 +85,20 @@ def main():
     words.add_argument("--workers", default="1")
     words.add_argument("--only", nargs="*", default=[])
     args = words.parse_args()
-    passed = failed = 0
+    tally, numbers, runs = Tally(), args.shards.split(","), 0
     for file in sorted(args.data.glob("*.json")):
         for conversation in json.loads(file.read_text()):
             if args.only and conversation["name"] not in args.only:
                 continue
+            faults = []
             for name, data, text, end in cases_of(conversation):
-                for shards in args.shards.split(",") if name == conversation["name"] else ["1"]:
-                    found = fault(run(args.program, shards, args.workers, data), (text, end))
-                    passed, failed = passed + (not found), failed + bool(found)
-                    if found:
-                        print(f"{file.name}: {name}, {shards} shards:\n  {found}")
-    print(f"{passed} passed, {failed} failed")
-    sys.exit(failed > 0 or passed == 0)
+                for shards in numbers if name == conversation["name"] else numbers[:1]:
+                    found, runs = fault(run(args.program, shards, args.workers, data), (text, end)), runs + 1
+                    faults += [f"\n  {name}, {shards} shards: {found}"] if found else []
+            tally.count(f"{file.name}: {conversation['name']}", faults)
+    print(f"each conversation on {len(numbers)} numbers of shards, and cut, in {runs} runs:")
+    sys.exit(tally.end())
 
 
-main()
+if __name__ == "__main__":
+    main()

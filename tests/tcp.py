@@ -1,24 +1,25 @@
 #!/usr/bin/env python3
 """Holds sessions with the program over TCP: with sockets, Python's http.client and curl.
 
-usage: tcp.py --program PATH [--shards N] [--workers N]
+usage: tcp.py --program PATH [--shards N] [--workers N] [--full]
 
 The program listens on a free port of 127.0.0.1. Each message and each reply is written out here. Prints each fault; the last
-line is 'N passed, M failed'. Without curl, its part is left out, and a line says so.
+line is 'N passed, M failed'. It needs `curl`. Only with --full is it waited for that a message and a reply run out of their 60
+seconds.
 """
 import argparse
 import concurrent.futures
 import http.client
-import json
-import shutil
+import signal
 import socket
-import struct
 import subprocess
 import sys
+import threading
 import time
 
-from common.server import listening
+from common.server import listening, started
 from common.tally import Tally
+from common.wire import Client, asks, connect, is_closed, read, reset
 
 SECONDS = 30
 HEAD = "HTTP/1.1 {}\r\nContent-Type: application/json\r\nContent-Length: {}\r\n\r\n"
@@ -31,55 +32,17 @@ PAGE = (HEAD.format("200 OK", 105) + '{"bookmark":"W251bGwsIl9hbGxfZG9jcyIsImFzY
         '"docs":[{"_id":"d1","_rev":"1-a","v":1}]}\n').encode()
 EMPTY = (HEAD.format("200 OK", 29) + '{"bookmark":"nil","docs":[]}\n').encode()
 NO_HEAD = b"X\r\n\r\n"
+BAD_HEAD = (HEAD.format("400 Bad Request", 50) + '{"error":"bad_head","reason":"Bad request head."}\n').encode()
 
-
-class Client:
-    """A connection by which JSON is asked for."""
-
-    def __init__(self, port):
-        self.connection = http.client.HTTPConnection("127.0.0.1", port, timeout=SECONDS)
-
-    def ask(self, method, target, body=None):
-        self.connection.request(method, target, None if body is None else json.dumps(body))
-        reply = self.connection.getresponse()
-        return reply.status, json.loads(reply.read())
-
-    def close(self):
-        self.connection.close()
-
-
-def connect(port):
-    return socket.create_connection(("127.0.0.1", port), timeout=SECONDS)
-
-
-def read(connection, count):
-    """So many bytes of what comes, fewer where it ends."""
-    got = b""
-    while len(got) < count:
-        piece = connection.recv(count - len(got))
-        if not piece:
-            break
-        got += piece
-    return got
-
-
-def asks(port, messages, wanted):
-    """What comes for messages that are sent at once, of the length that is wanted."""
-    with connect(port) as connection:
-        connection.sendall(messages)
-        return read(connection, len(wanted))
-
-
-def reset(connection):
-    """Closes a connection by a reset."""
-    connection.setsockopt(socket.SOL_SOCKET, socket.SO_LINGER, struct.pack("ii", 1, 0))
-    connection.close()
+NINE_MEGABYTES = 9_000_000
+TOO_LARGE = (HEAD.format("413 Payload Too Large", 52) + '{"error":"too_large","reason":"Request too large."}\n').encode()
+NO_LENGTH = b"HTTP/1.1 411 Length Required"
 
 
 def one_after_another(port, tally):
-    tally.expect("the first client", asks(port, BULK, DONE), DONE)
-    tally.expect("the second client", asks(port, FIND, PAGE), PAGE)
-    tally.expect("messages at once", asks(port, FIND + BULK + FIND, PAGE + DONE + PAGE), PAGE + DONE + PAGE)
+    tally.expect("the first client", asks(port, BULK), DONE)
+    tally.expect("the second client", asks(port, FIND), PAGE)
+    tally.expect("messages at once", asks(port, FIND + BULK + FIND), PAGE + DONE + PAGE)
     with connect(port) as connection:
         for turn in range(3):
             connection.sendall(FIND)
@@ -113,38 +76,113 @@ def clients_that_go(port, tally):
                 reset(connection)
             else:
                 connection.close()
-            tally.expect(f"{way} after {name}", asks(port, FIND, EMPTY), EMPTY)
+            tally.expect(f"{way} after {name}", asks(port, FIND), EMPTY)
     with connect(port) as connection:
         connection.sendall(BULK[:-20])
         connection.shutdown(socket.SHUT_WR)
         tally.expect("no reply to an unfinished message", read(connection, 1), b"")
     with connect(port) as connection:
         connection.sendall(NO_HEAD)
-        got = read(connection, 1 << 16)
-        tally.expect("a head that is none", got.split(b"\r\n")[0], b"HTTP/1.1 400 Bad Request")
+        tally.expect("a head that is none", read(connection, 1 << 16), BAD_HEAD)
     connection = connect(port)
     connection.sendall(FIND * 2000)
     time.sleep(0.05)
     reset(connection)
-    tally.expect("reset while replies are written", asks(port, FIND, EMPTY), EMPTY)
+    tally.expect("reset while replies are written", asks(port, FIND), EMPTY)
 
 
-def a_client_that_waits(port, tally):
-    """With one session, a client waits until the one before is gone."""
-    first = connect(port)
-    first.sendall(FIND)
-    tally.expect("the first of two", read(first, len(PAGE)), PAGE)
-    with connect(port) as second:
+def a_client_that_pauses(port, tally):
+    """With one session, a client that pauses between messages, or has sent none, does not keep it from another."""
+    with connect(port) as silent, connect(port) as first, connect(port) as second:
+        first.sendall(FIND)
+        tally.expect("the first of two", read(first, len(PAGE)), PAGE)
         second.sendall(FIND)
-        second.settimeout(0.3)
-        try:
-            got = second.recv(1)
-        except socket.timeout:
-            got = None
-        tally.expect("the second waits", got, None)
-        first.close()
-        second.settimeout(SECONDS)
         tally.expect("the second of two", read(second, len(PAGE)), PAGE)
+        first.sendall(FIND + FIND[:30])
+        tally.expect("the first again", read(first, len(PAGE)), PAGE)
+        time.sleep(0.2)
+        first.sendall(FIND[30:])
+        tally.expect("a message of which half came with the one before", read(first, len(PAGE)), PAGE)
+        silent.sendall(FIND)
+        tally.expect("the silent one", read(silent, len(PAGE)), PAGE)
+
+
+def pauses_within_a_message(port, tally):
+    """A message that comes in parts, with a pause after each that would be long between messages."""
+    with connect(port) as connection:
+        for place in range(0, len(FIND), 10):
+            connection.sendall(FIND[place:place + 10])
+            time.sleep(0.05)
+        tally.expect("pauses within a message", read(connection, len(PAGE)), PAGE)
+
+
+def a_hundred_idle(port, tally):
+    """Behind 100 idle connections, half of which got a reply, a new client is served within 2 seconds. Those that had a reply are served
+    again, and after 5 seconds of silence all are closed."""
+    asks(port, BULK)
+    connections = [connect(port) for _ in range(100)]
+    try:
+        for connection in connections[:50]:
+            connection.sendall(FIND)
+            tally.expect("one of fifty", read(connection, len(PAGE)), PAGE)
+        begun = time.monotonic()
+        tally.expect("behind 100", asks(port, FIND), PAGE)
+        tally.expect("within 2 seconds", time.monotonic() - begun < 2, True)
+        for connection in connections[:50]:
+            connection.sendall(FIND)
+        again = [read(connection, len(PAGE)) for connection in connections[:50]]
+        tally.expect("fifty at once", again, [PAGE] * 50)
+        silent = time.monotonic()
+        tally.expect("none is closed early", [is_closed(connection, 0) for connection in connections[:50]], [False] * 50)
+        closed = [is_closed(connection, silent + 8 - time.monotonic()) for connection in connections]
+        tally.expect("closed after silence", closed, [True] * 100)
+        tally.expect("not before 5 seconds", time.monotonic() - silent > 4.5, True)
+    finally:
+        for connection in connections:
+            connection.close()
+
+
+def busy_clients(port, tally):
+    """Clients that ask without a pause at all sessions do not keep another from being served."""
+    ends = time.monotonic() + 2
+
+    def chat():
+        with connect(port) as connection:
+            served = 0
+            while time.monotonic() < ends:
+                connection.sendall(FIND)
+                served += read(connection, len(PAGE)) == PAGE
+            return served
+
+    def one_more():
+        time.sleep(0.3)
+        begun = time.monotonic()
+        got = asks(port, FIND)
+        return got, time.monotonic() - begun < 1
+
+    *chats, other = side_by_side([chat] * 6 + [one_more])
+    tally.expect("one more client", other, (PAGE, True))
+    tally.expect("all of them", [served > 0 for served in chats], [True] * 6)
+
+
+def refusals_arrive(port, tally):
+    """A client that sends a body of 9 MB, which is refused, reads the whole refusal, and then the end."""
+    head = f"POST /db/_bulk_docs HTTP/1.1\r\nContent-Length: {NINE_MEGABYTES}\r\n\r\n".encode()
+    for message, wanted in [(head, TOO_LARGE), (b"POST /db/_bulk_docs HTTP/1.1\r\n\r\n", None)] * 4:
+        with connect(port) as connection:
+            connection.sendall(message + bytes(NINE_MEGABYTES))
+            got = read(connection, 1 << 16)
+        if wanted is None:
+            tally.expect("no length", got.split(b"\r\n")[0], NO_LENGTH)
+        else:
+            tally.expect("too large", got, wanted)
+    for status, more in [(413, {}), (411, {"encode_chunked": True})] * 4:
+        connection = http.client.HTTPConnection("127.0.0.1", port, timeout=SECONDS)
+        body = iter([bytes(1 << 16)] * 140) if more else bytes(NINE_MEGABYTES)
+        connection.request("POST", "/db/_bulk_docs", body, **more)
+        tally.expect("http.client", connection.getresponse().status, status)
+        connection.close()
+    tally.expect("after the refusals", asks(port, FIND), EMPTY)
 
 
 def python_client(port, tally):
@@ -161,10 +199,13 @@ def python_client(port, tally):
 
 
 def curl(port, tally):
-    if shutil.which("curl") is None:
-        print("curl is not here: its part was left out")
+    if not tally.needs("curl"):
         return
     url = f"http://127.0.0.1:{port}/db"
+    large = ["curl", "-s", "-m", str(SECONDS), "-o", "/dev/null", "-w", "%{http_code}", f"{url}/_bulk_docs", "--data-binary", "@-"]
+    for turn in range(4):
+        done = subprocess.run(large, input=bytes(NINE_MEGABYTES), capture_output=True, timeout=SECONDS)
+        tally.expect("curl with 9 MB", (done.returncode, done.stdout), (0, b"413"))
     command = ["curl", "-s", "-m", str(SECONDS), f"{url}/_bulk_docs", "-d", BODY, "--next", "-s", "-i", f"{url}/d1"]
     done = subprocess.run(command, capture_output=True, timeout=SECONDS)
     wanted = "[]\n" + HEAD.format("200 OK", 32) + '{"_id":"d1","_rev":"1-a","v":1}\n'
@@ -194,20 +235,34 @@ def sixteen_writers(port, tally):
     client.close()
 
 
+def pages_until(port, written):
+    """The values of all documents, again and again, and once more after all was written."""
+    client = Client(port)
+    pages, is_last = [], False
+    while not is_last:
+        is_last = written.is_set()
+        _, page = client.ask("POST", "/db/_find", {"selector": {}, "fields": ["n"]})
+        pages.append([row["n"] for row in page["docs"]])
+    client.close()
+    return pages
+
+
 def whole_bulks(port, tally):
     """One client writes the same new value to ten documents in each bulk, and another asks for other numbers of shards; three others
-    see ten of one value on each page."""
+    see ten of one value on each page, until the last bulk is answered, and then of the last value."""
     ids = [f"d{number}" for number in range(10)]
-    replies = []
+    replies, written = [], threading.Event()
 
     def write():
-        client = Client(port)
-        revs = {}
-        for turn in range(60):
-            docs = [{"_id": name, "n": turn, **revs.get(name, {})} for name in ids]
-            status, rows = client.ask("POST", "/db/_bulk_docs", {"docs": docs})
-            revs = {row["id"]: {"_rev": row["rev"]} for row in rows}
-        client.close()
+        client, revs = Client(port), {}
+        try:
+            for turn in range(60):
+                docs = [{"_id": name, "n": turn, **revs.get(name, {})} for name in ids]
+                status, rows = client.ask("POST", "/db/_bulk_docs", {"docs": docs})
+                revs = {row["id"]: {"_rev": row["rev"]} for row in rows}
+        finally:
+            written.set()
+            client.close()
         return status
 
     def deal():
@@ -217,15 +272,7 @@ def whole_bulks(port, tally):
             time.sleep(0.1)
         client.close()
 
-    def look():
-        client = Client(port)
-        pages = []
-        for _ in range(150):
-            _, page = client.ask("POST", "/db/_find", {"selector": {}, "fields": ["n"]})
-            pages.append([row["n"] for row in page["docs"]])
-        client.close()
-        return pages
-
+    look = lambda: pages_until(port, written)
     status, _, *seen = side_by_side([write, deal, look, look, look])
     tally.expect("the last bulk", status, 201)
     tally.expect("reshards", replies, [(200, {"ok": True})] * 8)
@@ -233,6 +280,8 @@ def whole_bulks(port, tally):
     tally.expect("pages with half of a bulk", halves, [])
     orders = [[page[0] for page in pages if page] for pages in seen]
     tally.expect("values only grow", [order == sorted(order) for order in orders], [True] * 3)
+    tally.expect("the last pages", [pages[-1] for pages in seen], [[59] * 10] * 3)
+    tally.expect("pages during the bulks", all(len(set(order)) > 2 for order in orders), True)
 
 
 def more_clients_than_seats(port, tally):
@@ -257,9 +306,76 @@ def faults(words, tally):
             tally.expect(f"at {address!r}", (done.returncode, done.stdout, done.stderr), (1, b"", b"mangod: cannot listen\n"))
 
 
+def few_descriptors(words, tally):
+    """With 16 descriptors and 40 connections a new client is served, since those that were idle longest are closed; and so is one when
+    they are gone."""
+    with listening(words, 2, descriptors=16) as port:
+        connections = [connect(port) for _ in range(40)]
+        tally.expect("behind 40", asks(port, BULK), DONE)
+        for connection in connections:
+            connection.close()
+        tally.expect("after 40", asks(port, FIND), PAGE)
+
+
+def names(words, tally):
+    """The program listens at names and at addresses of version 6, and ends by SIGTERM at once."""
+    for host in ["localhost", "[::1]"]:
+        if host == "[::1]" and not socket.has_dualstack_ipv6():
+            print("there is no version 6 here: its part was left out")
+            continue
+        program, port = started(words, 1, host=host)
+        with socket.create_connection((host.strip("[]"), port), timeout=SECONDS) as connection:
+            connection.sendall(BULK)
+            tally.expect(f"at {host}", read(connection, len(DONE)), DONE)
+            program.terminate()
+            tally.expect(f"SIGTERM at {host}", program.wait(SECONDS), -signal.SIGTERM)
+        program.communicate()
+
+
+def deadlines(words, tally):
+    """A client that sends its message byte by byte, and one that reads its reply slowly, hold a session for 60 seconds."""
+
+    def slow_message(connection, turn):
+        connection.sendall(FIND[turn:turn + 1])
+
+    def slow_reader(connection, turn):
+        if turn == 0:
+            connection.sendall(b'POST /db/_find HTTP/1.1\r\nContent-Length: 31\r\n\r\n{"selector":{},"limit":1000000}')
+        connection.recv(10_000)
+
+    def served(port, begun):
+        with socket.create_connection(("127.0.0.1", port), timeout=90) as connection:
+            connection.sendall(FIND)
+            return read(connection, len(EMPTY)), time.monotonic() - begun
+
+    def behind(act):
+        """How long another client waits for the only session."""
+        with listening(words, 1) as port, socket.socket() as connection:
+            client = Client(port)
+            for part in range(4):
+                client.ask("POST", "/db/_bulk_docs", {"docs": [{"_id": f"{part}-{number}", "text": "x" * 400_000} for number in range(6)]})
+            client.close()
+            connection.setsockopt(socket.SOL_SOCKET, socket.SO_RCVBUF, 8192)
+            connection.connect(("127.0.0.1", port))
+            act(connection, 0)
+            begun = time.monotonic()
+            with concurrent.futures.ThreadPoolExecutor(1) as threads:
+                other = threads.submit(served, port, begun)
+                for turn in range(1, 75):
+                    time.sleep(1)
+                    if other.done():
+                        break
+                    act(connection, turn)
+                got, waited = other.result()
+        return got, 55 < waited < 70
+
+    tally.expect("behind slow clients", side_by_side([lambda: behind(slow_message), lambda: behind(slow_reader)]), [(EMPTY, True)] * 2)
+
+
 # how many sessions the program has, and what is done with it
-CONVERSATIONS = [(1, [one_after_another, cut_messages, a_client_that_waits]), (1, [clients_that_go]), (1, [python_client]), (1, [curl]),
-                 (2, [one_after_another]), (16, [sixteen_writers]), (5, [whole_bulks]), (2, [more_clients_than_seats, clients_that_go])]
+CONVERSATIONS = [(1, [one_after_another, cut_messages, a_client_that_pauses, pauses_within_a_message]), (1, [clients_that_go, refusals_arrive]),
+                 (1, [python_client]), (1, [curl]), (2, [one_after_another, busy_clients]), (4, [a_hundred_idle]), (16, [sixteen_writers]),
+                 (5, [whole_bulks]), (2, [more_clients_than_seats, clients_that_go])]
 
 
 def main():
@@ -267,6 +383,7 @@ def main():
     parser.add_argument("--program", required=True)
     parser.add_argument("--shards", type=int, default=7)
     parser.add_argument("--workers", type=int, default=2)
+    parser.add_argument("--full", action="store_true")
     words = parser.parse_args()
     tally = Tally()
     for sessions, parts in CONVERSATIONS:
@@ -274,8 +391,11 @@ def main():
             for part in parts:
                 part(port, tally)
     faults(words, tally)
-    print(f"{tally.passed} passed, {tally.failed} failed")
-    sys.exit(tally.failed > 0)
+    few_descriptors(words, tally)
+    names(words, tally)
+    if words.full:
+        deadlines(words, tally)
+    sys.exit(tally.end())
 
 
 if __name__ == "__main__":

@@ -6,8 +6,8 @@ usage: trees.py --program PATH [--shards 1,7]
 Each three of seven paths come to a document of their own, one after another as a replica brings them. After each path the reply, the
 served document and its conflicts are those of the plain program, by CouchDB's rule: the best leaf is one that is not deleted, then
 the higher position, then the greater id. At the end an edit of each known revision is taken exactly where that is a leaf.
-One process `PATH db SHARDS 1 1 -` for each number of shards. Prints the first reply that differs of each document; the last line
-is 'N passed, M failed'.
+One process `PATH db SHARDS 1 1 -` for each number of shards; a document passes or fails as one. Prints the first reply that differs of
+each document; the last line is 'N passed, M failed'.
 """
 import argparse
 import hashlib
@@ -17,6 +17,7 @@ import subprocess
 import sys
 from pathlib import Path
 
+from common.tally import Tally
 from conversations import replies_in
 
 SECONDS = 120
@@ -42,7 +43,7 @@ def text_of(revision):
 
 def revisions_of(path):
     start, ids, _ = path
-    return [(start - i, id) for i, id in enumerate(ids)]
+    return [(start - i, name) for i, name in enumerate(ids)]
 
 
 def parent_of(accepted, revision):
@@ -70,31 +71,31 @@ def leaves_of(accepted):
     return sorted(((not marks[leaf], *leaf) for leaf in leaves), reverse=True)
 
 
-def served(id, accepted):
+def served(name, accepted):
     """The reply to a GET with conflicts."""
     winner, *others = leaves_of(accepted)
     if not winner[0]:
         return 404, {"error": "not_found", "reason": "deleted"}
     losers = [text_of(leaf[1:]) for leaf in others if leaf[0]]
-    return 200, {"_id": id, "_rev": text_of(winner[1:]), **({"_conflicts": losers} if losers else {})}
+    return 200, {"_id": name, "_rev": text_of(winner[1:]), **({"_conflicts": losers} if losers else {})}
 
 
-def brought(id, accepted, path):
+def brought(name, accepted, path):
     """The body of the bulk that brings the path, and its reply."""
     start, ids, deleted = path
-    document = {"_id": id, "_revisions": {"start": start, "ids": ids}, **({"_deleted": True} if deleted else {})}
-    refusal = {"error": "bad_history", "id": id, "reason": "Revision history does not fit the document."}
+    document = {"_id": name, "_revisions": {"start": start, "ids": ids}, **({"_deleted": True} if deleted else {})}
+    refusal = {"error": "bad_history", "id": name, "reason": "Revision history does not fit the document."}
     return {"docs": [document], "new_edits": False}, (201, [] if fits(accepted, path) else [refusal])
 
 
-def edited(id, accepted, revision):
+def edited(name, accepted, revision):
     """The body of the bulk that edits the revision, and its reply."""
     text = text_of(revision)
     digest = hashlib.md5(compact([False, text, {}]).encode()).hexdigest()
-    made = {"id": id, "ok": True, "rev": f"{revision[0] + 1}-{digest}"}
-    conflict = {"error": "conflict", "id": id, "reason": "Document update conflict."}
+    made = {"id": name, "ok": True, "rev": f"{revision[0] + 1}-{digest}"}
+    conflict = {"error": "conflict", "id": name, "reason": "Document update conflict."}
     is_leaf = revision in [leaf[1:] for leaf in leaves_of(accepted)]
-    return {"docs": [{"_id": id, "_rev": text}]}, (201, [made if is_leaf else conflict])
+    return {"docs": [{"_id": name, "_rev": text}]}, (201, [made if is_leaf else conflict])
 
 
 def bulk(body):
@@ -102,17 +103,17 @@ def bulk(body):
     return f"POST /db/_bulk_docs HTTP/1.1\r\nContent-Length: {len(text)}\r\n\r\n{text}"
 
 
-def talk_of(id, paths):
+def talk_of(name, paths):
     """The messages about a document, each with its reply."""
     accepted = []
     for path in paths:
-        body, reply = brought(id, accepted, path)
+        body, reply = brought(name, accepted, path)
         yield bulk(body), reply
         if not reply[1]:
             accepted.append(path)
-        yield f"GET /db/{id}?conflicts=true HTTP/1.1\r\n\r\n", served(id, accepted)
+        yield f"GET /db/{name}?conflicts=true HTTP/1.1\r\n\r\n", served(name, accepted)
     for revision in known_in(accepted):
-        body, reply = edited(id, accepted, revision)
+        body, reply = edited(name, accepted, revision)
         yield bulk(body), reply
 
 
@@ -131,23 +132,20 @@ def main():
     options = parser.parse_args()
     talks = [list(talk_of(f"d{place}", paths)) for place, paths in enumerate(itertools.product(PATHS, repeat=3))]
     given = "".join(message for talk in talks for message, _ in talk).encode()
-    passed = failed = 0
-    for shards in options.shards.split(","):
+    tally, faults, numbers = Tally(), [[] for _ in talks], options.shards.split(",")
+    for shards in numbers:
         call = [options.program.resolve(), "db", shards, "1", "1", "-"]
         done = subprocess.run(call, input=given, capture_output=True, timeout=SECONDS)
         replies, left = replies_in(done.stdout)
-        if left or done.returncode or len(replies) != sum(map(len, talks)):
-            print(f"{shards} shards: {len(replies)} replies, {left[:200]!r}, status {done.returncode}, {done.stderr!r}")
-            failed += 1
-        for talk in talks:
+        tally.expect(f"{shards} shards: the end", (len(replies), left, done.returncode, done.stderr), (sum(map(len, talks)), b"", 0, b""))
+        for talk, found in zip(talks, faults):
             fault = fault_of(talk, replies[: len(talk)])
             replies = replies[len(talk) :]
-            passed += not fault
-            failed += bool(fault)
-            if fault:
-                print(f"{shards} shards: {fault}")
-    print(f"{passed} passed, {failed} failed")
-    sys.exit(1 if failed else 0)
+            found += [f"{shards} shards: {fault}"] if fault else []
+    for place, found in enumerate(faults):
+        tally.count(f"document {place}", found)
+    print(f"each document on {len(numbers)} numbers of shards:")
+    sys.exit(tally.end())
 
 
 if __name__ == "__main__":

@@ -9,8 +9,9 @@ import tempfile
 from pathlib import Path
 
 SOURCE = Path(__file__).resolve().parent.parent / "refuse" / "refuse.c"
-KINDS = {"memory": 0, "threads": 3, "reads": 6, "writes": 9}
-PIECE, TAKES_NONE, WORDS = 12, 13, 14
+KINDS = {"memory": 0, "threads": 4, "reads": 8, "writes": 12}
+CALLS, FIRST, LAST, REFUSED = range(4)
+PIECE, TAKES_NONE, WORDS = 16, 17, 18
 ONWARD = 2**62
 SECONDS = 120
 ENDS = {"Eof": (0, b""), "Refused": (1, b"mangod: refused\n"), "ReadFault": (1, b"mangod: read fault\n"),
@@ -22,8 +23,7 @@ class Refusal:
 
     def __init__(self, folder):
         self.shim, self.file = folder / "refuse.so", folder / "words"
-        compiler = shutil.which("cc")
-        subprocess.run([compiler, "-O1", "-shared", "-fPIC", "-o", self.shim, SOURCE], check=True)
+        subprocess.run(["cc", "-O1", "-shared", "-fPIC", "-o", self.shim, SOURCE], check=True)
         self.file.write_bytes(bytes(8 * WORDS))
         with self.file.open("r+b") as file:
             self.words = mmap.mmap(file.fileno(), 8 * WORDS)
@@ -33,8 +33,15 @@ class Refusal:
         struct.pack_into("<q", self.words, 8 * word, value)
 
     def calls(self, kind):
-        """How many calls of a kind there were."""
-        return struct.unpack_from("<q", self.words, 8 * KINDS[kind])[0]
+        """How many calls of a kind there were since the last reset."""
+        return self.word(KINDS[kind] + CALLS)
+
+    def refused(self, kind):
+        """How many of them were refused."""
+        return self.word(KINDS[kind] + REFUSED)
+
+    def word(self, word):
+        return struct.unpack_from("<q", self.words, 8 * word)[0]
 
     def reset(self, piece=0, takes_none=False):
         """Nothing was called, and nothing is refused."""
@@ -45,9 +52,13 @@ class Refusal:
 
     def refuse(self, kind, first, last):
         """Refuses the calls of a kind from the first to the last, counted from the last reset. A first of 0 refuses none."""
-        self.put(KINDS[kind] + 1, 0)
-        self.put(KINDS[kind] + 2, last)
-        self.put(KINDS[kind] + 1, first)
+        self.put(KINDS[kind] + FIRST, 0)
+        self.put(KINDS[kind] + LAST, last)
+        self.put(KINDS[kind] + FIRST, first)
+
+    def relent(self, kind):
+        """Refuses no more of a kind; what was counted stays."""
+        self.put(KINDS[kind] + FIRST, 0)
 
     def run(self, words, given):
         """What the program wrote, and how it ended."""
@@ -57,10 +68,7 @@ class Refusal:
 
 @contextlib.contextmanager
 def refusals():
-    """The shim, none where there is no C compiler."""
-    if not shutil.which("cc"):
-        yield None
-        return
+    """The shim, which needs a C compiler."""
     folder = Path(tempfile.mkdtemp())
     try:
         yield Refusal(folder)

@@ -1,5 +1,6 @@
 """Programs that a test has started, which listen on a free port of 127.0.0.1."""
 import contextlib
+import resource
 import socket
 import subprocess
 import sys
@@ -10,12 +11,20 @@ def free_port():
         return server.getsockname()[1]
 
 
-def started(words, sessions, environment):
+def limited(descriptors):
+    """What a new program does first to have at most so many descriptors, nothing where no number is given."""
+    if descriptors is None:
+        return None
+    return lambda: resource.setrlimit(resource.RLIMIT_NOFILE, (descriptors, descriptors))
+
+
+def started(words, sessions, environment=None, host="127.0.0.1", descriptors=None):
     """A new program of these words and so many sessions that listens, and its port; another port where somebody else took it meanwhile."""
     for _ in range(3):
         port = free_port()
-        command = [words.program, "db", str(words.shards), str(words.workers), str(sessions), f"127.0.0.1:{port}"]
-        program = subprocess.Popen(command, stdin=subprocess.DEVNULL, stdout=subprocess.PIPE, stderr=subprocess.PIPE, env=environment)
+        command = [words.program, "db", str(words.shards), str(words.workers), str(sessions), f"{host}:{port}"]
+        program = subprocess.Popen(command, stdin=subprocess.DEVNULL, stdout=subprocess.PIPE, stderr=subprocess.PIPE, env=environment,
+                                   preexec_fn=limited(descriptors))
         line = program.stderr.readline()
         if line == b"mangod: listening\n":
             return program, port
@@ -27,9 +36,9 @@ def started(words, sessions, environment):
 
 
 @contextlib.contextmanager
-def listening(words, sessions, environment=None):
+def listening(words, sessions, environment=None, **more):
     """The port of a new program of so many sessions, which is ended afterwards."""
-    program, port = started(words, sessions, environment)
+    program, port = started(words, sessions, environment, **more)
     try:
         yield port
         if program.poll() is not None:

@@ -1,6 +1,9 @@
-"""A connection by which bytes are sent and whole replies are read."""
+"""Connections by which bytes are sent and replies are read."""
+import http.client
+import json
 import re
 import socket
+import struct
 
 LENGTH = re.compile(rb"\r\nContent-Length: ([0-9]+)\r\n\r\n")
 SECONDS = 60
@@ -61,3 +64,58 @@ class Wire:
 
     def close(self):
         self.socket.close()
+
+
+class Client:
+    """A connection by which JSON is asked for."""
+
+    def __init__(self, port):
+        self.connection = http.client.HTTPConnection("127.0.0.1", port, timeout=SECONDS)
+
+    def ask(self, method, target, body=None):
+        self.connection.request(method, target, None if body is None else json.dumps(body))
+        reply = self.connection.getresponse()
+        return reply.status, json.loads(reply.read())
+
+    def close(self):
+        self.connection.close()
+
+
+def connect(port):
+    return socket.create_connection(("127.0.0.1", port), timeout=SECONDS)
+
+
+def read(connection, count):
+    """So many bytes of what comes, fewer where it ends."""
+    got = b""
+    while len(got) < count:
+        piece = connection.recv(count - len(got))
+        if not piece:
+            break
+        got += piece
+    return got
+
+
+def asks(port, messages):
+    """All that comes for messages that are sent at once, and no more after them."""
+    with connect(port) as connection:
+        connection.sendall(messages)
+        connection.shutdown(socket.SHUT_WR)
+        return read(connection, 1 << 24)
+
+
+def reset(connection):
+    """Closes a connection by a reset."""
+    connection.setsockopt(socket.SOL_SOCKET, socket.SO_LINGER, struct.pack("ii", 1, 0))
+    connection.close()
+
+
+def is_closed(connection, seconds):
+    """Whether the other side ends a connection within so many seconds, by an end or by a reset."""
+    connection.settimeout(max(seconds, 0.01))
+    try:
+        return connection.recv(1) == b""
+    except ConnectionError:
+        return True
+    except socket.timeout:
+        return False

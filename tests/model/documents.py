@@ -54,11 +54,11 @@ class Document:
             revision = self.parents[revision]
         return found
 
-    def served(self, id, conflicts=False):
+    def served(self, name, conflicts=False):
         """The document that is served, none where it is deleted."""
         winner, *others = self.leaves()
         deleted, body = self.held[winner]
         if deleted:
             return None
         losers = [text_of(revision) for revision in others if not self.held[revision][0]]
-        return {**body, "_id": id, "_rev": text_of(winner), **({"_conflicts": losers} if conflicts and losers else {})}
+        return {**body, "_id": name, "_rev": text_of(winner), **({"_conflicts": losers} if conflicts and losers else {})}

@@ -34,18 +34,18 @@ class World:
 
     def entry(self, edit, new_edits):
         """The reply to one edit, none where nothing is told of it."""
-        id, path, deleted, body = edit
-        document = self.documents.get(id, Document())
+        name, path, deleted, body = edit
+        document = self.documents.get(name, Document())
         if new_edits:
             made = document.edit(path[0] if path else None, deleted, body)
-            told = made and {"id": id, "ok": True, "rev": text_of(made)}
-            refusal = {"error": "conflict", "id": id, "reason": "Document update conflict."}
+            told = made and {"id": name, "ok": True, "rev": text_of(made)}
+            refusal = {"error": "conflict", "id": name, "reason": "Document update conflict."}
         else:
             made = document.merge(path, deleted, body)
             told = None
-            refusal = {"error": "bad_history", "id": id, "reason": "Revision history does not fit the document."}
+            refusal = {"error": "bad_history", "id": name, "reason": "Revision history does not fit the document."}
         if made:
-            self.documents[id] = document
+            self.documents[name] = document
         return told if made else refusal
 
     def chosen(self, query):
@@ -81,11 +81,11 @@ class World:
         if after and (after[:3] != front or len(after[3]) != len(columns)):
             return 400, {"error": "invalid_bookmark", "reason": "Invalid bookmark."}
         rows = []
-        for id, document in self.documents.items():
-            served = document.served(id)
+        for name, document in self.documents.items():
+            served = document.served(name)
             if served and accepted(served, query):
                 key = [part(served, column) for column in columns]
-                rows.append((order(key), id, key))
+                rows.append((order(key), name, key))
         descending = query["direction"] == "desc"
         rows.sort(key=lambda row: row[:2], reverse=descending)
         if after:
@@ -95,8 +95,8 @@ class World:
         bookmark = encoded([*front, rows[-1][2], rows[-1][1]]) if rows else query["bookmark"]
         return 200, {"bookmark": bookmark, "docs": [self.shown(row[1], query) for row in rows]}
 
-    def shown(self, id, query):
-        served = self.documents[id].served(id, query["conflicts"])
+    def shown(self, name, query):
+        served = self.documents[name].served(name, query["conflicts"])
         return projection(served, query["fields"]) if query["fields"] else served
 
     def listed(self):

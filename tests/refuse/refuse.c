@@ -1,8 +1,8 @@
 /* Preloaded into a program, refuses what it asks of the system: memory, threads, reads of its input and writes of its output.
  *
  * REFUSE names a file of words of 64 bits, which is shared with the test, so the test can look at it and change it while the
- * program runs. Each of the four kinds has three words: how many calls were made, and the first and the last one that is
- * refused (from 1; a first of 0: none). Two words follow: the most bytes that a read or a write moves (0: as many as are
+ * program runs. Each of the four kinds has four words: how many calls were made, the first and the last one that is
+ * refused (from 1; a first of 0: none), and how many were refused. Two words follow: the most bytes that a read or a write moves (0: as many as are
  * asked for), and what a refused write answers: 0 an error, 1 that it took no byte. */
 #include <errno.h>
 #include <fcntl.h>
@@ -16,7 +16,7 @@
 #include <unistd.h>
 
 struct kind {
-    _Atomic int64_t calls, first, last;
+    _Atomic int64_t calls, first, last, refused;
 };
 
 struct words {
@@ -43,7 +43,9 @@ __attribute__((constructor)) static void begin(void) {
 static int is_refused(struct kind *kind) {
     int64_t call = atomic_fetch_add(&kind->calls, 1) + 1;
     int64_t first = atomic_load(&kind->first);
-    return first && call >= first && call <= atomic_load(&kind->last);
+    int refused = first && call >= first && call <= atomic_load(&kind->last);
+    if (refused) atomic_fetch_add(&kind->refused, 1);
+    return refused;
 }
 
 static void *no_memory(void) {

@@ -1,7 +1,7 @@
 """Bodies of many bytes: nesting, texts, names, members, bookmarks, and heads."""
 import itertools
 
-from shapes import ADDED, MOST, NO_JSON, NOTHING, Shape, document, find, page, post, replicas
+from shapes import MOST, NO_JSON, NOTHING, Shape, document, find, page, post, replicas
 
 LETTERS = bytes(letter for letter in range(0x20, 0x7F) if letter not in b'"\\_')
 DEEP = b"[" * 120 + b"]" * 120

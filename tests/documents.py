@@ -1,0 +1,117 @@
+#!/usr/bin/env python3
+"""Checks that what README.md and docs/*.md name is there: files, links and crates; and the table of crates.
+
+usage: documents.py [--program PATH] [--top FOLDER]
+
+- A path that begins with a file or folder of the top of the repository (docs/MODEL.md, tests/*.py) is there. What a check makes, in
+  out/, is left out. A path that begins with a folder of crates (src/leaf.rt, specs/Lib.antt) is there in some crate, and a name of a
+  file alone (talk.py) somewhere.
+- A link [text](target) leads to a file that is there, and a heading of it if it names one, or to another host.
+- A word mg_NAME is a crate of crates.txt. docs/INTERNALS.md names each of them, and README.md each document.
+- The table of crates in docs/INTERNALS.md has the crates of crates.txt in their order, each with the same libraries.
+The program is not run. Prints each fault; a document passes or fails as one. The last line is 'N passed, M failed'.
+"""
+import argparse
+import re
+import sys
+from pathlib import Path
+
+from common.tally import Tally
+
+TOP = Path(__file__).resolve().parent.parent
+PATH = re.compile(r"(?<![\w./*{}-])\.?[A-Za-z][\w.*-]*(?:/[\w.*-]+)*/?")
+LINK = re.compile(r"\[[^\]]*\]\(([^)\s]+)\)")
+CRATE = re.compile(r"\bmg_[a-z0-9_]+\b")
+CODE = re.compile(r"^```http-.*?^```$", re.S | re.M)
+CRATE_FOLDERS = ("src", "specs", "proofs", "must-fail")
+ENDINGS = (".md", ".txt", ".py", ".rt", ".antt", ".json", ".sh", ".edit", ".c")
+
+
+def crates_of(text):
+    """Each crate of crates.txt, and the libraries that it uses."""
+    lines = [line for line in text.splitlines() if line.strip() and not line.startswith("#")]
+    return {line.split()[0].rstrip(":"): line.partition(":")[2].split() for line in lines}
+
+
+def pattern_of(top, path, first, slash):
+    """The pattern that some file has to have if a text names this path, none where it names no file of the repository. The name of a
+    folder that stands for any is a capital letter."""
+    if "/out/" in f"{path}/" or re.search(r"/[A-Z]/?$", path):
+        return None
+    if slash and (top / first).exists():
+        return path.rstrip("/")
+    if slash and first in CRATE_FOLDERS:
+        return f"crates/*/{path.rstrip('/')}"
+    return f"**/{path}" if not slash and path.endswith(ENDINGS) else None
+
+
+def missing_paths(top, text):
+    """The paths that name nothing."""
+    for path in sorted(set(PATH.findall(text))):
+        first, slash, _ = path.rstrip(".").partition("/")
+        pattern = pattern_of(top, path.rstrip("."), first, slash)
+        if pattern and not list(top.glob(pattern)):
+            yield f"{path} is not there"
+
+
+def headings_of(text):
+    """The names by which a link leads to the headings of a document."""
+    found = re.findall(r"^#+ (.*)$", text, re.M)
+    return {re.sub(r"[^\w -]", "", heading.lower()).replace(" ", "-") for heading in found}
+
+
+def broken_links(folder, file, text):
+    for link in LINK.findall(text):
+        target, _, heading = link.partition("#")
+        if re.match(r"[a-z]+:", link):
+            continue
+        there = folder / target if target else file
+        if not there.exists():
+            yield f"the link to {link} leads nowhere"
+        elif heading and heading not in headings_of(there.read_text(encoding="utf-8")):
+            yield f"the link to {link} names no heading"
+
+
+def faults_of(top, file, crates):
+    """What is wrong with what a document names. Its examples of requests and replies name no files."""
+    text = CODE.sub("", file.read_text(encoding="utf-8"))
+    yield from missing_paths(top, text)
+    yield from broken_links(file.parent, file, text)
+    yield from (f"{name} is no crate" for name in sorted(set(CRATE.findall(text)) - set(crates)))
+
+
+def table_of(text):
+    """The crates of the table, and the libraries of each."""
+    section = text.partition("\n## The crates in a table\n")[2].partition("\n## ")[0]
+    rows = [line.split("|")[1:-1] for line in section.splitlines() if line.startswith("| `")]
+    return {row[0].strip(" `"): re.findall(r"`([^`]+)`", row[2]) for row in rows}
+
+
+def table_faults(crates, table):
+    if list(table) != list(crates):
+        yield f"the table has the crates {list(table)}, crates.txt {list(crates)}"
+    for name in crates.keys() & table.keys():
+        missing, more = (sorted(set(one) - set(other)) for one, other in ((crates[name], table[name]), (table[name], crates[name])))
+        if name != "mg_tests" and (missing or more):
+            yield f"the row of {name} lacks {missing} and has {more} that crates.txt does not"
+
+
+def main():
+    parser = argparse.ArgumentParser(description=__doc__.split("\n")[0])
+    parser.add_argument("--program")
+    parser.add_argument("--top", type=Path, default=TOP)
+    words, tally = parser.parse_args(), Tally()
+    top, readme, internals = words.top, words.top / "README.md", words.top / "docs" / "INTERNALS.md"
+    crates = crates_of((top / "crates.txt").read_text(encoding="utf-8"))
+    documents = sorted((top / "docs").glob("*.md"))
+    for file in [readme, *documents]:
+        tally.count(str(file.relative_to(top)), list(faults_of(top, file, crates)))
+    for file, names in ((readme, [f"docs/{one.name}" for one in documents]), (internals, list(crates))):
+        text = file.read_text(encoding="utf-8")
+        tally.expect(f"what {file.name} does not name", [name for name in names if not re.search(rf"\b{re.escape(name)}\b", text)], [])
+    tally.count("the table of crates", list(table_faults(crates, table_of(internals.read_text(encoding="utf-8")))))
+    sys.exit(tally.end())
+
+
+if __name__ == "__main__":
+    main()

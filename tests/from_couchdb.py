@@ -1,0 +1,271 @@
+#!/usr/bin/env python3
+"""Runs examples/from_couchdb.py from an imitation of CouchDB to the program.
+
+usage: from_couchdb.py --program PATH [--seed N]
+
+No CouchDB can be had where this runs: tests/imitation/couchdb.py was written from CouchDB's API reference. What is brought over has
+to be what the imitation would serve, winners and conflicts included; and of each document that the dry run lists, or does not list,
+the program itself says whether it can be written. The last line is 'N passed, M failed'.
+"""
+import argparse
+import contextlib
+import http.client
+import json
+import random
+import subprocess
+import sys
+import tempfile
+import time
+import urllib.parse
+from pathlib import Path
+
+from common.server import listening
+from common.tally import Tally
+from imitation.couchdb import Source, serving
+
+EXAMPLE = Path(__file__).resolve().parent.parent / "examples" / "from_couchdb.py"
+SECONDS = 60
+LIMIT = 8_388_608
+ODD_IDS = ["green pear", "dry/red", "a+b", "50%", "%41", "ключ", "\U0001f34e", "quote\"s", "?x=1#y", " "]
+MANGO = ('"language":"query","views":{"by_price":{"map":{"fields":{"price":"asc"},"partial_filter_selector":{}},"reduce":"_count",'
+         '"options":{"def":{"fields":["price"]}}}}')
+
+
+class Target:
+    """A database of the program."""
+
+    def __init__(self, port):
+        self.port, self.url = port, f"http://127.0.0.1:{port}/db"
+
+    def ask(self, method, target, body=None):
+        connection = http.client.HTTPConnection("127.0.0.1", self.port, timeout=SECONDS)
+        connection.request(method, f"/db/{target}", body)
+        reply = connection.getresponse()
+        found = reply.status, json.loads(reply.read())
+        connection.close()
+        return found
+
+    def served(self, name):
+        """A document with its conflicts; None for a deleted one."""
+        status, found = self.ask("GET", f"{urllib.parse.quote(name, safe='')}?conflicts=true")
+        return found if status == 200 else None if found["reason"] == "deleted" else status
+
+    def ids(self):
+        return [document["_id"] for document in self.ask("POST", "_find", '{"selector":{},"fields":["_id"],"limit":99999}')[1]["docs"]]
+
+
+@contextlib.contextmanager
+def fresh(program, sessions=4):
+    with listening(argparse.Namespace(program=program, shards=3, workers=2), sessions) as port:
+        yield Target(port)
+
+
+def ran(*args):
+    """The status of a run, its output and its lines on standard error."""
+    done = subprocess.run([sys.executable, EXAMPLE, *map(str, args)], capture_output=True, text=True, timeout=SECONDS)
+    return done.returncode, done.stdout, done.stderr
+
+
+def fill(source, choice, count):
+    """Documents with one to three leaves, deleted ones among them."""
+    for name in [*ODD_IDS, *(f"d{number:04}" for number in range(count))]:
+        for branch in choice.sample("abc", choice.choice([1, 1, 1, 2, 3])):
+            length = choice.randint(1, 6)
+            path = [f"{position}-{branch if position > 1 else 'root'}{position}" for position in range(length, 0, -1)]
+            source.put(name, path, f'"n":{choice.randrange(100)},"t":"{branch}ü"', choice.random() < 0.2)
+
+
+def compare(tally, name, source, target):
+    """Whether the target serves what the imitation does."""
+    wrong = {key: (found, wanted) for key in source.documents
+             if not key.startswith("_") and (found := target.served(key)) != (wanted := source.served(key))}
+    tally.expect(f"{name}: documents", dict(list(wrong.items())[:3]), {})
+    tally.expect(f"{name}: ids", target.ids(), sorted(key for key in source.documents if not key.startswith("_") and source.best(key)))
+
+
+def brought(tally, program, folder, choice):
+    """All is brought over, in pages; again; from the checkpoint; and from the start to a target that was started anew."""
+    source, file = Source(), folder / "checkpoint"
+    fill(source, choice, 120)
+    source.put("_design/shop", ["1-x"], MANGO)
+    with serving(source) as url:
+        with fresh(program) as target:
+            count = len(source.documents) - 1
+            tally.expect("the first run", ran(url, target.url, "--checkpoint", file, "--page", 7)[:2],
+                         (0, f"{count} documents brought over, 1 left out\n"))
+            compare(tally, "the first run", source, target)
+            tally.expect("again, without a checkpoint", ran(url, target.url)[:2], (0, f"{count} documents brought over, 1 left out\n"))
+            compare(tally, "again", source, target)
+            source.put("d0003", ["9-z", "8-y"], '"n":-1')
+            source.put("new", ["1-a"], '"n":9223372036854775807,"m":-9223372036854775808')
+            source.asked.clear()
+            tally.expect("from the checkpoint", ran(url, target.url, "--checkpoint", file), (0, "2 documents brought over, 0 left out\n", ""))
+            tally.expect("requests from the checkpoint", [method for method, _ in source.asked], ["GET", "POST", "GET"])
+            compare(tally, "from the checkpoint", source, target)
+            status, _, line = ran(url + "2", target.url, "--checkpoint", file)
+            tally.expect("the checkpoint of another source", (status, "is the checkpoint of" in line), (1, True))
+            tally.expect("no password in the checkpoint", "cret" in file.read_text(), False)
+            status, _, line = ran(url.replace("cret", "x"), target.url)
+            tally.expect("a wrong password", (status, "status 401" in line), (1, True))
+            checkpoint = json.loads(file.read_text())
+        with fresh(program) as target:
+            file.write_text(json.dumps({**checkpoint, "target": target.url}))
+            status, line, said = ran(url, target.url, "--checkpoint", file)
+            tally.expect("a target that was started anew", (status, line, "everything is brought again" in said),
+                         (0, f"{count + 1} documents brought over, 1 left out\n", True))
+            compare(tally, "a target that was started anew", source, target)
+
+
+def wait_until(holds):
+    last = time.monotonic() + SECONDS
+    while not holds() and time.monotonic() < last:
+        time.sleep(0.02)
+    return holds()
+
+
+def followed(tally, program, folder, choice):
+    """A run that follows is killed and started again, and the source and the target are away for a while."""
+    source, file = Source(), folder / "followed"
+    fill(source, choice, 40)
+    with serving(source) as url, fresh(program) as target:
+        for turn in range(3):
+            follower = subprocess.Popen([sys.executable, EXAMPLE, url, target.url, "--checkpoint", file, "--follow", "--page", "5"],
+                                        stderr=subprocess.DEVNULL)
+            source.put(f"turn{turn}", ["1-a"], '"n":1')
+            tally.expect(f"turn {turn}", wait_until(lambda: target.served(f"turn{turn}") == source.served(f"turn{turn}")), True)
+            source.faults = turn
+            source.put("d0001", [f"{20 + turn}-f", f"{19 + turn}-e"], f'"n":{turn}')
+            tally.expect(f"a change of turn {turn}", wait_until(lambda: target.served("d0001") == source.served("d0001")), True)
+            for number in range(10):
+                source.put(f"d{number:04}", [f"{30 + turn}-g"], f'"n":{turn}')
+            time.sleep(choice.uniform(0, 0.1))
+            follower.kill()
+            follower.wait()
+        ran(url, target.url, "--checkpoint", file)
+        compare(tally, "after the followers", source, target)
+
+
+def nested(depth):
+    return "[" * depth + "]" * depth
+
+
+# documents that cannot be brought over: the id, the text of the members, and what the dry run says of them
+FAULTY = [
+    ("fraction", '"price":1.5', "price is 1.5: write a whole number"),
+    ("whole fraction", '"a":{"b":[7,1.0]}', "a.b.1 is 1.0: write a whole number"),
+    ("exponent", '"a":1e2', "a is 1e2: "),
+    ("minus zero", '"a":-0', "a is -0: "),
+    ("too large", '"a":9223372036854775808', "a is 9223372036854775808: "),
+    ("too small", '"a":-9223372036854775809', "a is -9223372036854775809: "),
+    ("many digits", f'"a":{"9" * 5000}', "a is 999"),
+    ("files", '"_attachments":{"a.txt":{"stub":true,"length":1}}', "it has 1 attachments: keep the files elsewhere"),
+    ("member", '"_replication_state":"completed"', "its member _replication_state begins with an underscore: rename"),
+    ("deep", f'"a":{nested(125)}', "it nests too deep: flatten"),
+    ("very deep", f'"a":{nested(5000)}', "it nests too deep: flatten"),
+    ("surrogate", '"a":"\\ud800"', "it has a text that is not UTF-8: mend"),
+    ("large", None, "bytes: split the document"),
+]
+# documents that come near to these, and can be
+SOUND = [
+    ("deep enough", f'"a":{nested(124)}'),
+    ("large enough", None),
+    ("whole", '"a":9223372036854775807,"b":-9223372036854775808,"c":0'),
+    ("inside", '"a":{"_b":1,"_attachments":{}},"":1'),
+    ("letters", '"a":"\\ud83c\\udf4e","b":"1.5"'),
+]
+
+
+def members_of_size(name, size):
+    """The text of members with which a document's bulk has this size."""
+    front = '{"_id":"%s","_rev":"1-a","_revisions":{"start":1,"ids":["a"]},"a":""}' % name
+    return '"a":"%s"' % ("x" * (size - len('{"docs":[],"new_edits":false}') - len(front)))
+
+
+def with_sizes():
+    return ([(name, members or members_of_size(name, LIMIT + 1), line) for name, members, line in FAULTY],
+            [(name, members or members_of_size(name, LIMIT)) for name, members in SOUND])
+
+
+def written_directly(target, name, members):
+    """The status of a bulk with this document alone."""
+    head = '{"_id":"%s","_rev":"1-a","_revisions":{"start":1,"ids":["a"]}' % name
+    try:
+        return target.ask("POST", "_bulk_docs", '{"docs":[%s,%s}],"new_edits":false}' % (head, members))[0]
+    except ConnectionError:
+        return 413  # the program closes the connection while the body is sent
+
+
+def listed(tally, program):
+    """The dry run lists the documents that the program refuses, and no others."""
+    source, (faulty, sound) = Source(), with_sizes()
+    source.put("_design/shop", ["1-x"], MANGO)
+    source.put("_design/views", ["1-x"], '"views":{"a":{"map":"function (doc) {}"}}')
+    for name, members, *_ in faulty + sound:
+        source.put(name, ["1-a"], members)
+    with serving(source) as url:
+        status, output, said = ran(url, "--dry-run", "--page", 4)
+    lines = {line.split(" 1-a: ")[0].split(": ")[0]: line for line in output.splitlines()[:-1]}
+    tally.expect("the dry run", (status, said), (1, ""))
+    tally.expect("what is listed", sorted(lines), sorted([name for name, *_ in faulty] + ["_design/shop", "_design/views"]))
+    for name, _, line in faulty:
+        tally.expect(f"the line of {name}", line in lines.get(name, ""), True)
+    remedy = 'POST _index with {"ddoc": "_design/shop", "name": "by_price", "index": {"fields": ["price"]}}'
+    tally.expect("the remedy of an index", lines["_design/shop"].endswith(remedy), True)
+    tally.expect("the last line", output.splitlines()[-1].startswith(f"{len(source.documents)} documents; will not pass: design 2, number 7, "), True)
+    with fresh(program) as target:
+        written = {name: written_directly(target, name, members) for name, members, *_ in faulty + sound}
+    tally.expect("listed, and written by the program", [name for name, *_ in faulty if written[name] not in (400, 413)], [])
+    tally.expect("not listed, and refused by the program", [name for name, _ in sound if written[name] != 201], [])
+
+
+def left_out(tally, program):
+    """A run ends at a document that cannot be brought over, or leaves it out with all its leaves."""
+    source, (faulty, sound) = Source(), with_sizes()
+    for name, members in sound:
+        source.put(name, ["1-a"], members)
+    source.put("files", ["1-a"], '"n":1,"_attachments":{"a.txt":{"stub":true}}')
+    source.put("two leaves", ["2-b", "1-a"], '"n":1')
+    source.put("two leaves", ["2-c", "1-a"], '"n":1.5')
+    with serving(source) as url, fresh(program) as target:
+        status, _, said = ran(url, target.url)
+        tally.expect("a run that ends", (status, "files 1-a: it has 1 attachments" in said, target.ids()), (1, True, []))
+        tally.expect("with --skip", ran(url, target.url, "--skip")[:2], (0, f"{len(sound)} documents brought over, 2 left out\n"))
+        tally.expect("what is there", target.ids(), sorted(name for name, _ in sound))
+        tally.expect("without attachments", ran(url, target.url, "--skip", "--without-attachments")[:2],
+                     (0, f"{len(sound) + 1} documents brought over, 1 left out\n"))
+        tally.expect("the document", target.served("files"), {"_id": "files", "_rev": "1-a", "n": 1})
+        source.put("two leaves", ["3-d", "2-c", "1-a"], '"n":15')
+        tally.expect("mended", ran(url, target.url, "--without-attachments")[:2], (0, f"{len(sound) + 2} documents brought over, 0 left out\n"))
+        tally.expect("both leaves", target.served("two leaves"), {"_id": "two leaves", "_rev": "3-d", "_conflicts": ["2-b"], "n": 15})
+
+
+def large_bulks(tally, program):
+    """Documents of some megabytes, of which not all fit into one bulk."""
+    source = Source()
+    for number in range(7):
+        source.put(f"d{number}", ["1-a"], f'"a":"{"x" * 3_000_000}"')
+    source.put("conflicts", ["1-a"], f'"a":"{"x" * 5_000_000}"')
+    source.put("conflicts", ["1-b"], f'"a":"{"y" * 5_000_000}"')
+    with serving(source) as url, fresh(program) as target:
+        tally.expect("large documents", ran(url, target.url), (0, "8 documents brought over, 0 left out\n", ""))
+        compare(tally, "large documents", source, target)
+
+
+def main():
+    parser = argparse.ArgumentParser(description=__doc__.split("\n")[0])
+    parser.add_argument("--program", required=True, type=Path)
+    parser.add_argument("--seed", type=int, default=1)
+    args = parser.parse_args()
+    program, tally, choice = args.program.resolve(), Tally(), random.Random(args.seed)
+    with tempfile.TemporaryDirectory() as folder:
+        brought(tally, program, Path(folder), choice)
+        followed(tally, program, Path(folder), choice)
+    listed(tally, program)
+    left_out(tally, program)
+    large_bulks(tally, program)
+    print(f"{tally.passed} passed, {tally.failed} failed")
+    sys.exit(tally.failed > 0)
+
+
+if __name__ == "__main__":
+    main()

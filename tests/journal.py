@@ -1,0 +1,214 @@
+#!/usr/bin/env python3
+"""Kills examples/journal.py and its program in the middle of writes, and compares what comes back with a server that was never killed.
+
+usage: journal.py --program PATH [--seed N] [--rounds N]
+
+In each round several clients write through the proxy: edits of all kinds, indexes, other numbers of shards, and messages that are
+refused. At a random moment the proxy, the program or both are killed, and the proxy is started again on the same file. Then:
+- the file has each accepted write whose reply came, once, in the order of each client, and no write that was refused;
+- another server, which is never killed and gets the writes of the file, has given the same replies to them, and gives the same
+  replies to the same requests as the proxy.
+A write that was sent and not answered may be in the file or not. The last line is 'N passed, M failed'.
+"""
+import argparse
+import json
+import os
+import random
+import re
+import signal
+import sys
+import tempfile
+import threading
+import time
+from pathlib import Path
+
+from common.proxy import Proxy, message, status_of
+from common.server import listening
+from common.tally import Tally
+from common.wire import Wire
+
+CLIENTS = 5
+IDS = [f"d{number}" for number in range(8)]
+FIELDS = [["a"], ["a", "b"], [{"b": "desc"}]]
+# how the proxy may end, by what is killed; of both, the program is killed first
+ENDS = {"proxy": [-signal.SIGKILL], "program": [1], "both": [1, -signal.SIGKILL]}
+MARK = re.compile(rb"[?]mark=([0-9-]+)")
+
+
+class Client(threading.Thread):
+    """Writes until its connection ends, and keeps each message that it sent and each reply that came."""
+
+    def __init__(self, port, number, seed):
+        super().__init__()
+        self.wire, self.number, self.choice = Wire(port), number, random.Random(seed)
+        self.replies, self.sent, self.known = {}, [], {}
+
+    def document(self):
+        """A document of a new edit: a new one, one over a revision that the client made, or one without an id."""
+        name = self.choice.choice([*IDS, None])
+        found = {"_id": name} if name else {}
+        if name in self.known and self.choice.random() < 0.8:
+            found["_rev"] = self.known[name]
+        found |= {"_deleted": True} if self.choice.random() < 0.15 else {"a": self.choice.randrange(5), "b": self.choice.randrange(99)}
+        return found
+
+    def path(self):
+        """A document with a path of revisions, as a replica sends it."""
+        ids = self.choice.sample("abcd", self.choice.randint(1, 3))
+        return {"_id": self.choice.choice(IDS), "_revisions": {"start": 3, "ids": ids}, "a": self.choice.randrange(5),
+                "_deleted": self.choice.random() < 0.2}
+
+    def request(self):
+        """A method, the end of a target and a body."""
+        kind = self.choice.randrange(12)
+        several = range(self.choice.randint(1, 3))
+        if kind < 6:
+            return "POST", "_bulk_docs", {"docs": [self.document() for _ in several]}
+        if kind < 8:
+            return "POST", "_bulk_docs", {"docs": [self.path() for _ in several], "new_edits": False}
+        if kind == 8:
+            name = str(self.choice.randrange(3))
+            return "POST", "_index", {"ddoc": "i", "name": name, "index": {"fields": self.choice.choice(FIELDS)}}
+        if kind == 9:
+            return "DELETE", f"_index/i/json/{self.choice.randrange(3)}", None
+        if kind == 10:
+            return "POST", "_placement", {"shards": self.choice.randint(1, 64)}
+        return "POST", "_bulk_docs", self.choice.choice([{"docs": [{"a": 1.5}]}, {"docs": [{"_x": 1}]}, {"docs": 1}])
+
+    def run(self):
+        goes_on = True
+        while goes_on:
+            method, target, body = self.request()
+            mark = f"{self.number}-{len(self.sent)}"
+            self.sent.append(mark)
+            reply = self.wire.ask(message(method, f"/db/{target}?mark={mark}", b"" if body is None else json.dumps(body).encode()))
+            goes_on = status_of(reply) is not None
+            if goes_on:
+                self.replies[mark] = reply
+                self.learn(reply)
+        self.wire.close()
+
+    def learn(self, reply):
+        if status_of(reply) == 201:
+            entries = json.loads(reply.partition(b"\r\n\r\n")[2])
+            self.known.update({entry["id"]: entry["rev"] for entry in entries if "rev" in entry})
+
+
+def writes_in(data):
+    """The writes of a journal: the mark, the message and the status of each. Goes by the lengths alone."""
+    at, found = data.index(b"\n") + 1, []
+    while at < len(data):
+        line = data[at:data.index(b"\n", at)].split(b" ")
+        begin = at + len(b" ".join(line)) + 1
+        body = data[begin:begin + int(line[3])]
+        target = line[6].decode()
+        found.append((MARK.search(line[6])[1].decode(), message(line[5].decode(), target, body), int(line[4])))
+        at = begin + len(body) + 1
+    return found
+
+
+def probes(ask):
+    """The replies to reads that show all of a database: documents with their conflicts, pages, indexes and how queries are served."""
+    yield ask(message("GET", "/db/_index"))
+    for name in [*IDS, *(f"{number:032x}" for number in range(1, 60))]:
+        yield ask(message("GET", f"/db/{name}?conflicts=true"))
+    queries = [{"selector": {}}, {"selector": {"a": {"$gte": 2}}, "sort": ["a"]}, {"selector": {}, "sort": [{"b": "desc"}]},
+               {"selector": {"a": 3, "b": {"$lt": 50}}, "sort": ["a", "b"]}]
+    for query in queries:
+        yield ask(message("POST", "/db/_explain", json.dumps(query).encode()))
+        bookmark, docs = "nil", True
+        while docs:
+            reply = ask(message("POST", "/db/_find", json.dumps({**query, "limit": 7, "bookmark": bookmark, "conflicts": True}).encode()))
+            yield reply
+            page = json.loads(reply.partition(b"\r\n\r\n")[2])
+            bookmark, docs = page.get("bookmark"), page.get("docs")
+
+
+def has_ended(process):
+    """Whether a process ends within some seconds."""
+    last = time.monotonic() + 20
+    while time.monotonic() < last:
+        try:
+            if Path(f"/proc/{process}/stat").read_text().rpartition(")")[2].split()[0] == "Z":
+                return True
+        except FileNotFoundError:
+            return True
+        time.sleep(0.01)
+    return False
+
+
+def killed(proxy, victim, seed, first):
+    """Has clients write until the proxy, the program or both are killed. Gives the clients, how the proxy ended, and whether the
+    program has ended too."""
+    clients = [Client(proxy.port, first + number, f"{seed}-{number}") for number in range(CLIENTS)]
+    for client in clients:
+        client.start()
+    time.sleep(random.Random(seed).uniform(0.1, 0.5))
+    program = proxy.child()
+    for process in {"proxy": [proxy.process.pid], "program": [program], "both": [program, proxy.process.pid]}[victim]:
+        os.kill(process, signal.SIGKILL)
+    ending = proxy.status()[0]
+    for client in clients:
+        client.join()
+    return clients, ending, has_ended(program)
+
+
+def check_file(tally, name, clients, writes):
+    """Whether the file has what it has to have of a round."""
+    marks = [mark for mark, _, _ in writes]
+    accepted = {mark for client in clients for mark, reply in client.replies.items() if status_of(reply) in (200, 201)}
+    refused = {mark for client in clients for mark, reply in client.replies.items() if status_of(reply) not in (200, 201)}
+    tally.expect(f"{name}: answered and not in the file", accepted - set(marks), set())
+    tally.expect(f"{name}: refused and in the file", refused & set(marks), set())
+    tally.expect(f"{name}: twice in the file", len(marks) - len(set(marks)), 0)
+    for client in clients:
+        own = [mark for mark in marks if mark.split("-")[0] == str(client.number)]
+        tally.expect(f"{name}: the order of client {client.number}", own, [mark for mark in client.sent if mark in set(own)])
+    return len(accepted)
+
+
+def check_replies(tally, name, clients, writes, wire):
+    """Sends another server the writes of a round; it has to reply as the proxy did."""
+    replies = {mark: reply for client in clients for mark, reply in client.replies.items()}
+    other = []
+    for mark, text, status in writes:
+        reply = wire.ask(text)
+        if status_of(reply) != status or replies.get(mark, reply) != reply:
+            other.append((text, replies.get(mark), reply))
+    tally.expect(f"{name}: other replies than of a server that was never killed", other[:1], [])
+
+
+def main():
+    parser = argparse.ArgumentParser(description=__doc__.split("\n")[0])
+    parser.add_argument("--program", required=True, type=Path)
+    parser.add_argument("--seed", type=int, default=1)
+    parser.add_argument("--rounds", type=int, default=6)
+    args = parser.parse_args()
+    program, tally, done, accepted = args.program.resolve(), Tally(), 0, 0
+    settings = argparse.Namespace(program=program, shards=1, workers=1)
+    with tempfile.TemporaryDirectory() as folder, listening(settings, 1) as port:
+        file = Path(folder) / "journal"
+        for turn in range(args.rounds):
+            victim = list(ENDS)[turn % 3]
+            name = f"seed {args.seed}, round {turn}, {victim} killed"
+            with Proxy(program, file) as proxy:
+                clients, ending, ended = killed(proxy, victim, f"{args.seed}-{turn}", turn * CLIENTS)
+            tally.expect(f"{name}: the proxy's end {ending}", ending in ENDS[victim], True)
+            tally.expect(f"{name}: the program ended with the proxy", ended, True)
+            with Proxy(program, file) as proxy:
+                writes, wire = writes_in(file.read_bytes()), Wire(port)
+                accepted += check_file(tally, name, clients, writes[done:])
+                check_replies(tally, name, clients, writes[done:], wire)
+                done, through = len(writes), Wire(proxy.port)
+                tally.expect(f"{name}: all reads", list(probes(through.ask)), list(probes(wire.ask)))
+                through.close()
+                wire.close()
+                tally.expect(f"{name}: the proxy is stopped", proxy.stop(), 0)
+    tally.expect("there were writes", accepted > args.rounds, True)
+    print(f"{accepted} writes were accepted, {done} are in the journal")
+    print(f"{tally.passed} passed, {tally.failed} failed")
+    sys.exit(tally.failed > 0)
+
+
+if __name__ == "__main__":
+    main()

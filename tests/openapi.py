@@ -1,0 +1,219 @@
+#!/usr/bin/env python3
+"""Compares docs/openapi.json with the reference and with every request and reply that the other tests expect.
+
+usage: openapi.py --program PATH
+
+- the routes and the refusals of docs/openapi.json are those of the tables of the reference, no more and no fewer;
+- each example of the reference, of tests/sessions and of tests/conversations: its path, method and status are in the document, and
+  its reply is as the document says; a reply with a member left out, added or of another type is not;
+- the body of a request that was done is as the document says, and one that was refused for its JSON, shape, operators, sort or
+  documents is not.
+The replies themselves are compared with those of the program by other scripts, so the program is not started. The validator is
+tests/common/schema.py. The last line is 'N passed, M failed'.
+"""
+import argparse
+import json
+import re
+import sys
+from pathlib import Path
+
+from api_examples import sections_of
+from common.schema import Schemas
+from common.tally import Tally
+
+TOP = Path(__file__).resolve().parent.parent
+REFERENCE = next(file for file in (TOP / "docs" / "REFERENCE.md", TOP / "docs" / "API.md") if file.exists())
+ROW = re.compile(r"^\| `?([A-Z]+|[0-9]{3})`? \| `([^`]+)`[^|]*\|(?: `([^`]*)` \|)?", re.MULTILINE)
+# refusals by which the body of a request is not as the document says
+BY_BODY = {"InvalidJson", "WrongShape", "UnknownOperator", "BadArgument", "MixedSort", "BadSpecialMember", "BadDocumentId", "BadRevision"}
+METHODS = ("get", "post", "delete")
+
+
+class Surface:
+    """The routes of docs/openapi.json."""
+
+    def __init__(self, document):
+        self.document, self.schemas = document, Schemas(document)
+        self.paths = {tuple(path.split("/")[1:]): item for path, item in document["paths"].items()}
+
+    def resolved(self, value):
+        return self.schemas.at(value["$ref"]) if "$ref" in value else value
+
+    def path_of(self, target):
+        """The path of a target: segment by segment, a literal before a parameter, without going back; None if there is none."""
+        segments, left = target.partition("?")[0].split("/")[1:], list(self.paths)
+        for place, segment in enumerate(segments):
+            left = [path for path in left if len(path) > place]
+            literal = [path for path in left if path[place] == segment]
+            left = literal or [path for path in left if path[place].startswith("{") and segment]
+        return next((path for path in left if len(path) == len(segments)), None)
+
+    def operation(self, method, target):
+        """The operation of a request, None where the document has none."""
+        path = self.path_of(target)
+        return self.paths[path].get(method.lower()) if path else None
+
+    def reply_schema(self, method, target, status):
+        """The schema of a reply, None if the document does not have its status there."""
+        operation, path = self.operation(method, target), self.path_of(target)
+        responses = operation["responses"] if operation else self.document["x-otherwise"]
+        if operation is None and status == 405 and path is None:
+            return None
+        response = responses.get(str(status))
+        return response and self.resolved(response)["content"]["application/json"]["schema"]
+
+    def body_schema(self, method, target):
+        body = (self.operation(method, target) or {}).get("requestBody")
+        return body and body["content"]["application/json"]["schema"]
+
+
+def parsed(text):
+    """The value of a text; None, which is the body of nothing, where it is no JSON or nests more than 127 deep. No schema can say
+    the latter."""
+    try:
+        value = json.loads(text)
+    except ValueError:
+        return None
+    return value if depth(value) <= 127 else None
+
+
+def depth(value):
+    inner = value.values() if isinstance(value, dict) else value if isinstance(value, list) else None
+    return 0 if inner is None else 1 + max(map(depth, inner), default=0)
+
+
+def bent(value):
+    """Values of another shape: a member of an object is left out, added, or of another type; the same of the items of an array."""
+    if isinstance(value, list):
+        for place, item in enumerate(value[:3]):
+            yield from ([*value[:place], other, *value[place + 1:]] for other in bent(item))
+    if isinstance(value, dict):
+        yield {**value, "_other": 1}
+        for name in value:
+            yield {other: value[other] for other in value if other != name}
+            yield {**value, name: {"other": []} if isinstance(value[name], (str, int, list)) else 1.5}
+
+
+def reference_examples(text):
+    """The examples of the reference: method, target, body, status and the text of the reply."""
+    for _, examples in sections_of(text):
+        for example in examples:
+            method, _, target = example.request.partition(" ")
+            yield method, target, example.message.partition(b"\r\n\r\n")[2].decode(), example.reply.status, example.reply.body.decode()
+
+
+def session_examples():
+    """The messages of tests/sessions whose heads have a method and a target."""
+    for file in sorted((TOP / "tests" / "sessions").glob("*.json")):
+        for session in json.loads(file.read_text(encoding="utf-8")):
+            for part in session["parts"]:
+                line, _, rest = part["in"].partition("\r\n") if isinstance(part["in"], str) else ("", "", "")
+                found = re.fullmatch(r"([A-Z]+) (/\S*) HTTP/1\.[01]", line)
+                if found and "reply" in part and part["reply"] and part["reply"][1]:
+                    yield found[1], found[2], rest.partition("\r\n\r\n")[2], *part["reply"][:2]
+
+
+def conversation_examples():
+    """The messages of tests/conversations that have a whole reply right after them."""
+    for file in sorted((TOP / "tests" / "conversations").glob("*.txt")):
+        text = re.sub(r"\n +", " ", file.read_text(encoding="utf-8"))
+        for found in re.finditer(r'^> ([A-Z]+) (\S+) ?(.*)\n< ([0-9]+) (.*)$', text, re.MULTILINE):
+            method, target, body, status, reply = found.groups()
+            yield method, target if target.startswith("/") else f"/db/{target}", body, int(status), reply
+
+
+def check_example(tally, surface, where, example):
+    method, target, body, status, reply = example
+    name = f"{where}: {method} {target} {body[:80]}"
+    schema = surface.reply_schema(method, target, status)
+    if schema is None:
+        tally.expect(f"{name}: status {status} of the document", schema, "a schema")
+        return
+    value = parsed(reply)
+    tally.expect(f"{name}: the reply", surface.schemas.allows(schema, value), True)
+    tally.expect(f"{name}: bent replies", [other for other in bent(value) if allowed_when_bent(surface, schema, value, other)], [])
+    asked = surface.body_schema(method, target)
+    if asked and status < 300:
+        tally.expect(f"{name}: the body of a request that was done", surface.schemas.allows(asked, parsed(body)), True)
+    elif asked and any(surface.schemas.allows({"$ref": f"#/components/schemas/{refusal}"}, value) for refusal in BY_BODY):
+        tally.expect(f"{name}: the body of a request that was refused", surface.schemas.allows(asked, parsed(body)), False)
+
+
+def allowed_when_bent(surface, schema, value, other):
+    """Whether a bent reply is allowed. A document may have any body, and no conflicts: there this is not asked."""
+    if schema == {"$ref": "#/components/schemas/Document"}:
+        changed = {name for name in value.keys() | other.keys() if value.get(name) != other.get(name)}
+        if not changed & {"_id", "_rev", "_other"}:
+            return False
+    return surface.schemas.allows(schema, other)
+
+
+def schemas_in(value):
+    """All schemas below a value of the document."""
+    if isinstance(value, dict):
+        yield from ([value["schema"]] if "schema" in value else [])
+        for inner in value.values():
+            yield from schemas_in(inner)
+    elif isinstance(value, list):
+        for inner in value:
+            yield from schemas_in(inner)
+
+
+def references_in(value):
+    if isinstance(value, dict):
+        yield from ([value["$ref"]] if isinstance(value.get("$ref"), str) else [])
+    for inner in value.values() if isinstance(value, dict) else value if isinstance(value, list) else []:
+        yield from references_in(inner)
+
+
+def check_document(tally, surface, text):
+    """What the document says of itself, and its routes and refusals against the tables of the reference."""
+    document = surface.document
+    tally.expect("the version", document["openapi"], "3.1.0")
+    references = set(references_in(document))
+    defined = {f"#/components/{kind}/{name}" for kind, entries in document["components"].items() for name in entries}
+    tally.expect("references that lead nowhere", references - defined, set())
+    tally.expect("components that nothing refers to", defined - references, set())
+    routes = {(method.upper(), path) for path, item in document["paths"].items() for method in METHODS if method in item}
+    rows = {(found[1], found[2]) for found in ROW.finditer(text) if found[1].isalpha()}
+    tally.expect("routes", routes, rows)
+    refusals = {(int(found[1]), found[2], found[3]) for found in ROW.finditer(text) if found[1].isdigit()}
+    tally.expect("refusals", set(refusals_of(surface)), refusals)
+    for path, item in document["paths"].items():
+        named = {surface.resolved(entry)["name"] for entry in item["parameters"]}
+        tally.expect(f"parameters of {path}", named, set(re.findall(r"{(\w+)}", path)))
+
+
+def refusals_of(surface):
+    """Each status with each error and reason that some response has."""
+    operations = [item[method] for item in surface.document["paths"].values() for method in METHODS if method in item]
+    for responses in [*(operation["responses"] for operation in operations), surface.document["x-otherwise"]]:
+        for status, response in responses.items():
+            schema = surface.resolved(response)["content"]["application/json"]["schema"]
+            for one in schema.get("oneOf", [schema]) if int(status) >= 400 else []:
+                members = surface.resolved(one)["properties"]
+                yield int(status), members["error"]["const"], members["reason"]["const"]
+
+
+def main():
+    parser = argparse.ArgumentParser(description=__doc__.split("\n")[0])
+    parser.add_argument("--program", help="ignored")
+    parser.add_argument("--document", type=Path, default=TOP / "docs" / "openapi.json")
+    args = parser.parse_args()
+    sys.setrecursionlimit(20_000)  # texts nest 127 deep, and a schema takes several calls a level
+    tally, text = Tally(), REFERENCE.read_text(encoding="utf-8")
+    surface = Surface(json.loads(args.document.read_text(encoding="utf-8")))
+    check_document(tally, surface, text)
+    counts = []
+    for where, examples in ((REFERENCE.name, reference_examples(text)), ("sessions", session_examples()), ("conversations", conversation_examples())):
+        before = tally.passed + tally.failed
+        for example in examples:
+            check_example(tally, surface, where, example)
+        counts.append(tally.passed + tally.failed - before)
+    tally.expect("checks of the reference, the sessions and the conversations", [count > 50 for count in counts], [True] * 3)
+    print(f"{tally.passed} passed, {tally.failed} failed")
+    sys.exit(tally.failed > 0)
+
+
+if __name__ == "__main__":
+    main()

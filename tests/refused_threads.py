@@ -1,0 +1,72 @@
+#!/usr/bin/env python3
+"""Refuses threads to whole conversations: a worker that does not start changes no reply.
+
+usage: refused_threads.py --program PATH [--only NAME ..] [--full]
+
+Each conversation of tests/conversations is run with 7 shards (with --full also with 64) and 2 and 32 workers, while the shim
+refuse/refuse.c refuses each thread, the first alone, the second alone, or all from the third on, and its replies are those of its
+file. Then one of many documents, so that workers are worth their start: an index that is built over them, and queries without an
+index, whose replies are the model's (the folder model/). With two shards and two workers and more it has to ask for threads, and be
+refused them. A conversation passes or fails as one. The shim needs a C compiler, `cc`. The last line is 'N passed, M failed'.
+"""
+import itertools
+import json
+import sys
+
+from common.arguments import arguments
+from common.refusal import ENDS, ONWARD, refusals
+from common.tally import Tally
+from conversations import chosen, post, run
+from model.talk import Database
+from refused_memory import FOLDER
+
+WORKERS = (2, 32)
+REFUSED = [(1, ONWARD), (1, 1), (2, 2), (3, ONWARD)]
+DOCUMENTS = 20_000
+
+
+def faults_of(refusal, program, conversation, shards):
+    """The faults of a conversation while threads are refused."""
+    for workers, (first, last) in itertools.product(WORKERS, REFUSED):
+        refusal.reset()
+        refusal.refuse("threads", first, last)
+        for place, fault in run(program, conversation, shards, workers, environment=refusal.environment):
+            yield f"\n  line {place}, {shards} shards, {workers} workers, threads refused from {first} to {last}: {fault}"
+
+
+def many_documents():
+    """The messages of a conversation of many documents, and the replies."""
+    documents = [{"_id": f"d{i:05}", "_rev": "1-a", "k": i % 7, "n": i * 7919 % 100_003} for i in range(DOCUMENTS)]
+    asked = [("_bulk_docs", {"docs": documents, "new_edits": False}), ("_find", {"selector": {"k": 3}, "fields": ["_id"], "limit": 5000}),
+             ("_index", {"index": {"fields": ["n"]}, "ddoc": "x", "name": "n"}), ("_find", {"selector": {"k": {"$gt": 6}}}),
+             ("_find", {"selector": {"n": {"$lt": 500}}, "sort": [{"n": "desc"}]}), ("_find", {"selector": {"k": 5}, "skip": 2850})]
+    messages = [post(target, json.dumps(body).encode()) for target, body in asked]
+    database = Database()
+    return b"".join(messages), b"".join(map(database.answer, messages))
+
+
+def many(refusal, program, given, wanted, tally):
+    """Many documents: threads are asked for and refused, and the replies stay."""
+    for shards, workers, (first, last) in itertools.product(("7", "64"), map(str, WORKERS), REFUSED[:2]):
+        refusal.reset()
+        refusal.refuse("threads", first, last)
+        output, end = refusal.run([program, "db", shards, workers, "1", "-"], given)
+        label = f"{DOCUMENTS} documents, {shards} shards, {workers} workers, threads refused from {first} to {last}"
+        tally.expect(label, (output == wanted, end, refusal.refused("threads") > 0), (True, ENDS["Eof"], True))
+
+
+def main():
+    words, tally = arguments(__doc__, only=[]), Tally()
+    if tally.needs("cc"):
+        numbers = (7, 64) if words.full else (7,)
+        with refusals() as refusal:
+            for conversation in chosen(FOLDER, words.only):
+                faults = [fault for shards in numbers for fault in faults_of(refusal, words.program, conversation, shards)]
+                tally.count(f"{conversation.file.name}: {conversation.name}", faults)
+            many(refusal, words.program, *many_documents(), tally)
+        print(f"each conversation on {len(numbers) * len(WORKERS) * len(REFUSED)} settings:")
+    return tally.end()
+
+
+if __name__ == "__main__":
+    sys.exit(main())
