@@ -7,23 +7,23 @@ import shutil
 import subprocess
 import time
 
-from .documents import BULK, INDEXES, Corpus, name
+from .documents import BULK, INDEXES
 from .processes import Use, run, side_by_side
-from .program import Program, message
+from .program import Program, message, titled
 from .rows import build, load, say
 
 
-def workers(path, share):
+def workers(words):
     """A scan and a build over 16 shards with one worker and with four, by the clock."""
-    corpus, rows = Corpus(max(BULK, int(100000 * share))), []
-    for number in (1, 4):
-        with contextlib.closing(Program(path, corpus, shards=16, workers=number)) as program:
+    corpus, rows = words.corpus(max(BULK, int(100000 * words.share))), []
+    for setting in ((16, 1), (16, 4)):
+        with contextlib.closing(Program(words.program, corpus, setting)) as program:
             load(program, corpus)
             client = program.client()
             asked = [(client.prepare(request), request.answer) for request in corpus.requests("scan", 10, 1)]
             clock = run(client, asked)[1] / len(asked)
             built = build(program, "kind")
-        title = f"{corpus.count:,} documents, 16 shards, workers {number}"
+        title = f"{corpus.count:,} documents, {titled(setting)}"
         rows.append((f"{title}: one document without an index, ms by the clock", f"{clock * 1e3:.1f}"))
         rows.append((f"{title}: an index on two fields, ms by the clock", f"{built.clock * 1e3:.1f}"))
     return rows
@@ -42,45 +42,54 @@ def edit_often(program, count):
     return Use(count, program.processor() - before, time.monotonic() - clock)
 
 
-def edits(path, share):
+def edits(words):
     """Edits of one document."""
     rows = []
-    for count in (int(4000 * share), int(8000 * share), int(16000 * share)):
-        with contextlib.closing(Program(path, Corpus(BULK))) as program:
+    for count in (int(4000 * words.share), int(8000 * words.share), int(16000 * words.share)):
+        with contextlib.closing(Program(words.program, words.corpus(BULK))) as program:
             used = edit_often(program, count).figures()["processor_us"]
         rows.append((f"{count:,} edits of one document, us of processor each", f"{used:.0f}"))
     return rows
 
 
-def crowd(path, share):
-    """`GET`, queries and commits by 1, 4 and 16 clients."""
-    corpus, rows = Corpus(max(BULK, int(100000 * share))), []
-    with contextlib.closing(Program(path, corpus, sessions=16)) as program:
-        load(program, corpus)
-        for which in INDEXES:
-            program.index(which)
-        program.connection.socket.close()
-        for kind, number in (("get", 20000), ("equality", 6000), ("commit", 4000)):
-            for clients in (1, 4, 16):
-                many = max(20, int(number * share))
-                lists = [corpus.requests(kind, many, f"{clients}-{one}") for one in range(clients)]
-                figures = side_by_side(program, lists).figures()
-                rows.append((f"{kind} by {clients} clients, a second (us of processor)", f"{figures['a_second']:,.0f} ({figures['processor_us']:.0f})"))
-                say(*rows[-1])
-        return rows + by_wrk(program)
+def crowd(words):
+    """`GET`, queries and commits by 1, 4 and 16 clients, with each setting."""
+    corpus, rows = words.corpus(max(BULK, int(100000 * words.share))), []
+    for setting in words.shards:
+        with contextlib.closing(Program(words.program, corpus, setting, sessions=16)) as program:
+            load(program, corpus)
+            for which in INDEXES:
+                program.index(which)
+            program.share()
+            rows += crowded(program, words.share, titled(setting)) + by_wrk(program, titled(setting))
+    return rows
 
 
-def by_wrk(program):
+def crowded(program, share, title):
+    """The rows of one database."""
+    rows = []
+    for kind, number in (("get", 20000), ("equality", 6000), ("commit", 4000)):
+        for clients in (1, 4, 16):
+            many = max(20, int(number * share))
+            lists = [program.corpus.requests(kind, many, f"{clients}-{one}") for one in range(clients)]
+            figures = side_by_side(program, lists).figures()
+            what = f"{title}: {kind} by {clients} clients, a second (us of processor)"
+            rows.append((what, f"{figures['a_second']:,.0f} ({figures['processor_us']:.0f})"))
+            say(*rows[-1])
+    return rows
+
+
+def by_wrk(program, title):
     """The same `GET` by wrk, where it is installed."""
     if shutil.which("wrk") is None:
         return []
     rows = []
     for clients in (1, 4, 16):
-        words = ["wrk", "-t1", f"-c{clients}", "-d2s", f"http://127.0.0.1:{program.port}/db/{name(1)}"]
+        words = ["wrk", "-t1", f"-c{clients}", "-d2s", f"http://127.0.0.1:{program.port}/db/{program.corpus.name(1)}"]
         text = subprocess.run(words, capture_output=True, text=True, check=True).stdout
         if "Non-2xx" in text or "Socket errors" in text:
             raise SystemExit(f"wrk: {text}")
-        rows.append((f"get by {clients} clients of wrk, a second", re.search(r"Requests/sec:\s*([0-9.]+)", text)[1]))
+        rows.append((f"{title}: get by {clients} clients of wrk, a second", re.search(r"Requests/sec:\s*([0-9.]+)", text)[1]))
     return rows
 
 
@@ -88,22 +97,22 @@ def load_on(program, first, stop):
     """Loads bulks, of other documents than those that are there, until it is told to stop."""
     client, number = program.client(), first
     while not stop.is_set():
-        docs = [{"_id": f"{name(i % 10**7)}-{i}", **program.corpus.body(i)} for i in range(number, number + BULK)]
+        docs = [{"_id": f"{program.corpus.name(i % 10**7)}-{i}", **program.corpus.body(i)} for i in range(number, number + BULK)]
         client.exchange(message("POST", "_bulk_docs", {"docs": docs}))
         number += BULK
 
 
-def beside(path, share):
+def beside(words):
     """How long a `GET` takes while another client loads."""
-    corpus = Corpus(max(BULK, int(100000 * share)))
+    corpus = words.corpus(max(BULK, int(100000 * words.share)))
     stop, times = multiprocessing.Event(), []
-    with contextlib.closing(Program(path, corpus)) as program:
+    with contextlib.closing(Program(words.program, corpus)) as program:
         load(program, corpus)
         writer = multiprocessing.Process(target=load_on, args=(program, 2 * 10**7, stop), daemon=True)
         writer.start()
         time.sleep(0.2)
         client = program.client()
-        for request in corpus.requests("get", max(1000, int(40000 * share)), 1):
+        for request in corpus.requests("get", max(1000, int(40000 * words.share)), 1):
             text, start = client.prepare(request), time.monotonic()
             client.ask(text, request.answer)
             times.append(time.monotonic() - start)

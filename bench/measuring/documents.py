@@ -1,11 +1,13 @@
 """The documents that are measured, what is asked of them, and what the answers have to be.
 
-A document has some 200 bytes. Prices are all different, so each order by price is settled by the price alone.
+Prices are all different, so each order by price is settled by the price alone.
 """
 import base64
 import json
 import random
 from dataclasses import dataclass
+
+from .shapes import IDS, SHAPES, member_at
 
 BULK = 1000
 PAGE = 25
@@ -34,23 +36,15 @@ class Request:
     answer: Answer | None
 
 
-def name(i):
-    return f"d{i:07d}"
-
-
-def text(i):
-    return f"a document of the measurement, number {i:07d}, with some words that nobody asks for"
-
-
 def compact(value):
-    return json.dumps(value, separators=(",", ":"))
+    return json.dumps(value, separators=(",", ":"), ensure_ascii=False)
 
 
 class Corpus:
-    """So many documents, with what is known of their order."""
+    """So many documents of a shape, with ids of a kind, and what is known of their order."""
 
-    def __init__(self, count):
-        self.count = count
+    def __init__(self, count, shape="flat", ids="short"):
+        self.count, self.shape, self.name = count, SHAPES[shape], IDS[ids].format
         self.groups = max(1, count // IN_GROUP)
         self.prices = sorted(self.price(i) for i in range(count))
         self.unprice = pow(7919, -1, PRIME)
@@ -59,7 +53,19 @@ class Corpus:
         return i * 7919 % PRIME
 
     def body(self, i):
-        return {"group": i % self.groups, "kind": f"kind{i % KINDS}", "price": self.price(i), "tags": ["red", "blue", i % 3], "text": text(i)}
+        return self.shape.body(i, i % self.groups, f"kind{i % KINDS}", self.price(i))
+
+    def path(self, member):
+        """Where a member stands that is asked for."""
+        return self.shape.paths[member]
+
+    def columns(self, which):
+        """The paths of an index."""
+        return [self.path(member) for member in INDEXES[which]]
+
+    def text(self, i):
+        """The text that no other document has."""
+        return member_at(self.path("text"), self.body(i))
 
     def numbers(self):
         """The numbers of the documents in the order in which they are loaded, at random."""
@@ -83,16 +89,16 @@ class Corpus:
 
     def ask_get(self, dice, seed, turn):
         i = dice.randrange(self.count)
-        return Request("get", (name(i),), Answer(1, name(i), name(i)))
+        return Request("get", (self.name(i),), Answer(1, self.name(i), self.name(i)))
 
     def ask_equality(self, dice, seed, turn):
         group = dice.randrange(self.groups)
-        return Request("equality", (group,), Answer(IN_GROUP, name(group), name(group + (IN_GROUP - 1) * self.groups)))
+        return Request("equality", (group,), Answer(IN_GROUP, self.name(group), self.name(group + (IN_GROUP - 1) * self.groups)))
 
     def ask_falling(self, dice, seed, turn):
         """A page below a price, what is dear first."""
         rank = dice.randrange(PAGE, self.count)
-        return Request("falling", (self.prices[rank],), Answer(PAGE, name(self.at(rank - 1)), name(self.at(rank - PAGE))))
+        return Request("falling", (self.prices[rank],), Answer(PAGE, self.name(self.at(rank - 1)), self.name(self.at(rank - PAGE))))
 
     def ask_two(self, dice, seed, turn):
         """A page of one kind from a price on, where there are enough of them."""
@@ -104,21 +110,21 @@ class Corpus:
                 found.append(self.at(rank))
                 if len(found) == PAGE:
                     break
-        return Request("two", (f"kind{kind}", self.prices[start]), Answer(len(found), name(found[0]), name(found[-1])))
+        return Request("two", (f"kind{kind}", self.prices[start]), Answer(len(found), self.name(found[0]), self.name(found[-1])))
 
     def ask_deep(self, dice, seed, turn):
         """The page after the thousandth, by price."""
         rank = self.depth() * PAGE
         before = self.at(rank - 1)
-        return Request("deep", (self.price(before), name(before)), Answer(PAGE, name(self.at(rank)), name(self.at(rank + PAGE - 1))))
+        return Request("deep", (self.price(before), self.name(before)), Answer(PAGE, self.name(self.at(rank)), self.name(self.at(rank + PAGE - 1))))
 
     def ask_scan(self, dice, seed, turn):
         i = dice.randrange(self.count)
-        return Request("scan", (text(i),), Answer(1, name(i), name(i)))
+        return Request("scan", (self.text(i),), Answer(1, self.name(i), self.name(i)))
 
     def ask_commit(self, dice, seed, turn):
         i = dice.randrange(self.count)
-        return Request("commit", (f"{name(i)}-{seed}-{turn}", compact(self.body(i))), None)
+        return Request("commit", (f"{self.name(i)}-{seed}-{turn}", compact(self.body(i))), None)
 
     def ask_mixture(self, dice, seed, turn):
         return self.ask_commit(dice, seed, turn) if turn % 10 == 9 else self.ask_get(dice, seed, turn)

@@ -3,9 +3,9 @@ import contextlib
 import os
 import subprocess
 
-from .documents import INDEXES, Corpus
+from .documents import INDEXES
 from .processes import run
-from .program import Connection, Program
+from .program import Connection, Program, titled
 from .rows import load, say
 
 REQUESTS = {"get": 2000, "equality": 2000, "commit": 2000}
@@ -34,12 +34,12 @@ class Session(Connection):
 
 
 class Piped(Program):
-    """The program with one session over pipes, and one worker, under a tool if there is one. Its processor time is that of its one
+    """The program with one session over pipes, under a tool if there is one. With one worker its processor time is that of its one
     thread, in nanoseconds, by /proc."""
 
-    def __init__(self, path, corpus, shards, tool=()):
-        self.corpus = corpus
-        words = [*tool, path, "db", str(shards), "1", "1", "-"]
+    def __init__(self, path, corpus, setting, tool=()):
+        self.corpus, self.has_one_thread = corpus, setting[1] == 1
+        words = [*tool, path, "db", *map(str, setting), "1", "-"]
         self.process = subprocess.Popen(words, stdin=subprocess.PIPE, stdout=subprocess.PIPE)
         self.connection = Session(self.process, corpus)
 
@@ -47,13 +47,15 @@ class Piped(Program):
         return self.connection
 
     def processor(self):
+        if not self.has_one_thread:
+            return super().processor()
         with open(f"/proc/{self.process.pid}/schedstat") as file:
             return int(file.read().split()[0]) / 1e9
 
 
-def figures(path, corpus, shards, share, turn):
+def figures(path, corpus, setting, share, turn):
     """Microseconds of processor time of each kind of request, of one database."""
-    with contextlib.closing(Piped(path, corpus, shards)) as program:
+    with contextlib.closing(Piped(path, corpus, setting)) as program:
         found = {"load": load(program, corpus).figures()["processor_us"]}
         found["memory"] = program.size() / corpus.count
         for which in INDEXES:
@@ -71,14 +73,14 @@ def told(values):
     return " to ".join(sorted({f"{value:,.1f}" for value in (min(values), max(values))}, key=lambda text: float(text.replace(",", ""))))
 
 
-def piped(path, share, documents, shards):
-    """One database three times for each number of documents and of shards, and once where there are a million or more."""
+def piped(words):
+    """One database three times for each number of documents and each setting, and once where there are a million or more."""
     rows = []
-    for number in shards:
-        for count in documents:
-            corpus = Corpus(count)
-            made = [figures(path, corpus, number, share, turn) for turn in range(1 if count >= 10**6 else TIMES)]
-            title = f"{number} shards, {count:,} documents"
+    for setting in words.shards:
+        for count in words.documents:
+            corpus = words.corpus(count)
+            made = [figures(words.program, corpus, setting, words.share, turn) for turn in range(1 if count >= 10**6 else TIMES)]
+            title = f"{titled(setting)}, {count:,} documents"
             rows.append((f"{title}: load, documents a second", told([1e6 / one["load"] for one in made])))
             rows.append((f"{title}: memory a document without indexes, bytes", told([one["memory"] for one in made])))
             rows += [(f"{title}: {kind}, us of processor", told([one[kind] for one in made])) for kind in REQUESTS]

@@ -12,7 +12,7 @@ import subprocess
 import tempfile
 
 from . import processes
-from .documents import INDEXES, PAGE, compact, name
+from .documents import PAGE, compact
 
 SETTINGS = {
     "listen_addresses": "''", "fsync": "off", "synchronous_commit": "off", "full_page_writes": "off", "autovacuum": "off",
@@ -20,15 +20,6 @@ SETTINGS = {
     "max_parallel_workers_per_gather": "0", "max_parallel_maintenance_workers": "0",
 }
 ROW = "SELECT id, body FROM docs WHERE "
-ASKED = {
-    "get": ROW + "id = $1",
-    "equality": ROW + f"body->'group' = $1 ORDER BY id LIMIT {PAGE}",
-    "falling": ROW + f"body->'price' < $1 ORDER BY body->'price' DESC, id DESC LIMIT {PAGE}",
-    "two": ROW + f"body->'kind' = $1 AND body->'price' >= $2 ORDER BY body->'kind', body->'price', id LIMIT {PAGE}",
-    "deep": ROW + f"(body->'price', id) > ($1, $2) ORDER BY body->'price', id LIMIT {PAGE}",
-    "scan": ROW + f"body->'text' = $1 ORDER BY id LIMIT {PAGE}",
-    "commit": "INSERT INTO docs VALUES ($1, $2)",
-}
 JSON_WORDS = {"equality": {0}, "falling": {0}, "two": {0, 1}, "deep": {0}, "scan": {0}}
 
 
@@ -38,21 +29,39 @@ def programs():
     return found and os.path.dirname(os.path.realpath(found))
 
 
+def member(path):
+    return "->".join(["body", *(f"'{step}'" for step in path.split("."))])
+
+
+def asked_of(corpus):
+    """The statement for each kind of request."""
+    group, kind, price, text = (member(corpus.path(name)) for name in ("group", "kind", "price", "text"))
+    return {
+        "get": ROW + "id = $1",
+        "equality": ROW + f"{group} = $1 ORDER BY id LIMIT {PAGE}",
+        "falling": ROW + f"{price} < $1 ORDER BY {price} DESC, id DESC LIMIT {PAGE}",
+        "two": ROW + f"{kind} = $1 AND {price} >= $2 ORDER BY {kind}, {price}, id LIMIT {PAGE}",
+        "deep": ROW + f"({price}, id) > ($1, $2) ORDER BY {price}, id LIMIT {PAGE}",
+        "scan": ROW + f"{text} = $1 ORDER BY id LIMIT {PAGE}",
+        "commit": "INSERT INTO docs VALUES ($1, $2)",
+    }
+
+
 def part(kind, *pieces):
     body = b"".join(pieces)
     return kind + struct.pack("!i", len(body) + 4) + body
 
 
 class Connection:
-    """A connection with the statements prepared."""
+    """A connection with these statements prepared."""
 
-    def __init__(self, folder, prepared=True):
+    def __init__(self, folder, asked):
         self.socket = socket.socket(socket.AF_UNIX)
         self.socket.connect(os.path.join(folder, ".s.PGSQL.5432"))
         self.rest = b""
         words = b"user\0postgres\0database\0postgres\0\0"
         self.exchange(struct.pack("!ii", len(words) + 8, 196608) + words)
-        for kind, statement in ASKED.items() if prepared else ():
+        for kind, statement in asked.items():
             self.exchange(part(b"P", kind.encode(), b"\0", statement.encode(), b"\0", struct.pack("!h", 0)) + part(b"S"))
 
     def exchange(self, text, until=b"Z"):
@@ -109,7 +118,7 @@ class PostgreSQL:
         self.call("pg_ctl", "-D", self.data, "-w", "-l", os.path.join(self.folder, "log"), "start")
         with open(os.path.join(self.data, "postmaster.pid")) as file:
             self.pid = int(file.readline())
-        self.connection = Connection(self.folder, prepared=False)
+        self.connection = Connection(self.folder, {})
         self.connection.query("CREATE TABLE docs (id text PRIMARY KEY, body jsonb)")
 
     def call(self, program, *words):
@@ -120,7 +129,7 @@ class PostgreSQL:
             raise SystemExit(f"{program}: {done.stderr}")
 
     def client(self):
-        return Connection(self.folder)
+        return Connection(self.folder, asked_of(self.corpus))
 
     def processor(self):
         return processes.family_processor(self.pid)
@@ -131,7 +140,8 @@ class PostgreSQL:
         return int(next(text for kind, text in parts if kind == b"D")[6:])
 
     def prepare_bulk(self, numbers):
-        return "".join(f"{name(i)}\t{compact(self.corpus.body(i))}\n" for i in numbers).encode()
+        rows = (f"{self.corpus.name(i)}\t{compact(self.corpus.body(i))}" for i in numbers)
+        return "".join(row.replace("\\", "\\\\") + "\n" for row in rows).encode()
 
     def send_bulk(self, rows, count):
         self.connection.exchange(part(b"Q", b"COPY docs FROM STDIN\0"), until=b"G")
@@ -140,7 +150,7 @@ class PostgreSQL:
             raise SystemExit(f"PostgreSQL took not all of {count} documents: {parts}")
 
     def index(self, which):
-        columns = ", ".join(f"(body->'{field}')" for field in INDEXES[which])
+        columns = ", ".join(f"({member(path)})" for path in self.corpus.columns(which))
         self.connection.query(f"CREATE INDEX by_{which} ON docs ({columns}, id)")
 
     def settle(self):

@@ -1,5 +1,7 @@
 """What a process has used, from /proc, and clients that run side by side."""
+import functools
 import gc
+import itertools
 import multiprocessing
 import os
 import time
@@ -66,14 +68,25 @@ def run(client, prepared):
     return spent
 
 
-def one_client(system, lists, pipe, number):
-    """A client's process: tells that it is ready, waits for the start, tells what it used, or its fault, and stays until that is read."""
+def run_for(client, prepared, seconds):
+    """How many requests are answered in so many seconds by the clock; they are sent again and again, in their order."""
+    count, end = 0, time.monotonic() + seconds
+    for message, answer in itertools.cycle(prepared):
+        client.ask(message, answer)
+        count += 1
+        if time.monotonic() >= end:
+            return count
+
+
+def one_client(system, requests, pipe, work):
+    """A client's process: tells that it is ready, waits for the start, tells what its work gives, or its fault, and stays until that is
+    read."""
     try:
         client = system.client()
-        prepared = [(client.prepare(request), request.answer) for request in lists[number]]
+        prepared = [(client.prepare(request), request.answer) for request in requests]
         pipe.send("ready")
         pipe.recv()
-        pipe.send(run(client, prepared))
+        pipe.send(work(client, prepared))
         pipe.recv()
     except Exception as fault:
         pipe.send(f"{system.name}: {type(fault).__name__}: {fault}")
@@ -90,12 +103,13 @@ def told(pipe):
     return word
 
 
-def side_by_side(system, lists):
-    """What the requests took: a client, in a process of its own, for each list of requests."""
+def at_once(system, lists, work):
+    """What the work of each client gives, of the program the seconds of processor time, and the seconds by the clock: a client, in a
+    process of its own, for each list of requests."""
     clients = []
-    for number in range(len(lists)):
+    for requests in lists:
         ours, theirs = multiprocessing.Pipe()
-        process = multiprocessing.Process(target=one_client, args=(system, lists, theirs, number), daemon=True)
+        process = multiprocessing.Process(target=one_client, args=(system, requests, theirs, work), daemon=True)
         process.start()
         theirs.close()
         clients.append((process, ours))
@@ -104,13 +118,24 @@ def side_by_side(system, lists):
     before, clock = system.processor(), time.monotonic()
     for _, pipe in clients:
         pipe.send("start")
-    spent = [told(pipe) for _, pipe in clients]
-    clock = time.monotonic() - clock
-    used = sum(one[0] for one in spent) if system.in_process else system.processor() - before
+    given = [told(pipe) for _, pipe in clients]
+    clock, used = time.monotonic() - clock, system.processor() - before
     for process, pipe in clients:
         pipe.send("end")
         process.join()
-    return Use(sum(map(len, lists)), used, clock, len(lists))
+    return given, used, clock
+
+
+def side_by_side(system, lists):
+    """What the requests took, of a client for each list."""
+    spent, used, clock = at_once(system, lists, run)
+    return Use(sum(map(len, lists)), sum(one[0] for one in spent) if system.in_process else used, clock, len(lists))
+
+
+def for_a_time(system, lists, seconds):
+    """The same, of clients that send their requests again and again for so many seconds by the clock."""
+    counts, used, clock = at_once(system, lists, functools.partial(run_for, seconds=seconds))
+    return Use(sum(counts), used, clock, len(lists))
 
 
 def measured(system, lists):

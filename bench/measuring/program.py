@@ -4,12 +4,23 @@ import socket
 import subprocess
 
 from . import processes
-from .documents import INDEXES, PAGE, compact, name
+from .documents import PAGE, compact
 
 
 def free_port():
     with socket.create_server(("127.0.0.1", 0)) as server:
         return server.getsockname()[1]
+
+
+def pairs(text):
+    """Reads numbers of shards with commas between them; after a stroke a number of workers, which is 1 where none stands."""
+    numbers = [word.partition("/") for word in text.split(",")]
+    return [(int(shards), int(workers or 1)) for shards, _, workers in numbers]
+
+
+def titled(setting):
+    """The name of a setting in tables."""
+    return "{} shards, {} workers".format(*setting)
 
 
 def message(method, target, body=None):
@@ -49,12 +60,13 @@ class Connection:
 
     def prepare(self, request):
         about = request.about
+        group, kind, price, text = map(self.corpus.path, ("group", "kind", "price", "text"))
         find = {
-            "equality": lambda: {"selector": {"group": about[0]}},
-            "falling": lambda: {"selector": {"price": {"$lt": about[0]}}, "sort": [{"price": "desc"}], "limit": PAGE},
-            "two": lambda: {"selector": {"kind": about[0], "price": {"$gte": about[1]}}, "sort": ["kind", "price"], "limit": PAGE},
-            "deep": lambda: {"selector": {"price": {"$gte": 0}}, "sort": ["price"], "limit": PAGE, "bookmark": self.corpus.bookmark(*about)},
-            "scan": lambda: {"selector": {"text": about[0]}},
+            "equality": lambda: {"selector": {group: about[0]}},
+            "falling": lambda: {"selector": {price: {"$lt": about[0]}}, "sort": [{price: "desc"}], "limit": PAGE},
+            "two": lambda: {"selector": {kind: about[0], price: {"$gte": about[1]}}, "sort": [kind, price], "limit": PAGE},
+            "deep": lambda: {"selector": {price: {"$gte": 0}}, "sort": [price], "limit": PAGE, "bookmark": self.corpus.bookmark(*about)},
+            "scan": lambda: {"selector": {text: about[0]}},
         }
         if request.kind == "get":
             return message("GET", about[0])
@@ -76,12 +88,13 @@ class Connection:
 
 
 class Program:
-    """The program with one database of the documents."""
+    """The program with one database of the documents, with so many shards and workers."""
 
     in_process = False
 
-    def __init__(self, path, corpus, shards=1, workers=1, sessions=8):
-        self.name = "mangod" if shards == 1 else f"mangod, {shards} shards"
+    def __init__(self, path, corpus, setting=(1, 1), sessions=8):
+        shards, workers = setting
+        self.name = "mangod" if setting == (1, 1) else f"mangod, {titled(setting)}"
         self.corpus, self.port = corpus, free_port()
         words = [path, "db", str(shards), str(workers), str(sessions), f"127.0.0.1:{self.port}"]
         self.process = subprocess.Popen(words, stdin=subprocess.DEVNULL, stderr=subprocess.PIPE)
@@ -99,7 +112,7 @@ class Program:
         return processes.resident(self.process.pid)
 
     def prepare_bulk(self, numbers):
-        return message("POST", "_bulk_docs", {"docs": [{"_id": name(i), **self.corpus.body(i)} for i in numbers]})
+        return message("POST", "_bulk_docs", {"docs": [{"_id": self.corpus.name(i), **self.corpus.body(i)} for i in numbers]})
 
     def send_bulk(self, text, count):
         status, body = self.connection.exchange(text)
@@ -107,7 +120,7 @@ class Program:
             raise SystemExit(f"a bulk was answered by {status} {body[:300]}")
 
     def index(self, which):
-        asked = {"index": {"fields": INDEXES[which]}, "ddoc": "m", "name": which}
+        asked = {"index": {"fields": self.corpus.columns(which)}, "ddoc": "m", "name": which}
         status, body = self.connection.exchange(message("POST", "_index", asked))
         if status != b"200" or json.loads(body)["result"] != "created":
             raise SystemExit(f"an index was answered by {status} {body}")
@@ -116,7 +129,8 @@ class Program:
         """Nothing is left to do after a load."""
 
     def share(self):
-        """Nothing is to be done before several clients come."""
+        """Leaves its session to the clients that come."""
+        self.connection.socket.close()
 
     def close(self):
         self.process.kill()

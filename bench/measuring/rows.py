@@ -76,7 +76,7 @@ def measure(make, corpus, share, clients, turn):
     system = make(corpus)
     try:
         rows = prepared_database(system, corpus, system.size())
-        tell(system, corpus, rows)
+        report(system, corpus, rows)
         rows.update(requests(system, corpus, share, clients, turn))
     finally:
         system.close()
@@ -98,7 +98,7 @@ def requests(system, corpus, share, clients, turn):
     return rows
 
 
-def tell(system, corpus, rows):
+def report(system, corpus, rows):
     say(f"{corpus.count:,} documents, {system.name}: load {1e6 / rows['load']['processor_us']:,.0f} a second of processor, "
         f"{rows['load']['a_second']:,.0f} by the clock; memory {rows['memory']['bytes']:,.0f}, with indexes {rows['indexed']['bytes']:,.0f}; "
         f"index {rows['build']['processor_us'] / 1e3:,.1f} ms")

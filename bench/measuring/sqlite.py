@@ -12,21 +12,29 @@ import tempfile
 import time
 
 from . import processes
-from .documents import INDEXES, PAGE, compact, name
+from .documents import PAGE, compact
 
-# spelled so that each is served by its index alone, without a sort; a comparison of row values would scan the index
 ROW = "SELECT id, body FROM docs WHERE "
-PRICE = "json_extract(body,'$.price')"
-KIND = "json_extract(body,'$.kind')"
-ASKED = {
-    "get": ROW + "id = ?",
-    "equality": ROW + f"json_extract(body,'$.group') = ? ORDER BY id LIMIT {PAGE}",
-    "falling": ROW + f"{PRICE} < ? ORDER BY {PRICE} DESC, id DESC LIMIT {PAGE}",
-    "two": ROW + f"{KIND} = ? AND {PRICE} >= ? ORDER BY {PRICE}, id LIMIT {PAGE}",
-    "deep": ROW + f"{PRICE} >= ?1 AND ({PRICE} > ?1 OR id > ?2) ORDER BY {PRICE}, id LIMIT {PAGE}",
-    "scan": ROW + f"json_extract(body,'$.text') = ? ORDER BY id LIMIT {PAGE}",
-    "commit": "INSERT INTO docs VALUES (?, ?)",
-}
+INSERT = "INSERT INTO docs VALUES (?, ?)"
+
+
+def member(path):
+    return f"json_extract(body,'$.{path}')"
+
+
+def asked_of(corpus):
+    """The statement for each kind of request. Each is served by its index alone, without a sort; a comparison of row values would scan
+    the index."""
+    group, kind, price, text = (member(corpus.path(name)) for name in ("group", "kind", "price", "text"))
+    return {
+        "get": ROW + "id = ?",
+        "equality": ROW + f"{group} = ? ORDER BY id LIMIT {PAGE}",
+        "falling": ROW + f"{price} < ? ORDER BY {price} DESC, id DESC LIMIT {PAGE}",
+        "two": ROW + f"{kind} = ? AND {price} >= ? ORDER BY {price}, id LIMIT {PAGE}",
+        "deep": ROW + f"{price} >= ?1 AND ({price} > ?1 OR id > ?2) ORDER BY {price}, id LIMIT {PAGE}",
+        "scan": ROW + f"{text} = ? ORDER BY id LIMIT {PAGE}",
+        "commit": INSERT,
+    }
 
 
 def opened(file, locking):
@@ -40,11 +48,11 @@ def opened(file, locking):
 class Connection:
     """A connection to the database."""
 
-    def __init__(self, database):
-        self.execute = database.execute
+    def __init__(self, database, corpus):
+        self.execute, self.asked = database.execute, asked_of(corpus)
 
     def prepare(self, request):
-        return ASKED[request.kind], request.about
+        return self.asked[request.kind], request.about
 
     def ask(self, message, answer):
         cursor = self.execute(*message)
@@ -72,10 +80,10 @@ class SQLite:
         return os.path.join(self.folder.name, f"{which}.db")
 
     def own_client(self):
-        return Connection(self.database)
+        return Connection(self.database, self.corpus)
 
     def client(self):
-        return Connection(opened(self.file("shared"), "NORMAL"))
+        return Connection(opened(self.file("shared"), "NORMAL"), self.corpus)
 
     def processor(self):
         return time.process_time()
@@ -84,17 +92,17 @@ class SQLite:
         return processes.resident(os.getpid())
 
     def prepare_bulk(self, numbers):
-        return [(name(i), compact(self.corpus.body(i))) for i in numbers]
+        return [(self.corpus.name(i), compact(self.corpus.body(i))) for i in numbers]
 
     def send_bulk(self, rows, count):
         self.database.execute("BEGIN")
-        cursor = self.database.executemany(ASKED["commit"], rows)
+        cursor = self.database.executemany(INSERT, rows)
         self.database.execute("COMMIT")
         if cursor.rowcount != count:
             raise SystemExit(f"SQLite took {cursor.rowcount} of {count} documents")
 
     def index(self, which):
-        columns = [f"json_extract(body,'$.{field}')" for field in INDEXES[which]]
+        columns = map(member, self.corpus.columns(which))
         self.database.execute(f"CREATE INDEX by_{which} ON docs ({', '.join(columns)}, id)")
 
     def settle(self):

@@ -1,0 +1,69 @@
+"""What pairs of shards and workers cost: the same nested documents with three indexes, over TCP.
+
+Each row is measured until the program has used two seconds of processor time, so that the ticks of 10 ms in which that is counted are a
+hundredth of it; the smallest size takes fewer. New documents are committed last, since a database grows by them.
+"""
+import contextlib
+
+from . import processes
+from .documents import INDEXES
+from .program import Program, titled
+from .rows import load, say
+from .tables import cell
+
+PAIRS = [(1, 1), (4, 4), (16, 4), (16, 1), (64, 32)]
+SECONDS = 2
+CLIENTS = 4
+CHUNK = {"get": 2000, "equality": 1000, "falling": 1000, "scan": 10, "commit": 500}
+ALONE = {
+    "get": "`GET`: processor time, µs",
+    "equality": "20 documents by an index: processor time, µs",
+    "falling": "25 below a price, descending: processor time, µs",
+    "scan": "one document without an index: ms by the clock",
+    "commit": "a commit of one document, three indexes: processor time, µs",
+}
+TOGETHER = {kind: f"{ALONE[kind].partition(':')[0]}, {CLIENTS} clients: requests a second" for kind in ("get", "equality", "falling")}
+
+
+def alone(program, kind, seconds, seed):
+    """What the requests of one client took, one after another, until the program has used so many seconds of processor time."""
+    corpus, client = program.corpus, program.connection
+    before, count, clock = program.processor(), 0, 0
+    while program.processor() - before < seconds:
+        chunk = max(2, min(CHUNK[kind], int(CHUNK[kind] * seconds)))
+        asked = [(client.prepare(one), one.answer) for one in corpus.requests(kind, chunk, f"{seed}-{count}")]
+        clock += processes.run(client, asked)[1]
+        count += chunk
+    return processes.Use(count, program.processor() - before, clock)
+
+
+def figures(words, corpus, setting, turn):
+    """The figures of one database: each row's title, and its figure."""
+    seconds, rows = SECONDS * words.share, {}
+    with contextlib.closing(Program(words.program, corpus, setting, sessions=CLIENTS + 1)) as program:
+        load(program, corpus)
+        for which in INDEXES:
+            program.index(which)
+        for kind, title in ALONE.items():
+            used = alone(program, kind, seconds, turn).figures()
+            rows[title] = used["wait_us"] / 1e3 if kind == "scan" else used["processor_us"]
+            say(f"{titled(setting)}, {title}: {rows[title]:,.1f}")
+            if kind in TOGETHER:
+                lists = [corpus.requests(kind, CHUNK[kind], f"{turn}{client}") for client in range(CLIENTS)]
+                rows[TOGETHER[kind]] = processes.for_a_time(program, lists, seconds).figures()["a_second"]
+                say(f"{titled(setting)}, {TOGETHER[kind]}: {rows[TOGETHER[kind]]:,.0f}")
+    return rows
+
+
+def settings(words):
+    """A table for each number of documents, with a column for each pair of shards and workers. The pairs are measured in turn, as often
+    as is asked for, so that a slow minute of the machine meets all of them."""
+    for count in words.documents:
+        corpus = words.corpus(count, shape="nested")
+        made = [[figures(words, corpus, setting, turn) for setting in PAIRS] for turn in range(words.repeat)]
+        lines = [f"| {count:,} documents; shards and workers | {' | '.join('{} {}'.format(*setting) for setting in PAIRS)} |"]
+        lines.append("|---" * (len(PAIRS) + 1) + "|")
+        for title in made[0][0]:
+            cells = [cell([turn[place][title] for turn in made]) for place in range(len(PAIRS))]
+            lines.append(f"| {title} | {' | '.join(cells)} |")
+        yield "\n".join(lines)
