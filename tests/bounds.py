@@ -25,7 +25,7 @@ from common.tally import Tally
 from model.talk import reply
 from shapes import queries, values, writes
 
-SECONDS = 1800
+SECONDS = 300
 LEAST = 0.1
 MOST_ROUNDS = 100
 TINY = 16
@@ -46,10 +46,9 @@ def wait_for(process, output, text):
     limit = time.monotonic() + SECONDS
     while time.monotonic() < limit:
         size = os.fstat(output.fileno()).st_size
-        if size >= len(text):
-            output.seek(size - len(text))
-            if output.read() == text:
-                return True
+        # The program writes at the offset that it shares with this process, so it must not move here.
+        if size >= len(text) and os.pread(output.fileno(), len(text), size - len(text)) == text:
+            return True
         if process.poll() is not None:
             return False
         time.sleep(0.002)
