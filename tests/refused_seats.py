@@ -7,7 +7,8 @@ One client sends a command while the shim refuse/refuse.c refuses the nth reques
 all after it, for each n until none is met (without --full not each). Its reply is `out_of_memory`, which it may be only where a
 request was refused, or the model's (the folder model/); then the other client, for whom nothing is refused, sees all indexes and
 documents as the model has them: nothing of a command that was answered `out_of_memory`, and everything of one that was accepted. A
-connection may end after `out_of_memory`, and the next one is served. Then two clients make bulks, indexes, reshards and queries at once
+connection may end after `out_of_memory`, and the next one is served. The first write after a start is tried so too, while all requests
+from one on are refused until it is answered: it may not wait for memory. Then two clients make bulks, indexes, reshards and queries at once
 while requests are refused at random (seeded), and afterwards exactly what was accepted is found. The start is refused memory too: it
 ends by `mangod: out of memory`, or clients are served. Last, a session is refused its thread, which leaves the other. The shim needs a
 C compiler, `cc`. The last line is 'N passed, M failed'.
@@ -28,6 +29,8 @@ from conversations import post
 from model.talk import OUT_OF_MEMORY, Database
 
 WRITES = 60
+# the seconds within which a write is answered
+ANSWERED = 10
 NUMBERS = [3, 64, 1, 16]
 
 
@@ -135,6 +138,35 @@ def two_seats(port, refusal, full, label, tally):
             count, faults = seats.every_request(make, onward, 1 if full else 5 if onward else 2)
             tally.expect(f"{label}: {name}{', from one on' if onward else ''}", faults[:3], [])
             tally.expect(f"{label}: {name} was refused memory", count > 0, True)
+
+
+def first_writes(refusal, words, tally):
+    """The first write of a program, for which room is made that later ones find: while all requests for memory from one on stay refused it is
+    answered, or its session ends, and the other client sees it exactly where it was accepted."""
+    message, first, refused, met = bulk([{"_id": "a", "n": 1}]), 0, 0, True
+    while met:
+        first += 1
+        database = Database()
+        with listening(words, 2, refusal.environment) as port:
+            one, other = both_seats(port)
+            refusal.reset()
+            refusal.refuse("memory", first, ONWARD)
+            one.socket.settimeout(ANSWERED)
+            try:
+                got = one.ask(message)
+            except TimeoutError:
+                got = b"no reply"
+            met = refusal.refused("memory") > 0
+            refusal.relent("memory")
+            is_refused = met and got in (b"", OUT_OF_MEMORY)
+            refused += is_refused
+            if not is_refused:
+                tally.expect(f"the first write, all requests from {first} on refused", got, database.answer(message))
+            if got != b"no reply":
+                tally.expect(f"what is seen after it, from {first} on", other.ask(ALL), database.answer(ALL))
+            one.close()
+            other.close()
+    tally.expect("some first writes were refused", refused > 20, True)
 
 
 def connections(port, refusal, label, tally):
@@ -290,6 +322,7 @@ def refused(refusal, words, tally):
         for seed in range(12 if words.full else 3):
             with listening(words, 2, refusal.environment) as port:
                 at_once(port, refusal, f"{label}, seed {seed}", seed, tally)
+    first_writes(refusal, words, tally)
     starts(refusal, words, tally)
     no_second_seat(refusal, words, tally)
 
