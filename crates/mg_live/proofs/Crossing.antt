@@ -1,11 +1,9 @@
 -- Snapshots may cross threads and be looked at by several, and seats may cross them.
-use denote.Builtin.{u64, unit}
+use denote.Builtin.{unit}
 use denote.Param.Send.{IsSend, IsSync, sendable, view_send}
 use denote.Param.SendFields.{as_row_send, as_row_sync, declared_send, declared_sync}
 use denote.RattleType.{RattleType}
 use denote.Struct.Field.{row_field}
-use denote.Struct.Tuple.{Tuple}
-use Rattle.std.proofs.Common.{[], ◌∷◌}
 use Rattle.std.proofs.Crossing.{Arc-send, crosses, frees, send, sync}
 use Rattle.std.proofs.MapsCrossing.{crosses as maps}
 use Rattle.std.specs.contracts.alloc.Global as Global
@@ -13,7 +11,6 @@ use Rattle.std.specs.contracts.impls.GlobalAllocator.TheImpl as allocator
 use Rattle.std.proofs.sync.ledger.Book.TheSendSync as book
 use Rattle.std.proofs.option.Option.TheSendSync as option
 use Rattle.std.proofs.sync.ledger.Share.TheSendSync as share
-use Rattle.std.specs.contracts.option.Option as Option
 use Rattle.std.specs.contracts.sync.Mutex as Mutex
 use Rattle.std.specs.declared.sync.ledger.Ledger as ledger
 use Rattle.crossbeam_utils.specs.declared.rule.Protocol as protocol
@@ -30,10 +27,9 @@ use Rattle.mg_live.specs.contracts.desk.Desk as Desk
 use Rattle.mg_live.specs.contracts.desk.Desk.TheInside as desk
 use Rattle.mg_live.specs.contracts.tally.Tally.TheInside as tally
 use Rattle.mg_live.proofs.history.Front.TheSendSync as front
-use Rattle.mg_live.specs.contracts.history.Front as Front
 use Rattle.mg_live.specs.contracts.published.Ours as Ours
 use Rattle.mg_live.specs.contracts.published.OursProtocolSnapshotUnit.TheImpl as protocol_of
-use Rattle.mg_live.specs.contracts.snapshot.SnapshotAbsorb.TheImpl as absorb_of
+use Rattle.mg_live.specs.contracts.published.SnapshotAbsorbUnit.TheImpl as absorb_of
 use Rattle.mg_live.specs.contracts.seat.Named as Named
 use Rattle.mg_live.specs.contracts.seat.Seat.TheInside as seat
 use Rattle.mg_live.specs.contracts.seat.Seat as Seat
@@ -67,23 +63,23 @@ Reads D d l = Reader.the_row Snapshot.the_row unit (Ours.the_row D) Global.the_r
 reads_send : (D : RattleType) (d : database.Ghosts D.Denot) (l : ledger.Ghosts D.Denot) → IsSend (Reads D d l)
 reads_send D d l = reader.the_send Snapshot.the_row unit (Ours.the_row D) Global.the_row (rule D d l) allocator.ghosts send snapshot_sync sync frees
 
-abbrev State : RattleType
-State = Tuple (Engine.the_row Md5Placement.the_row ∷ u64 ∷ Front.the_row ∷ [])
-
 abbrev Writes : (D : RattleType) (d : database.Ghosts D.Denot) (l : ledger.Ghosts D.Denot) → RattleType
-Writes D d l = Writer.the_row Snapshot.the_row Snapshot.the_row unit (Ours.the_row D) Global.the_row State absorb_of.ghosts (rule D d l) allocator.ghosts
+Writes D d l = Writer.the_row Snapshot.the_row unit unit (Ours.the_row D) Global.the_row unit absorb_of.ghosts (rule D d l) allocator.ghosts
+
+unit_send : IsSend unit
+unit_send = search sendable depth 10
 
 writes_send : (D : RattleType) (d : database.Ghosts D.Denot) (l : ledger.Ghosts D.Denot) → IsSend (Writes D d l)
 writes_send D d l =
-    writer.the_send Snapshot.the_row Snapshot.the_row unit (Ours.the_row D) Global.the_row State absorb_of.ghosts (rule D d l) allocator.ghosts snapshot_send snapshot_send send snapshot_sync sync frees
+    writer.the_send Snapshot.the_row unit unit (Ours.the_row D) Global.the_row unit absorb_of.ghosts (rule D d l) allocator.ghosts snapshot_send unit_send send snapshot_sync sync frees
 
 -- ---- what seats share
 
 tally_send : (D : RattleType) (l : ledger.Ghosts D.Denot) → IsSend (Tally.the_row D l)
-tally_send D l = view_send _ _ _ _ _ (declared_send (tally.the_type D l) (search sendable depth 10, (book.the_send D l, tt)))
+tally_send D l = view_send _ _ _ _ _ (declared_send (tally.the_type D l) (search sendable depth 10, (share.the_send D l, tt)))
 
 desk_send : (D C : RattleType) (d : database.Ghosts D.Denot) (l : ledger.Ghosts D.Denot) → IsSend C → IsSend (Desk.the_row D C d l)
-desk_send D C d l c = view_send _ _ _ _ _ (declared_send (desk.the_type D C d l) (writes_send D d l, (tally_send D l, (as_row_send (row_field C) c, tt))))
+desk_send D C d l c = view_send _ _ _ _ _ (declared_send (desk.the_type D C d l) (writes_send D d l, (book.the_send D l, (as_row_send (row_field C) c, tt))))
 
 mutex_send : (R : RattleType) → IsSend R → IsSend (Mutex.the_row R)
 mutex_send R s = search (sendable, crosses, s) depth 20
@@ -98,10 +94,10 @@ named_sync : (D : RattleType) (d : database.Ghosts D.Denot) (l : ledger.Ghosts D
 named_sync D d l = declared_sync (Named.the_type D d l) (head.the_sync, (search (sendable, as_row_sync) depth 10, tt))
 
 shared_send : (D C : RattleType) (d : database.Ghosts D.Denot) (l : ledger.Ghosts D.Denot) → IsSend C → IsSend (Shared.the_row D C d l)
-shared_send D C d l c = declared_send (Shared.the_type D C d l) (named_send D d l, (mutex_send (Option.the_row (Desk.the_row D C d l)) (option.the_send (Desk.the_row D C d l) (desk_send D C d l c)), tt))
+shared_send D C d l c = declared_send (Shared.the_type D C d l) (named_send D d l, (mutex_send (Desk.the_row D C d l) (desk_send D C d l c), tt))
 
 shared_sync : (D C : RattleType) (d : database.Ghosts D.Denot) (l : ledger.Ghosts D.Denot) → IsSend C → IsSync (Shared.the_row D C d l)
-shared_sync D C d l c = declared_sync (Shared.the_type D C d l) (named_sync D d l, (mutex_sync (Option.the_row (Desk.the_row D C d l)) (option.the_send (Desk.the_row D C d l) (desk_send D C d l c)), tt))
+shared_sync D C d l c = declared_sync (Shared.the_type D C d l) (named_sync D d l, (mutex_sync (Desk.the_row D C d l) (desk_send D C d l c), tt))
 
 -- ---- seats
 
@@ -119,7 +115,7 @@ seat_send D C d l c =
         (
           front.the_send,
           (
-            share.the_send D l,
+            tally_send D l,
             (
               option.the_send (Reads D d l) (reads_send D d l),
               (Arc-send (Shared.the_row D C d l) (shared_send D C d l c) (shared_sync D C d l c), tt),

@@ -1,19 +1,21 @@
 -- Points of a run: what stands after which commits, and the seats that follow a machine.
-use Rattle.std.proofs.Common.{◌≡◌, ◌+◌, ◌<◌, ℕ, zero, suc, true, false, List, [], ◌∷◌, ◌++◌, All, IfSome, Option, Some, None, is_some, length, get_or, slice_get, slice_set, replicate, unwrap_or, refl, ap, sym, ◌∙◌, subst, arith, nat_lt, ◌≤◌, length-append}
+use Rattle.std.proofs.Common.{◌≡◌, ◌+◌, ◌<◌, ℕ, zero, suc, true, false, List, [], ◌∷◌, ◌++◌, All, IfSome, Option, map, Some, None, is_some, length, get_or, slice_get, slice_set, replicate, unwrap_or, refl, ap, sym, ◌∙◌, subst, arith, nat_lt, ◌≤◌, length-append}
 use Rattle.std.proofs.lemmas.Bool.Decides.{nat_tests}
+use Rattle.std.proofs.lemmas.List.{map-append}
 use Rattle.std.specs.Arc.{arc_value}
 use Rattle.std.specs.Option.{option_map_or}
 use Rattle.mg_engine.specs.World.{World}
-use Rattle.mg_engine.specs.Commands.{Asked, Answer, reply_of}
+use Rattle.mg_engine.specs.Commands.{Asked, Answer, reply_of, shards_after, shards_after_all}
 use Rattle.mg_engine.specs.Run.{Answers}
 use Rattle.mg_engine.specs.Settled.{IsSettled}
-use Rattle.mg_engine.specs.Stands.{Shown, Stands}
+use Rattle.mg_engine.specs.Stands.{Shown, Stands, shard_count}
 use Rattle.mg_engine.specs.View.{said}
 use Rattle.mg_engine.specs.declared.reply.Reply.{Reply}
 use Rattle.mg_shard.specs.declared.placement.Md5Placement.{Md5Placement}
-use Rattle.mg_live.specs.Machine.{Commit, Machine, after_write, are_full, entered, longer_of, seen_by, with_seen, world_of, write_reply}
+use Rattle.mg_live.specs.Machine.{Commit, Machine, after_write, are_full, entered, commands_of, longer_of, seen_by, shards_of, with_seen, world_of, write_reply}
 use Rattle.mg_engine.specs.Settled.{is_accepted}
-use Rattle.mg_live.specs.Points.{AreAfter, Follow, IsAfter, place}
+use Rattle.mg_live.specs.Points.{AreAfter, Follow, IsAfter, IsDealt}
+use Rattle.mg_live.specs.Snapshots.{place}
 use Rattle.mg_live.specs.declared.point.Point.{Point}
 use Rattle.mg_live.specs.declared.seats.Seats.{Seats}
 use Rattle.mg_live.proofs.Commits.{world_of-one}
@@ -79,6 +81,37 @@ no_more name p q cs seat c r given next now room at whole before left same count
     let refuses : false ≡ option_map_or is_accepted (said r) false = rw whole.0 (rw left at settled) in
     let once_more : IsAfter name q cs = record { engine = rw same at.engine; commits = count ∙ at.commits } in
     declined name p q cs seat c (said r) (Stands place now) room at once_more whole.1 answers refuses
+
+-- ---- the shards after a write
+
+shards_after_all-one : (n : ℕ) (cs : List Asked) (c : Asked) → shards_after_all n (cs ++ c ∷ []) ≡ shards_after (shards_after_all n cs) c
+shards_after_all-one n [] c = refl
+shards_after_all-one n (d ∷ cs) c = shards_after_all-one (shards_after n d) cs c
+
+-- the shards after one more commit
+shards_of-one : (n : ℕ) (cs : List Commit) (p : Commit) → shards_of n (cs ++ p ∷ []) ≡ shards_after (shards_of n cs) p.1
+shards_of-one n cs p = ap (shards_after_all n) (map-append (λ c. c.1) cs (p ∷ [])) ∙ shards_after_all-one n (commands_of cs) p.1
+
+-- a write that is accepted, as in `one_more`
+pub dealt_more : (name : List ℕ) (n : ℕ) (p : Point) (q : Md5Placement × Shown) (cs : List Commit) (seat : ℕ) (c : Asked) (r given : Reply) (next : Option (Md5Placement × Shown)) (now e : Md5Placement × Shown)
+    → said r ≡ Some (write_reply name cs c) → r ≡ given → now ≡ arc_value p.engine → next ≡ Some e → q ≡ e
+    → IfSome (said given) (λ _. shard_count (unwrap_or next now) ≡ shards_after (shard_count now) c) → IsSettled given next → IsDealt n p cs → shard_count q ≡ shards_of n (after_write name cs seat c)
+dealt_more name n p q cs seat c r given next now e is made before kept left deals settled at =
+    let told : said given ≡ Some (write_reply name cs c) = rw made at is in
+    let accepts : true ≡ option_map_or is_accepted (said given) false = rw kept at settled in
+    let yes : is_accepted (write_reply name cs c) ≡ true = sym (rw told at accepts) in
+    let count : shard_count e ≡ shards_after (shard_count now) c = rw (told, kept) at deals in
+    let one = shards_of-one n cs (seat, c) in
+    rw (yes, one, left) (count ∙ ap (λ k. shards_after k c) (rw before at))
+
+-- a write that is refused
+pub dealt_same : (name : List ℕ) (n : ℕ) (p : Point) (q : Md5Placement × Shown) (cs : List Commit) (seat : ℕ) (c : Asked) (r given : Reply) (next : Option (Md5Placement × Shown))
+    → said r ≡ Some (write_reply name cs c) → r ≡ given → next ≡ None → q ≡ arc_value p.engine → IsSettled given next → IsDealt n p cs → shard_count q ≡ shards_of n (after_write name cs seat c)
+dealt_same name n p q cs seat c r given next is made left same settled at =
+    let told : said given ≡ Some (write_reply name cs c) = rw made at is in
+    let refuses : false ≡ option_map_or is_accepted (said given) false = rw left at settled in
+    let no : is_accepted (write_reply name cs c) ≡ false = sym (rw told at refuses) in
+    rw (no, same) at
 
 -- ---- the points of all seats
 

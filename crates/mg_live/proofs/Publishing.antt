@@ -1,20 +1,20 @@
 -- What is published, and what a write makes of it.
-use Rattle.std.proofs.Common.{◌≡◌, ◌≢◌, ℕ, Bool, true, false, List, [], ◌∷◌, ◌++◌, inl, inr, Option, Some, None, fold, length, refl, ap, sym, ◌∙◌, subst, arith}
+use Rattle.std.proofs.Common.{◌≡◌, ◌≢◌, ℕ, ◌+◌, Bool, true, false, List, [], ◌∷◌, ◌++◌, inl, inr, Option, Some, None, length, refl, ap, sym, ◌∙◌, subst, arith}
 use Rattle.std.proofs.lemmas.List.{length-map, map-append}
 use Rattle.std.proofs.lemmas.Bool.Decides.{nat_tests}
 use Rattle.std.specs.Arc.{arc_value}
 use Rattle.logbook.specs.Pages.{Book}
 use Rattle.mg_engine.specs.Commands.{Asked, Answer, refused}
 use Rattle.mg_engine.specs.Settled.{accepts, is_accepted}
-use Rattle.mg_engine.specs.Stands.{Shown}
 use Rattle.mg_engine.specs.View.{asked, said}
 use Rattle.mg_engine.specs.declared.command.Command.{Command}
 use Rattle.mg_engine.specs.declared.refusal.Refusal.TheVariants.{TooLarge}
 use Rattle.mg_engine.specs.declared.reply.Reply.{Reply}
-use Rattle.mg_shard.specs.declared.placement.Md5Placement.{Md5Placement}
+use Rattle.mg_live.specs.Laws.{IsPrefix}
 use Rattle.mg_live.specs.Machine.{Commit, after_write, are_full, write_reply}
-use Rattle.mg_live.specs.Points.{IsAfter}
-use Rattle.mg_live.specs.Published.{IsOf, Nexts, Publishes, commits_of}
+use Rattle.mg_live.specs.Points.{IsAfter, IsDealt}
+use Rattle.mg_live.specs.Published.{IsOf, Nexts, Publishes, Standing}
+use Rattle.mg_live.specs.Snapshots.{IsAt, commits_of}
 use Rattle.mg_live.specs.Sitting.{Sitting, Writes}
 use Rattle.mg_live.specs.Rules.{commit_seen, commits_seen, log_entry}
 use Rattle.mg_live.specs.declared.history.Entry.{Entry}
@@ -32,25 +32,17 @@ same_point name p q cs at engine commits = record {
   commits = commits ∙ at.commits;
 }
 
-pub same_snapshot : (book : Book) (name : List ℕ) (s t : Snapshot) → IsOf book name s → t.front ≡ s.front → arc_value t.point.engine ≡ arc_value s.point.engine → t.point.commits ≡ s.point.commits → IsOf book name t
-same_snapshot book name s t is front engine commits =
+pub same_snapshot : (book : Book) (name : List ℕ) (opened : ℕ) (s t : Snapshot) → IsOf book name opened s → t.front ≡ s.front → arc_value t.point.engine ≡ arc_value s.point.engine → t.point.commits ≡ s.point.commits → IsOf book name opened t
+same_snapshot book name opened s t is front engine commits =
     let seen : commits_of t ≡ commits_of s = ap (λ (f : Front). commits_seen f.seen.log) front in record {
       book = ap (λ f. f.seen.book) front ∙ is.book;
       after = subst (λ (cs : List Commit). IsAfter name t.point cs) (sym seen) (same_point name s.point t.point (commits_of s) is.after engine commits);
+      dealt = subst (λ (cs : List Commit). IsDealt opened t.point cs) (sym seen) (rw engine is.dealt);
     }
 
--- what two copies of a snapshot have in common
-abbrev pub State : Type 0
-State = (Md5Placement × Shown) × ℕ × Front
-
-abbrev pub state_of : Snapshot → State
-state_of s = (arc_value s.point.engine, s.point.commits, s.front)
-
--- the snapshot that takes in another one
-pub absorbed : (book : Book) (name : List ℕ) (old s next : Snapshot) (ops : List Snapshot) → ops ≡ s ∷ [] → IsOf book name s → state_of next ≡ fold (λ _ t. state_of t) (state_of old) ops → IsOf book name next
-absorbed book name old s next ops one is same =
-    let e : state_of next ≡ state_of s = rw one at same in
-    same_snapshot book name s next is (ap (λ (t : State). t.2) e) (ap (λ (t : State). t.0) e) (ap (λ (t : State). t.1) e)
+-- what a snapshot of this database shows
+pub is_at : (book : Book) (name : List ℕ) (opened : ℕ) (s : Snapshot) → IsOf book name opened s → IsAt name opened s (commits_of s)
+is_at book name opened s is = record { commits = refl; stands = is.after.engine; shards = is.dealt }
 
 -- ---- a write
 
@@ -58,7 +50,7 @@ absorbed book name old s next ops one is same =
 answered : (r : Reply) (a : Answer) (b : Bool) → said r ≡ Some a → accepts r ≡ b → is_accepted a ≡ b
 answered r a b is accepts = rw is at accepts
 
-pub refused_write : (name : List ℕ) (cs : List Commit) (seat : ℕ) (c : Asked) (r : Reply) → said r ≡ Some (write_reply name cs c) → accepts r ≡ false → Nexts name cs seat c (said r) None
+pub refused_write : (name : List ℕ) (cs : List Commit) (seat : ℕ) (c : Asked) (r : Reply) → said r ≡ Some (write_reply name cs c) → accepts r ≡ false → Nexts name cs (seat, c) (said r) None
 refused_write name cs seat c r is denied =
     let refuses : is_accepted (write_reply name cs c) ≡ false = answered r (write_reply name cs c) false is denied in
     rw is (refl, refuses)
@@ -83,7 +75,7 @@ more : (log after : List Entry) (seat : ℕ) (c : Command) → after ≡ log ++ 
 more log after seat c is = ap commits_seen is ∙ map-append commit_seen log (log_entry seat c ∷ [])
 
 pub one_more : (name : List ℕ) (log after : List Entry) (seat : ℕ) (c : Command) (r : Reply) → said r ≡ Some (write_reply name (commits_seen log) (asked c)) → accepts r ≡ true → after ≡ log ++ log_entry seat c ∷ []
-    → Nexts name (commits_seen log) seat (asked c) (said r) (Some (commits_seen after))
+    → Nexts name (commits_seen log) (seat, asked c) (said r) (Some (commits_seen after))
 one_more name log after seat c r is taken added =
     let cs = commits_seen log in
     let accepted : is_accepted (write_reply name cs (asked c)) ≡ true = answered r (write_reply name cs (asked c)) true is taken in
@@ -98,13 +90,30 @@ there name log after seat c r p is taken added at =
     let now : IsAfter name p (cs ++ (seat, asked c) ∷ []) = rw accepted at at in
     subst (λ (ds : List Commit). IsAfter name p ds) (sym (more log after seat c added)) now
 
+-- the shards after it
+pub dealt : (name : List ℕ) (opened : ℕ) (log after : List Entry) (seat : ℕ) (c : Command) (r : Reply) (p : Point) → said r ≡ Some (write_reply name (commits_seen log) (asked c)) → accepts r ≡ true → after ≡ log ++ log_entry seat c ∷ []
+    → IsDealt opened p (after_write name (commits_seen log) seat (asked c)) → IsDealt opened p (commits_seen after)
+dealt name opened log after seat c r p is taken added at =
+    let cs = commits_seen log in
+    let accepted : is_accepted (write_reply name cs (asked c)) ≡ true = answered r (write_reply name cs (asked c)) true is taken in
+    let now : IsDealt opened p (cs ++ (seat, asked c) ∷ []) = rw accepted at at in
+    subst (λ (ds : List Commit). IsDealt opened p ds) (sym (more log after seat c added)) now
+
 -- the commits where there is a snapshot after it
-pub added : (name : List ℕ) (cs : List Commit) (seat : ℕ) (c : Asked) (o : Option Answer) (new : List Commit) → Nexts name cs seat c o (Some new) → new ≡ cs ++ (seat, c) ∷ []
-added name cs seat c None new h = absurd h
-added name cs seat c (Some a) new h = h.2
+pub added : (name : List ℕ) (cs : List Commit) (write : Commit) (o : Option Answer) (new : List Commit) → Nexts name cs write o (Some new) → new ≡ cs ++ write ∷ []
+added name cs write None new h = absurd h
+added name cs write (Some a) new h = h.2
+
+-- what it does to the published commits, to what its seat has seen, and to the seat's tally
+pub published : (name : List ℕ) (write : Commit) (old new : Standing) (o : Option Answer) → IsPrefix old.seen old.published → Nexts name old.published write o (Some new.published) → new.seen ≡ new.published
+    → new.tally ≡ old.tally + 1 → Publishes name write old o new
+published name write old new None later h seen tally = absurd h
+published name write old new (Some a) later h seen tally =
+    let yes : is_accepted (write_reply name old.published write.1) ≡ true = rw h.0 at h.1 in
+    record { later = later; answer = h.0; published = rw yes h.2; seen = seen; tally = rw h.1 tally }
 
 -- what a seat sees of it
-pub wrote : (name : List ℕ) (old : Sitting) (cs : List Commit) (c : Asked) (o : Option Answer) (after seen : List Commit) (tally : ℕ) → Publishes name cs old.seen old.tally old.number c o after seen tally
-    → Writes name old c o (record { number = old.number; seen = seen; tally = tally })
-wrote name old cs c None after seen tally p = λ i. record { number = old.number; seen = p.1 i; tally = p.2 i }
-wrote name old cs c (Some a) after seen tally p = record { commits = cs; later = p.0; answer = p.1; seen = p.3 ∙ p.2; tally = p.4; number = refl }
+pub wrote : (name : List ℕ) (old : Sitting) (cs : List Commit) (c : Asked) (o : Option Answer) (new : Standing) → Publishes name (old.number, c) (record { published = cs; seen = old.seen; tally = old.tally }) o new
+    → Writes name old c o (record { number = old.number; seen = new.seen; tally = new.tally })
+wrote name old cs c None new p = ap (λ (s : Standing). record { number = old.number; seen = s.seen; tally = s.tally }) p
+wrote name old cs c (Some a) new p = record { commits = cs; later = p.later; answer = p.answer; seen = p.seen ∙ p.published; tally = p.tally; number = refl }

@@ -4,7 +4,7 @@
 use Rattle.std.specs.Prelude.{ℕ, ◌==◌, List, [], ◌∷◌, ◌++◌, Bool, Option, Some, None, if◌then◌else◌, length, map, nat_lt, replicate, slice_get, slice_set, unwrap_or}
 use Rattle.mg_engine.specs.declared.refusal.Refusal.TheVariants.{TooLarge}
 use Rattle.mg_engine.specs.World.{World, empty_world}
-use Rattle.mg_engine.specs.Commands.{Asked, Answer, is_write, refused, reply_of, world_after}
+use Rattle.mg_engine.specs.Commands.{Asked, Answer, is_write, refused, reply_of, shards_after_all, world_after}
 use Rattle.mg_engine.specs.Settled.{is_accepted}
 
 -- a commit: the number of the seat that made it, and the write command
@@ -42,6 +42,10 @@ commands_of cs = map (λ c. c.1) cs
 -- the world that commits leave, of a database of this name
 abbrev pub world_of : List ℕ → List Commit → World
 world_of name cs = world_after (empty_world name) (commands_of cs)
+
+-- how many shards there are after commits, of a database that was opened with so many: as many as the last of these asked for
+abbrev pub shards_of : ℕ → List Commit → ℕ
+shards_of opened cs = shards_after_all opened (commands_of cs)
 
 -- ---- writing
 

@@ -1,21 +1,20 @@
 -- For private clauses: the commits that points of a run stand after, and the machine that its seats follow.
 use Rattle.std.specs.Prelude.{◌≡◌, ℕ, List, [], ◌∷◌, length}
 use Rattle.std.specs.Arc.{arc_value}
-use Rattle.mg_shard.specs.Placement.{md5_place}
-use Rattle.mg_shard.specs.declared.placement.Md5Placement.{Md5Placement}
-use Rattle.mg_engine.specs.Stands.{Stands}
-use Rattle.mg_live.specs.Machine.{Commit, Machine, world_of}
+use Rattle.mg_engine.specs.Stands.{Stands, shard_count}
+use Rattle.mg_live.specs.Machine.{Commit, Machine, shards_of, world_of}
+use Rattle.mg_live.specs.Snapshots.{place}
 use Rattle.mg_live.specs.declared.point.Point.{Point}
 use Rattle.mg_live.specs.declared.seats.Seats.{Seats}
-
--- where documents are placed
-abbrev pub place : Md5Placement → List ℕ → ℕ → ℕ
-place p id shards = md5_place id shards
 
 -- a point stands after commits where its engine stands for the world that they leave, and where it counts them
 pub record IsAfter (name : List ℕ) (p : Point) (cs : List Commit) : Type 0 where
   pub engine : Stands place (arc_value p.engine) (world_of name cs)
   pub commits : p.commits ≡ length cs
+
+-- after commits a point of a database that was opened with so many shards has as many as the last of these asked for
+abbrev pub IsDealt : ℕ → Point → List Commit → Type 0
+IsDealt opened p cs = shard_count (arc_value p.engine) ≡ shards_of opened cs
 
 -- points, one for each of these lists of commits, stand after them
 abbrev pub AreAfter : List ℕ → List Point → List (List Commit) → Type 0

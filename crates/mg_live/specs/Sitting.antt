@@ -1,5 +1,5 @@
 -- What the calls of a seat do, by what clauses see of seats: the number, the commits that were seen, and the tally of those that were made.
-use Rattle.std.specs.Prelude.{◌≡◌, ◌+◌, ℕ, zero, suc, List, [], ◌∷◌, ◌++◌, All, length, Option, Some, None, MatchBool, if◌then◌else◌, refl}
+use Rattle.std.specs.Prelude.{◌≡◌, ◌+◌, ℕ, zero, suc, List, [], ◌∷◌, ◌++◌, All, Any, ◌<◌, length, Option, Some, None, MatchBool, if◌then◌else◌, refl}
 use Rattle.std.specs.Coded.{Coded, code_by, coded×, coded_ℕ}
 use Rattle.std.specs.List.{sum_by}
 use Rattle.mg_engine.specs.Commands.{Asked, Answer, is_write, reply_of}
@@ -78,8 +78,16 @@ pub record Told (old : Sitting) (heard : List Commit) (new : Sitting) : Type 0 w
 
 -- ---- closing
 
+-- how many commits these seats have made
+abbrev pub all_tallies : List Sitting → ℕ
+all_tallies seats = sum_by (λ s. s.tally) seats
+
+-- some seat has seen more commits than so many
+abbrev pub IsAhead : List Sitting → ℕ → Type 0
+IsAhead seats made = Any (λ s. made < length s.seen) seats
+
 -- the commits of all seats: what each has seen begins them, and their number is the sum of the tallies
 pub record AreAll (commits : List Commit) (seats : List Sitting) (n : ℕ) : Type 0 where
   pub begin : All (λ s. IsPrefix s.seen commits) seats
   pub number : n ≡ length commits
-  pub sum : n ≡ sum_by (λ s. s.tally) seats
+  pub sum : n ≡ all_tallies seats

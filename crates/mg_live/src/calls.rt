@@ -3,7 +3,7 @@ ghost use Rattle.std.specs.Prelude.{◌≤◌};
 ghost use Rattle.mg_value.specs.View.{view};
 ghost use Rattle.mg_engine.specs.Commands.{bulk, create_index, drop_index, explain, find, get, list_indexes, reshard};
 ghost use Rattle.mg_engine.specs.View.{said};
-ghost use Rattle.mg_live.specs.Sitting.{Reads, Writes};
+ghost use Rattle.mg_live.specs.Sitting.{Answered};
 
 use crate::database::{Database, Ends};
 use crate::seat::Seat;
@@ -19,7 +19,7 @@ impl<D: Database, C: Ends> Seat<D, C> {
     pub fn find<R: Threads + Sync>(&mut self, rt: &R, body: &Json, workers: usize) -> Reply
         requires some { 1 ≤ workers }
         requires most { workers ≤ 32 }
-        ensures { Reads D.db self.old (find (view body.now)) (said result) self.new }
+        ensures { Answered D.db self.old (find (view body.now)) (said result) self.new }
     {
         self.find_with(rt, body, workers, &NoGate)
     }
@@ -35,7 +35,7 @@ impl<D: Database, C: Ends> Seat<D, C> {
     ) -> Reply
         requires some { 1 ≤ workers }
         requires most { workers ≤ 32 }
-        ensures { Reads D.db self.old (find (view body.now)) (said result) self.new }
+        ensures { Answered D.db self.old (find (view body.now)) (said result) self.new }
     {
         match body.copy(self.alloc) {
             Ok(body) => self.read(rt, &Command::Find(body), workers, gate),
@@ -45,7 +45,7 @@ impl<D: Database, C: Ends> Seat<D, C> {
 
     /// Which index serves a query, and which of its keys.
     pub fn explain<R: Threads + Sync>(&mut self, rt: &R, body: &Json) -> Reply
-        ensures { Reads D.db self.old (explain (view body.now)) (said result) self.new }
+        ensures { Answered D.db self.old (explain (view body.now)) (said result) self.new }
     {
         match body.copy(self.alloc) {
             Ok(body) => self.read(rt, &Command::Explain(body), 1, &NoGate),
@@ -55,14 +55,14 @@ impl<D: Database, C: Ends> Seat<D, C> {
 
     /// The list of the indexes.
     pub fn list_indexes<R: Threads + Sync>(&mut self, rt: &R) -> Reply
-        ensures { Reads D.db self.old list_indexes (said result) self.new }
+        ensures { Answered D.db self.old list_indexes (said result) self.new }
     {
         self.read(rt, &Command::ListIndexes, 1, &NoGate)
     }
 
     /// The document of an id, with its conflicts where they are asked for.
     pub fn get<R: Threads + Sync>(&mut self, rt: &R, id: &str, conflicts: bool) -> Reply
-        ensures { Reads D.db self.old (get id.now conflicts) (said result) self.new }
+        ensures { Answered D.db self.old (get id.now conflicts) (said result) self.new }
     {
         match String::from_str(self.alloc, id) {
             Ok(id) => self.read(rt, &Command::Get { id, conflicts }, 1, &NoGate),
@@ -74,7 +74,7 @@ impl<D: Database, C: Ends> Seat<D, C> {
     pub fn bulk<R: Wait + Threads + Sync>(&mut self, rt: &R, body: &Json, workers: usize) -> Reply
         requires some { 1 ≤ workers }
         requires most { workers ≤ 32 }
-        ensures { Writes D.db self.old (bulk (view body.now)) (said result) self.new }
+        ensures { Answered D.db self.old (bulk (view body.now)) (said result) self.new }
     {
         match body.copy(self.alloc) {
             Ok(body) => self.write(rt, &Command::Bulk(body), workers),
@@ -91,7 +91,7 @@ impl<D: Database, C: Ends> Seat<D, C> {
     ) -> Reply
         requires some { 1 ≤ workers }
         requires most { workers ≤ 32 }
-        ensures { Writes D.db self.old (create_index (view body.now)) (said result) self.new }
+        ensures { Answered D.db self.old (create_index (view body.now)) (said result) self.new }
     {
         match body.copy(self.alloc) {
             Ok(body) => self.write(rt, &Command::CreateIndex(body), workers),
@@ -109,7 +109,7 @@ impl<D: Database, C: Ends> Seat<D, C> {
     ) -> Reply
         requires some { 1 ≤ workers }
         requires most { workers ≤ 32 }
-        ensures { Writes D.db self.old (drop_index ddoc.now name.now) (said result) self.new }
+        ensures { Answered D.db self.old (drop_index ddoc.now name.now) (said result) self.new }
     {
         let Ok(ddoc) = String::from_str(self.alloc, ddoc) else {
             return Reply::NoMemory;
@@ -129,7 +129,7 @@ impl<D: Database, C: Ends> Seat<D, C> {
     ) -> Reply
         requires some { 1 ≤ workers }
         requires most { workers ≤ 32 }
-        ensures { Writes D.db self.old (reshard (view body.now)) (said result) self.new }
+        ensures { Answered D.db self.old (reshard (view body.now)) (said result) self.new }
     {
         match body.copy(self.alloc) {
             Ok(body) => self.write(rt, &Command::Reshard(body), workers),

@@ -4,7 +4,8 @@ use std::marker::Brand;
 use std::sync::Wait;
 use std::sync::ledger::Ledger;
 
-/// Which database it is: its name, the history of its commits, and the ledger of its tallies. A function over it is called with
+/// Which database it is: its name, the number of shards that it is opened with, the history of its commits, and the ledger of its
+/// tallies. A function over it is called with
 /// `Brand`, where a proof picks it; such a function takes and gives no `&str` itself.
 pub trait Database: Ledger {
     ghost use Rattle.logbook.specs.Pages.{Book};
@@ -15,6 +16,9 @@ pub trait Database: Ledger {
 
     // its name
     ghost db: { List ℕ };
+
+    // the number of shards that it is opened with
+    ghost shards: { ℕ };
 }
 
 impl Database for Brand {
@@ -23,6 +27,8 @@ impl Database for Brand {
     ghost history = { record { number = 0; log_name = 0; cells_name = 0 } };
 
     ghost db = { [] };
+
+    ghost shards = { 0 };
 }
 
 /// What ends the writer of a database that is let go.

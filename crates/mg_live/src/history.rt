@@ -1,5 +1,5 @@
 //! The history of a database: its commits, each added in one step. It takes no memory but its length.
-ghost use Rattle.std.specs.Prelude.{◌≡◌, ◌≢◌, ◌≤◌, ◌<◌, ◌++◌, ◌∷◌, [], length, MatchBool, IfSome};
+ghost use Rattle.std.specs.Prelude.{◌≡◌, ◌≢◌, ◌≤◌, ◌<◌, ◌++◌, ℕ, ◌∷◌, [], length, MatchBool, IfSome};
 ghost use Rattle.mg_live.specs.Laws.{IsPrefix};
 ghost use Rattle.mg_live.specs.Rules.{commits_seen, log_entry, head_of};
 
@@ -145,19 +145,41 @@ impl Front {
     /// Whether this beginning is no longer than the other. The shorter of two begins the longer.
     pub(crate) fn begins(&self, other: &Front) -> bool
         requires { self.now.seen.book ≡ other.now.seen.book }
-        ensures begins { MatchBool result (IsPrefix (commits_seen self.now.seen.log) (commits_seen other.now.seen.log)) (IsPrefix (commits_seen other.now.seen.log) (commits_seen self.now.seen.log)) }
-        ensures shorter { MatchBool result (length self.now.seen.log ≤ length other.now.seen.log) (length other.now.seen.log < length self.now.seen.log) }
+        ensures begins { MatchBool result
+            (IsPrefix (commits_seen self.now.seen.log) (commits_seen other.now.seen.log))
+            (IsPrefix (commits_seen other.now.seen.log) (commits_seen self.now.seen.log)) }
+        ensures shorter { MatchBool result
+            (length self.now.seen.log ≤ length other.now.seen.log)
+            (length other.now.seen.log < length self.now.seen.log) }
     {
         let mut both = self.seen.again();
         both.learn(&other.seen);
         self.count <= other.count
     }
 
+    /// The longer of two, with which both begin.
+    #[tactic(auto, using(crate::proofs::Beginnings::itself))]
+    pub(crate) fn longer(self, other: &Front) -> Front
+        requires { self.seen.book ≡ other.now.seen.book }
+        ensures book { result.seen.book ≡ self.seen.book }
+        ensures this { IsPrefix (commits_seen self.seen.log) (commits_seen result.seen.log) }
+        ensures other { IsPrefix (commits_seen other.now.seen.log) (commits_seen result.seen.log) }
+        ensures within { (n : ℕ) → length (commits_seen self.seen.log) ≤ n
+            → length (commits_seen other.now.seen.log) ≤ n → length (commits_seen result.seen.log) ≤ n }
+    {
+        if self.begins(other) {
+            return other.again();
+        }
+        self
+    }
+
     /// The beginning with one more commit, which the history then has. None where the history is longer.
     pub(crate) fn with(&self, head: &Head, write: &Write<'_>) -> Option<Front>
         requires head { head.now.word ≡ head_of self.now.seen.book }
         requires room { length self.now.seen.log ≢ 18446744073709551615 }
-        ensures { IfSome result (λ f. (f.seen.log ≡ self.now.seen.log ++ log_entry write.now.seat write.now.command.now ∷ []) × (f.seen.book ≡ self.now.seen.book)) }
+        ensures { IfSome result (λ f.
+            (f.seen.log ≡ self.now.seen.log ++ log_entry write.now.seat write.now.command.now ∷ [])
+            × (f.seen.book ≡ self.now.seen.book)) }
     {
         let mut seen = self.seen.again();
         let mut offer: Offer<Entry, u64, Law, Nothing> = seen.plain::<Nothing, Write<'_>, Add>(

@@ -4,22 +4,16 @@
 mod calls;
 mod database;
 mod desk;
-#[cfg(test)]
-mod gate_tests;
 mod history;
 pub mod interleave;
 pub mod laws;
 mod live;
-#[cfg(test)]
-mod live_tests;
 mod point;
 mod published;
 mod seat;
 mod seats;
 mod snapshot;
 mod tally;
-#[cfg(test)]
-mod tally_tests;
 
 pub use database::{Database, Ends, Waiting};
 pub use history::History;

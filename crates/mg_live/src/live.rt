@@ -1,10 +1,10 @@
 //! Opens a database with seats, and closes it.
-ghost use Rattle.std.specs.Prelude.{◌≡◌, ◌≢◌, ◌≤◌, ◌+◌, [], List, All, IfErr, IfOk, MatchBool, OnOk, vec_len};
-ghost use Rattle.std.specs.List.{sum_by};
+ghost use Rattle.std.specs.Prelude.{◌≡◌, ◌≢◌, ◌≤◌, ◌+◌, [], List, All, IfErr, IfOk, MatchBool, OnOk, length, vec_len};
 ghost use Rattle.mg_live.specs.Laws.{IsPrefix};
+ghost use Rattle.mg_live.specs.Rules.{commits_seen};
 ghost use Rattle.mg_live.specs.Machine.{Commit};
-ghost use Rattle.mg_live.specs.Sitting.{AreAll, new_seats};
-ghost use Rattle.mg_live.specs.declared.live.CloseError.TheVariants.{Missing};
+ghost use Rattle.mg_live.specs.Sitting.{AreAll, IsAhead, all_tallies, new_seats};
+ghost use Rattle.mg_live.specs.declared.live.CloseError.TheVariants.{Ahead, Missing};
 
 use crate::database::{Database, Ends};
 use crate::desk::Desk;
@@ -13,7 +13,7 @@ use crate::point::Point;
 use crate::published::{Ours, Writes};
 use crate::seat::{Named, Seat, Shared};
 use crate::snapshot::Snapshot;
-use crate::tally;
+use crate::tally::Tally;
 use left_right::reader::Factory;
 use left_right::writer::Writer;
 use mg_value::NoMemory;
@@ -26,18 +26,20 @@ use std::sync::{Arc, Mutex, Wait};
 #[derive(Drop)]
 pub struct Live<D: Database, C: Ends> {
     shared: Arc<Shared<D, C>>,
+    first: Front,
     rest: Share<D>,
     seats: usize,
 }
 
 impl<D: Database, C: Ends> Model for Live<D, C> {
-    ghost use Rattle.std.specs.Prelude.{◌≡◌, ℕ};
+    ghost use Rattle.std.specs.Prelude.{◌≡◌, ℕ, []};
 
     ghost Value = { ℕ };
 
     ghost view = { λ l. l.seats };
 
-    ghost invariant = { λ l. (l.rest.parts ≡ 0) × (l.rest.amount ≡ 0) };
+    ghost invariant = { λ l. (l.rest.parts ≡ 0) × (l.rest.amount ≡ 0)
+        × (l.first.seen.book ≡ D.history) × (l.first.seen.log ≡ []) };
 }
 
 /// A database that was closed. Contracts see the number of its commits.
@@ -59,7 +61,7 @@ impl Model for Closed {
 pub enum CloseError {
     /// Not all seats were given back.
     Missing,
-    /// A seat has seen more than was published.
+    /// A seat has seen more commits than all seats have made.
     Ahead,
 }
 
@@ -93,13 +95,14 @@ fn begin<D: Database, C: Ends>(
     requires name { db.now ≡ D.db }
     requires history { history ≡ D.history }
     requires ledger { (blank.name ≡ D.name) × (blank.parts ≡ D.parts) }
+    requires opened { shards ≡ D.shards }
     requires shards { (1 ≤ shards) × (shards ≤ 64) }
     requires seats { (1 ≤ seats) × (seats ≤ 16) }
     ensures all { IfOk result (λ s. (s.all.parts ≡ D.parts) × (s.all.amount ≡ 0)) }
     ensures front { IfOk result (λ s. (s.front.seen.book ≡ D.history) × (s.front.seen.log ≡ [])) }
 {
     let (head, front) = history.parts();
-    let (tally, all) = tally::open::<D>(blank);
+    let (book, all) = blank.open::<D>();
     let first = Snapshot {
         point: Point::first(alloc, db, shards)?,
         front: front.again(),
@@ -107,13 +110,13 @@ fn begin<D: Database, C: Ends>(
     let second = first.again()?;
     let writer: Writes<D> = Writer::new(alloc, first, second, seats)?;
     let factory = writer.factory().another();
-    let desk = Desk::new(ends, writer, tally);
+    let desk = Desk::new(ends, writer, book);
     let shared = Shared {
         named: Named {
             head,
             of: PhantomData,
         },
-        desk: Mutex::new(Some(desk)),
+        desk: Mutex::new(desk),
     };
     Ok(Start {
         shared,
@@ -123,35 +126,61 @@ fn begin<D: Database, C: Ends>(
     })
 }
 
-// Whether what each seat has seen begins what is published.
-fn all_begin<D: Database, C: Ends>(desk: &Desk<D, C>, seats: &[Seat<D, C>]) -> bool
-    ensures { MatchBool result (All (λ s. IsPrefix s.seen desk.now) seats.now) (Unit {0}) }
+// How many commits the seats have made together, each no more than a u64 counts.
+fn all_made<D: Database, C: Ends>(seats: &[Seat<D, C>]) -> u128
+    ensures { result ≡ all_tallies seats.now }
+{
+    let mut made = 0u128;
+    for seat in seats {
+        made += u128::from(seat.tally.count());
+    }
+    made
+}
+
+// Whether a seat has seen more commits than this.
+fn is_ahead<D: Database, C: Ends>(seats: &[Seat<D, C>], made: u128) -> bool
+    ensures { MatchBool result (IsAhead seats.now made) (All (λ s. length s.seen ≤ made) seats.now) }
 {
     for seat in seats {
-        if !desk.is_begun_by(&seat.front) {
-            return false;
+        if u128::from(seat.front.len()) > made {
+            return true;
         }
     }
-    true
+    false
+}
+
+// What the seats have seen together: the longest of their lists, with which all others begin.
+fn longest<D: Database, C: Ends>(first: &Front, seats: &[Seat<D, C>], made: u128) -> Front
+    requires first { (first.now.seen.book ≡ D.history) × (first.now.seen.log ≡ []) }
+    requires within { All (λ s. length s.seen ≤ made) seats.now }
+    ensures here { result.seen.book ≡ D.history }
+    ensures within { length (commits_seen result.seen.log) ≤ made }
+    ensures begins { All (λ s. IsPrefix s.seen (commits_seen result.seen.log)) seats.now }
+{
+    let mut longest = first.again();
+    for seat in seats {
+        longest = longest.longer(&seat.front);
+    }
+    longest
 }
 
 // Joins the parts of all seats.
 fn join_all<D: Database, C: Ends>(rest: Share<D>, seats: Vec<Seat<D, C>>) -> Share<D>
     requires { (rest.parts ≡ 0) × (rest.amount ≡ 0) }
     ensures parts { result.parts ≡ vec_len seats }
-    ensures amount { result.amount ≡ sum_by (λ s. s.tally) seats.items }
+    ensures amount { result.amount ≡ all_tallies seats.items }
 {
     let mut all = rest;
     for seat in seats {
-        let Seat { share, .. } = seat;
-        tally::join(&mut all, share);
+        let Seat { tally, .. } = seat;
+        tally.join(&mut all);
     }
     all
 }
 
 impl<D: Database, C: Ends> Live<D, C> {
-    /// Opens an empty database of this name, over 1 to 64 shards and with 1 to 16 seats, which are numbered from 0. The ledger has
-    /// a part for each seat. `ends` ends the database once all of it was let go.
+    /// Opens an empty database of this name, over this number of shards, 1 to 64, and with 1 to 16 seats, which are numbered from 0.
+    /// The ledger has a part for each seat. `ends` ends the database once all of it was let go.
     ///
     /// Errors: `NoMemory` where a growth was refused. Cost: the number of shards and of seats, and the name.
     pub fn open(
@@ -167,6 +196,7 @@ impl<D: Database, C: Ends> Live<D, C> {
         requires history { history ≡ D.history }
         requires ledger { (blank.name ≡ D.name) × (blank.parts ≡ D.parts) }
         requires parts { blank.parts ≡ seats }
+        requires opened { shards ≡ D.shards }
         requires shards { (1 ≤ shards) × (shards ≤ 64) }
         requires seats { (1 ≤ seats) × (seats ≤ 16) }
         ensures live { IfOk result (λ t. t.0 ≡ seats) }
@@ -185,7 +215,7 @@ impl<D: Database, C: Ends> Live<D, C> {
                 number,
                 alloc,
                 front: front.again(),
-                share: tally::split(&mut all),
+                tally: Tally::new(&mut all),
                 reader: Some(factory.reader()?),
                 shared: Arc::try_clone(&shared)?,
             };
@@ -193,6 +223,7 @@ impl<D: Database, C: Ends> Live<D, C> {
         }
         let live = Live {
             shared,
+            first: front,
             rest: all,
             seats,
         };
@@ -201,7 +232,8 @@ impl<D: Database, C: Ends> Live<D, C> {
 
     /// Closes the database, once all seats were given back.
     ///
-    /// Errors, with all that was given: `Missing` where a seat is absent, and `Ahead` where one has seen more than was published.
+    /// Errors, with all that was given: `Missing` where a seat is absent, and `Ahead` where one has seen more commits than all
+    /// seats have made.
     pub fn close<R: Wait>(
         self,
         rt: &R,
@@ -212,24 +244,19 @@ impl<D: Database, C: Ends> Live<D, C> {
         ensures whole { OnOk result (vec_len seats ≡ self) }
         ensures back { IfErr result (λ r. (r.0 ≡ self) × (r.1 ≡ seats)) }
         ensures missing { IfErr result (λ r. r.2 ≡ Missing → vec_len seats ≢ self) }
+        ensures ahead { IfErr result (λ r. r.2 ≡ Ahead → IsAhead seats.items (all_tallies seats.items)) }
     {
         if seats.len() != self.seats {
             return Err((self, seats, CloseError::Missing));
         }
-        let mut guard = self.shared.desk.lock(rt);
-        let Some(mut desk) = guard.take() else {
-            drop(guard);
-            return Err((self, seats, CloseError::Ahead));
-        };
-        if !all_begin(&desk, seats.as_slice()) {
-            *guard = Some(desk);
-            drop(guard);
+        let made = all_made(seats.as_slice());
+        if is_ahead(seats.as_slice(), made) {
             return Err((self, seats, CloseError::Ahead));
         }
-        drop(guard);
-        let Live { rest, .. } = self;
+        let seen = longest(&self.first, seats.as_slice(), made);
+        let Live { shared, rest, .. } = self;
         let mut all = join_all(rest, seats);
-        let commits = desk.settle(&mut all);
+        let commits = shared.desk.lock(rt).settle(&mut all, &seen);
         Ok(Closed { commits })
     }
 }

@@ -1,10 +1,14 @@
 //! Points of a database's history.
 ghost use Rattle.std.specs.Prelude.{◌≡◌, ◌<◌, ◌≤◌, ℕ, List, [], IfOk, Some, true, false, is_some};
+ghost use Rattle.std.specs.Arc.{arc_value};
 ghost use Rattle.mg_engine.specs.Commands.{is_write, reply_of};
 ghost use Rattle.mg_engine.specs.Settled.{accepts};
 ghost use Rattle.mg_engine.specs.View.{asked, said};
-ghost use Rattle.mg_live.specs.Machine.{Commit, after_write, world_of, write_reply};
-ghost use Rattle.mg_live.specs.Points.{IsAfter};
+ghost use Rattle.mg_engine.specs.Stands.{Stands};
+ghost use Rattle.mg_engine.specs.World.{World};
+ghost use Rattle.mg_live.specs.Machine.{Commit, after_write, write_reply};
+ghost use Rattle.mg_live.specs.Points.{IsAfter, IsDealt};
+ghost use Rattle.mg_live.specs.Snapshots.{place};
 
 use mg_engine::{Command, Engine, Refusal, Reply};
 use mg_scan::Gate;
@@ -26,7 +30,8 @@ impl Point {
     pub(crate) fn first(alloc: Global, db: &str, shards: usize) -> Result<Point, NoMemory>
         requires some { 1 ≤ shards }
         requires most { shards ≤ 64 }
-        ensures { IfOk result (λ p. IsAfter db.now p []) }
+        ensures after { IfOk result (λ p. IsAfter db.now p []) }
+        ensures dealt { IfOk result (λ p. IsDealt shards p []) }
     {
         let engine = Engine::new(alloc, db, Md5Placement, shards)?;
         let engine = Arc::new(alloc, engine)?;
@@ -35,7 +40,8 @@ impl Point {
 
     /// The same point once more, over the same engine.
     pub(crate) fn again(&self) -> Result<Point, NoMemory>
-        ensures { IfOk result (λ p. (name : List ℕ) (cs : List Commit) → IsAfter name self.now cs → IsAfter name p cs) }
+        ensures after { IfOk result (λ p. (name : List ℕ) (cs : List Commit) → IsAfter name self.now cs → IsAfter name p cs) }
+        ensures engine { IfOk result (λ p. arc_value p.engine ≡ arc_value self.now.engine) }
     {
         let engine = self.engine.clone()?;
         Ok(Point {
@@ -56,8 +62,8 @@ impl Point {
         requires read { is_write (asked command.now) ≡ false }
         requires some { 1 ≤ workers }
         requires most { workers ≤ 32 }
-        ensures { IfOk result (λ r. (name : List ℕ) (cs : List Commit) → IsAfter name self.now cs
-            → said r ≡ Some (reply_of (world_of name cs) (asked command.now))) }
+        ensures { IfOk result (λ r. (w : World) → Stands place (arc_value self.now.engine) w
+            → said r ≡ Some (reply_of w (asked command.now))) }
     {
         whole(self.engine.answer(rt, alloc, command, workers, gate))
     }
@@ -74,9 +80,12 @@ impl Point {
         requires write { is_write (asked command.now) ≡ true }
         requires some { 1 ≤ workers }
         requires most { workers ≤ 32 }
-        ensures { IfOk result (λ r. (name : List ℕ) (cs : List Commit) (seat : ℕ) → IsAfter name self.now cs
+        ensures after { IfOk result (λ r. (name : List ℕ) (cs : List Commit) (seat : ℕ) → IsAfter name self.now cs
             → (said r.0 ≡ Some (write_reply name cs (asked command.now)))
             × IsAfter name r.1 (after_write name cs seat (asked command.now))) }
+        ensures dealt { IfOk result (λ r. (name : List ℕ) (shards : ℕ) (cs : List Commit) (seat : ℕ)
+            → IsAfter name self.now cs → IsDealt shards self.now cs
+            → IsDealt shards r.1 (after_write name cs seat (asked command.now))) }
     {
         if self.commits == u64::MAX {
             let reply = Reply::refusing(alloc, Refusal::TooLarge)?;
@@ -97,9 +106,12 @@ impl Point {
         requires some { 1 ≤ workers }
         requires most { workers ≤ 32 }
         requires room { self.now.commits < 18446744073709551615 }
-        ensures { IfOk result (λ r. (name : List ℕ) (cs : List Commit) (seat : ℕ) → IsAfter name self.now cs
+        ensures after { IfOk result (λ r. (name : List ℕ) (cs : List Commit) (seat : ℕ) → IsAfter name self.now cs
             → (said r.0 ≡ Some (write_reply name cs (asked command.now)))
             × IsAfter name r.1 (after_write name cs seat (asked command.now))) }
+        ensures dealt { IfOk result (λ r. (name : List ℕ) (shards : ℕ) (cs : List Commit) (seat : ℕ)
+            → IsAfter name self.now cs → IsDealt shards self.now cs
+            → IsDealt shards r.1 (after_write name cs seat (asked command.now))) }
     {
         let (reply, engine) = self.engine.commit(rt, alloc, command, workers);
         let reply = whole(reply)?;

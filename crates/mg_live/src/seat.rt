@@ -1,8 +1,8 @@
 //! Seats: at each a session reads and writes.
-ghost use Rattle.std.specs.Prelude.{◌≡◌, ◌≤◌, true, false, MatchBool, IfOk};
+ghost use Rattle.std.specs.Prelude.{◌≡◌, ◌≤◌, true, false, IfOk, OnErr, OnOk};
 ghost use Rattle.mg_engine.specs.Commands.{is_write};
 ghost use Rattle.mg_engine.specs.View.{asked, said};
-ghost use Rattle.mg_live.specs.Published.{IsAt};
+ghost use Rattle.mg_live.specs.Snapshots.{IsAt, IsPublished};
 ghost use Rattle.mg_live.specs.Rules.{head_of};
 ghost use Rattle.mg_live.specs.Sitting.{Answered, IsLater, Reads, Told, Writes};
 
@@ -11,12 +11,12 @@ use crate::desk::Desk;
 use crate::history::{Front, Head, Write};
 use crate::published::{Reads, look};
 use crate::snapshot::Snapshot;
+use crate::tally::Tally;
 use mg_engine::{Command, Reply};
 use mg_scan::{Gate, NoGate, Place};
 use mg_value::NoMemory;
 use std::alloc::Global;
 use std::marker::{Model, PhantomData};
-use std::sync::ledger::Share;
 use std::sync::{Arc, Mutex, Wait};
 use std::thread::Threads;
 
@@ -24,7 +24,7 @@ use std::thread::Threads;
 #[derive(Drop)]
 pub(crate) struct Shared<D: Database, C: Ends> {
     pub(crate) named: Named<D>,
-    pub(crate) desk: Mutex<Option<Desk<D, C>>>,
+    pub(crate) desk: Mutex<Desk<D, C>>,
 }
 
 /// The word of this database's history.
@@ -41,7 +41,7 @@ pub struct Seat<D: Database, C: Ends> {
     pub(crate) number: usize,
     pub(crate) alloc: Global,
     pub(crate) front: Front,
-    pub(crate) share: Share<D>,
+    pub(crate) tally: Tally<D>,
     pub(crate) reader: Option<Reads<D>>,
     pub(crate) shared: Arc<Shared<D, C>>,
 }
@@ -56,9 +56,9 @@ impl<D: Database, C: Ends> Model for Seat<D, C> {
 
     ghost use Rattle.mg_live.specs.Rules.{commits_seen};
 
-    ghost view = { λ s. record { number = s.number; seen = commits_seen s.front.seen.log; tally = s.share.amount } };
+    ghost view = { λ s. record { number = s.number; seen = commits_seen s.front.seen.log; tally = s.tally } };
 
-    ghost invariant = { λ s. (s.front.seen.book ≡ D.history) × (s.share.parts ≡ 1) };
+    ghost invariant = { λ s. s.front.seen.book ≡ D.history };
 }
 
 /// What a seat has seen, for another one to learn.
@@ -85,12 +85,12 @@ impl<D: Database> Model for Seen<D> {
 }
 
 impl<D: Database, C: Ends> Seat<D, C> {
-    /// The database as it is now, by what is published. It waits for nobody.
+    /// The database as it is now, by what is published: after the commits that the seat has then seen. It waits for nobody.
     ///
     /// Errors: `NoMemory` where the snapshot was not given. Cost: the same for any documents.
     pub fn snapshot(&mut self) -> Result<Snapshot, NoMemory>
         ensures later { IsLater self.old self.new }
-        ensures snapshot { IfOk result (λ s. IsAt D.db s self.new.seen) }
+        ensures snapshot { IfOk result (λ s. IsAt D.db D.shards s self.new.seen) }
     {
         let Some(reader) = self.reader.take() else {
             return Err(NoMemory);
@@ -165,7 +165,7 @@ impl<D: Database, C: Ends> Seat<D, C> {
             number,
             alloc,
             front,
-            share,
+            tally,
             shared,
             ..
         } = self;
@@ -174,35 +174,27 @@ impl<D: Database, C: Ends> Seat<D, C> {
             command,
             workers,
         };
-        let mut guard = shared.desk.lock(rt);
-        match guard.take() {
-            None => Reply::NoMemory,
-            Some(desk) => {
-                let (desk, reply) = desk.write(
-                    rt,
-                    *alloc,
-                    &shared.named.head,
-                    &write,
-                    share,
-                    front,
-                );
-                *guard = Some(desk);
-                reply
-            }
-        }
+        let mut desk = shared.desk.lock(rt);
+        desk.write(
+            rt,
+            *alloc,
+            &shared.named.head,
+            &write,
+            tally,
+            front,
+        )
     }
 
-    /// Sees all commits, and tells it. It looks under the writer's lock.
+    /// Catches up with all commits, under the writer's lock, and returns what another seat can `learn`: the list that is published then.
     ///
-    /// Errors: `NoMemory` where nothing was told.
+    /// Errors: `NoMemory` where the seat is ahead of what is published; then it is as it was.
     pub fn share<R: Wait>(&mut self, rt: &R) -> Result<Seen<D>, NoMemory>
         ensures later { IsLater self.old self.new }
         ensures seen { IfOk result (λ s. s ≡ self.new.seen) }
+        ensures published { OnOk result (IsPublished D.db D.shards self.new.seen) }
+        ensures refused { OnErr result (self.new ≡ self.old) }
     {
-        let guard = self.shared.desk.lock(rt);
-        let Some(desk) = &*guard else {
-            return Err(NoMemory);
-        };
+        let desk = self.shared.desk.lock(rt);
         if !desk.tell(&mut self.front) {
             return Err(NoMemory);
         }

@@ -1,19 +1,19 @@
 //! Snapshots: a database as it stood after some of its commits.
-ghost use Rattle.std.specs.Prelude.{◌≡◌, ◌≤◌, true, All, IfOk, IfSome, option_map};
+ghost use Rattle.std.specs.Prelude.{◌≡◌, ◌≤◌, true, length, All, IfOk, IfSome, option_map};
 ghost use Rattle.std.specs.Arc.{arc_value};
 ghost use Rattle.mg_engine.specs.Commands.{is_write};
 ghost use Rattle.mg_engine.specs.View.{asked, said};
-ghost use Rattle.mg_live.specs.Published.{IsOf, Nexts, commits_of, shown_of};
+ghost use Rattle.mg_live.specs.Published.{IsOf, Nexts};
+ghost use Rattle.mg_live.specs.Snapshots.{commits_of, shown_of};
 ghost use Rattle.mg_shard.specs.Shard.{shards_seen};
 ghost use Rattle.mg_live.specs.Rules.{head_of};
 
 use crate::database::Database;
 use crate::history::{Front, Head, Write};
 use crate::point::{Point, accepts};
-use left_right::Absorb;
-use mg_engine::{Engine, Reply};
+use mg_engine::Reply;
 use mg_index::Catalog;
-use mg_shard::{Md5Placement, Shard};
+use mg_shard::Shard;
 use std::alloc::{AllocError, Global};
 use std::sync::Arc;
 use std::thread::Threads;
@@ -36,6 +36,7 @@ impl Snapshot {
     /// Its shards, each of which has the rows of exactly the indexes of the catalog. Takes no memory.
     pub fn shards(&self) -> &[Arc<Shard>]
         ensures shards { shards_seen result.now ≡ (shown_of self.now).shards }
+        ensures number { length result.now ≡ length (shown_of self.now).shards }
         ensures rows { All (λ s. s.definitions ≡ (shown_of self.now).catalog) (shards_seen result.now) }
     {
         self.point.engine.shards()
@@ -44,7 +45,8 @@ impl Snapshot {
     // The same snapshot once more, over the same engine.
     pub(crate) fn again(&self) -> Result<Snapshot, AllocError>
         ensures front { IfOk result (λ s. s.front ≡ self.now.front) }
-        ensures point { IfOk result (λ s. (arc_value s.point.engine ≡ arc_value self.now.point.engine) × (s.point.commits ≡ self.now.point.commits)) }
+        ensures engine { IfOk result (λ s. arc_value s.point.engine ≡ arc_value self.now.point.engine) }
+        ensures commits { IfOk result (λ s. s.point.commits ≡ self.now.point.commits) }
     {
         let engine = self.point.engine.clone()?;
         let commits = self.point.commits;
@@ -66,9 +68,10 @@ impl Snapshot {
         requires some { 1 ≤ write.now.workers }
         requires most { write.now.workers ≤ 32 }
         requires head { head.now.word ≡ head_of D.history }
-        requires here { IsOf D.history D.db self.now }
-        ensures next { Nexts D.db (commits_of self.now) write.now.seat (asked write.now.command.now) (said result.0) (option_map commits_of result.1) }
-        ensures there { IfSome result.1 (λ s. IsOf D.history D.db s) }
+        requires here { IsOf D.history D.db D.shards self.now }
+        ensures next { Nexts D.db (commits_of self.now) (write.now.seat, asked write.now.command.now) (said result.0)
+            (option_map commits_of result.1) }
+        ensures there { IfSome result.1 (λ s. IsOf D.history D.db D.shards s) }
     {
         let Ok((reply, point)) = self.point.write(rt, alloc, write.command, write.workers) else {
             return (Reply::NoMemory, None);
@@ -80,23 +83,5 @@ impl Snapshot {
             return (Reply::NoMemory, None);
         };
         (reply, Some(Snapshot { point, front }))
-    }
-}
-
-impl Absorb<Snapshot> for Snapshot {
-    type State = (Engine<Md5Placement>, u64, Front);
-
-    ghost state = { λ s. (arc_value s.point.engine, s.point.commits, s.front) };
-
-    ghost applied = { λ s next. (arc_value next.point.engine, next.point.commits, next.front) };
-
-    fn absorb_first(&mut self, operation: &Snapshot, _other: &Snapshot) -> Result<(), AllocError> {
-        *self = operation.again()?;
-        Ok(())
-    }
-
-    fn absorb_second(&mut self, operation: Snapshot, _other: &Snapshot) -> Result<(), Snapshot> {
-        *self = operation;
-        Ok(())
     }
 }

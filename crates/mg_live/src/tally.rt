@@ -1,82 +1,63 @@
-//! A count that is shared out: several threads add units under one lock, each by a share of its own, and whoever has all
-//! shares joined knows that the count is the sum of what each added.
-ghost use Rattle.std.specs.Prelude.{◌≡◌, ◌≢◌, ℕ, ◌+◌, ◌<◌, false, true};
+//! The tally of a seat: how many commits it has made, by its own part of a ledger. Whoever has all parts knows that the commits of
+//! the database are as many as its seats have made together.
+ghost use Rattle.std.specs.Prelude.{◌≡◌, ◌+◌, ◌<◌};
 
 use std::marker::Model;
-use std::sync::ledger::{Blank, Book, Ledger, Share};
+use std::sync::ledger::{Book, Ledger, Share};
 
-/// The book of a tally. Contracts see the number of units that all shares have added: 0 to 18,446,744,073,709,551,615.
+/// Contracts see how many commits the seat has made.
 #[derive(Drop)]
 pub struct Tally<L: Ledger> {
     count: u64,
-    book: Book<L>,
+    share: Share<L>,
 }
 
 impl<L: Ledger> Model for Tally<L> {
+    ghost use Rattle.std.specs.Prelude.{◌≡◌, ℕ};
+
     ghost Value = { ℕ };
 
-    ghost view = { λ t. t.book.total };
+    ghost view = { λ t. t.share.amount };
 
-    ghost invariant = { λ t. t.count ≡ t.book.total };
-}
-
-/// Opens a tally: the book, and the first share, which has all parts and has added nothing.
-pub fn open<L: Ledger>(blank: Blank) -> (Tally<L>, Share<L>)
-    requires name { blank.name ≡ L.name }
-    requires parts { blank.parts ≡ L.parts }
-    ensures none { (result.0 ≡ 0) × (result.1.amount ≡ 0) }
-    ensures all { result.1.parts ≡ L.parts }
-{
-    let (book, share) = blank.open::<L>();
-    (Tally { count: 0, book }, share)
-}
-
-/// Splits one part off a share, as a share that has added nothing yet.
-pub fn split<L: Ledger>(share: &mut Share<L>) -> Share<L>
-    requires parts { 0 < share.old.parts }
-    requires backed { share.old.parts ≡ 1 → share.old.amount ≡ 0 }
-    ensures one { (result.parts ≡ 1) × (result.amount ≡ 0) }
-    ensures rest { (share.new.parts + 1 ≡ share.old.parts) × (share.new.amount ≡ share.old.amount) }
-{
-    share.split_off(1, 0)
-}
-
-/// Joins another share to a share, with what it added.
-pub fn join<L: Ledger>(share: &mut Share<L>, other: Share<L>)
-    ensures parts { share.new.parts ≡ share.old.parts + other.parts }
-    ensures amount { share.new.amount ≡ share.old.amount + other.amount }
-{
-    share.merge(other);
+    ghost invariant = { λ t. (t.count ≡ t.share.amount) × (t.share.parts ≡ 1) };
 }
 
 impl<L: Ledger> Tally<L> {
-    /// Whether no unit can be added any more.
-    pub fn is_full(&self) -> bool
-        ensures full { result ≡ true → self.now ≡ 18446744073709551615 }
-        ensures room { result ≡ false → self.now < 18446744073709551615 }
+    // A tally of no commit, over one of the parts that are left.
+    pub(crate) fn new(rest: &mut Share<L>) -> Tally<L>
+        requires part { 0 < rest.old.parts }
+        requires backed { rest.old.parts ≡ 1 → rest.old.amount ≡ 0 }
+        ensures none { result ≡ 0 }
+        ensures rest { (rest.new.parts + 1 ≡ rest.old.parts) × (rest.new.amount ≡ rest.old.amount) }
     {
-        self.count == u64::MAX
+        let share = rest.split_off(1, 0);
+        Tally { count: 0, share }
     }
 
-    /// Adds a unit by a share.
-    pub fn add(&mut self, share: &mut Share<L>)
-        requires room { self.old ≢ 18446744073709551615 }
-        requires part { 0 < share.old.parts }
-        ensures book { self.new ≡ self.old + 1 }
-        ensures share { (share.new.amount ≡ share.old.amount + 1) × (share.new.parts ≡ share.old.parts) }
+    // How many commits it counts.
+    pub(crate) fn count(&self) -> u64
+        ensures { result ≡ self.now }
     {
-        self.book.add(share, 1);
+        self.count
+    }
+
+    // Counts a commit, in the book too.
+    pub(crate) fn add(&mut self, book: &mut Book<L>)
+        requires room { book.old.total < 18446744073709551615 }
+        ensures tally { self.new ≡ self.old + 1 }
+        ensures book { book.new.total ≡ book.old.total + 1 }
+    {
+        book.audit(&mut self.share);
+        book.add(&mut self.share, 1);
         self.count += 1;
     }
 
-    /// The number of units, for whoever has all shares joined: what they added together.
-    pub fn total(&mut self, all: &mut Share<L>) -> u64
-        requires { all.old.parts ≡ L.parts }
-        ensures count { result ≡ self.old }
-        ensures sum { result ≡ all.old.amount }
-        ensures kept { (self.new ≡ self.old) × (all.new.amount ≡ all.old.amount) × (all.new.parts ≡ all.old.parts) }
+    // Adds its part, with what it counts, to other parts.
+    pub(crate) fn join(self, all: &mut Share<L>)
+        ensures parts { all.new.parts ≡ all.old.parts + 1 }
+        ensures amount { all.new.amount ≡ all.old.amount + self }
     {
-        self.book.audit(all);
-        self.count
+        let Tally { share, .. } = self;
+        all.merge(share);
     }
 }

@@ -8,6 +8,6 @@ loop-preserved c =
     let pushed = c.in_ok-push.ensures in
     record {
       after = λ name cs at.
-          rw pushed.items (All-push (λ p. IsAfter name p cs) c.loop.copies.items c.in_ok-again.field-0 (c.loop.invariant.after name cs at) (c.in_ok-again.ensures name cs at));
+          rw pushed.items (All-push (λ p. IsAfter name p cs) c.loop.copies.items c.in_ok-again.field-0 (c.loop.invariant.after name cs at) (c.in_ok-again.ensures.after name cs at));
       number = omega (arith, pushed.len, c.loop.invariant.number);
     }

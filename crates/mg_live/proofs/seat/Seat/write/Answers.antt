@@ -7,6 +7,5 @@ use Rattle.mg_live.proofs.seat.Seat.write.Goals as goal
 pub returns : goal.returns
 returns g c =
     let s = c.self.inside in
-    let old : Sitting = record { number = s.number; seen = commits_seen s.front.seen.log; tally = s.share.amount } in
-    let new = c.write-desk.new in
-    rw (← c.self.view_is) (wrote g.D.Database.db old c.in-Some.desk (asked c.args.command.now) (said c.write-desk.result.1) c.write-desk.result.0 (commits_seen new.front.seen.log) new.share.amount c.write-desk.ensures.publishes)
+    let old : Sitting = record { number = s.number; seen = commits_seen s.front.seen.log; tally = s.tally } in
+    rw (← c.self.view_is) (wrote g.D.Database.db old _ (asked c.args.command.now) (said c.write.result) _ c.write.ensures.publishes)

@@ -8,7 +8,7 @@ returns-in_ok-self-clause-follow c = λ name m f.
     let here : c.args.seat < length s.each.items = omega (arith, s.each.ok.0) in
     let there : c.args.by < length s.each.items = omega (arith, s.each.ok.0) in
     hears name s _ m c.args.seat c.args.by c.index.result.now c.index-2.result.now c.index-then-index.result.now c.in_ok-self.field-0 f here there c.index.ensures c.index-2.ensures c.index-then-index.ensures
-    c.if-index.true refl refl c.in_ok-self.ensures
+    c.if-index.true refl refl c.in_ok-self.ensures.after
 
 pub returns-else-index-clause-follow : goal.returns-else-index-clause-follow
 returns-else-index-clause-follow c = λ name m f.

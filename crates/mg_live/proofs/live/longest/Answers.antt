@@ -1,0 +1,23 @@
+use Rattle.std.proofs.Common.{◌≤◌, length, subst, sym, ◌∙◌}
+use Rattle.mg_live.specs.Laws.{IsPrefix}
+use Rattle.mg_live.specs.Rules.{commits_seen}
+use Rattle.mg_live.specs.Sitting.{Sitting}
+use Rattle.mg_live.proofs.Beginnings.{in_turn}
+use Rattle.mg_live.proofs.Fronts.{below_one_more}
+use Rattle.mg_live.proofs.live.longest.Goals as goal
+
+pub loop-seat-preserved : goal.loop-seat-preserved
+loop-seat-preserved g c =
+    let l = c.loop-seat in
+    let made = c.args.made in
+    let more = c.longer-longest in
+    let long = commits_seen more.result.seen.log in
+    let item : length c.seat-item.result.seen ≤ made = subst (λ (s : Sitting). length s.seen ≤ made) (sym c.seat-item.is) (c.requires.within l.seat-index c.seat-item.result c.loop-seat-test.true) in
+    let seat = subst (λ (s : Sitting). length s.seen ≤ made) (sym c.seat.view_is) item in
+    let this = subst (λ (s : Sitting). IsPrefix s.seen long) c.seat.view_is more.ensures.other in
+    record {
+      here = more.ensures.book ∙ l.invariant.here;
+      within = more.ensures.within made l.invariant.within seat;
+      begins = below_one_more (λ s. IsPrefix s.seen long) c.args.seats.now l.seat-index c.seat-item.result
+          (λ k d less. in_turn _ _ _ (l.invariant.begins k d less) more.ensures.this) c.loop-seat-test.true c.seat-item.is this;
+    }

@@ -1,0 +1,14 @@
+use Rattle.std.proofs.Common.{◌≡◌, ◌≤◌, ℕ, ◌<◌, get_or, length}
+use Rattle.mg_live.specs.Laws.{IsPrefix}
+use Rattle.mg_live.specs.Rules.{commits_seen}
+use Rattle.mg_live.specs.Sitting.{Sitting}
+use Rattle.mg_live.proofs.live.longest.Given as goal
+
+-- the longest list of the seats so far
+abbrev pub invariant-loop-seat : goal.invariant-loop-seat
+invariant-loop-seat g l =
+    record {
+      here : l.longest.seen.book ≡ g.D.Database.history;
+      within : length (commits_seen l.longest.seen.log) ≤ l.made;
+      begins : (k : ℕ) (d : Sitting) → k < l.seat-index → IsPrefix (get_or l.seats k d).seen (commits_seen l.longest.seen.log);
+    }
