@@ -45,10 +45,15 @@ settings_of (db ∷ shards ∷ workers ∷ sessions ∷ addr ∷ []) =
     settings_with db addr (number_of shards 64) (number_of workers 32) (number_of sessions 16)
 settings_of words = None
 
--- the name of the database that is asked for, and the number of sessions; no name and one session where the words are wrong
+-- the name of the database that is asked for, the number of its shards and the number of sessions; no name, one shard and one session
+-- where the words are wrong
 abbrev pub name_in : Option Settings → List ℕ
 name_in None = []
 name_in (Some s) = s.db
+
+abbrev pub shards_in : Option Settings → ℕ
+shards_in None = 1
+shards_in (Some s) = s.shards
 
 abbrev pub sessions_in : Option Settings → ℕ
 sessions_in None = 1

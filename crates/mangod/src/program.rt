@@ -2,8 +2,8 @@
 ghost use Rattle.std.specs.Prelude.{◌≡◌, ◌≤◌, IfOk, false, map, string_bytes};
 ghost use Rattle.std.specs.Io.KnownBytes.{Appends, Consumes};
 ghost use Rattle.mg_http.specs.Device.{inner_of, has_failed};
-ghost use Rattle.mangod.specs.Arguments.{name_in, sessions_in, settings_of};
-ghost use Rattle.mg_engine.specs.Stands.{Stands};
+ghost use Rattle.mangod.specs.Arguments.{name_in, sessions_in, settings_of, shards_in};
+ghost use Rattle.mg_engine.specs.Stands.{Stands, shard_count};
 ghost use Rattle.mg_engine.specs.World.{empty_world};
 ghost use Rattle.mg_shard.specs.Placement.{md5_place};
 ghost use Rattle.mangod.specs.Program.{IsEndOfListening, RunsWith, Serves};
@@ -51,6 +51,7 @@ pub(crate) fn run<
     writer: &mut Device<W>,
 ) -> Ending
     requires name { D.db ≡ name_in (settings_of (map (λ w. string_bytes w) words.now)) }
+    requires shards { D.shards ≡ shards_in (settings_of (map (λ w. string_bytes w) words.now)) }
     requires history { history ≡ D.history }
     requires ledger { (blank.name ≡ D.name) × (blank.parts ≡ D.parts) }
     requires parts { blank.parts ≡ sessions_in (settings_of (map (λ w. string_bytes w) words.now)) }
@@ -115,6 +116,7 @@ fn listen<
         + Net<Listener = TcpListener, Stream = TcpStream>,
 >(rt: H, settings: Settings<'_>, blank: Blank, history: History) -> Ending
     requires name { settings.db.now ≡ D.db }
+    requires opened { settings.shards ≡ D.shards }
     requires history { history ≡ D.history }
     requires ledger { (blank.name ≡ D.name) × (blank.parts ≡ D.parts) }
     requires parts { blank.parts ≡ settings.sessions }
@@ -136,7 +138,7 @@ fn listen<
     let Ok((live, seats)) = opened else {
         return NO_MEMORY;
     };
-    let Ok(services) = services(alloc, seats, settings.workers) else {
+    let Ok(services) = services(alloc, seats, &settings) else {
         return NO_MEMORY;
     };
     let Ok(listener) = TcpListener::bind(&rt, settings.addr) else {
@@ -162,7 +164,9 @@ fn listen<
 fn solo<H: AllocGlobal>(rt: &H, settings: &Settings<'_>) -> Result<Solo<Md5Placement>, NoMemory>
     requires shards { (1 ≤ settings.now.shards) × (settings.now.shards ≤ 64) }
     requires workers { (1 ≤ settings.now.workers) × (settings.now.workers ≤ 32) }
-    ensures { IfOk result (λ solo. Stands (λ p id shards. md5_place id shards) solo.engine (empty_world settings.now.db.now)) }
+    ensures stands { IfOk result (λ solo. Stands (λ p id shards. md5_place id shards) solo.engine (empty_world settings.now.db.now)) }
+    ensures shards { IfOk result (λ solo. shard_count solo.engine ≡ settings.now.shards) }
+    ensures workers { IfOk result (λ solo. solo.workers ≡ settings.now.workers) }
 {
     let engine = Engine::new(rt.alloc(), settings.db, Md5Placement, settings.shards)?;
     let workers = settings.workers;

@@ -1,6 +1,9 @@
 //! Clients at the seats of a database, each seat with a thread of its own.
-ghost use Rattle.std.specs.Prelude.{◌≡◌, ◌≤◌, IfOk, map};
+ghost use Rattle.std.specs.Prelude.{◌≡◌, ◌≤◌, All, IfOk, List, map};
+ghost use Rattle.mangod.specs.Conversations.{Conversation, InTurn};
+ghost use Rattle.mg_live.specs.Sitting.{Answered};
 
+use crate::config::Settings;
 use crate::connections::serve_connections;
 use crate::lobby::Lobby;
 use mg_http::SeatService;
@@ -12,18 +15,20 @@ use std::thread;
 use std::thread::Threads;
 use std::time::Clock;
 
-/// A service for each seat, by so many workers.
+/// A service for each seat, by the workers that were asked for.
 pub(crate) fn services<D: Database, C: Ends>(
     alloc: Global,
     seats: Vec<Seat<D, C>>,
-    workers: usize,
+    settings: &Settings<'_>,
 ) -> Result<Vec<SeatService<D, C>>, NoMemory>
-    requires some { 1 ≤ workers }
-    requires most { workers ≤ 32 }
-    ensures { IfOk result (λ services. map (λ service. service.seat) services.items ≡ seats.items) }
+    requires some { 1 ≤ settings.now.workers }
+    requires most { settings.now.workers ≤ 32 }
+    ensures seats { IfOk result (λ services. map (λ service. service.seat) services.items ≡ seats.items) }
+    ensures workers { IfOk result (λ services. All (λ service. service.workers ≡ settings.now.workers) services.items) }
 {
     let mut services = Vec::with_capacity(alloc, seats.len())?;
     for seat in seats {
+        let workers = settings.workers;
         services.push(SeatService { seat, workers })?;
     }
     Ok(services)
@@ -44,7 +49,9 @@ pub(crate) fn serve_seats<
     lobby: &Lobby,
     services: Vec<SeatService<D, Waiting<H>>>,
     turns: Option<u64>,
-) -> Result<Vec<SeatService<D, Waiting<H>>>, NoMemory> {
+) -> Result<Vec<SeatService<D, Waiting<H>>>, NoMemory>
+    requires { db.now ≡ D.db }
+{
     let services = thread::map_vec(
         rt,
         services,
@@ -61,7 +68,10 @@ fn attend<D: Database, C: Ends, H: Wait + Threads + Clock + Sync>(
     lobby: &Lobby,
     service: SeatService<D, C>,
     turns: Option<u64>,
-) -> SeatService<D, C> {
+) -> SeatService<D, C>
+    ensures { (talks : List Conversation)
+        × InTurn (λ old command answer new. Answered D.db old.seat command answer new.seat) db.now service talks result }
+{
     let mut service = service;
     serve_connections(rt, alloc, db, lobby, &mut service, turns);
     service

@@ -4,7 +4,7 @@ use Rattle.mangod.proofs.program.serve.Goals as goal
 
 pub returns-in-Ok : goal.returns-in-Ok
 returns-in-Ok g c =
-    let held = c.serve.ensures.talk (empty_world c.args.settings.db.now) c.in-Ok.ensures in
+    let held = c.serve.ensures.talk (empty_world c.args.settings.db.now) c.in-Ok.ensures.stands in
     inl (record {
       bytes = held.0;
       written = held.1;

@@ -1,6 +1,9 @@
-use Rattle.std.proofs.Common.{◌≡◌, map}
+use Rattle.std.proofs.Common.{◌≡◌, All, map}
 use Rattle.mangod.proofs.seats.services.Given as goal
 
--- the services so far are those of the seats so far
+-- the services so far are those of the seats so far, by the workers that were asked for
 abbrev pub invariant-loop-seat : goal.invariant-loop-seat
-invariant-loop-seat g l = map (λ service. service.seat) l.services.items ≡ l.yielded
+invariant-loop-seat g l = record {
+  seats : map (λ service. service.seat) l.services.items ≡ l.yielded;
+  workers : All (λ service. service.workers ≡ l.settings.now.workers) l.services.items;
+}
