@@ -1,5 +1,5 @@
 //! The commands on indexes.
-ghost use Rattle.std.specs.Prelude.{◌≡◌, ◌≤◌, ◌∷◌, codes, IfOk, Ok, Some, true, is_some, length, map, unwrap_or, if◌then◌else◌};
+ghost use Rattle.std.specs.Prelude.{◌≡◌, ◌∷◌, codes, IfOk, Ok, Some, true, is_some, length, map, unwrap_or, if◌then◌else◌};
 ghost use Rattle.mg_value.specs.View.{view};
 ghost use Rattle.mg_index.specs.Definition.{listed_all_docs, listed_of};
 ghost use Rattle.mg_index.specs.Catalog.{definition_at, with_definition};
@@ -19,7 +19,7 @@ use crate::refusal::Refusal;
 use crate::reply::Reply;
 use crate::state::State;
 use mg_index::{Catalog, IndexDef, all_docs_listed, design_document};
-use mg_scan::{NoGate, build};
+use mg_scan::{NoGate, Workers, build};
 use mg_shard::Shard;
 use mg_value::{Json, NoMemory};
 use std::alloc::Global;
@@ -34,10 +34,8 @@ impl State {
         rt: &R,
         alloc: Global,
         body: &Json,
-        workers: usize,
+        workers: Workers,
     ) -> Result<(Reply, Option<State>), NoMemory>
-        requires some { 1 ≤ workers }
-        requires most { workers ≤ 32 }
         ensures does { IfOk result (λ r. (place : Placing) (w : World) → Holds place self.now w
             → (said r.0 ≡ Some (reply_of w (create_index (view body.now))))
             × Holds place (unwrap_or r.1 self.now) (next w (create_index (view body.now)))) }
@@ -62,10 +60,8 @@ impl State {
         rt: &R,
         alloc: Global,
         definition: IndexDef,
-        workers: usize,
+        workers: Workers,
     ) -> Result<(Reply, State), NoMemory>
-        requires some { 1 ≤ workers }
-        requires most { workers ≤ 32 }
         ensures does { IfOk result (λ r. (place : Placing) (w : World) → Holds place self.now w
             → (said r.0 ≡ Some (created w (Ok definition)))
             × Holds place r.1 (world_defined w (Ok definition))) }
@@ -85,10 +81,8 @@ impl State {
         alloc: Global,
         definition: IndexDef,
         there: bool,
-        workers: usize,
+        workers: Workers,
     ) -> Result<State, NoMemory>
-        requires some { 1 ≤ workers }
-        requires most { workers ≤ 32 }
         requires same { there ≡ true → with_definition definition self.now.catalog ≡ self.now.catalog }
         ensures stands { IfOk result (λ s. (place : Placing) (w : World) → Holds place self.now w → Holds place s (world_defined w (Ok definition))) }
         ensures number { IfOk result (λ s. length s.shards ≡ length self.now.shards) }
@@ -108,10 +102,8 @@ impl State {
         rt: &R,
         alloc: Global,
         definition: IndexDef,
-        workers: usize,
+        workers: Workers,
     ) -> Result<State, NoMemory>
-        requires some { 1 ≤ workers }
-        requires most { workers ≤ 32 }
         ensures { IfOk result (λ s. s ≡ state_with definition self.now) }
     {
         let shards = all_with(rt, alloc, &self.shards, &definition, workers)?;
@@ -217,13 +209,11 @@ fn all_with<R: Threads + Sync>(
     alloc: Global,
     shards: &[Arc<Shard>],
     definition: &IndexDef,
-    workers: usize,
+    workers: Workers,
 ) -> Result<Vec<Arc<Shard>>, NoMemory>
-    requires some { 1 ≤ workers }
-    requires most { workers ≤ 32 }
     ensures { IfOk result (λ v. shards_seen v.items ≡ map (with_index definition.now) (shards_seen shards.now)) }
 {
-    let built = build(rt, alloc, shards, definition, workers, &NoGate)?;
+    let built = build(rt, alloc, shards, definition, workers.count(), &NoGate)?;
     shared(alloc, built)
 }
 

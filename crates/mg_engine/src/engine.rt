@@ -11,7 +11,7 @@ use crate::command::Command;
 use crate::reply::Reply;
 use crate::state::State;
 use mg_index::Catalog;
-use mg_scan::{Gate, NoGate};
+use mg_scan::{Gate, NoGate, Workers};
 use mg_shard::{Placement, Shard};
 use mg_value::NoMemory;
 use std::alloc::Global;
@@ -58,7 +58,8 @@ impl<P: Placement + Drop> Engine<P> {
     ///
     /// A bulk costs its edits, each with its document and its rows; a query costs its page, where an index serves it, and else the
     /// documents that it looks at until the page is found; an index that is created, and another number of shards, cost each document.
-    /// Any number of workers, 1 to 32, gives the same reply.
+    /// Any number of workers, 1 to 32, gives the same reply. They are a most: a query that is not worth a second thread runs on the
+    /// caller's.
     pub fn step<R: Threads + Sync>(
         &mut self,
         rt: &R,
@@ -76,6 +77,7 @@ impl<P: Placement + Drop> Engine<P> {
         ensures refused { IfNone (said result) (self.new ≡ self.old) }
         ensures shards { IfSome (said result) (λ _. shard_count self.new ≡ shards_after (shard_count self.old) (asked command.now)) }
     {
+        let workers = Workers::most(workers);
         let (reply, next) = self
             .state
             .take(rt, alloc, &*self.placement, command, workers, &NoGate);
@@ -85,7 +87,7 @@ impl<P: Placement + Drop> Engine<P> {
         reply
     }
 
-    /// The reply to a command that reads, for every gate, which a query passes: `ShardBegun` before a shard's first row is read and
+    /// The reply to a command that reads, by as many workers as are given, for every gate, which a query passes: `ShardBegun` before a shard's first row is read and
     /// `ShardDone` after its last. Cost: as of `step`.
     pub fn answer<R: Threads + Sync, G: Gate + Sync>(
         &self,
@@ -100,9 +102,31 @@ impl<P: Placement + Drop> Engine<P> {
         requires most { workers ≤ 32 }
         ensures { (w : World) → Stands P.place self.now w → IfSome (said result) (λ a. a ≡ reply_of w (asked command.now)) }
     {
+        let workers = Workers::exactly(workers);
         let (reply, _) = self
             .state
             .take(rt, alloc, &*self.placement, command, workers, gate);
+        reply
+    }
+
+    /// The reply to a command that reads, with at most so many workers: a query that is not worth a second thread runs on the
+    /// caller's. Cost: as of `step`.
+    pub fn reply<R: Threads + Sync>(
+        &self,
+        rt: &R,
+        alloc: Global,
+        command: &Command,
+        workers: usize,
+    ) -> Reply
+        requires read { is_write (asked command.now) ≡ false }
+        requires some { 1 ≤ workers }
+        requires most { workers ≤ 32 }
+        ensures { (w : World) → Stands P.place self.now w → IfSome (said result) (λ a. a ≡ reply_of w (asked command.now)) }
+    {
+        let workers = Workers::most(workers);
+        let (reply, _) = self
+            .state
+            .take(rt, alloc, &*self.placement, command, workers, &NoGate);
         reply
     }
 
@@ -127,6 +151,7 @@ impl<P: Placement + Drop> Engine<P> {
         let Ok(placement) = self.placement.clone() else {
             return (Reply::NoMemory, None);
         };
+        let workers = Workers::most(workers);
         match self
             .state
             .take(rt, alloc, &*self.placement, command, workers, &NoGate)

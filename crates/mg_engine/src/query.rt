@@ -1,5 +1,5 @@
 //! Queries, and how they would be answered.
-ghost use Rattle.std.specs.Prelude.{◌≡◌, ◌≤◌, All, IfOk, Ok, Some};
+ghost use Rattle.std.specs.Prelude.{◌≡◌, All, IfOk, Ok, Some};
 ghost use Rattle.mg_value.specs.View.{view};
 ghost use Rattle.mg_shard.specs.Dealt.{Placing, ShardsStandFor};
 ghost use Rattle.mg_query.specs.Page.{candidates_of};
@@ -18,8 +18,8 @@ use crate::fault::Fault;
 use crate::reply::Reply;
 use crate::state::State;
 use mg_index::Catalog;
-use mg_query::{Query, explain, page_text};
-use mg_scan::Gate;
+use mg_query::{Query, explain, page_text_by};
+use mg_scan::{Gate, Workers};
 use mg_shard::Shard;
 use mg_value::{Json, NoMemory};
 use std::alloc::Global;
@@ -34,11 +34,9 @@ impl State {
         rt: &R,
         alloc: Global,
         body: &Json,
-        workers: usize,
+        workers: Workers,
         gate: &G,
     ) -> Result<Reply, NoMemory>
-        requires some { 1 ≤ workers }
-        requires most { workers ≤ 32 }
         ensures { IfOk result (λ r. (place : Placing) (w : World) → Holds place self.now w → said r ≡ Some (reply_of w (find (view body.now)))) }
     {
         let line = page_line(
@@ -71,11 +69,9 @@ fn page_line<R: Threads + Sync, G: Gate + Sync>(
     catalog: &Catalog,
     shards: &[Arc<Shard>],
     body: &Json,
-    workers: usize,
+    workers: Workers,
     gate: &G,
 ) -> Result<Vec<u8>, Fault>
-    requires some { 1 ≤ workers }
-    requires most { workers ≤ 32 }
     requires indexes { All (λ s. s.definitions ≡ catalog.now) (shards_seen shards.now) }
     ensures { (place : Placing) (w : World) → ShardsStandFor place (shards_seen shards.now) w.docs → AreWhole (candidates_of w.docs)
         → w.indexes ≡ catalog.now → Tells result (answer_of_query w (query_of (view body.now))) }
@@ -91,17 +87,15 @@ fn answer_line<R: Threads + Sync, G: Gate + Sync>(
     catalog: &Catalog,
     shards: &[Arc<Shard>],
     query: &Query<'_>,
-    workers: usize,
+    workers: Workers,
     gate: &G,
 ) -> Result<Vec<u8>, Fault>
-    requires some { 1 ≤ workers }
-    requires most { workers ≤ 32 }
     requires indexes { All (λ s. s.definitions ≡ catalog.now) (shards_seen shards.now) }
     ensures { (place : Placing) (w : World) → ShardsStandFor place (shards_seen shards.now) w.docs → AreWhole (candidates_of w.docs)
         → w.indexes ≡ catalog.now → Tells result (answer_of_query w (Ok (query_seen query.now))) }
 {
-    match page_text(rt, alloc, query, catalog, shards, workers, gate) {
-        Ok((text, _)) => {
+    match page_text_by(rt, alloc, query, catalog, shards, workers, gate) {
+        Ok(text) => {
             let line = with_line_feed(text)?;
             Ok(line)
         }

@@ -1,5 +1,5 @@
 //! One command on a state.
-ghost use Rattle.std.specs.Prelude.{◌≡◌, ◌≤◌, IfSome, None, false, length, true, unwrap_or};
+ghost use Rattle.std.specs.Prelude.{◌≡◌, IfSome, None, false, length, true, unwrap_or};
 ghost use Rattle.mg_engine.specs.Commands.{is_write, shards_after};
 ghost use Rattle.mg_engine.specs.Run.{Answers};
 ghost use Rattle.mg_engine.specs.Settled.{IsSettled, reply_made, settled_of};
@@ -10,7 +10,7 @@ ghost use Rattle.mg_engine.specs.World.{World};
 use crate::command::Command;
 use crate::reply::Reply;
 use crate::state::State;
-use mg_scan::Gate;
+use mg_scan::{Gate, Workers};
 use mg_shard::Placement;
 use mg_value::NoMemory;
 use std::alloc::Global;
@@ -25,11 +25,9 @@ impl State {
         alloc: Global,
         placement: &P,
         command: &Command,
-        workers: usize,
+        workers: Workers,
         gate: &G,
     ) -> (Reply, Option<State>)
-        requires some { 1 ≤ workers }
-        requires most { workers ≤ 32 }
         ensures answers { (w : World) → Holds (P.place placement.now) self.now w
             → Answers w (asked command.now) (said result.0) (Holds (P.place placement.now) (unwrap_or result.1 self.now)) }
         ensures write { is_write (asked command.now) ≡ true → IsSettled result.0 result.1 }

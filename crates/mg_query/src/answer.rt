@@ -1,25 +1,26 @@
 //! The page that answers a query, as values and as text.
-ghost use Rattle.std.specs.Prelude.{◌≡◌, ◌+◌, ◌<◌, ◌≤◌, List, All, IfOk, length, map, string_bytes};
+ghost use Rattle.std.specs.Prelude.{◌≡◌, ◌+◌, ◌<◌, ◌≤◌, List, All, IfOk, drop, length, map, string_bytes};
+ghost use Rattle.mg_value.specs.Text.{compact};
 ghost use Rattle.mg_value.specs.View.{view};
 ghost use Rattle.mg_index.specs.Definition.{Steps};
 ghost use Rattle.mg_shard.specs.Shard.{shards_seen};
 ghost use Rattle.mg_shard.specs.Dealt.{Placing, ShardsStandFor};
 ghost use Rattle.mg_shard.specs.Histories.{Histories};
-ghost use Rattle.mg_query.specs.Page.{Candidate, answer_of, bookmark_after, candidates_of, columns_of, shown_of};
+ghost use Rattle.mg_query.specs.Page.{Candidate, answer_of, bookmark_after, candidates_of, columns_of, page_of, page_value, shown_of};
 ghost use Rattle.mg_query.specs.Paged.{IsWithin, handed_of, page_seen, text_of};
 ghost use Rattle.mg_query.specs.Lent.{LendEach};
 ghost use Rattle.mg_query.specs.Seen.{query_seen};
 ghost use Rattle.mg_query.specs.Served.{PageAnswers, AreWhole, source_seen};
 
 use crate::error::PageError;
-use crate::found::{after_skip, find};
+use crate::found::{Found, after_skip, find};
 use crate::query::Query;
 use crate::shown::{Page, bookmark_of, shown};
 use crate::source::Source;
 use crate::text::text_with;
 use mg_index::Catalog;
 use mg_merge::Work;
-use mg_scan::{Gate, Hit};
+use mg_scan::{Gate, Hit, Workers};
 use mg_shard::Shard;
 use mg_value::{Json, NoMemory};
 use std::alloc::Global;
@@ -58,6 +59,7 @@ pub fn page<R: Threads + Sync, G: Gate + Sync>(
         → PageAnswers (λ r. r.1.handed) result
         (handed_of catalog.now (query_seen query.now) place (length shards.now) hs) }
 {
+    let workers = Workers::exactly(workers);
     let found = find(rt, alloc, query, catalog, shards, workers, gate)?;
     let hits = after_skip(&found.hits, query.skip);
     let docs = shown_all(alloc, query, hits)?;
@@ -91,11 +93,44 @@ pub fn page_text<R: Threads + Sync, G: Gate + Sync>(
         → PageAnswers (λ r. r.1.handed) result
         (handed_of catalog.now (query_seen query.now) place (length shards.now) hs) }
 {
+    let workers = Workers::exactly(workers);
     let found = find(rt, alloc, query, catalog, shards, workers, gate)?;
+    let text = text_found(alloc, query, &found)?;
+    Ok((text, found.work))
+}
+
+/// The compact text of the page that answers a query, as `page_text` says, by so many workers: where these are a most, a
+/// query that is not worth a second thread runs on the caller's.
+///
+/// Errors: as of `page`. Cost: as of `page_text`.
+pub fn page_text_by<R: Threads + Sync, G: Gate + Sync>(
+    rt: &R,
+    alloc: Global,
+    query: &Query<'_>,
+    catalog: &Catalog,
+    shards: &[Arc<Shard>],
+    workers: Workers,
+    gate: &G,
+) -> Result<Vec<u8>, PageError>
+    requires indexes { All (λ s. s.definitions ≡ catalog.now) (shards_seen shards.now) }
+    ensures answers { (place : Placing) (hs : Histories)
+        → ShardsStandFor place (shards_seen shards.now) hs → AreWhole (candidates_of hs)
+        → PageAnswers (λ text. text.items) result
+        (text_of (answer_of catalog.now (query_seen query.now) (candidates_of hs))) }
+{
+    let found = find(rt, alloc, query, catalog, shards, workers, gate)?;
+    Ok(text_found(alloc, query, &found)?)
+}
+
+// The text of the page of what a query found.
+fn text_found(alloc: Global, query: &Query<'_>, found: &Found<'_>) -> Result<Vec<u8>, NoMemory>
+    ensures { IfOk result (λ text. (cs : List Candidate)
+        → LendEach (columns_of (source_seen found.now.source)) (drop query.now.skip found.now.hits.items) cs
+        → text.items ≡ compact (page_value (page_of (source_seen found.now.source) (query_seen query.now) cs))) }
+{
     let hits = after_skip(&found.hits, query.skip);
     let bookmark = last_bookmark(alloc, query, found.source, hits)?;
-    let text = text_with(alloc, query, &bookmark, hits)?;
-    Ok((text, found.work))
+    text_with(alloc, query, &bookmark, hits)
 }
 
 // What the page shows of the documents.

@@ -1,5 +1,5 @@
 // What a query finds for its page: the first hits of all shards together.
-ghost use Rattle.std.specs.Prelude.{◌≡◌, ◌+◌, ◌<◌, ◌≤◌, All, IfOk, drop, length, map, option_map};
+ghost use Rattle.std.specs.Prelude.{◌≡◌, ◌+◌, All, IfOk, drop, length, map, option_map};
 ghost use Rattle.std.specs.List.{AllZip};
 ghost use Rattle.mg_collate.specs.Row.{row_view};
 ghost use Rattle.mg_normal.specs.Normal.{IsNormalOf};
@@ -17,12 +17,13 @@ ghost use Rattle.mg_query.specs.Served.{PageAnswers, AreWhole, IsListed, source_
 use crate::error::PageError;
 use crate::query::Query;
 use crate::source::{Source, served_by};
-use mg_collate::Row;
+use mg_collate::{Direction, Row};
 use mg_index::Catalog;
 use mg_merge::{Work, merge_all};
 use mg_normal::Normal;
+use mg_range::KeyRange;
 use mg_range::laws::ranges_are_complete;
-use mg_scan::{Gate, Hit, scan_lent};
+use mg_scan::{Gate, Hit, Workers, scan_lent};
 use mg_shard::Shard;
 use mg_value::{NoMemory, copy_items};
 use std::alloc::Global;
@@ -45,10 +46,9 @@ pub(crate) fn find<'a, R: Threads + Sync, G: Gate + Sync>(
     query: &Query<'_>,
     catalog: &'a Catalog,
     shards: &'a [Arc<Shard>],
-    workers: usize,
+    workers: Workers,
     gate: &G,
 ) -> Result<Found<'a>, PageError>
-    requires workers { (0 < workers) × (workers ≤ 32) }
     requires indexes { All (λ s. s.definitions ≡ catalog.now) (shards_seen shards.now) }
     ensures source { PageAnswers (λ f. source_seen f.source) result
         (served_of catalog.now (query_seen query.now)) }
@@ -86,10 +86,9 @@ fn lists_of<'a, R: Threads + Sync, G: Gate + Sync>(
     source: Source<'_>,
     normal: &Normal,
     shards: &'a [Arc<Shard>],
-    workers: usize,
+    workers: Workers,
     gate: &G,
 ) -> Result<Vec<Vec<Hit<'a>>>, NoMemory>
-    requires workers { (0 < workers) × (workers ≤ 32) }
     requires normal { IsNormalOf (selector_of query.now.selector) normal.now }
     requires indexes { All (λ s. IsListed s.definitions (source_seen source)) (shards_seen shards.now) }
     ensures rows { IfOk result (λ lists. map (λ hits. hit_rows hits.items) lists.items
@@ -100,6 +99,7 @@ fn lists_of<'a, R: Threads + Sync, G: Gate + Sync>(
 {
     let range = source.range(alloc, normal)?;
     let after = after_row(alloc, query)?;
+    let workers = workers.needed(is_small(query, &range));
     scan_lent(
         rt,
         alloc,
@@ -113,6 +113,16 @@ fn lists_of<'a, R: Threads + Sync, G: Gate + Sync>(
         workers,
         gate,
     )
+}
+
+// A page of at most so many rows is small where its range has a bound. Threads cost some 100 µs each, a row at most 1 µs.
+const SMALL_PAGE: usize = 1000;
+
+// Whether a query is not worth a second thread, by its text alone: the rows in its range are not counted.
+fn is_small(query: &Query<'_>, range: &KeyRange) -> bool {
+    let has_bound = range.entered_at(Direction::Asc).is_some()
+        || range.entered_at(Direction::Desc).is_some();
+    has_bound && row_count(query) <= SMALL_PAGE
 }
 
 // The row after which the page begins, if there is a bookmark.

@@ -13,7 +13,7 @@ mod shown;
 mod source;
 mod text;
 
-pub use answer::{page, page_text};
+pub use answer::{page, page_text, page_text_by};
 pub use error::{PageError, QueryError};
 pub use explanation::explain;
 pub use query::Query;

@@ -9,6 +9,7 @@ mod scanning;
 mod search;
 mod shard;
 mod target;
+mod worker_count;
 mod workers;
 
 pub use building::build;
@@ -16,3 +17,4 @@ pub use gate::{Gate, NoGate, Place};
 pub use hit::Hit;
 pub use scanning::{scan, scan_lent};
 pub use target::Target;
+pub use worker_count::Workers;

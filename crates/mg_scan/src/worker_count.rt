@@ -1,0 +1,77 @@
+ghost use Rattle.std.specs.Prelude.{◌≡◌, ◌<◌, ◌≤◌, ◌&&◌, false, true, if◌then◌else◌};
+
+use std::marker::Model;
+
+/// How many workers a call has, 1 to 32: exactly so many, or at most so many, of which one does what is small.
+#[derive(Clone, Copy, Debug)]
+pub struct Workers {
+    count: usize,
+    is_most: bool,
+}
+
+impl Model for Workers {
+    ghost use Rattle.std.specs.Prelude.{ℕ, Bool, ◌≤◌};
+    ghost use Rattle.std.specs.Coded.{coded×, coded_ℕ, coded_bool};
+
+    // the number, and whether it is a most
+    ghost Value = { ℕ × Bool };
+
+    ghost coded = { coded× coded_ℕ coded_bool };
+
+    ghost view = { λ w. (w.count, w.is_most) };
+
+    ghost invariant = { λ w. (1 ≤ w.count) × (w.count ≤ 32) };
+
+    ghost inverse = { λ n. record { count = n.0; is_most = n.1 } };
+}
+
+impl Workers {
+    /// At most so many workers: one where the work is small.
+    pub fn most(count: usize) -> Self
+        requires { (0 < count) × (count ≤ 32) }
+        ensures { result ≡ (count, true) }
+    {
+        Workers {
+            count,
+            is_most: true,
+        }
+    }
+
+    /// Exactly so many workers.
+    pub fn exactly(count: usize) -> Self
+        requires { (0 < count) × (count ≤ 32) }
+        ensures { result ≡ (count, false) }
+    {
+        Workers {
+            count,
+            is_most: false,
+        }
+    }
+
+    /// How many there are at most.
+    pub fn count(self) -> usize
+        ensures count { result ≡ self.0 }
+        ensures range { (0 < result) × (result ≤ 32) }
+    {
+        self.count
+    }
+
+    /// Whether the caller's own thread does work that is so small.
+    pub fn is_alone(self, is_small: bool) -> bool
+        ensures { result ≡ (self.1 && is_small) }
+    {
+        self.is_most && is_small
+    }
+
+    /// How many of them do work that is so small.
+    pub fn needed(self, is_small: bool) -> usize
+        ensures count { result ≡ if self.1 && is_small then 1 else self.0 }
+        ensures range { (0 < result) × (result ≤ 32) }
+    {
+        if self.is_alone(is_small) {
+            1
+        } else {
+            self.count
+        }
+    }
+}
