@@ -1,5 +1,5 @@
 -- Points of a run: what stands after which commits, and the seats that follow a machine.
-use Rattle.std.proofs.Common.{◌≡◌, ◌+◌, ◌<◌, ℕ, zero, suc, true, false, List, [], ◌∷◌, ◌++◌, All, IfSome, Option, map, Some, None, is_some, length, get_or, slice_get, slice_set, replicate, unwrap_or, refl, ap, sym, ◌∙◌, subst, arith, nat_lt, ◌≤◌, length-append}
+use Rattle.std.proofs.Common.{◌≡◌, ◌+◌, ◌<◌, ℕ, zero, suc, true, false, List, [], ◌∷◌, ◌++◌, All, IfSome, Option, Some, None, is_some, length, get_or, slice_get, slice_set, replicate, unwrap_or, refl, ap, sym, ◌∙◌, subst, arith, nat_lt, ◌≤◌, length-append}
 use Rattle.std.proofs.lemmas.Bool.Decides.{nat_tests}
 use Rattle.std.proofs.lemmas.List.{map-append}
 use Rattle.std.specs.Arc.{arc_value}

@@ -8,7 +8,7 @@ ghost use Rattle.mg_live.specs.Sitting.{Answered};
 use crate::database::{Database, Ends};
 use crate::seat::Seat;
 use mg_engine::{Command, Reply};
-use mg_scan::{Gate, NoGate};
+use mg_scan::Gate;
 use mg_value::Json;
 use std::sync::Wait;
 use std::thread::Threads;
@@ -21,7 +21,10 @@ impl<D: Database, C: Ends> Seat<D, C> {
         requires most { workers ≤ 32 }
         ensures { Answered D.db self.old (find (view body.now)) (said result) self.new }
     {
-        self.find_with(rt, body, workers, &NoGate)
+        match body.copy(self.alloc) {
+            Ok(body) => self.reply(rt, &Command::Find(body), workers),
+            Err(_) => Reply::NoMemory,
+        }
     }
 
     /// The same, for every gate: it passes `Snapshot` right after its snapshot, and then what the engine's query passes. From its
@@ -48,7 +51,7 @@ impl<D: Database, C: Ends> Seat<D, C> {
         ensures { Answered D.db self.old (explain (view body.now)) (said result) self.new }
     {
         match body.copy(self.alloc) {
-            Ok(body) => self.read(rt, &Command::Explain(body), 1, &NoGate),
+            Ok(body) => self.reply(rt, &Command::Explain(body), 1),
             Err(_) => Reply::NoMemory,
         }
     }
@@ -57,7 +60,7 @@ impl<D: Database, C: Ends> Seat<D, C> {
     pub fn list_indexes<R: Threads + Sync>(&mut self, rt: &R) -> Reply
         ensures { Answered D.db self.old list_indexes (said result) self.new }
     {
-        self.read(rt, &Command::ListIndexes, 1, &NoGate)
+        self.reply(rt, &Command::ListIndexes, 1)
     }
 
     /// The document of an id, with its conflicts where they are asked for.
@@ -65,7 +68,7 @@ impl<D: Database, C: Ends> Seat<D, C> {
         ensures { Answered D.db self.old (get id.now conflicts) (said result) self.new }
     {
         match String::from_str(self.alloc, id) {
-            Ok(id) => self.read(rt, &Command::Get { id, conflicts }, 1, &NoGate),
+            Ok(id) => self.reply(rt, &Command::Get { id, conflicts }, 1),
             Err(_) => Reply::NoMemory,
         }
     }

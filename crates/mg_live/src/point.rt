@@ -68,6 +68,23 @@ impl Point {
         whole(self.engine.answer(rt, alloc, command, workers, gate))
     }
 
+    /// The reply to a command that reads, by at most so many workers. Cost: that of the engine's reply.
+    pub(crate) fn reply<R: Threads + Sync>(
+        &self,
+        rt: &R,
+        alloc: Global,
+        command: &Command,
+        workers: usize,
+    ) -> Result<Reply, NoMemory>
+        requires read { is_write (asked command.now) ≡ false }
+        requires some { 1 ≤ workers }
+        requires most { workers ≤ 32 }
+        ensures { IfOk result (λ r. (w : World) → Stands place (arc_value self.now.engine) w
+            → said r ≡ Some (reply_of w (asked command.now))) }
+    {
+        whole(self.engine.reply(rt, alloc, command, workers))
+    }
+
     /// The reply to a write, and the point after it, which is one commit more where it is accepted, and else the same once more.
     /// Cost: that of the engine's commit.
     pub(crate) fn write<R: Threads + Sync>(

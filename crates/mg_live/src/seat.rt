@@ -13,7 +13,7 @@ use crate::published::{Reads, look};
 use crate::snapshot::Snapshot;
 use crate::tally::Tally;
 use mg_engine::{Command, Reply};
-use mg_scan::{Gate, NoGate, Place};
+use mg_scan::{Gate, Place};
 use mg_value::NoMemory;
 use std::alloc::Global;
 use std::marker::{Model, PhantomData};
@@ -122,11 +122,32 @@ impl<D: Database, C: Ends> Seat<D, C> {
         if command.is_write() {
             self.write(rt, command, workers)
         } else {
-            self.read(rt, command, workers, &NoGate)
+            self.reply(rt, command, workers)
         }
     }
 
-    // The reply to a command that reads, over one snapshot.
+    // The reply to a command that reads, over one snapshot, by at most so many workers.
+    pub(crate) fn reply<R: Threads + Sync>(
+        &mut self,
+        rt: &R,
+        command: &Command,
+        workers: usize,
+    ) -> Reply
+        requires read { is_write (asked command.now) ≡ false }
+        requires some { 1 ≤ workers }
+        requires most { workers ≤ 32 }
+        ensures { Reads D.db self.old (asked command.now) (said result) self.new }
+    {
+        let Ok(snapshot) = self.snapshot() else {
+            return Reply::NoMemory;
+        };
+        match snapshot.point.reply(rt, self.alloc, command, workers) {
+            Ok(reply) => reply,
+            Err(_) => Reply::NoMemory,
+        }
+    }
+
+    // The reply to a command that reads, over one snapshot, by so many workers, which pass the gate.
     pub(crate) fn read<R: Threads + Sync, G: Gate + Sync>(
         &mut self,
         rt: &R,
@@ -175,14 +196,7 @@ impl<D: Database, C: Ends> Seat<D, C> {
             workers,
         };
         let mut desk = shared.desk.lock(rt);
-        desk.write(
-            rt,
-            *alloc,
-            &shared.named.head,
-            &write,
-            tally,
-            front,
-        )
+        desk.write(rt, *alloc, &shared.named.head, &write, tally, front)
     }
 
     /// Catches up with all commits, under the writer's lock, and returns what another seat can `learn`: the list that is published then.

@@ -1,4 +1,3 @@
-use Rattle.mg_live.specs.Snapshots.{IsPublished}
 use Rattle.mg_live.proofs.Publishing.{is_at}
 use Rattle.mg_live.proofs.desk.Desk.tell.Goals as goal
 

@@ -36,5 +36,5 @@ returns-clause-there g c =
       book = c.in-Some.ensures.1 ∙ c.requires.here.book;
       after = there g.D.Database.db s.front.seen.log c.in-Some.front.seen.log w.seat w.command.now c.in-Ok.reply c.in-Ok.point did.0 yes c.in-Some.ensures.0 did.1;
       dealt = dealt g.D.Database.db g.D.Database.shards s.front.seen.log c.in-Some.front.seen.log w.seat w.command.now c.in-Ok.reply c.in-Ok.point did.0 yes c.in-Some.ensures.0
-      (c.in-Ok.ensures.dealt g.D.Database.db g.D.Database.shards (commits_of s) w.seat c.requires.here.after c.requires.here.dealt);
+          (c.in-Ok.ensures.dealt g.D.Database.db g.D.Database.shards (commits_of s) w.seat c.requires.here.after c.requires.here.dealt);
     }
