@@ -2,7 +2,7 @@
 use Rattle.std.specs.Prelude.{ℕ, ◌-◌, ◌%◌, List, [], ◌∷◌}
 
 -- the digit after an id's first character, 0 where there is none
-abbrev number_of : List ℕ → ℕ
+abbrev pub number_of : List ℕ → ℕ
 number_of [] = 0
 number_of (_ ∷ []) = 0
 number_of (_ ∷ digit ∷ _) = digit - 48
