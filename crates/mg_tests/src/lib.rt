@@ -6,7 +6,11 @@
 #[cfg(test)]
 mod bookmark_tests;
 #[cfg(test)]
+mod commit_tests;
+#[cfg(test)]
 mod engine_tests;
+#[cfg(test)]
+mod gate_tests;
 #[cfg(test)]
 mod http_tests;
 #[cfg(test)]
@@ -16,7 +20,11 @@ mod merge_tests;
 #[cfg(test)]
 mod pages_tests;
 #[cfg(test)]
+mod placement_tests;
+#[cfg(test)]
 mod revtree_tests;
+#[cfg(test)]
+mod run_tests;
 #[cfg(test)]
 mod scan_tests;
 #[cfg(test)]

@@ -185,7 +185,11 @@ struct Plain {
     seen: [usize; 3],
 }
 
-fn commands_of(alloc: Global, numbers: &[usize], last: usize) -> Result<Vec<Command>, Fail> {
+pub(crate) fn commands_of(
+    alloc: Global,
+    numbers: &[usize],
+    last: usize,
+) -> Result<Vec<Command>, Fail> {
     let mut commands = Vec::new(alloc);
     for number in numbers {
         commands.push(command_of(alloc, *number)?)?;
@@ -195,7 +199,7 @@ fn commands_of(alloc: Global, numbers: &[usize], last: usize) -> Result<Vec<Comm
 }
 
 // The last reply of a plain run of the commits and then of the command.
-fn plain_reply<R: Threads + Sync>(
+pub(crate) fn plain_reply<R: Threads + Sync>(
     rt: &R,
     alloc: Global,
     commits: &[usize],

@@ -54,6 +54,33 @@ const MERGES: &[Merge] = &[
         wanted: &[(10, "b"), (10, "a"), (2, "c"), (2, "b")],
         handed: &[2, 3],
     },
+    // Two of five that descend; no list, and no row is taken; a row that stands in two lists.
+    Merge {
+        lists: &[
+            &[(7, "d4")],
+            &[(7, "d5"), (7, "d1")],
+            &[(7, "d2")],
+            &[(7, "d3")],
+        ],
+        direction: Direction::Desc,
+        take: 2,
+        wanted: &[(7, "d5"), (7, "d4")],
+        handed: &[1, 2, 1, 1],
+    },
+    Merge {
+        lists: &[],
+        direction: Direction::Asc,
+        take: 5,
+        wanted: &[],
+        handed: &[],
+    },
+    Merge {
+        lists: &[&[(7, "d1")], &[(7, "d1")]],
+        direction: Direction::Asc,
+        take: 5,
+        wanted: &[(7, "d1"), (7, "d1")],
+        handed: &[1, 1],
+    },
     // Five documents with one key, dealt to four shards by their numbers: a page of two after one that is passed over, and a
     // page of two after `d2`.
     Merge {

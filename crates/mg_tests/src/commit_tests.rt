@@ -1,0 +1,338 @@
+//! Seats that read and write side by side, and how many commits a database has when it is closed.
+ghost use Rattle.std.specs.Prelude.{◌≡◌, string_bytes};
+
+use mg_engine::Reply;
+use mg_live::{CloseError, Database, Ends, History, Live, Seat, Waiting};
+use mg_value::{Json, read};
+use std::alloc::Global;
+use std::marker::Brand;
+use std::process::Abort;
+use std::sync::Wait;
+use std::sync::ledger::Blank;
+use std::test::Fail;
+use std::thread;
+use std::thread::Threads;
+
+// A seat that makes 25 bulks of one document.
+fn work<D: Database, C: Ends, R: Wait + Threads + Sync>(
+    rt: &R,
+    alloc: Global,
+    seat: Seat<D, C>,
+) -> Seat<D, C> {
+    let mut seat = seat;
+    let Ok(body) = read(alloc, b"{\"docs\":[{\"a\":7}]}") else {
+        return seat;
+    };
+    for _ in 0..25u32 {
+        let _ = seat.bulk(rt, &body, 2);
+    }
+    seat
+}
+
+fn hundred<D: Database + Send + Sync, R: Threads + Wait + Abort + Sync + Send + Drop + Copy>(
+    rt: R,
+    alloc: Global,
+    blank: Blank,
+    history: History,
+    db: String,
+) -> Result<(), Fail>
+    requires name { string_bytes db ≡ D.db }
+    requires history { history ≡ D.history }
+    requires ledger { (blank.name ≡ D.name) × (blank.parts ≡ D.parts) }
+    requires parts { blank.parts ≡ 4 }
+{
+    let (live, seats) = Live::<D, Waiting<R>>::open(
+        Waiting(rt),
+        alloc,
+        blank,
+        history,
+        db.as_str(),
+        3,
+        4,
+    )?;
+    let seats = thread::map_vec(&rt, seats, &|seat| work(&rt, alloc, seat))?;
+    match live.close(&rt, seats) {
+        Ok(closed) => assert_eq!(rt; closed.commits(), 100),
+        Err(_) => return Err("it is closed".into()),
+    }
+    Ok(())
+}
+
+#[test]
+fn four_seats_make_a_hundred_commits(rt: HostRuntime) -> Result<(), Fail> {
+    let alloc = rt.alloc();
+    let db = String::from_str(alloc, "db")?;
+    hundred::<Brand, _>(rt, alloc, Blank::new(4), History::new(), db)
+}
+
+#[derive(Clone, Copy, Drop)]
+enum Ask {
+    Get,
+    Find,
+    Explain,
+    ListIndexes,
+    Bulk,
+    CreateIndex,
+    DropIndex,
+    Reshard,
+}
+
+// The number of the seat, what it is asked, and by which id or body; then the status and the text of the reply.
+#[derive(Clone, Copy, Drop)]
+struct Call(usize, Ask, &'static str, u16, &'static str);
+
+const ALL: &str = r#"{"selector":{},"fields":["_id"]}"#;
+
+const INDEX: &str = r#"{"index":{"fields":["a"]},"ddoc":"x","name":"ia"}"#;
+
+const MISSING: &str = "{\"error\":\"not_found\",\"reason\":\"missing\"}\n";
+
+const FIRST: &str =
+    "{\"bookmark\":\"W251bGwsIl9hbGxfZG9jcyIsImFzYyIsWyJsMSJdLCJsMSJd\",\"docs\":[{\"_id\":\"l1\"}]}\n";
+
+const BOTH: &str =
+    "{\"bookmark\":\"W251bGwsIl9hbGxfZG9jcyIsImFzYyIsWyJsMiJdLCJsMiJd\",\"docs\":[{\"_id\":\"l1\"},{\"_id\":\"l2\"}]}\n";
+
+const CREATED: &str = "{\"id\":\"_design/x\",\"name\":\"ia\",\"result\":\"created\"}\n";
+
+const EXPLAINED: &str =
+    "{\"dbname\":\"db\",\"fields\":\"all_fields\",\"index\":{\"ddoc\":\"_design/x\",\"def\":{\"fields\":[{\"a\":\"asc\"}]},\"name\":\"ia\",\"type\":\"json\"},\"limit\":25,\"range\":{\"equal\":[1],\"lower\":null,\"upper\":null},\"selector\":{\"a\":1},\"skip\":0}\n";
+
+const LISTED: &str =
+    "{\"indexes\":[{\"ddoc\":null,\"def\":{\"fields\":[{\"_id\":\"asc\"}]},\"name\":\"_all_docs\",\"type\":\"special\"},{\"ddoc\":\"_design/x\",\"def\":{\"fields\":[{\"a\":\"asc\"}]},\"name\":\"ia\",\"type\":\"json\"}],\"total_rows\":2}\n";
+
+const OK: &str = "{\"ok\":true}\n";
+
+const WRONG_SHAPE: &str = "{\"error\":\"bad_request\",\"reason\":\"Wrong shape.\"}\n";
+
+// Until the second seat is told.
+const BEFORE: &[Call] = &[
+    Call(1, Ask::Get, "l1", 404, MISSING),
+    Call(
+        0,
+        Ask::Bulk,
+        r#"{"docs":[{"_id":"l1","_rev":"1-a"}],"new_edits":false}"#,
+        201,
+        "[]\n",
+    ),
+    Call(0, Ask::Find, ALL, 200, FIRST),
+];
+
+// What the first seat writes the second one finds, with nothing told.
+const AFTER: &[Call] = &[
+    Call(1, Ask::Find, ALL, 200, FIRST),
+    Call(
+        1,
+        Ask::Get,
+        "l1",
+        200,
+        "{\"_id\":\"l1\",\"_rev\":\"1-a\"}\n",
+    ),
+    Call(
+        0,
+        Ask::Bulk,
+        r#"{"docs":[{"_id":"l2","_rev":"1-a"}],"new_edits":false}"#,
+        201,
+        "[]\n",
+    ),
+    Call(1, Ask::Find, ALL, 200, BOTH),
+    Call(1, Ask::DropIndex, "ia", 404, MISSING),
+    Call(0, Ask::CreateIndex, INDEX, 200, CREATED),
+    Call(1, Ask::Explain, r#"{"selector":{"a":1}}"#, 200, EXPLAINED),
+    Call(1, Ask::ListIndexes, "", 200, LISTED),
+    Call(0, Ask::DropIndex, "ia", 200, OK),
+];
+
+const RESHARDED: &[Call] = &[
+    Call(0, Ask::Reshard, r#"{"shards":7}"#, 200, OK),
+    Call(1, Ask::Find, ALL, 200, BOTH),
+    Call(1, Ask::Reshard, r#"{"shards":65}"#, 400, WRONG_SHAPE),
+    Call(1, Ask::Reshard, r#"{"shards":1}"#, 200, OK),
+    Call(0, Ask::Find, ALL, 200, BOTH),
+];
+
+fn reply_with<D: Database, C: Ends, R: Wait + Threads + Sync>(
+    rt: &R,
+    seat: &mut Seat<D, C>,
+    ask: Ask,
+    body: &Json,
+) -> Reply {
+    match ask {
+        Ask::Bulk => seat.bulk(rt, body, 1),
+        Ask::CreateIndex => seat.create_index(rt, body, 1),
+        Ask::Reshard => seat.reshard(rt, body, 1),
+        Ask::Explain => seat.explain(rt, body),
+        _ => seat.find(rt, body, 1),
+    }
+}
+
+fn reply_to<D: Database, C: Ends, R: Wait + Threads + Sync>(
+    rt: &R,
+    alloc: Global,
+    seat: &mut Seat<D, C>,
+    call: &Call,
+) -> Reply {
+    match call.1 {
+        Ask::Get => seat.get(rt, call.2, false),
+        Ask::ListIndexes => seat.list_indexes(rt),
+        Ask::DropIndex => seat.drop_index(rt, "x", call.2, 1),
+        with_body => match read(alloc, call.2.as_bytes()) {
+            Ok(body) => reply_with(rt, seat, with_body, &body),
+            Err(_) => Reply::NoMemory,
+        },
+    }
+}
+
+// Whether the seat answers the call as it has to. Where it is refused memory it is asked once more, as if it had not been asked.
+fn is_answered<D: Database, C: Ends, R: Wait + Threads + Sync>(
+    rt: &R,
+    alloc: Global,
+    seat: &mut Seat<D, C>,
+    call: &Call,
+    refused: &mut u32,
+) -> bool {
+    let mut reply = reply_to(rt, alloc, seat, call);
+    if reply.status() == 503 {
+        *refused = refused.saturating_add(1);
+        reply = reply_to(rt, alloc, seat, call);
+    }
+    reply.status() == call.3 && reply.body() == call.4.as_bytes()
+}
+
+fn are_answered<D: Database, C: Ends, R: Wait + Threads + Sync>(
+    rt: &R,
+    alloc: Global,
+    a: &mut Seat<D, C>,
+    b: &mut Seat<D, C>,
+    calls: &[Call],
+    refused: &mut u32,
+) -> bool {
+    for call in calls {
+        let is_fine = if call.0 == 0 {
+            is_answered(rt, alloc, a, call, refused)
+        } else {
+            is_answered(rt, alloc, b, call, refused)
+        };
+        if !is_fine {
+            return false;
+        }
+    }
+    true
+}
+
+// Whether the second seat was told what the first has seen.
+fn is_told<D: Database, C: Ends, R: Wait>(
+    rt: &R,
+    a: &mut Seat<D, C>,
+    b: &mut Seat<D, C>,
+    refused: &mut u32,
+) -> bool {
+    match a.share(rt) {
+        Ok(seen) => {
+            b.learn(&seen);
+            true
+        }
+        Err(_) => {
+            *refused = refused.saturating_add(1);
+            false
+        }
+    }
+}
+
+// Whether a snapshot has no index, and one shard.
+fn is_bare<D: Database, C: Ends>(seat: &mut Seat<D, C>, refused: &mut u32) -> bool {
+    match seat.snapshot() {
+        Ok(snapshot) => snapshot.catalog().list().is_empty() && snapshot.shards().len() == 1,
+        Err(_) => {
+            *refused = refused.saturating_add(1);
+            false
+        }
+    }
+}
+
+// Whether all that the two seats are asked is answered.
+fn are_told<D: Database, C: Ends, R: Wait + Threads + Sync>(
+    rt: &R,
+    alloc: Global,
+    a: &mut Seat<D, C>,
+    b: &mut Seat<D, C>,
+    calls: &[Call],
+    refused: &mut u32,
+) -> bool {
+    are_answered(rt, alloc, a, b, BEFORE, refused)
+        && (is_told(rt, a, b, refused) || is_told(rt, a, b, refused))
+        && are_answered(rt, alloc, a, b, AFTER, refused)
+        && are_answered(rt, alloc, a, b, calls, refused)
+        && (is_bare(b, refused) || is_bare(b, refused))
+}
+
+// The number of commits of a database that is closed, first without a seat, which is refused.
+fn closed<D: Database, C: Ends, R: Wait>(
+    rt: &R,
+    live: Live<D, C>,
+    seats: Vec<Seat<D, C>>,
+    last: Seat<D, C>,
+) -> Result<u64, Fail>
+    requires { live ≡ D.parts }
+{
+    let (live, mut seats) = match live.close(rt, seats) {
+        Err((live, seats, CloseError::Missing)) => (live, seats),
+        _ => return Err("a seat is absent".into()),
+    };
+    seats.push(last)?;
+    match live.close(rt, seats) {
+        Ok(closed) => Ok(closed.commits()),
+        Err(_) => Err("it is closed".into()),
+    }
+}
+
+// Two seats make these calls too, and then have made so many commits. Where a call was refused memory all has to be the same, and
+// the test says so at its end.
+fn two<D: Database + Send + Sync, R: Threads + Wait + Abort + Sync + Send + Drop + Copy>(
+    rt: R,
+    alloc: Global,
+    blank: Blank,
+    history: History,
+    db: String,
+    calls: &[Call],
+    commits: u64,
+) -> Result<(), Fail>
+    requires name { string_bytes db ≡ D.db }
+    requires history { history ≡ D.history }
+    requires ledger { (blank.name ≡ D.name) × (blank.parts ≡ D.parts) }
+    requires parts { blank.parts ≡ 2 }
+{
+    let (live, mut seats) = Live::<D, Waiting<R>>::open(
+        Waiting(rt),
+        alloc,
+        blank,
+        history,
+        db.as_str(),
+        1,
+        2,
+    )?;
+    let mut b = seats.pop().ok_or("a seat")?;
+    let mut a = seats.pop().ok_or("a seat")?;
+    let mut refused = 0;
+    assert!(rt; are_told(&rt, alloc, &mut a, &mut b, calls, &mut refused));
+    seats.push(a)?;
+    assert_eq!(rt; closed(&rt, live, seats, b)?, commits);
+    if refused > 0 {
+        return Err("a call was refused memory".into());
+    }
+    Ok(())
+}
+
+#[test]
+fn two_seats_tell_each_other_and_close(rt: HostRuntime) -> Result<(), Fail> {
+    let alloc = rt.alloc();
+    let db = String::from_str(alloc, "db")?;
+    two::<Brand, _>(rt, alloc, Blank::new(2), History::new(), db, &[], 4)
+}
+
+#[test]
+fn a_reshard_is_one_commit_and_changes_no_page(rt: HostRuntime) -> Result<(), Fail> {
+    let alloc = rt.alloc();
+    let db = String::from_str(alloc, "db")?;
+    two::<Brand, _>(rt, alloc, Blank::new(2), History::new(), db, RESHARDED, 6)
+}

@@ -1,0 +1,219 @@
+//! A write while a query is held at its snapshot, by seats on two threads. Each wait gives up after 100,000,000 looks, and the test fails.
+ghost use Rattle.std.specs.Prelude.{◌≡◌, string_bytes};
+
+use mg_live::{Database, Ends, History, Live, Seat, Waiting};
+use mg_scan::{Gate, Place};
+use mg_value::read;
+use std::alloc::Global;
+use std::marker::Brand;
+use std::process::Abort;
+use std::sync::Wait;
+use std::sync::atomic::{AtomicU64, Ordering};
+use std::sync::ledger::Blank;
+use std::test::Fail;
+use std::thread;
+use std::thread::Threads;
+
+// How often a thread looks before it gives up.
+const TURNS: u64 = 100_000_000;
+
+// Holds a query at its snapshot until a write was answered. The words: how many threads came, a query may begin, it is held, the write
+// was answered, with this status, the query's reply was the one that is expected, and how often a thread gave up.
+#[derive(Drop)]
+struct Held {
+    came: AtomicU64,
+    ready: AtomicU64,
+    held: AtomicU64,
+    answered: AtomicU64,
+    status: AtomicU64,
+    same: AtomicU64,
+    faults: AtomicU64,
+}
+
+// Waits until a word is 1, and says whether it was in time.
+fn wait_for(word: &AtomicU64) -> bool {
+    for _turn in 0..TURNS {
+        if word.load(Ordering::SeqCst) == 1 {
+            return true;
+        }
+    }
+    false
+}
+
+impl Held {
+    fn new() -> Held {
+        Held {
+            came: AtomicU64::new(0),
+            ready: AtomicU64::new(0),
+            held: AtomicU64::new(0),
+            answered: AtomicU64::new(0),
+            status: AtomicU64::new(0),
+            same: AtomicU64::new(0),
+            faults: AtomicU64::new(0),
+        }
+    }
+
+    fn wait(&self, word: &AtomicU64) {
+        if !wait_for(word) {
+            self.faults.fetch_add(1, Ordering::SeqCst);
+        }
+    }
+}
+
+impl Gate for Held {
+    fn at(&self, place: Place) {
+        if let Place::Snapshot = place {
+            self.held.store(1, Ordering::SeqCst);
+            self.wait(&self.answered);
+        }
+    }
+}
+
+// What is written while a query is held.
+#[derive(Clone, Copy)]
+enum During {
+    Bulk,
+    Reshard,
+}
+
+impl During {
+    // The reply to the query, as it is without the write: a bulk comes into an empty database, a reshard behind a bulk.
+    fn page(self) -> &'static str {
+        match self {
+            During::Bulk => "{\"bookmark\":\"nil\",\"docs\":[]}\n",
+            During::Reshard => {
+                "{\"bookmark\":\"W251bGwsIl9hbGxfZG9jcyIsImFzYyIsWyJsMSJdLCJsMSJd\",\"docs\":[{\"_id\":\"l1\"}]}\n"
+            }
+        }
+    }
+
+    fn status(self) -> u64 {
+        match self {
+            During::Bulk => 201,
+            During::Reshard => 200,
+        }
+    }
+}
+
+// The thread that comes first asks for the ids of all documents, and is held.
+fn ask<D: Database, C: Ends, R: Wait + Threads + Sync>(
+    rt: &R,
+    alloc: Global,
+    seat: Seat<D, C>,
+    gate: &Held,
+    during: During,
+) -> Seat<D, C> {
+    let mut seat = seat;
+    let Ok(body) = read(alloc, b"{\"selector\":{},\"fields\":[\"_id\"]}") else {
+        return seat;
+    };
+    gate.wait(&gate.ready);
+    let reply = seat.find_with(rt, &body, 1, gate);
+    let same = reply.body() == during.page().as_bytes();
+    gate.same.store(u64::from(same), Ordering::SeqCst);
+    seat
+}
+
+// The other one writes meanwhile.
+fn write<D: Database, C: Ends, R: Wait + Threads + Sync>(
+    rt: &R,
+    alloc: Global,
+    seat: Seat<D, C>,
+    gate: &Held,
+    during: During,
+) -> Seat<D, C> {
+    let mut seat = seat;
+    let Ok(bulk) = read(
+        alloc,
+        b"{\"docs\":[{\"_id\":\"l1\",\"_rev\":\"1-a\"}],\"new_edits\":false}",
+    ) else {
+        return seat;
+    };
+    let Ok(shards) = read(alloc, b"{\"shards\":7}") else {
+        return seat;
+    };
+    if let During::Reshard = during {
+        let _ = seat.bulk(rt, &bulk, 1);
+    }
+    gate.ready.store(1, Ordering::SeqCst);
+    gate.wait(&gate.held);
+    let reply = match during {
+        During::Bulk => seat.bulk(rt, &bulk, 1),
+        During::Reshard => seat.reshard(rt, &shards, 1),
+    };
+    gate.status
+        .store(u64::from(reply.status()), Ordering::SeqCst);
+    gate.answered.store(1, Ordering::SeqCst);
+    seat
+}
+
+fn act<D: Database, C: Ends, R: Wait + Threads + Sync>(
+    rt: &R,
+    alloc: Global,
+    seat: Seat<D, C>,
+    gate: &Held,
+    during: During,
+) -> Seat<D, C> {
+    if gate.came.fetch_add(1, Ordering::SeqCst) == 0 {
+        ask(rt, alloc, seat, gate, during)
+    } else {
+        write(rt, alloc, seat, gate, during)
+    }
+}
+
+fn write_during_query<
+    D: Database + Send + Sync,
+    R: Threads + Wait + Abort + Sync + Send + Drop + Copy,
+>(
+    rt: R,
+    alloc: Global,
+    blank: Blank,
+    history: History,
+    db: String,
+    during: During,
+) -> Result<(), Fail>
+    requires name { string_bytes db ≡ D.db }
+    requires history { history ≡ D.history }
+    requires ledger { (blank.name ≡ D.name) × (blank.parts ≡ D.parts) }
+    requires parts { blank.parts ≡ 2 }
+{
+    let ends = Waiting(rt);
+    let (_live, seats) = Live::<D, Waiting<R>>::open(
+        ends,
+        alloc,
+        blank,
+        history,
+        db.as_str(),
+        1,
+        2,
+    )?;
+    let gate = Held::new();
+    let _seats = thread::map_vec(&rt, seats, &|seat| act(&rt, alloc, seat, &gate, during))?;
+    assert_eq!(rt; gate.faults.load(Ordering::SeqCst), 0);
+    assert_eq!(rt; gate.status.load(Ordering::SeqCst), during.status());
+    assert_eq!(rt; gate.same.load(Ordering::SeqCst), 1);
+    Ok(())
+}
+
+// A bulk is answered while a query is held at its snapshot, which then finds no document.
+#[test]
+fn a_bulk_is_answered_during_a_query(rt: HostRuntime) -> Result<(), Fail> {
+    let alloc = rt.alloc();
+    let db = String::from_str(alloc, "db")?;
+    write_during_query::<Brand, _>(rt, alloc, Blank::new(2), History::new(), db, During::Bulk)
+}
+
+// So is a reshard, and the query's reply is the one that it gives without it.
+#[test]
+fn a_reshard_is_answered_during_a_query(rt: HostRuntime) -> Result<(), Fail> {
+    let alloc = rt.alloc();
+    let db = String::from_str(alloc, "db")?;
+    write_during_query::<Brand, _>(
+        rt,
+        alloc,
+        Blank::new(2),
+        History::new(),
+        db,
+        During::Reshard,
+    )
+}

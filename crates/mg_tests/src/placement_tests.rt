@@ -1,0 +1,317 @@
+//! Worked examples over a placement of the tests' own: document `d1` stands on shard 1 modulo the number of shards, and so on.
+//! The bookmarks were made by Python's base64 and json, the revision by its hashlib.
+ghost use Rattle.std.specs.Prelude.{◌≡◌};
+ghost use Rattle.mg_tests.specs.ByNumber.{number_of, number_place};
+
+use mg_engine::{Command, Engine};
+use mg_query::{Page, Query, page};
+use mg_scan::NoGate;
+use mg_shard::Placement;
+use mg_value::{Json, NoMemory, read, write};
+use std::alloc::Global;
+use std::test::Fail;
+use std::thread::Threads;
+
+#[derive(Clone, Copy, Drop)]
+struct ByNumber;
+
+// The digit after an id's first character.
+fn number_of(id: &str) -> usize
+    ensures { result ≡ number_of id.now }
+{
+    match id.as_bytes() {
+        [_, digit, ..] => usize::from(digit.saturating_sub(48)),
+        _ => 0,
+    }
+}
+
+impl Placement for ByNumber {
+    ghost place = { λ _ id shards. number_place id shards };
+
+    fn shard_of(&self, id: &str, shards: usize) -> usize {
+        number_of(id) % shards
+    }
+}
+
+#[derive(Clone, Copy, Drop)]
+enum Ask {
+    Bulk,
+    CreateIndex,
+    Find,
+    Reshard,
+}
+
+// A command and its body; then the status and the text of its reply.
+#[derive(Clone, Copy, Drop)]
+struct Step(Ask, &'static str, u16, &'static str);
+
+const PUTS: Step = Step(
+    Ask::Bulk,
+    r#"{"docs":[{"_id":"d1","_rev":"1-a","k":7},{"_id":"d2","_rev":"1-a","k":7},{"_id":"d3","_rev":"1-a","k":7},{"_id":"d4","_rev":"1-a","k":7},{"_id":"d5","_rev":"1-a","k":7}],"new_edits":false}"#,
+    201,
+    "[]\n",
+);
+
+const INDEX: Step = Step(
+    Ask::CreateIndex,
+    r#"{"index":{"fields":["k"]},"ddoc":"x","name":"k_idx"}"#,
+    200,
+    "{\"id\":\"_design/x\",\"name\":\"k_idx\",\"result\":\"created\"}\n",
+);
+
+const FIRST_PAGE: Step = Step(
+    Ask::Find,
+    r#"{"selector":{"k":7},"limit":2,"fields":["_id"]}"#,
+    200,
+    "{\"bookmark\":\"WyJfZGVzaWduL3giLCJrX2lkeCIsImFzYyIsWzddLCJkMiJd\",\"docs\":[{\"_id\":\"d1\"},{\"_id\":\"d2\"}]}\n",
+);
+
+const SECOND_PAGE: Step = Step(
+    Ask::Find,
+    r#"{"selector":{"k":7},"limit":2,"fields":["_id"],"bookmark":"WyJfZGVzaWduL3giLCJrX2lkeCIsImFzYyIsWzddLCJkMiJd"}"#,
+    200,
+    "{\"bookmark\":\"WyJfZGVzaWduL3giLCJrX2lkeCIsImFzYyIsWzddLCJkNCJd\",\"docs\":[{\"_id\":\"d3\"},{\"_id\":\"d4\"}]}\n",
+);
+
+const THIRD_PAGE: Step = Step(
+    Ask::Find,
+    r#"{"selector":{"k":7},"limit":2,"fields":["_id"],"bookmark":"WyJfZGVzaWduL3giLCJrX2lkeCIsImFzYyIsWzddLCJkNCJd"}"#,
+    200,
+    "{\"bookmark\":\"WyJfZGVzaWduL3giLCJrX2lkeCIsImFzYyIsWzddLCJkNSJd\",\"docs\":[{\"_id\":\"d5\"}]}\n",
+);
+
+const LAST_PAGE: Step = Step(
+    Ask::Find,
+    r#"{"selector":{"k":7},"limit":2,"fields":["_id"],"bookmark":"WyJfZGVzaWduL3giLCJrX2lkeCIsImFzYyIsWzddLCJkNSJd"}"#,
+    200,
+    "{\"bookmark\":\"WyJfZGVzaWduL3giLCJrX2lkeCIsImFzYyIsWzddLCJkNSJd\",\"docs\":[]}\n",
+);
+
+const TIES: &[Step] = &[PUTS, INDEX, FIRST_PAGE, SECOND_PAGE, THIRD_PAGE, LAST_PAGE];
+
+const DESCENDING: &[Step] = &[
+    PUTS,
+    Step(
+        Ask::CreateIndex,
+        r#"{"index":{"fields":["k"]},"ddoc":"x","name":"k_ix"}"#,
+        200,
+        "{\"id\":\"_design/x\",\"name\":\"k_ix\",\"result\":\"created\"}\n",
+    ),
+    Step(
+        Ask::Find,
+        r#"{"selector":{"k":7},"sort":[{"k":"desc"}],"limit":2,"fields":["_id"]}"#,
+        200,
+        "{\"bookmark\":\"WyJfZGVzaWduL3giLCJrX2l4IiwiZGVzYyIsWzddLCJkNCJd\",\"docs\":[{\"_id\":\"d5\"},{\"_id\":\"d4\"}]}\n",
+    ),
+    Step(
+        Ask::Bulk,
+        r#"{"docs":[{"_id":"d4","_rev":"1-a","_deleted":true}]}"#,
+        201,
+        "[{\"id\":\"d4\",\"ok\":true,\"rev\":\"2-2cd92fe6a454e3cdf4b1bea4fa4e434a\"}]\n",
+    ),
+    Step(
+        Ask::Find,
+        r#"{"selector":{"k":7},"sort":[{"k":"desc"}],"limit":2,"fields":["_id"],"bookmark":"WyJfZGVzaWduL3giLCJrX2l4IiwiZGVzYyIsWzddLCJkNCJd"}"#,
+        200,
+        "{\"bookmark\":\"WyJfZGVzaWduL3giLCJrX2l4IiwiZGVzYyIsWzddLCJkMiJd\",\"docs\":[{\"_id\":\"d3\"},{\"_id\":\"d2\"}]}\n",
+    ),
+    Step(
+        Ask::Find,
+        r#"{"selector":{"k":7},"limit":2,"bookmark":"WyJfZGVzaWduL3giLCJrX2l4IiwiZGVzYyIsWzddLCJkNCJd"}"#,
+        400,
+        "{\"error\":\"invalid_bookmark\",\"reason\":\"Invalid bookmark.\"}\n",
+    ),
+];
+
+const SEVEN: Step = Step(Ask::Reshard, r#"{"shards":7}"#, 200, "{\"ok\":true}\n");
+
+const ONE: Step = Step(Ask::Reshard, r#"{"shards":1}"#, 200, "{\"ok\":true}\n");
+
+const SIXTY_FOUR: Step = Step(Ask::Reshard, r#"{"shards":64}"#, 200, "{\"ok\":true}\n");
+
+const NO_SHARD: Step = Step(
+    Ask::Reshard,
+    r#"{"shards":0}"#,
+    400,
+    "{\"error\":\"bad_request\",\"reason\":\"Wrong shape.\"}\n",
+);
+
+const TOO_MANY: Step = Step(
+    Ask::Reshard,
+    r#"{"shards":65}"#,
+    400,
+    "{\"error\":\"bad_request\",\"reason\":\"Wrong shape.\"}\n",
+);
+
+const RESHARDING: &[Step] = &[
+    PUTS,
+    INDEX,
+    FIRST_PAGE,
+    SEVEN,
+    SECOND_PAGE,
+    ONE,
+    THIRD_PAGE,
+    SIXTY_FOUR,
+    LAST_PAGE,
+    NO_SHARD,
+    TOO_MANY,
+];
+
+fn command_of(alloc: Global, step: &Step) -> Result<Command, Fail> {
+    let body = read(alloc, step.1.as_bytes())?;
+    Ok(match step.0 {
+        Ask::Bulk => Command::Bulk(body),
+        Ask::CreateIndex => Command::CreateIndex(body),
+        Ask::Find => Command::Find(body),
+        Ask::Reshard => Command::Reshard(body),
+    })
+}
+
+fn is_answered<R: Threads + Sync>(
+    rt: &R,
+    alloc: Global,
+    engine: &mut Engine<ByNumber>,
+    step: &Step,
+) -> Result<bool, Fail> {
+    let command = command_of(alloc, step)?;
+    let reply = engine.step(rt, alloc, &command, 2);
+    Ok(reply.status() == step.2 && reply.body() == step.3.as_bytes())
+}
+
+// Whether an engine is answered at each of these steps.
+fn are_answered<R: Threads + Sync>(
+    rt: &R,
+    alloc: Global,
+    engine: &mut Engine<ByNumber>,
+    steps: &[Step],
+) -> Result<bool, Fail> {
+    for step in steps {
+        if !is_answered(rt, alloc, engine, step)? {
+            return Ok(false);
+        }
+    }
+    Ok(true)
+}
+
+// The same of a new engine of four shards.
+fn holds<R: Threads + Sync>(rt: &R, alloc: Global, steps: &[Step]) -> Result<bool, Fail> {
+    let mut engine = Engine::new(alloc, "db", ByNumber, 4)?;
+    are_answered(rt, alloc, &mut engine, steps)
+}
+
+#[test]
+fn ties_across_shards(rt: HostRuntime) -> Result<(), Fail> {
+    assert!(rt; holds(&rt, rt.alloc(), TIES)?);
+    Ok(())
+}
+
+#[test]
+fn descending_pages(rt: HostRuntime) -> Result<(), Fail> {
+    assert!(rt; holds(&rt, rt.alloc(), DESCENDING)?);
+    Ok(())
+}
+
+#[test]
+fn resharding(rt: HostRuntime) -> Result<(), Fail> {
+    assert!(rt; holds(&rt, rt.alloc(), RESHARDING)?);
+    Ok(())
+}
+
+// The body of a query; then what its page shows, how many rows each shard handed over for it, and how many were taken.
+#[derive(Clone, Copy, Drop)]
+struct Paged(&'static str, &'static str, &'static [u64], u64);
+
+const OVER_FOUR: &[Paged] = &[
+    Paged(
+        r#"{"selector":{"k":7},"fields":["_id"],"skip":1,"limit":2}"#,
+        r#"[{"_id":"d2"},{"_id":"d3"}]"#,
+        &[1, 2, 1, 1],
+        3,
+    ),
+    Paged(
+        r#"{"selector":{"k":7},"fields":["_id"],"limit":1}"#,
+        r#"[{"_id":"d1"}]"#,
+        &[1, 1, 1, 1],
+        1,
+    ),
+    Paged(
+        r#"{"selector":{"k":7},"fields":["_id"],"limit":2,"bookmark":"WyJfZGVzaWduL3giLCJrX2lkeCIsImFzYyIsWzddLCJkMiJd"}"#,
+        r#"[{"_id":"d3"},{"_id":"d4"}]"#,
+        &[1, 1, 0, 1],
+        2,
+    ),
+    Paged(
+        r#"{"selector":{"k":7},"fields":["_id"],"limit":0}"#,
+        "[]",
+        &[0, 0, 0, 0],
+        0,
+    ),
+];
+
+const OVER_SEVEN: &[Paged] = &[Paged(
+    r#"{"selector":{"k":7},"fields":["_id"],"skip":3}"#,
+    r#"[{"_id":"d4"},{"_id":"d5"}]"#,
+    &[0, 1, 1, 1, 1, 1, 0],
+    5,
+)];
+
+fn shows(alloc: Global, page: Page, text: &str) -> Result<bool, NoMemory> {
+    let Page { docs, .. } = page;
+    let shown = write(alloc, &Json::List(docs))?;
+    Ok(shown.as_slice() == text.as_bytes())
+}
+
+fn has_page<R: Threads + Sync>(
+    rt: &R,
+    alloc: Global,
+    engine: &Engine<ByNumber>,
+    query: &Query<'_>,
+    paged: &Paged,
+) -> Result<bool, Fail> {
+    let catalog = engine.catalog();
+    let shards = engine.shards();
+    match page(rt, alloc, query, catalog, shards, 2, &NoGate) {
+        Ok((page, work)) => Ok(
+            work.handed() == paged.2 && work.taken() == paged.3 && shows(alloc, page, paged.1)?,
+        ),
+        Err(_) => Ok(false),
+    }
+}
+
+fn is_paged<R: Threads + Sync>(
+    rt: &R,
+    alloc: Global,
+    engine: &Engine<ByNumber>,
+    paged: &Paged,
+) -> Result<bool, Fail> {
+    let body = read(alloc, paged.0.as_bytes())?;
+    match Query::read(alloc, &body) {
+        Ok(query) => has_page(rt, alloc, engine, &query, paged),
+        Err(_) => Ok(false),
+    }
+}
+
+fn are_paged<R: Threads + Sync>(
+    rt: &R,
+    alloc: Global,
+    engine: &Engine<ByNumber>,
+    all: &[Paged],
+) -> Result<bool, Fail> {
+    for paged in all {
+        if !is_paged(rt, alloc, engine, paged)? {
+            return Ok(false);
+        }
+    }
+    Ok(true)
+}
+
+#[test]
+fn rows_handed_over_by_each_shard(rt: HostRuntime) -> Result<(), Fail> {
+    let alloc = rt.alloc();
+    let mut engine = Engine::new(alloc, "db", ByNumber, 4)?;
+    assert!(rt; are_answered(&rt, alloc, &mut engine, &[PUTS, INDEX])?);
+    assert!(rt; are_paged(&rt, alloc, &engine, OVER_FOUR)?);
+    assert!(rt; are_answered(&rt, alloc, &mut engine, &[SEVEN])?);
+    assert!(rt; are_paged(&rt, alloc, &engine, OVER_SEVEN)?);
+    Ok(())
+}
