@@ -40,6 +40,7 @@ fn hundred<D: Database + Send + Sync, R: Threads + Wait + Abort + Sync + Send + 
     requires history { history ≡ D.history }
     requires ledger { (blank.name ≡ D.name) × (blank.parts ≡ D.parts) }
     requires parts { blank.parts ≡ 4 }
+    requires opened { 3 ≡ D.shards }
 {
     let (live, seats) = Live::<D, Waiting<R>>::open(
         Waiting(rt),
@@ -301,6 +302,7 @@ fn two<D: Database + Send + Sync, R: Threads + Wait + Abort + Sync + Send + Drop
     requires history { history ≡ D.history }
     requires ledger { (blank.name ≡ D.name) × (blank.parts ≡ D.parts) }
     requires parts { blank.parts ≡ 2 }
+    requires opened { 1 ≡ D.shards }
 {
     let (live, mut seats) = Live::<D, Waiting<R>>::open(
         Waiting(rt),

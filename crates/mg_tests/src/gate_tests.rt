@@ -176,6 +176,7 @@ fn write_during_query<
     requires history { history ≡ D.history }
     requires ledger { (blank.name ≡ D.name) × (blank.parts ≡ D.parts) }
     requires parts { blank.parts ≡ 2 }
+    requires opened { 1 ≡ D.shards }
 {
     let ends = Waiting(rt);
     let (_live, seats) = Live::<D, Waiting<R>>::open(

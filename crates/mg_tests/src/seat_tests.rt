@@ -45,6 +45,7 @@ fn begun<D: Database + Send + Sync, R: Threads + Wait + Abort + Sync + Send + Dr
     requires history { history ≡ D.history }
     requires ledger { (blank.name ≡ D.name) × (blank.parts ≡ D.parts) }
     requires parts { blank.parts ≡ 1 }
+    requires opened { 2 ≡ D.shards }
 {
     let ends = Waiting(rt);
     let (_live, mut seats) = Live::<D, Waiting<R>>::open(
