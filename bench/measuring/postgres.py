@@ -11,6 +11,7 @@ import socket
 import struct
 import subprocess
 import tempfile
+import time
 
 from . import processes
 from .documents import PAGE, compact
@@ -122,6 +123,14 @@ class PostgreSQL:
             self.pid = int(file.readline())
         self.connection = Connection(self.folder, {})
         self.connection.query("CREATE UNLOGGED TABLE docs (id text PRIMARY KEY, body jsonb)")
+        self.wait_until_still()
+
+    def wait_until_still(self):
+        """Waits until what it does at its start is done, three seconds at most: its memory grows and shrinks meanwhile."""
+        sizes = []
+        while len(sizes) < 15 and sizes[-3:] != sizes[-1:] * 3 or len(sizes) < 3:
+            sizes.append(self.size())
+            time.sleep(0.2)
 
     def call(self, program, *words):
         front = ["runuser", "-u", "postgres", "--"] if os.getuid() == 0 else []

@@ -43,9 +43,10 @@ def family_processor(pid):
 
 
 def memory(pid):
-    """The bytes of a process that are in memory; of a page that several processes share its part."""
+    """The bytes of a process that are in memory, without those of programs and libraries; of a page that several processes share its part."""
     with open(f"/proc/{pid}/smaps_rollup") as file:
-        return next(int(line.split()[1]) * 1024 for line in file if line.startswith("Pss:"))
+        fields = dict(line.split()[:2] for line in file if line.startswith("Pss_"))
+    return (int(fields["Pss_Anon:"]) + int(fields["Pss_Shmem:"])) * 1024
 
 
 def family_memory(pid):

@@ -2,18 +2,20 @@
 
    usage: sqlite DATABASE LOCKING REQUESTS
 
-   REQUESTS is a file of lines. The first has the number of statements, and as many lines follow, a statement each. Each further line is a
-   request, with tabs between its parts: the number of its statement, how many rows are right (-1: it is no query), the ids of the first and
-   the last row, and the values, each a letter and its text: i for a whole number, t for a text. The program writes a line when it has read
-   them, waits for a byte, and sends them. A fifth of them are a warm-up; of the others it writes the number, and the seconds of processor
-   time and by the clock. A wrong answer ends it with status 1. */
+   REQUESTS is a file of records, each ended by the byte 30, with the byte 31 between its parts. The first has the number of statements, and
+   as many records follow, a statement each. Each further one is a request: the number of its statement, how many rows are right (-1: it is
+   no query), the ids of the first and the last row, and the values, each a letter and its text: i for a whole number, t for a text. The
+   program writes a line when it has read them, waits for a byte, and sends them. A fifth of them are a warm-up; of the others it writes the
+   number, and the seconds of processor time and by the clock. A wrong answer ends it with status 1. */
 #include <sqlite3.h>
 #include <stdio.h>
 #include <stdlib.h>
 #include <string.h>
 #include <time.h>
 
-enum { STATEMENTS = 8, PARTS = 8 };
+enum { STATEMENTS = 8, PARTS = 8, RECORD_END = 30 };
+
+#define BETWEEN "\x1f"
 
 typedef struct {
     int statement;
@@ -42,15 +44,24 @@ static void set(const char *setting, const char *value) {
     if (sqlite3_exec(database, text, NULL, NULL, NULL) != SQLITE_OK) fail(text);
 }
 
-/* Reads a line of a request; the parts stay where they are in the line. */
-static Request parsed(char *line) {
+/* Reads the next record, without its end. Returns NULL behind the last. */
+static char *record(FILE *file) {
+    char *text = NULL;
+    size_t size = 0;
+    ssize_t length = getdelim(&text, &size, RECORD_END, file);
+    if (length <= 0) return NULL;
+    text[length - 1] = 0;
+    return text;
+}
+
+/* Reads the record of a request; the parts stay where they are in it. */
+static Request parsed(char *text) {
     Request request = {0};
-    line[strcspn(line, "\n")] = 0;
-    request.statement = atoi(strsep(&line, "\t"));
-    request.count = atol(strsep(&line, "\t"));
-    request.first = strsep(&line, "\t");
-    request.last = strsep(&line, "\t");
-    while (line && request.values < PARTS) request.value[request.values++] = strsep(&line, "\t");
+    request.statement = atoi(strsep(&text, BETWEEN));
+    request.count = atol(strsep(&text, BETWEEN));
+    request.first = strsep(&text, BETWEEN);
+    request.last = strsep(&text, BETWEEN);
+    while (text && request.values < PARTS) request.value[request.values++] = strsep(&text, BETWEEN);
     return request;
 }
 
@@ -82,8 +93,6 @@ static void ask(sqlite3_stmt *statement, const Request *request) {
 }
 
 int main(int count, char **args) {
-    char *line = NULL;
-    size_t size = 0;
     sqlite3_stmt *statements[STATEMENTS] = {0};
     if (count != 4) fail("usage: sqlite DATABASE LOCKING REQUESTS");
     if (sqlite3_open(args[1], &database) != SQLITE_OK) fail(args[1]);
@@ -93,13 +102,14 @@ int main(int count, char **args) {
     set("synchronous", "OFF");
     set("mmap_size", "16000000000");
     FILE *file = fopen(args[3], "r");
-    if (!file || getline(&line, &size, file) < 0) fail(args[3]);
-    int number = atoi(line);
+    char *text = file ? record(file) : NULL;
+    if (!text) fail(args[3]);
+    int number = atoi(text);
     for (int at = 0; at < number && at < STATEMENTS; at++)
-        if (getline(&line, &size, file) < 0 || sqlite3_prepare_v2(database, line, -1, &statements[at], NULL) != SQLITE_OK) fail(line);
+        if (!(text = record(file)) || sqlite3_prepare_v2(database, text, -1, &statements[at], NULL) != SQLITE_OK) fail("a statement");
     Request *requests = NULL;
     size_t length = 0, room = 0;
-    for (char *text = NULL; size = 0, text = NULL, getline(&text, &size, file) > 0;) {
+    while ((text = record(file))) {
         if (length == room && !(requests = realloc(requests, (room = room * 2 + 1000) * sizeof *requests))) fail("memory");
         requests[length++] = parsed(text);
     }

@@ -149,12 +149,12 @@ class SQLiteInC(SQLite):
         asked = asked_of(self.corpus)
         kinds = sorted({one.kind for one in requests})
         name = self.file(f"requests-{client}")
-        with open(name, "w") as file:
-            file.write(f"{len(kinds)}\n" + "".join(f"{asked[kind]}\n" for kind in kinds))
+        with open(name, "w", newline="") as file:
+            file.writelines(f"{record}\x1e" for record in [len(kinds), *(asked[kind] for kind in kinds)])
             for one in requests:
                 answer = [-1, "", ""] if one.answer is None else [one.answer.count, one.answer.first, one.answer.last]
                 values = [f"{'i' if isinstance(word, int) else 't'}{word}" for word in one.about]
-                file.write("\t".join(map(str, [kinds.index(one.kind), *answer, *values])) + "\n")
+                file.write("\x1f".join(map(str, [kinds.index(one.kind), *answer, *values])) + "\x1e")
         return name
 
     def run_lists(self, lists):
