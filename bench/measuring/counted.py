@@ -9,7 +9,8 @@ from .documents import INDEXES, Corpus
 from .piped import Piped
 from .processes import run
 from .program import pairs
-from .rows import load
+from .rows import REQUESTS, load, say
+from .rust import PROGRAM, built
 
 KINDS = ["get", "equality", "falling", "two", "deep", "commit"]
 # what the gate counts, in half a minute
@@ -17,6 +18,8 @@ GATE = {
     "documents": 2000, "shape": "nested", "ids": "fronted", "shards": "1,16", "cache": 1 << 18, "requests": 40,
     "kinds": ["get", "equality", "falling", "two", "deep", "scan", "commit"],
 }
+# what bench/run counts
+MANY = {"documents": 50000, "shape": "flat", "ids": "short", "cache": 1 << 20, "requests": 60}
 
 
 class Counted(Piped):
@@ -61,9 +64,10 @@ def counted(path, corpus, setting, kinds, requests, cache):
         program.fill()
         found = {}
         for kind in kinds:
-            warm = requests // 2
-            asked = [(program.connection.prepare(one), one.answer) for one in corpus.requests(kind, requests + warm, 1)]
-            found[kind] = program.count(asked, warm)
+            # a scan reads all documents, so a few of them are as good as many
+            number = max(2, requests // 20) if kind == "scan" else requests
+            asked = [(program.connection.prepare(one), one.answer) for one in corpus.requests(kind, number + number // 2, 1)]
+            found[kind] = program.count(asked, number // 2)
         return found
 
 
@@ -75,3 +79,26 @@ def of_sizes(path, sizes):
         made = counted(path, corpus, (shards, workers), sizes["kinds"], sizes["requests"], sizes["cache"])
         found[f"{shards}/{workers}"] = {kind: [round(instructions), round(reads)] for kind, (instructions, reads) in made.items()}
     return found
+
+
+def counts(words):
+    """What the gate counts, and the same of plain Rust, at more documents: for each program and number of shards, and each kind."""
+    sizes = {**GATE, **({"documents": 1000, "shards": "1", "requests": 4} if words.smallest else MANY)}
+    programs = {"mangod": words.program} if words.smallest or not built() else {"mangod": words.program, "plain Rust": PROGRAM}
+    found = {}
+    for name, path in programs.items():
+        say(f"counted: {name}")
+        for setting, kinds in of_sizes(path, sizes if name == "mangod" else {**sizes, "shards": "1"}).items():
+            found[f"{name} {setting}"] = kinds
+    return found
+
+
+def counts_table(found):
+    """A table of instructions and reads from memory, with a column for each program."""
+    if not found:
+        return
+    yield f"| instructions, and reads from memory | {' | '.join(found)} |"
+    yield "|---" * (len(found) + 1) + "|"
+    for kind in GATE["kinds"]:
+        cells = ["{:,}, {:,}".format(*kinds[kind]) for kinds in found.values()]
+        yield f"| {REQUESTS[kind][0]} | {' | '.join(cells)} |"
