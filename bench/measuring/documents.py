@@ -59,6 +59,10 @@ class Corpus:
         """Where a member stands that is asked for."""
         return self.shape.paths[member]
 
+    def number(self, name):
+        """The number of the document that an id names, or that a new document copies whose id begins with one."""
+        return int(name.partition(":")[2][:7] or name[1:8])
+
     def columns(self, which):
         """The paths of an index."""
         return [self.path(member) for member in INDEXES[which]]

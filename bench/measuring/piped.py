@@ -34,23 +34,16 @@ class Session(Connection):
 
 
 class Piped(Program):
-    """The program with one session over pipes, under a tool if there is one. With one worker its processor time is that of its one
-    thread, in nanoseconds, by /proc."""
+    """The program with one session over pipes, under a tool if there is one."""
 
     def __init__(self, path, corpus, setting, tool=()):
-        self.corpus, self.has_one_thread = corpus, setting[1] == 1
+        self.corpus = corpus
         words = [*tool, path, "db", *map(str, setting), "1", "-"]
         self.process = subprocess.Popen(words, stdin=subprocess.PIPE, stdout=subprocess.PIPE)
         self.connection = Session(self.process, corpus)
 
     def client(self):
         return self.connection
-
-    def processor(self):
-        if not self.has_one_thread:
-            return super().processor()
-        with open(f"/proc/{self.process.pid}/schedstat") as file:
-            return int(file.read().split()[0]) / 1e9
 
 
 def figures(path, corpus, setting, share, turn):

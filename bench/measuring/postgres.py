@@ -1,7 +1,8 @@
 """PostgreSQL as a peer: a table of ids and `jsonb`, with indexes on its members, and a small client of its wire protocol.
 
 A cluster of its own is made in a temporary folder, with a Unix socket alone, and without waits for a disk. As root it runs as the
-user postgres. Statements are prepared once a connection. Processor time is that of all its processes.
+user postgres. The table is unlogged. Statements are prepared once a connection, and planned once (plan_cache_mode is force_generic_plan);
+EXPLAIN has to show that each but the scan reads an index. Processor time and memory are those of all its processes.
 """
 import glob
 import os
@@ -10,6 +11,7 @@ import socket
 import struct
 import subprocess
 import tempfile
+import time
 
 from . import processes
 from .documents import PAGE, compact
@@ -18,6 +20,7 @@ SETTINGS = {
     "listen_addresses": "''", "fsync": "off", "synchronous_commit": "off", "full_page_writes": "off", "autovacuum": "off",
     "shared_buffers": "2GB", "maintenance_work_mem": "512MB", "max_wal_size": "8GB", "jit": "off",
     "max_parallel_workers_per_gather": "0", "max_parallel_maintenance_workers": "0",
+    "plan_cache_mode": "force_generic_plan",
 }
 ROW = "SELECT id, body FROM docs WHERE "
 JSON_WORDS = {"equality": {0}, "falling": {0}, "two": {0, 1}, "deep": {0}, "scan": {0}}
@@ -119,7 +122,15 @@ class PostgreSQL:
         with open(os.path.join(self.data, "postmaster.pid")) as file:
             self.pid = int(file.readline())
         self.connection = Connection(self.folder, {})
-        self.connection.query("CREATE TABLE docs (id text PRIMARY KEY, body jsonb)")
+        self.connection.query("CREATE UNLOGGED TABLE docs (id text PRIMARY KEY, body jsonb)")
+        self.wait_until_still()
+
+    def wait_until_still(self):
+        """Waits until what it does at its start is done, three seconds at most: its memory grows and shrinks meanwhile."""
+        sizes = []
+        while len(sizes) < 15 and sizes[-3:] != sizes[-1:] * 3 or len(sizes) < 3:
+            sizes.append(self.size())
+            time.sleep(0.2)
 
     def call(self, program, *words):
         front = ["runuser", "-u", "postgres", "--"] if os.getuid() == 0 else []
@@ -135,7 +146,10 @@ class PostgreSQL:
         return processes.family_processor(self.pid)
 
     def size(self):
-        """The bytes of its table and indexes: its processes share their memory, so theirs says little."""
+        return processes.family_memory(self.pid)
+
+    def pages(self):
+        """The bytes of its table and indexes."""
         parts = self.connection.query("SELECT pg_total_relation_size('docs')")
         return int(next(text for kind, text in parts if kind == b"D")[6:])
 
@@ -155,6 +169,20 @@ class PostgreSQL:
 
     def settle(self):
         self.connection.query("VACUUM ANALYZE docs")
+        client = self.client()
+        for kind in asked_of(self.corpus):
+            if kind not in ("scan", "commit"):
+                self.check_plan(client, self.corpus.requests(kind, 1, "plan")[0])
+        client.socket.close()
+
+    def check_plan(self, client, request):
+        """Ends the run unless the plan of a statement reads an index, and not the whole table."""
+        words = [compact(word) if place in JSON_WORDS.get(request.kind, ()) else word for place, word in enumerate(request.about)]
+        quoted = ", ".join("'{}'".format(word.replace("'", "''")) for word in words)
+        parts = client.query(f"EXPLAIN EXECUTE {request.kind} ({quoted})")
+        plan = "\n".join(text[6:].decode() for kind, text in parts if kind == b"D")
+        if "Index" not in plan or "Seq Scan" in plan:
+            raise SystemExit(f"PostgreSQL does not read {request.kind} by an index:\n{plan}")
 
     def share(self):
         """Nothing is to be done before several clients come."""

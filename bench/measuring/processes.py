@@ -9,35 +9,49 @@ import time
 TICK = os.sysconf("SC_CLK_TCK")
 
 
+def processor(pid):
+    """The seconds of processor time, user and system, of a process and all its threads, to the nanosecond: the clock that
+    clock_getcpuclockid(3) names."""
+    return time.clock_gettime((~pid << 3) | 2)
+
+
 def stat(pid):
     """The fields of /proc/PID/stat after the name; the first is the state."""
     with open(f"/proc/{pid}/stat") as file:
         return file.read().rpartition(")")[2].split()
 
 
-def processor(pid):
-    """The seconds of processor time, user and system, of a process and all its threads."""
-    fields = stat(pid)
-    return (int(fields[11]) + int(fields[12])) / TICK
-
-
-def family_processor(pid):
-    """The seconds of a process, its children, and the children that have ended."""
-    fields = stat(pid)
-    total = sum(map(int, fields[11:15])) / TICK
+def children(pid):
+    """The processes that a process has started and that have not ended."""
     for other in filter(str.isdigit, os.listdir("/proc")):
         try:
             if int(stat(other)[1]) == pid:
-                total += processor(other)
+                yield int(other)
+        except OSError:
+            pass
+
+
+def family_processor(pid):
+    """The seconds of a process, its children, and the children that have ended; the last in ticks."""
+    total = processor(pid) + sum(map(int, stat(pid)[13:15])) / TICK
+    for child in children(pid):
+        try:
+            total += processor(child)
         except OSError:
             pass
     return total
 
 
-def resident(pid):
-    """The bytes of a process that are in memory."""
-    with open(f"/proc/{pid}/status") as file:
-        return next(int(line.split()[1]) * 1024 for line in file if line.startswith("VmRSS"))
+def memory(pid):
+    """The bytes of a process that are in memory, without those of programs and libraries; of a page that several processes share its part."""
+    with open(f"/proc/{pid}/smaps_rollup") as file:
+        fields = dict(line.split()[:2] for line in file if line.startswith("Pss_"))
+    return (int(fields["Pss_Anon:"]) + int(fields["Pss_Shmem:"])) * 1024
+
+
+def family_memory(pid):
+    """The bytes of a process and its children."""
+    return memory(pid) + sum(memory(child) for child in children(pid))
 
 
 class Use:
@@ -45,6 +59,9 @@ class Use:
 
     def __init__(self, requests, processor, clock, clients=1):
         self.requests, self.processor, self.clock, self.clients = requests, processor, clock, clients
+
+    def __add__(self, other):
+        return Use(self.requests + other.requests, self.processor + other.processor, self.clock + other.clock, self.clients)
 
     def figures(self):
         """Microseconds a request of processor time and as a client waits, and requests a second of all clients."""
@@ -139,7 +156,9 @@ def for_a_time(system, lists, seconds):
 
 
 def measured(system, lists):
-    """The same, but one client of a system that lives in this process is this process."""
+    """What the requests took. A system may have a way of its own; a single client of one that lives in this process is this process."""
+    if hasattr(system, "run_lists"):
+        return system.run_lists(lists)
     if not (system.in_process and len(lists) == 1):
         return side_by_side(system, lists)
     client = system.own_client()

@@ -1,5 +1,6 @@
 """The program that is measured, mangod, over TCP with connections that stay open."""
 import json
+import os
 import socket
 import subprocess
 
@@ -91,14 +92,14 @@ class Program:
     """The program with one database of the documents, with so many shards and workers."""
 
     in_process = False
+    called = "mangod"
 
     def __init__(self, path, corpus, setting=(1, 1), sessions=8):
-        shards, workers = setting
-        self.name = "mangod" if setting == (1, 1) else f"mangod, {titled(setting)}"
+        self.name = self.called if setting == (1, 1) else f"{self.called}, {titled(setting)}"
         self.corpus, self.port = corpus, free_port()
-        words = [path, "db", str(shards), str(workers), str(sessions), f"127.0.0.1:{self.port}"]
+        words = [path, "db", *map(str, setting), str(sessions), f"127.0.0.1:{self.port}"]
         self.process = subprocess.Popen(words, stdin=subprocess.DEVNULL, stderr=subprocess.PIPE)
-        if self.process.stderr.readline() != b"mangod: listening\n":
+        if self.process.stderr.readline() != f"{os.path.basename(path)}: listening\n".encode():
             raise SystemExit(f"{path} does not listen")
         self.connection = self.client()
 
@@ -109,7 +110,7 @@ class Program:
         return processes.processor(self.process.pid)
 
     def size(self):
-        return processes.resident(self.process.pid)
+        return processes.memory(self.process.pid)
 
     def prepare_bulk(self, numbers):
         return message("POST", "_bulk_docs", {"docs": [{"_id": self.corpus.name(i), **self.corpus.body(i)} for i in numbers]})

@@ -1,43 +1,54 @@
-"""The rows of one database: what is measured, in which order, and how many requests of each.
+"""The rows of one database: what is measured, in which order, and for how long.
 
 What changes the documents comes last, since the answers are those of the documents that were loaded.
 """
 import sys
 import time
+from dataclasses import dataclass
 
 from . import processes
 from .documents import BULK, INDEXES
-from .processes import TICK, Use
+from .processes import Use
 
-# each kind of request, its name in tables, and how many of it one client alone sends; a scan is counted by the documents instead
+# each kind of request, its name in tables, and how many of it each client sends at least
 REQUESTS = {
-    "get": ("`GET` of a document", 20000),
-    "equality": ("20 documents by an index", 10000),
-    "falling": ("25 below a price, descending", 10000),
-    "two": ("25 of a kind from a price on, two columns", 10000),
-    "deep": ("page 1,000 of 25, by its bookmark", 10000),
-    "scan": ("one document without an index", 0),
-    "commit": ("a commit of one document, three indexes", 10000),
-    "mixture": ("nine `GET`s to one commit", 20000),
+    "get": ("`GET` of a document", 500),
+    "equality": ("20 documents by an index", 200),
+    "falling": ("25 below a price, descending", 200),
+    "two": ("25 of a kind from a price on, two columns", 200),
+    "deep": ("page 1,000 of 25, by its bookmark", 200),
+    "scan": ("one document without an index", 5),
+    "commit": ("a commit of one document, three indexes", 200),
+    "mixture": ("nine `GET`s to one commit", 200),
 }
+WRITES = {"commit": 1, "mixture": 10}
 ONCE = {
     "load": "load by bulks of 1,000, documents a second",
     "build": "an index on one field, ms",
     "memory": "memory a document, bytes",
     "indexed": "the same with three indexes",
+    "pages": "bytes on its pages a document, with three indexes",
 }
-SCANNED = 1500000
 CHUNK = 50
+SECONDS = 2
+ROUND = 40000
+
+
+@dataclass(frozen=True)
+class Measure:
+    """What is measured of a database: by how many clients, which rows, and which part of two seconds of processor time each takes."""
+
+    clients: list
+    rows: list
+    share: float
+
+    def least(self, kind):
+        """How many requests of a kind each client sends at least."""
+        return max(2, int(REQUESTS[kind][1] * min(1, self.share)))
 
 
 def say(*words):
     print(*words, file=sys.stderr, flush=True)
-
-
-def number_of(kind, count, share, clients):
-    """How many requests of a kind each of so many clients sends."""
-    wanted = SCANNED // count if kind == "scan" else REQUESTS[kind][1]
-    return max(2, int(wanted * share / clients**0.5))
 
 
 def load(system, corpus):
@@ -52,7 +63,7 @@ def load(system, corpus):
             system.send_bulk(bulk, count)
         used += system.processor() - before
         clock += time.monotonic() - start
-    return Use(corpus.count, max(used, 1 / TICK), clock)
+    return Use(corpus.count, used, clock)
 
 
 def build(system, which):
@@ -65,40 +76,63 @@ def prepared_database(system, corpus, empty):
     """Loads the documents and builds the indexes; gives the figures that are had once."""
     rows = {"load": load(system, corpus).figures()}
     rows["memory"] = {"bytes": (system.size() - empty) / corpus.count}
-    rows["build"] = {which: build(system, which) for which in INDEXES}["price"].figures()
-    rows["indexed"] = {"bytes": (system.size() - empty) / corpus.count}
+    if hasattr(system, "index"):
+        rows["build"] = {which: build(system, which) for which in INDEXES}["price"].figures()
+        rows["indexed"] = {"bytes": (system.size() - empty) / corpus.count}
     system.settle()
+    if hasattr(system, "pages"):
+        rows["pages"] = {"bytes": system.pages() / corpus.count}
     return rows
 
 
-def measure(make, corpus, share, clients, turn):
+def measure(make, corpus, wanted, turn):
     """The figures of one database, made, measured and ended."""
     system = make(corpus)
     try:
         rows = prepared_database(system, corpus, system.size())
         report(system, corpus, rows)
-        rows.update(requests(system, corpus, share, clients, turn))
+        rows.update(requests(system, corpus, wanted, turn))
     finally:
         system.close()
     return system.name, rows
 
 
-def requests(system, corpus, share, clients, turn):
+def requests(system, corpus, wanted, turn):
     """The figures of each kind of request, by each number of clients."""
     rows = {}
-    if max(clients) > 1:
+    if max(wanted.clients) > 1:
         system.share()
-    for kind in REQUESTS:
-        for number in clients:
-            many = number_of(kind, corpus.count, share, number)
-            lists = [corpus.requests(kind, many, f"{turn}{number}{client}{kind[0]}") for client in range(number)]
-            figures = rows[f"{kind} {number}"] = processes.measured(system, lists).figures()
+    for kind in wanted.rows:
+        if kind not in getattr(system, "kinds", REQUESTS):
+            continue
+        for number in wanted.clients:
+            figures = rows[f"{kind} {number}"] = row(system, kind, number, wanted, turn).figures()
             say(f"{corpus.count:,} documents, {system.name}, clients {number}, {kind}: {figures['processor_us']:.1f} us of processor, "
-                f"{figures['a_second']:,.0f} a second")
+                f"{figures['a_second']:,.0f} a second, {figures['requests']:,} requests")
     return rows
 
 
+def row(system, kind, clients, wanted, turn):
+    """What requests of a kind took, by so many clients: after a warm-up as many as take the time that is wanted. New documents are at
+    most as many as there were, since a database grows by them."""
+    def sent(count, part):
+        seeds = [f"{turn}-{clients}-{client}-{kind}-{part}" for client in range(clients)]
+        return processes.measured(system, [system.corpus.requests(kind, count, seed) for seed in seeds])
+
+    seconds, least = SECONDS * wanted.share, wanted.least(kind)
+    estimate = sent(max(2, least // 2), "warm-up").processor / max(2, least // 2) / clients
+    most = max(least, WRITES[kind] * system.corpus.count // clients) if kind in WRITES else 10**9
+    used, count = None, 0
+    while count < least or (used.processor < seconds * 0.9 and count < most):
+        rest = seconds - (used.processor if used else 0)
+        part = max(least, min(ROUND, most - count, int(rest / max(estimate, 1e-7) / clients)))
+        used = used + sent(part, count) if used else sent(part, count)
+        count += part
+    return used
+
+
 def report(system, corpus, rows):
+    index = f"{rows['build']['processor_us'] / 1e3:,.1f} ms" if "build" in rows else "none"
     say(f"{corpus.count:,} documents, {system.name}: load {1e6 / rows['load']['processor_us']:,.0f} a second of processor, "
-        f"{rows['load']['a_second']:,.0f} by the clock; memory {rows['memory']['bytes']:,.0f}, with indexes {rows['indexed']['bytes']:,.0f}; "
-        f"index {rows['build']['processor_us'] / 1e3:,.1f} ms")
+        f"{rows['load']['a_second']:,.0f} by the clock; memory {rows['memory']['bytes']:,.0f}, "
+        f"with indexes {rows.get('indexed', rows['memory'])['bytes']:,.0f}; index {index}")

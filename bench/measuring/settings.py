@@ -56,14 +56,20 @@ def figures(words, corpus, setting, turn):
 
 
 def settings(words):
-    """A table for each number of documents, with a column for each pair of shards and workers. The pairs are measured in turn, as often
-    as is asked for, so that a slow minute of the machine meets all of them."""
-    for count in words.documents:
+    """For each number of documents and each pair the figures of each row. The pairs are measured in turn, as often as is asked for, so that a
+    slow minute of the machine meets all of them."""
+    found = {}
+    for count in words.pairs_documents:
         corpus = words.corpus(count, shape="nested")
         made = [[figures(words, corpus, setting, turn) for setting in PAIRS] for turn in range(words.repeat)]
-        lines = [f"| {count:,} documents; shards and workers | {' | '.join('{} {}'.format(*setting) for setting in PAIRS)} |"]
+        found[count] = {title: [[turn[place][title] for turn in made] for place in range(len(PAIRS))] for title in made[0][0]}
+    return found
+
+
+def settings_tables(found):
+    """A table for each number of documents, with a column for each pair of shards and workers."""
+    for count, rows in found.items():
+        lines = [f"| {int(count):,} documents; shards and workers | {' | '.join('{} {}'.format(*setting) for setting in PAIRS)} |"]
         lines.append("|---" * (len(PAIRS) + 1) + "|")
-        for title in made[0][0]:
-            cells = [cell([turn[place][title] for turn in made]) for place in range(len(PAIRS))]
-            lines.append(f"| {title} | {' | '.join(cells)} |")
+        lines += [f"| {title} | {' | '.join(map(cell, pairs))} |" for title, pairs in rows.items()]
         yield "\n".join(lines)

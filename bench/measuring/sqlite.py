@@ -1,13 +1,14 @@
-"""SQLite by Python's sqlite3, as a peer: a table of ids and JSON texts, with indexes on json_extract.
+"""SQLite as a peer, by its C interface and by Python's sqlite3: a table of ids and JSON texts, with indexes on json_extract.
 
 The database is a file in /dev/shm, where that has room, with a write-ahead log and without waits for a disk. The file is mapped: a
 large cache instead, or a database in memory, makes a commit look through the cache, so that it grows with the documents (to 0.2 ms
 and more at 300,000). One client is the process itself, which has the file for itself. For several clients there is a copy, and each is
-a process that opens it. Processor time is that of the clients, with Python's share of each call.
+a process that opens it. Processor time is that of the clients: of Python with its share of each call, of sqlite.c without.
 """
 import os
 import shutil
 import sqlite3
+import subprocess
 import tempfile
 import time
 
@@ -66,7 +67,7 @@ class Connection:
 
 
 class SQLite:
-    name = "SQLite"
+    name = "SQLite by Python"
     in_process = True
 
     def __init__(self, corpus):
@@ -89,7 +90,11 @@ class SQLite:
         return time.process_time()
 
     def size(self):
-        return processes.resident(os.getpid())
+        return processes.memory(os.getpid())
+
+    def pages(self):
+        """The bytes of its pages."""
+        return self.database.execute("SELECT page_count * page_size FROM pragma_page_count(), pragma_page_size()").fetchone()[0]
 
     def prepare_bulk(self, numbers):
         return [(self.corpus.name(i), compact(self.corpus.body(i))) for i in numbers]
@@ -117,3 +122,53 @@ class SQLite:
     def close(self):
         self.database.close()
         self.folder.cleanup()
+
+
+class SQLiteInC(SQLite):
+    """The same database; its requests are sent by sqlite.c."""
+
+    name = "SQLite by C"
+
+    def settle(self):
+        """Leaves the file to the programs that come."""
+        super().settle()
+        self.bytes_on_pages = super().pages()
+        self.database.close()
+        self.program = os.path.join(self.folder.name, "program")
+        source = os.path.join(os.path.dirname(__file__), "sqlite.c")
+        subprocess.run(["cc", "-O2", "-D_GNU_SOURCE", "-o", self.program, source, "-lsqlite3"], check=True)
+
+    def pages(self):
+        return self.bytes_on_pages
+
+    def share(self):
+        """The file is shared as it is."""
+
+    def write_requests(self, requests, client):
+        """Writes the file of the requests of a client, and gives its name."""
+        asked = asked_of(self.corpus)
+        kinds = sorted({one.kind for one in requests})
+        name = self.file(f"requests-{client}")
+        with open(name, "w", newline="") as file:
+            file.writelines(f"{record}\x1e" for record in [len(kinds), *(asked[kind] for kind in kinds)])
+            for one in requests:
+                answer = [-1, "", ""] if one.answer is None else [one.answer.count, one.answer.first, one.answer.last]
+                values = [f"{'i' if isinstance(word, int) else 't'}{word}" for word in one.about]
+                file.write("\x1f".join(map(str, [kinds.index(one.kind), *answer, *values])) + "\x1e")
+        return name
+
+    def run_lists(self, lists):
+        locking = "EXCLUSIVE" if len(lists) == 1 else "NORMAL"
+        names = [self.write_requests(requests, client) for client, requests in enumerate(lists)]
+        words = [[self.program, self.file("own"), locking, name] for name in names]
+        clients = [subprocess.Popen(one, stdin=subprocess.PIPE, stdout=subprocess.PIPE, text=True) for one in words]
+        if any(client.stdout.readline() != "ready\n" for client in clients):
+            raise SystemExit("SQLite by C is not ready")
+        for client in clients:
+            client.stdin.write("\n")
+            client.stdin.flush()
+        told = [client.stdout.readline().split() for client in clients]
+        if any(client.wait() for client in clients) or not all(told):
+            raise SystemExit("SQLite by C has failed")
+        counts, used, clocks = zip(*told)
+        return processes.Use(sum(map(int, counts)), sum(map(float, used)), max(map(float, clocks)), len(lists))

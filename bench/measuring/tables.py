@@ -60,4 +60,5 @@ class Results:
             (ONCE["build"] + " of processor time", "build", "processor_us", lambda value: value / 1e3),
             (ONCE["memory"], "memory", "bytes", float),
             (ONCE["indexed"], "indexed", "bytes", float),
+            (ONCE["pages"], "pages", "bytes", float),
         ])

@@ -1,0 +1,104 @@
+"""What requests of each kind take, counted by callgrind of valgrind: instructions, and reads that a simulated cache fetches from memory."""
+import contextlib
+import glob
+import os
+import subprocess
+import tempfile
+
+from .documents import INDEXES, Corpus
+from .piped import Piped
+from .processes import run
+from .program import pairs
+from .rows import REQUESTS, load, say
+from .rust import PROGRAM, built
+
+KINDS = ["get", "equality", "falling", "two", "deep", "commit"]
+# what the gate counts, in half a minute
+GATE = {
+    "documents": 2000, "shape": "nested", "ids": "fronted", "shards": "1,16", "cache": 1 << 18, "requests": 40,
+    "kinds": ["get", "equality", "falling", "two", "deep", "scan", "commit"],
+}
+# what bench/run counts
+MANY = {"documents": 50000, "shape": "flat", "ids": "short", "cache": 1 << 20, "requests": 60}
+
+
+class Counted(Piped):
+    """The program under callgrind, which counts only what is asked for."""
+
+    def __init__(self, path, corpus, setting, cache, folder):
+        tool = ["valgrind", "--quiet", "--tool=callgrind", "--instr-atstart=no", "--cache-sim=yes"]
+        tool += [f"--LL={cache},16,64", f"--callgrind-out-file={folder}/counts", f"--log-file={folder}/log"]
+        super().__init__(path, corpus, setting, tool)
+        self.folder = folder
+
+    def fill(self):
+        load(self, self.corpus)
+        for which in INDEXES:
+            self.index(which)
+
+    def control(self, *words):
+        subprocess.run(["callgrind_control", *words, str(self.process.pid)], check=True, capture_output=True)
+
+    def count(self, asked, warm):
+        """The instructions and the reads from memory of a request, after so many as a warm-up, which the simulated cache sees too."""
+        self.control("--instr=on")
+        run(self.connection, asked[:warm])
+        self.control("--zero")
+        run(self.connection, asked[warm:])
+        self.control("--dump")
+        self.control("--instr=off")
+        found = self.newest()
+        return found["Ir"] / (len(asked) - warm), found["DLmr"] / (len(asked) - warm)
+
+    def newest(self):
+        """The sums of the last dump."""
+        name = max(glob.glob(f"{self.folder}/counts.*"), key=lambda one: int(one.rpartition(".")[2]))
+        with open(name) as counts:
+            lines = dict(line.rstrip("\n").split(": ", 1) for line in counts if line.startswith(("events: ", "totals: ")))
+        return dict(zip(lines["events"].split(), map(int, lines["totals"].split())))
+
+
+def counted(path, corpus, setting, kinds, requests, cache):
+    """For each kind the instructions and the reads from memory of a request, all of one database."""
+    with tempfile.TemporaryDirectory() as folder, contextlib.closing(Counted(path, corpus, setting, cache, folder)) as program:
+        program.fill()
+        found = {}
+        for kind in kinds:
+            # a scan reads all documents, so a few of them are as good as many
+            number = max(2, requests // 20) if kind == "scan" else requests
+            asked = [(program.connection.prepare(one), one.answer) for one in corpus.requests(kind, number + number // 2, 1)]
+            found[kind] = program.count(asked, number // 2)
+        return found
+
+
+def of_sizes(path, sizes):
+    """The counts of each number of shards, by its text, and each kind: whole numbers of instructions and of reads."""
+    corpus = Corpus(sizes["documents"], sizes["shape"], sizes["ids"])
+    found = {}
+    for shards, workers in pairs(sizes["shards"]):
+        made = counted(path, corpus, (shards, workers), sizes["kinds"], sizes["requests"], sizes["cache"])
+        found[f"{shards}/{workers}"] = {kind: [round(instructions), round(reads)] for kind, (instructions, reads) in made.items()}
+    return found
+
+
+def counts(words):
+    """What the gate counts, and the same of plain Rust, at more documents: for each program and number of shards, and each kind."""
+    sizes = {**GATE, **({"documents": 1000, "shards": "1", "requests": 4} if words.smallest else MANY)}
+    programs = {"mangod": words.program} if words.smallest or not built() else {"mangod": words.program, "plain Rust": PROGRAM}
+    found = {}
+    for name, path in programs.items():
+        say(f"counted: {name}")
+        for setting, kinds in of_sizes(path, sizes if name == "mangod" else {**sizes, "shards": "1"}).items():
+            found[f"{name} {setting}"] = kinds
+    return found
+
+
+def counts_table(found):
+    """A table of instructions and reads from memory, with a column for each program."""
+    if not found:
+        return
+    yield f"| instructions, and reads from memory | {' | '.join(found)} |"
+    yield "|---" * (len(found) + 1) + "|"
+    for kind in GATE["kinds"]:
+        cells = ["{:,}, {:,}".format(*kinds[kind]) for kinds in found.values()]
+        yield f"| {REQUESTS[kind][0]} | {' | '.join(cells)} |"

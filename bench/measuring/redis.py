@@ -1,0 +1,93 @@
+"""Redis as a peer for what it has: a text by its id, and a commit of one. Nothing is written to a disk."""
+import shutil
+import socket
+import subprocess
+import time
+
+from . import processes
+from .documents import compact
+from .program import free_port
+
+
+def program():
+    return shutil.which("redis-server")
+
+
+def command(*words):
+    parts = [word.encode() for word in words]
+    return b"*%d\r\n" % len(parts) + b"".join(b"$%d\r\n%s\r\n" % (len(part), part) for part in parts)
+
+
+class Connection:
+    """A connection that sends a command when it has read the answer to the one before."""
+
+    def __init__(self, port):
+        self.socket = socket.create_connection(("127.0.0.1", port), timeout=600)
+        self.socket.setsockopt(socket.IPPROTO_TCP, socket.TCP_NODELAY, 1)
+
+    def exchange(self, text):
+        """The answer: a line, or a text behind a line with its length."""
+        self.socket.sendall(text)
+        data = b""
+        while True:
+            data += self.socket.recv(1 << 16)
+            end = data.find(b"\r\n") + 2
+            if end >= 2 and (data[:1] != b"$" or len(data) == end + int(data[1 : end - 2]) + 2):
+                return data
+            if not data:
+                raise OSError("Redis has closed the connection")
+
+    def prepare(self, request):
+        return command("GET", request.about[0]) if request.kind == "get" else command("SET", *request.about)
+
+    def ask(self, text, answer):
+        data = self.exchange(text)
+        if data != b"+OK\r\n" if answer is None else not data.startswith(b"$") or f'"_id":"{answer.first}"'.encode() not in data:
+            raise ValueError(f"{text[:300]!r} was answered by {data[:300]!r}, wanted {answer}")
+
+
+class Redis:
+    name = "Redis"
+    in_process = False
+    kinds = ("get", "commit", "mixture")
+
+    def __init__(self, corpus):
+        self.corpus, self.port = corpus, free_port()
+        words = [program(), "--bind", "127.0.0.1", "--port", str(self.port), "--save", "", "--appendonly", "no"]
+        self.process = subprocess.Popen(words, stdin=subprocess.DEVNULL, stdout=subprocess.DEVNULL)
+        for turn in range(200):
+            time.sleep(0.05)
+            try:
+                self.connection = self.client()
+                return
+            except OSError:
+                if self.process.poll() is not None:
+                    break
+        raise SystemExit("Redis does not start")
+
+    def client(self):
+        return Connection(self.port)
+
+    def processor(self):
+        return processes.processor(self.process.pid)
+
+    def size(self):
+        return processes.memory(self.process.pid)
+
+    def prepare_bulk(self, numbers):
+        documents = ((self.corpus.name(i), compact({"_id": self.corpus.name(i), **self.corpus.body(i)})) for i in numbers)
+        return command("MSET", *(word for document in documents for word in document))
+
+    def send_bulk(self, text, count):
+        if self.connection.exchange(text) != b"+OK\r\n":
+            raise SystemExit("Redis has not taken a bulk")
+
+    def settle(self):
+        """Nothing is left to do after a load."""
+
+    def share(self):
+        """Nothing is to be done before several clients come."""
+
+    def close(self):
+        self.process.kill()
+        self.process.wait()

@@ -1,0 +1,28 @@
+"""A whole measurement as Markdown, and what is kept of it in a file."""
+from .counted import counts_table
+from .settings import settings_tables
+from .tables import Results
+
+
+def rounded(value):
+    """What is kept in a file: figures of at most six digits."""
+    if isinstance(value, float):
+        return float(f"{value:.6g}")
+    if isinstance(value, dict):
+        return {str(name): rounded(one) for name, one in value.items()}
+    return list(map(rounded, value)) if isinstance(value, (list, tuple)) else value
+
+
+def report(found):
+    """All tables of a measurement, as Markdown, behind a line on the machine and the commit."""
+    results = Results()
+    results.add_all(found["runs"])
+    yield f"{found['machine']}, commit {found['commit']}"
+    if results.runs:
+        yield from results.tables(found["clients"])
+    yield from settings_tables(found["settings"])
+    if found["counts"]:
+        yield "\n".join(counts_table(found["counts"]))
+    yield from ("\n".join(lines) for lines in found["lines"].values())
+    for part, lines in found["parts"].items():
+        yield "\n".join([f"| {part} | |\n|---|---|", *(f"| {what} | {figure} |" for what, figure in lines)])

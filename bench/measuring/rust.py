@@ -1,0 +1,28 @@
+"""The same server in plain Rust, of bench/peer, as a peer: it takes the same arguments and the same requests."""
+import os
+import subprocess
+
+from .program import Program
+
+FOLDER = os.path.join(os.path.dirname(os.path.dirname(os.path.abspath(__file__))), "peer")
+CARGO = "/usr/bin/cargo"
+PROGRAM = os.path.join(FOLDER, "target", "release", "peer")
+CRATES = "/usr/share/cargo/registry"
+
+
+def built():
+    """The program, made by Debian's cargo from Debian's crates; none where these are not installed."""
+    if not (os.path.exists(CARGO) and os.path.isdir(CRATES)):
+        return None
+    home = os.path.join(FOLDER, "target", "home")
+    os.makedirs(home, exist_ok=True)
+    words = [CARGO, "build", "--release", "--offline", "--locked", "--quiet"]
+    subprocess.run(words, cwd=FOLDER, env={"PATH": "/usr/bin:/bin", "HOME": home, "CARGO_HOME": home}, check=True)
+    return PROGRAM
+
+
+class PlainRust(Program):
+    called = "plain Rust"
+
+    def __init__(self, corpus):
+        super().__init__(PROGRAM, corpus)

@@ -1,0 +1,179 @@
+"""Tarantool as a peer: a space of ids and documents in memory, with indexes on paths, and a small client of its binary protocol.
+
+Nothing is written to a disk (wal_mode is none). A query is a SELECT of an index, a commit an INSERT, and the scan a stored function in Lua.
+"""
+import os
+import shutil
+import socket
+import subprocess
+import tempfile
+import time
+
+from . import processes
+from .documents import PAGE
+from .program import free_port
+
+SCRIPT = """
+local port, text = arg[1], arg[2]
+box.cfg{listen = '127.0.0.1:' .. port, wal_mode = 'none', memtx_memory = 16 * 1024 ^ 3, checkpoint_interval = 0, log_level = 1}
+box.schema.user.grant('guest', 'super', nil, nil, {if_not_exists = true})
+local docs = box.schema.space.create('docs', {id = 600})
+docs:create_index('primary', {id = 0, parts = {{1, 'string'}}})
+local steps = {}
+for step in text:gmatch('[^.]+') do steps[#steps + 1] = step end
+function scan(wanted)
+    local found = {}
+    for _, row in docs:pairs() do
+        local value = row[2]
+        for _, step in ipairs(steps) do value = value[step] end
+        if value == wanted then found[#found + 1] = row end
+    end
+    return found
+end
+function index(number, name, ...)
+    local parts = {}
+    for _, path in ipairs{...} do parts[#parts + 1] = {field = 2, path = path, type = 'scalar'} end
+    docs:create_index(name, {id = number, unique = false, parts = parts})
+end
+"""
+SPACE = 600
+INDEXES = {"group": 1, "price": 2, "kind": 3}
+EQUAL, LESS, AT_LEAST, GREATER = 0, 3, 5, 6
+SELECT, INSERT, CALL = 1, 2, 10
+
+
+def program():
+    return shutil.which("tarantool")
+
+
+def packed(value):
+    """A value of JSON as MessagePack; whole numbers of up to 64 bits that are not negative."""
+    if isinstance(value, bool):
+        return b"\xc3" if value else b"\xc2"
+    if isinstance(value, int):
+        return bytes([value]) if value < 128 else b"\xcf" + value.to_bytes(8, "big")
+    if isinstance(value, str):
+        text = value.encode()
+        return (bytes([0xA0 + len(text)]) if len(text) < 32 else b"\xdb" + len(text).to_bytes(4, "big")) + text
+    if isinstance(value, (list, tuple)):
+        head = bytes([0x90 + len(value)]) if len(value) < 16 else b"\xdd" + len(value).to_bytes(4, "big")
+        return head + b"".join(map(packed, value))
+    head = bytes([0x80 + len(value)]) if len(value) < 16 else b"\xdf" + len(value).to_bytes(4, "big")
+    return head + b"".join(packed(name) + packed(one) for name, one in value.items())
+
+
+def message(kind, body):
+    """A request: its length, its head with the kind, and the body."""
+    text = packed({0: kind, 1: 0}) + packed(body)
+    return b"\xce" + len(text).to_bytes(4, "big") + text
+
+
+def selection(index, iterator, key, limit=PAGE):
+    return message(SELECT, {0x10: SPACE, 0x11: index, 0x12: limit, 0x13: 0, 0x14: iterator, 0x20: key})
+
+
+class Connection:
+    """A connection that sends a request when it has read the answer to the one before."""
+
+    def __init__(self, port, corpus):
+        self.socket, self.corpus = socket.create_connection(("127.0.0.1", port), timeout=600), corpus
+        self.socket.setsockopt(socket.IPPROTO_TCP, socket.TCP_NODELAY, 1)
+        greeting = b""
+        while len(greeting) < 128:
+            greeting += self.socket.recv(128 - len(greeting))
+
+    def exchange(self, text, count=1):
+        """What is read until so many answers have come."""
+        self.socket.sendall(text)
+        data, end = b"", 0
+        for _ in range(count):
+            while len(data) < end + 5 or len(data) < end + 5 + int.from_bytes(data[end + 1 : end + 5], "big"):
+                piece = self.socket.recv(1 << 18)
+                if not piece:
+                    raise OSError("Tarantool has closed the connection")
+                data += piece
+            # the head of an answer begins with 0 and its code as 32 bits, which is 0 where nothing is wrong
+            if data[end + 5 : end + 12] != b"\x83\x00\xce\x00\x00\x00\x00":
+                raise OSError(f"Tarantool: {data[end : end + 300]!r}")
+            end += 5 + int.from_bytes(data[end + 1 : end + 5], "big")
+        return data
+
+    def prepare(self, request):
+        about = request.about
+        made = {
+            "get": lambda: selection(0, EQUAL, about, 1),
+            "equality": lambda: selection(INDEXES["group"], EQUAL, about),
+            "falling": lambda: selection(INDEXES["price"], LESS, about),
+            "two": lambda: selection(INDEXES["kind"], AT_LEAST, about),
+            "deep": lambda: selection(INDEXES["price"], GREATER, about[:1]),
+            "scan": lambda: message(CALL, {0x22: "scan", 0x21: about}),
+            "commit": lambda: message(INSERT, {0x10: SPACE, 0x21: [about[0], self.corpus.body(self.corpus.number(about[0]))]}),
+        }
+        return made[request.kind]()
+
+    def ask(self, text, answer):
+        data = self.exchange(text)
+        if answer is not None:
+            # a row is an array of two whose first is the id
+            rows = [b"\x92" + packed(one) for one in (answer.first, answer.last)]
+            size = len(rows[0]) - len(answer.first)
+            front = rows[0][: size + 1]
+            if data.count(front) != answer.count or rows[0] not in data or data.rindex(front) != data.find(rows[1]):
+                raise ValueError(f"{text!r} was answered by {data[:300]!r}, wanted {answer}")
+
+
+class Tarantool:
+    name = "Tarantool"
+    in_process = False
+
+    def __init__(self, corpus):
+        self.corpus, self.port = corpus, free_port()
+        self.folder = tempfile.mkdtemp(prefix="bench-tarantool-")
+        with open(os.path.join(self.folder, "start.lua"), "w") as file:
+            file.write(SCRIPT)
+        words = [program(), "start.lua", str(self.port), corpus.path("text")]
+        self.process = subprocess.Popen(words, cwd=self.folder, stdin=subprocess.DEVNULL, stdout=subprocess.DEVNULL, stderr=subprocess.DEVNULL)
+        self.connection = self.connected()
+
+    def connected(self):
+        """A connection, as soon as the program takes one."""
+        for _ in range(200):
+            time.sleep(0.05)
+            try:
+                connection = self.client()
+                connection.exchange(selection(0, EQUAL, ["none"]))
+                return connection
+            except OSError:
+                if self.process.poll() is not None:
+                    break
+        raise SystemExit("Tarantool does not start")
+
+    def client(self):
+        return Connection(self.port, self.corpus)
+
+    def processor(self):
+        return processes.processor(self.process.pid)
+
+    def size(self):
+        return processes.memory(self.process.pid)
+
+    def prepare_bulk(self, numbers):
+        rows = [message(INSERT, {0x10: SPACE, 0x21: [self.corpus.name(i), self.corpus.body(i)]}) for i in numbers]
+        return b"".join(rows)
+
+    def send_bulk(self, text, count):
+        self.connection.exchange(text, count)
+
+    def index(self, which):
+        self.connection.exchange(message(CALL, {0x22: "index", 0x21: [INDEXES[which], which, *self.corpus.columns(which)]}))
+
+    def settle(self):
+        """Nothing is left to do after a load."""
+
+    def share(self):
+        """Nothing is to be done before several clients come."""
+
+    def close(self):
+        self.process.kill()
+        self.process.wait()
+        shutil.rmtree(self.folder)

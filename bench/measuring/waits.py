@@ -1,0 +1,130 @@
+"""How long a reader waits: alone, beside a client that loads, beside indexes that are built, and beside reshards; and how long a program
+takes from its start to its first reply.
+
+A reader is one client that sends a request when it has read the reply to the one before; each reply is compared with the answer that the
+documents give. What goes on beside it is done by a client of its own, again and again for so many seconds by the clock.
+"""
+import contextlib
+import gc
+import multiprocessing
+import statistics
+import time
+
+from .documents import BULK, INDEXES
+from .program import Program, message, titled
+from .rows import load, say
+from .rust import PlainRust, built
+
+SECONDS = 4
+DOCUMENTS = 100000
+STARTS = 20
+BUILDS = 20
+PARTS = {"median": 0.5, "99 %": 0.99, "99.9 %": 0.999, "longest": 1}
+KINDS = {"get": "`GET`", "equality": "20 documents by an index"}
+
+
+def loads(program, client, until):
+    """Loads bulks of documents that nobody else asks for."""
+    number = 10**6
+    while time.monotonic() < until:
+        docs = [{"_id": f"{program.corpus.name(i)}-beside", "text": program.corpus.body(i)} for i in range(number, number + BULK)]
+        done(client, "_bulk_docs", {"docs": docs}, b"201")
+        number += BULK
+
+
+def builds(program, client, until):
+    """Builds indexes, each under a name of its own."""
+    for number in range(BUILDS):
+        if time.monotonic() < until:
+            done(client, "_index", {"index": {"fields": program.corpus.columns("kind")}, "ddoc": "beside", "name": f"n{number}"}, b"200")
+
+
+def reshards(program, client, until):
+    """From one shard to 16 and back."""
+    while time.monotonic() < until:
+        for shards in (16, 1):
+            done(client, "_placement", {"shards": shards}, b"200")
+
+
+def done(client, target, body, wanted):
+    status, reply = client.exchange(message("POST", target, body))
+    if status != wanted:
+        raise SystemExit(f"{target} beside a reader was answered by {status} {reply[:300]}")
+
+
+BESIDE = {"nothing": None, "bulks of 1,000 new documents": loads, "indexes that are built": builds, "reshards": reshards}
+
+
+def work(program, beside, seconds):
+    beside(program, program.client(), time.monotonic() + seconds)
+
+
+def waited(program, kind, beside, seconds):
+    """What each request of a reader took, in seconds, while the work beside it goes on."""
+    client = program.client()
+    asked = [(client.prepare(one), one.answer) for one in program.corpus.requests(kind, 5000, "waits")]
+    worker = multiprocessing.Process(target=work, args=(program, beside, seconds), daemon=True) if beside else None
+    if worker:
+        worker.start()
+        time.sleep(0.1)
+    gc.collect()
+    gc.disable()
+    times, end, number = [], time.monotonic() + seconds, 0
+    while worker.is_alive() if worker else time.monotonic() < end:
+        text, answer = asked[number % len(asked)]
+        start = time.monotonic()
+        client.ask(text, answer)
+        times.append(time.monotonic() - start)
+        number += 1
+    gc.enable()
+    if worker and worker.exitcode:
+        raise SystemExit("the work beside a reader has failed")
+    return sorted(times)
+
+
+def cells(times):
+    """The parts of the waits, in milliseconds."""
+    return [f"{times[min(len(times) - 1, int(len(times) * part))] * 1e3:.3f}" for part in PARTS.values()]
+
+
+def programs(words):
+    """What starts each program that is measured, by one shard and worker."""
+    made = [lambda corpus: Program(words.program, corpus)]
+    return [*made, PlainRust] if built() else made
+
+
+def waits(words):
+    """The table of what a reader waits, in milliseconds."""
+    corpus, seconds = words.corpus(max(BULK, int(DOCUMENTS * words.share))), SECONDS * words.share
+    yield f"| ms, {corpus.count:,} documents, one shard at first: a reader's request, beside | | {' | '.join(PARTS)} | requests |"
+    yield "|---" * (len(PARTS) + 3) + "|"
+    for kind, title in KINDS.items():
+        for what, beside in BESIDE.items():
+            for make in programs(words):
+                with contextlib.closing(make(corpus)) as program:
+                    if beside == reshards and program.called != "mangod":
+                        continue
+                    load(program, corpus)
+                    for which in INDEXES:
+                        program.index(which)
+                    times = waited(program, kind, beside, seconds)
+                line = f"| {title}, beside {what} | {program.name} | {' | '.join(cells(times))} | {len(times):,} |"
+                say(line)
+                yield line
+
+
+def starts(words):
+    """The table of the times from start to ready, in milliseconds: the median of some starts."""
+    corpus = words.corpus(BULK)
+    made = [lambda corpus, setting=setting: Program(words.program, corpus, setting) for setting in ((1, 1), (16, 4), (64, 32))]
+    yield "| from the start to the first reply | ms | bytes in memory |\n|---|---|---|"
+    for make in [*made, *programs(words)[1:]]:
+        times, sizes = [], []
+        for _ in range(max(2, int(STARTS * words.share))):
+            begin = time.monotonic()
+            with contextlib.closing(make(corpus)) as program:
+                program.connection.exchange(message("GET", "none"))
+                times.append(time.monotonic() - begin)
+                sizes.append(program.size())
+        name = program.name if program.name != "mangod" else f"mangod, {titled((1, 1))}"
+        yield f"| {name} | {statistics.median(times) * 1e3:.1f} | {statistics.median(sizes):,.0f} |"
