@@ -9,16 +9,16 @@ use Rattle.mg_engine.specs.declared.fault.Fault.{Fault}
 use Rattle.mg_engine.proofs.Telling.{no_page, page_told}
 use Rattle.mg_engine.proofs.query.answer_line.Goals as goal
 
-pub returns-in-Ok : goal.returns-in-Ok
-returns-in-Ok g c = λ place w st whole ix.
+pub returns-in_ok-line-in-Ok : goal.returns-in_ok-line-in-Ok
+returns-in_ok-line-in-Ok g c = λ place w st whole ix.
     let q = query_seen c.args.query.now in
     let cs = candidates_of w.docs in
     let body = c.in_ok-line-in-Ok.line.items in
     subst (λ (ds : List IndexDefinition). told_or_refused page_value (answer_of ds q cs) ≡ record { status = 200; body = body }) (sym ix)
     (page_told (answer_of c.args.catalog.now q cs) c.in-Ok.text.items body (c.in-Ok.ensures.answers place w.docs st whole) c.in_ok-line-in-Ok.ensures)
 
-pub returns : goal.returns
-returns g c = λ place w st whole ix.
+pub returns-in-Err : goal.returns-in-Err
+returns-in-Err g c = λ place w st whole ix.
     let q = query_seen c.args.query.now in
     let cs = candidates_of w.docs in
     let fault = c.in-Err.fault in
