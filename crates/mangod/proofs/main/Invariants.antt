@@ -7,7 +7,7 @@ abbrev pub ghosts-run-D-Database : goal.ghosts-run-D-Database
 ghosts-run-D-Database g a = record {
   history = a.history;
   db = name_in (settings_of (map (λ w. string_bytes w) a.words.now));
-  shards = shards_in (settings_of (map (λ w. string_bytes w) a.words.now))
+  shards = shards_in (settings_of (map (λ w. string_bytes w) a.words.now));
 }
 
 abbrev pub ghosts-run-D-Ledger : goal.ghosts-run-D-Ledger

@@ -5,5 +5,5 @@ use Rattle.mangod.proofs.seats.services.Given as goal
 abbrev pub invariant-loop-seat : goal.invariant-loop-seat
 invariant-loop-seat g l = record {
   seats : map (λ service. service.seat) l.services.items ≡ l.yielded;
-  workers : All (λ service. service.workers ≡ l.settings.now.workers) l.services.items;
+  workers : All (λ service. service.workers ≡ l.settings.workers) l.services.items;
 }
