@@ -58,22 +58,27 @@ def together(measured):
     return table(f"requests a second by the clock, {size:,} documents, {clients} clients", measured.systems, rows)
 
 
+def by_size(measured, title, row, figure):
+    """A row for each number of documents, whose title has it in place of `{}`."""
+    return [(title.format(f"{size:,}"), lambda system, size=size: measured.median(size, system, row, figure)) for size in measured.sizes]
+
+
 def writes(measured):
-    rows = []
-    for size in measured.sizes:
-        rows.append((f"a commit of one document among {size:,}, µs", lambda system, size=size: measured.median(size, system, "commit 1")))
-    for size in measured.sizes:
-        rows.append((f"a load of {size:,}, µs a document", lambda system, size=size: measured.median(size, system, "load")))
-    for size in measured.sizes:
-        ms = lambda system, size=size: (value := measured.median(size, system, "build")) and value / 1e3
-        rows.append((f"an index on one field of {size:,}, ms", ms))
-    return table("processor time", measured.systems, rows)
+    def build(system):
+        value = measured.median(size, system, "build")
+        return value and value / 1e3
+
+    size = measured.usual()
+    rows = by_size(measured, "a commit of one document among {}, µs", "commit 1", "processor_us")
+    rows.append((f"a load of {size:,}, µs a document", lambda system: measured.median(size, system, "load")))
+    return table("processor time", measured.systems, [*rows, (f"an index on one field of {size:,}, ms", build)])
 
 
 def memory(measured):
-    rows = []
-    for row, title in (("memory", "without indexes"), ("indexed", "with three indexes"), ("pages", "on pages, with three indexes")):
-        rows += [(f"{size:,} documents, {title}", lambda system, size=size, row=row: measured.median(size, system, row, "bytes")) for size in measured.sizes]
+    size = measured.usual()
+    rows = by_size(measured, "{} documents, without indexes", "memory", "bytes")
+    rows.append((f"{size:,}, with three indexes", lambda system: measured.median(size, system, "indexed", "bytes")))
+    rows.append((f"{size:,}, with three indexes, on pages", lambda system: measured.median(size, system, "pages", "bytes")))
     return table("bytes a document", measured.systems, rows)
 
 
@@ -99,8 +104,10 @@ def counts(measured):
 
 
 def shards(measured):
+    """The pairs of shards and workers, at the most documents."""
     found = measured.found["settings"]
-    return "\n\n".join(settings_tables(found)).split("\n") if found else []
+    most = max(found, key=int, default=None)
+    return settings_tables({most: found[most]}) if found else []
 
 
 def lines_of(part):
