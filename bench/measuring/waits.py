@@ -19,6 +19,7 @@ SECONDS = 4
 DOCUMENTS = 100000
 STARTS = 20
 BUILDS = 20
+LEAST = 50
 PARTS = {"median": 0.5, "99 %": 0.99, "99.9 %": 0.999, "longest": 1}
 KINDS = {"get": "`GET`", "equality": "20 documents by an index"}
 
@@ -55,28 +56,32 @@ def done(client, target, body, wanted):
 BESIDE = {"nothing": None, "bulks of 1,000 new documents": loads, "indexes that are built": builds, "reshards": reshards}
 
 
-def work(program, beside, seconds):
-    beside(program, program.client(), time.monotonic() + seconds)
+def work(program, beside, seconds, begun):
+    client = program.client()
+    begun.set()
+    beside(program, client, time.monotonic() + seconds)
 
 
 def waited(program, kind, beside, seconds):
     """What each request of a reader took, in seconds, while the work beside it goes on."""
     client = program.client()
     asked = [(client.prepare(one), one.answer) for one in program.corpus.requests(kind, 5000, "waits")]
-    worker = multiprocessing.Process(target=work, args=(program, beside, seconds), daemon=True) if beside else None
-    if worker:
-        worker.start()
-        time.sleep(0.1)
+    begun = multiprocessing.Event()
+    worker = multiprocessing.Process(target=work, args=(program, beside, seconds, begun), daemon=True) if beside else None
     gc.collect()
     gc.disable()
-    times, end, number = [], time.monotonic() + seconds, 0
-    while worker.is_alive() if worker else time.monotonic() < end:
-        text, answer = asked[number % len(asked)]
+    if worker:
+        worker.start()
+        begun.wait(60)
+    times, end = [], time.monotonic() + seconds
+    while len(times) < LEAST or (worker.is_alive() if worker else time.monotonic() < end):
+        text, answer = asked[len(times) % len(asked)]
         start = time.monotonic()
         client.ask(text, answer)
         times.append(time.monotonic() - start)
-        number += 1
     gc.enable()
+    if worker:
+        worker.join()
     if worker and worker.exitcode:
         raise SystemExit("the work beside a reader has failed")
     return sorted(times)
