@@ -1,5 +1,5 @@
 //! Clients at the seats of a database, each seat with a thread of its own.
-ghost use Rattle.std.specs.Prelude.{◌≡◌, ◌≤◌, All, IfOk, List, map};
+ghost use Rattle.std.specs.Prelude.{◌≡◌, ◌≤◌, IfOk, List, map};
 ghost use Rattle.mangod.specs.Conversations.{Conversation, InTurn};
 ghost use Rattle.mg_live.specs.Sitting.{Answered};
 
@@ -23,8 +23,7 @@ pub(crate) fn services<D: Database, C: Ends>(
 ) -> Result<Vec<SeatService<D, C>>, NoMemory>
     requires some { 1 ≤ settings.now.workers }
     requires most { settings.now.workers ≤ 32 }
-    ensures seats { IfOk result (λ services. map (λ service. service.seat) services.items ≡ seats.items) }
-    ensures workers { IfOk result (λ services. All (λ service. service.workers ≡ settings.now.workers) services.items) }
+    ensures { IfOk result (λ services. map (λ service. service.seat) services.items ≡ seats.items) }
 {
     let mut services = Vec::with_capacity(alloc, seats.len())?;
     for seat in seats {
