@@ -281,10 +281,11 @@ fn closed<D: Database, C: Ends, R: Wait>(
         _ => return Err("a seat is absent".into()),
     };
     seats.push(last)?;
-    match live.close(rt, seats) {
-        Ok(closed) => Ok(closed.commits()),
-        Err(_) => Err("it is closed".into()),
-    }
+    let commits = match live.close(rt, seats) {
+        Ok(closed) => closed.commits(),
+        Err(_) => return Err("it is closed".into()),
+    };
+    Ok(commits)
 }
 
 // Two seats make these calls too, and then have made so many commits. Where a call was refused memory all has to be the same, and
