@@ -8,4 +8,3 @@ pub mod ReplyLemmas
 pub mod RouteLemmas
 pub mod SessionLemmas
 pub mod TalkLemmas
-pub mod TranscriptLemmas

@@ -1,5 +1,4 @@
 pub mod Merged
-pub mod Pulled
 pub mod Rests
 pub mod Sharding
 pub mod Work

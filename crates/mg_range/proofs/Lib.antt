@@ -1,6 +1,4 @@
 pub mod Limits
 pub mod Contained
 pub mod Together
-pub mod Bounded
 pub mod Complete
-pub mod Deciding
