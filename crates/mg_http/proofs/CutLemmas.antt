@@ -68,7 +68,7 @@ module _ (db : List ℕ) where
       omega (arith, p.6, same.1, ap length one.1, ap length b.joined, length-append m.body rest)
 
   -- a message at the front leaves no room to stop
-  no_stop : (bytes : List ℕ) (m : Message) (rest text : List ℕ) → Begins db bytes m rest → Stops db bytes text → ⊥
+  pub no_stop : (bytes : List ℕ) (m : Message) (rest text : List ℕ) → Begins db bytes m rest → Stops db bytes text → ⊥
   no_stop bytes m rest text b (inl x) = message_not_waiting bytes m rest b x.0
   no_stop bytes m rest text b (inr x) = message_not_refused bytes m rest x.0 x.1 b x.2
 
@@ -99,7 +99,7 @@ one_body w endpoint bytes a b u v (inr (inr x)) y = absurd (some_none a x.0)
 one_body w endpoint bytes a b u v (inl x) (inr (inr y)) = absurd (some_none b y.0)
 one_body w endpoint bytes a b u v (inr (inl x)) (inr (inr y)) = absurd (some_none b y.0)
 
-one_reply : (w : World) (request : Request) (bytes : List ℕ) (a b : Answer) (u v : World)
+pub one_reply : (w : World) (request : Request) (bytes : List ℕ) (a b : Answer) (u v : World)
     → Handles AtWorld w request bytes (Some a) u → Handles AtWorld w request bytes (Some b) v → (a ≡ b) × (u ≡ v)
 one_reply w (body endpoint) bytes a b u v x y = one_body w endpoint bytes a b u v x y
 one_reply w (asks command) bytes a b u v x y = (x.0 ∙ sym y.0, sym x.1 ∙ y.1)
@@ -109,7 +109,7 @@ one_reply w (refuses refusal) bytes a b u v x y = (some_some a b (x.0 ∙ sym y.
 
 module _ (db : List ℕ) where
   -- where nothing more is answered in what came first
-  after_stop : (w : World) (bytes more text : List ℕ) (ns : List Message) (longer : List ℕ) → Stops db bytes text → Speaks db w (bytes ++ more) ns longer → IsPrefix text longer
+  pub after_stop : (w : World) (bytes more text : List ℕ) (ns : List Message) (longer : List ℕ) → Stops db bytes text → Speaks db w (bytes ++ more) ns longer → IsPrefix text longer
   after_stop w bytes more text ns longer (inl x) k = (longer, rw x.1 refl)
   after_stop w bytes more text [] longer (inr x) (inl y) = absurd (waiting_not_refused db (bytes ++ more) x.0 x.1 y.0 (refused_more db bytes more x.0 x.1 x.2))
   after_stop w bytes more text [] longer (inr x) (inr y) =

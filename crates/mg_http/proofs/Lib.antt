@@ -8,3 +8,4 @@ pub mod ReplyLemmas
 pub mod RouteLemmas
 pub mod SessionLemmas
 pub mod TalkLemmas
+pub mod TranscriptLemmas

@@ -1,6 +1,7 @@
 -- What a session writes for what it reads (RFC 9112, section 9). `answers` says of two states of a service, a command and
 -- a reply (none for want of memory) that the command was answered so and took the service from the first to the second.
-use Rattle.std.specs.Prelude.{◌≡◌, ◌⊎◌, ℕ, Bool, true, false, List, [], ◌∷◌, ◌++◌, Option, Some, None}
+use Rattle.std.specs.Prelude.{◌≡◌, ◌≤◌, ◌⊎◌, ⊤, ℕ, Bool, true, false, List, [], ◌∷◌, ◌++◌, length, All, Option, Some, None}
+use Rattle.std.proofs.Common.{inl, inr}
 use Rattle.httparse.specs.Grammar.{RequestHead}
 use Rattle.mg_value.specs.Value.{Value}
 use Rattle.mg_value.specs.Text.{Reads}
@@ -110,3 +111,48 @@ pub record Converses
   pub last : List ℕ
   pub ended : Ends answers db end mid rest last new
   pub written_is : written ≡ text ++ last
+
+-- a session ends at its limit only where it read as many bytes as it may answer messages and read pieces
+abbrev pub IsAtLimit : SessionEnd → List ℕ → Type 0
+IsAtLimit Limit bytes = 4294967295 ≤ length bytes
+IsAtLimit Eof bytes = ⊤
+IsAtLimit Closed bytes = ⊤
+IsAtLimit Refused bytes = ⊤
+IsAtLimit ReadFault bytes = ⊤
+IsAtLimit WriteFault bytes = ⊤
+
+-- a session whose input and output these facts are about: which bytes were read, and which were written
+pub record Holds
+    {S : Type 0} (answers : S → Asked → Option Answer → S → Type 0) (db : List ℕ) (read wrote : List ℕ → Type 0)
+    (old new : S) (end : SessionEnd) : Type 0 where
+  pub bytes : List ℕ
+  pub written : List ℕ
+  pub input : read bytes
+  pub output : wrote written
+  pub talk : Converses answers db old bytes written new end
+  pub limit : IsAtLimit end bytes
+
+-- the call has a reply that is not for want of memory
+abbrev pub IsAnswered : Call → Type 0
+IsAnswered call = (answer : Answer) × (call.reply ≡ Some answer)
+
+-- the text that came last is not for want of memory
+abbrev pub EndsAmply
+    : {S : Type 0} (answers : S → Asked → Option Answer → S → Type 0) (db : List ℕ) (end : SessionEnd)
+    (old : S) (rest last : List ℕ) (new : S) → Ends answers db end old rest last new → Type 0
+EndsAmply answers db Eof old rest last new ended = ⊤
+EndsAmply answers db ReadFault old rest last new ended = ⊤
+EndsAmply answers db Limit old rest last new ended = ⊤
+EndsAmply answers db Closed old rest last new ended = IsAnswered ended.0
+EndsAmply answers db Refused old rest last new (inl refused, same) = ⊤
+EndsAmply answers db Refused old rest last new (inr lacking, same) = ⊥
+EndsAmply answers db WriteFault old rest last new (whole, front, inl answered) = IsAnswered answered.0
+EndsAmply answers db WriteFault old rest last new (whole, front, inr (inl refused, same)) = ⊤
+EndsAmply answers db WriteFault old rest last new (whole, front, inr (inr lacking, same)) = ⊥
+
+-- memory sufficed for a session: each of its replies is one that is not for want of memory
+pub record IsAmple
+    {S : Type 0} (answers : S → Asked → Option Answer → S → Type 0) (db : List ℕ) (old : S) (bytes written : List ℕ) (new : S)
+    (end : SessionEnd) (talk : Converses answers db old bytes written new end) : Type 0 where
+  pub calls : All IsAnswered talk.calls
+  pub last : EndsAmply answers db end talk.mid talk.rest talk.last new talk.ended

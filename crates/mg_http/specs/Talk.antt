@@ -1,10 +1,11 @@
 -- The talk of a world: what goes out for the bytes that come in, by the definition's replies alone (RFC 9112).
-use Rattle.std.specs.Prelude.{◌≡◌, ◌⊎◌, ℕ, Bool, true, false, List, [], ◌∷◌, ◌++◌, Option, Some}
+use Rattle.std.specs.Prelude.{◌≡◌, ◌⊎◌, ℕ, Bool, true, false, List, [], ◌∷◌, ◌++◌, Option, Some, ⊤}
 use Rattle.mg_engine.specs.declared.refusal.Refusal.{Refusal}
 use Rattle.mg_engine.specs.Commands.{Asked, Answer, refused}
 use Rattle.mg_engine.specs.Run.{Answers}
 use Rattle.mg_engine.specs.World.{World}
 use Rattle.mg_http.specs.declared.sessions.SessionEnd.{SessionEnd}
+use Rattle.mg_http.specs.declared.sessions.SessionEnd.TheVariants.{Eof, Closed, Refused, ReadFault, WriteFault, Limit}
 use Rattle.mg_http.specs.Message.{Message, Begins, IsRefused, IsWaiting}
 use Rattle.mg_http.specs.Reply.{text_of}
 use Rattle.mg_http.specs.Session.{Handles, Converses}
@@ -36,3 +37,12 @@ Speaks db w bytes (m ∷ ms) text =
 -- what the world writes for the bytes where memory suffices
 abbrev pub IsTalk : List ℕ → World → List ℕ → List ℕ → Type 0
 IsTalk db w bytes text = (messages : List Message) × Speaks db w bytes messages text
+
+-- the session wrote all that it had to write: it ended neither at a write fault nor at its limit
+abbrev pub WroteAll : SessionEnd → Type 0
+WroteAll Eof = ⊤
+WroteAll Closed = ⊤
+WroteAll Refused = ⊤
+WroteAll ReadFault = ⊤
+WroteAll WriteFault = ⊥
+WroteAll Limit = ⊥
