@@ -1,24 +1,27 @@
 -- What a session has done stays done when it goes on.
-use Rattle.std.proofs.Common.{◌≡◌, ℕ, ◌+◌, ◌-◌, ◌<◌, ◌≤◌, List, [], ◌∷◌, ◌++◌, length, take, drop, Option, Some, None, refl, sym, ap, ◌∙◌, subst, append_assoc, append-nil, take-append-drop, drop-drop, arith, length-append, length-drop, inl, inr, Result, Ok, Err, is_ok, cond, Bool, true, false}
+use Rattle.std.proofs.Common.{◌≡◌, ◌⊎◌, ℕ, ◌+◌, ◌-◌, ◌<◌, ◌≤◌, List, [], ◌∷◌, ◌++◌, length, take, drop, Option, Some, None, refl, sym, ap, ◌∙◌, subst, append_assoc, append-nil, take-append-drop, drop-drop, arith, length-append, length-drop, inl, inr, Result, Ok, Err, is_ok, cond, Bool, true, false}
 use Rattle.std.specs.Prelude.{slice_range}
 use Rattle.std.specs.Bool.{⊤}
 use Rattle.std.specs.Io.KnownBytes.{Appends, Consumes}
 use Rattle.std.proofs.KnownBytes.{Consumes-nil, Appends-nil, Consumes-trans, Appends-trans}
 use Rattle.std.proofs.lemmas.Grind.{common_steps}
 use Rattle.std.proofs.lemmas.List.{drop-append-le}
-use Rattle.httparse.specs.Grammar.{RequestHead}
+use Rattle.httparse.specs.Grammar.{RequestHead, print_request}
 use Rattle.mg_engine.specs.Commands.{Asked, Answer}
 use Rattle.mg_http.specs.declared.device.Fault.{Fault}
 use Rattle.mg_http.specs.declared.head.Framed.{Framed}
+use Rattle.mg_http.specs.declared.inbox.Inbox.{Inbox}
 use Rattle.mg_http.specs.declared.inbox.Stop.{Stop}
 use Rattle.mg_http.specs.declared.inbox.Stop.TheVariants as stop
 use Rattle.mg_http.specs.declared.sessions.SessionEnd.{SessionEnd}
 use Rattle.mg_http.specs.declared.sessions.SessionEnd.TheVariants.{Eof, Closed, Refused, ReadFault, WriteFault, Limit}
 use Rattle.mg_http.specs.Device.{Writes}
+use Rattle.mg_http.specs.Inbox.{unanswered}
 use Rattle.mg_http.specs.Message.{HasHead, Begins, IsWaiting}
 use Rattle.mg_http.specs.Reply.{reply_text}
-use Rattle.mg_http.specs.Session.{Call, IsHandled, Handles, call_text, Serves, LacksMemory, Refuses, Ends, Converses}
-use Rattle.mg_http.specs.Turns.{request_in, message_of, IsFramed, Turns, StopsWith}
+use Rattle.mg_http.specs.Session.{Call, IsHandled, Handles, call_text, Serves, LacksMemory, Refuses, Ends, Converses, IsAtLimit}
+use Rattle.mg_http.specs.Turns.{request_in, message_of, IsFramed, Turns, Counts, StopsWith}
+use Rattle.mg_http.proofs.HeadLemmas.{head_long}
 use Rattle.mg_http.proofs.MessageLemmas.{HasHead-append, Begins-append}
 
 -- what is found has no value, so nothing found has one
@@ -59,6 +62,56 @@ module _ (db : List ℕ) (h : RequestHead) (f : Framed) (bytes : List ℕ) (has 
   -- more bytes
   pub head_with : (more : List ℕ) → f.len ≤ length bytes → HasHead (bytes ++ more) h (drop f.len (bytes ++ more))
   head_with more within = rw (drop-append-le f.len bytes more within) (HasHead-append bytes h (drop f.len bytes) more has)
+
+-- a head at the front has a byte
+pub head_counts : (bytes : List ℕ) (h : RequestHead) (len : ℕ) → HasHead bytes h (drop len bytes) → len ≤ length bytes → 1 ≤ len
+head_counts bytes h len has within =
+    omega (arith, within, head_long h has.reads.0, ap length has.reads.1, length-append (print_request h) (drop len bytes), length-drop len bytes)
+
+-- a session that stopped reading ends at its limit only where the reader may not be called again
+pub stops_at_limit : (old new : Option (List ℕ)) (silent : Bool) (s : Stop) (end : SessionEnd) → StopsWith old new silent s end → end ≡ Limit → s ≡ stop.Limit
+stops_at_limit old new silent stop.End end h e = let f : Eof ≡ Limit = sym h.0 ∙ e in cc
+stops_at_limit old new silent stop.Failed end h e = let f : ReadFault ≡ Limit = sym h.0 ∙ e in cc
+stops_at_limit old new silent stop.Limit end h e = refl
+stops_at_limit old new silent stop.NoMemory Refused h e = cc
+stops_at_limit old new silent stop.NoMemory WriteFault h e = cc
+stops_at_limit old new silent stop.NoMemory Eof h e = absurd h
+stops_at_limit old new silent stop.NoMemory Closed h e = absurd h
+stops_at_limit old new silent stop.NoMemory ReadFault h e = absurd h
+stops_at_limit old new silent stop.NoMemory Limit h e = absurd h
+
+-- a text that refuses was written, or a front of it: that is no limit
+pub refused_counts : {A : Type 0} (old new : Inbox) (came : List ℕ) (written : Result A Fault) (end : SessionEnd)
+    → end ≡ cond (is_ok written) Refused WriteFault → Counts old new came (Err end)
+refused_counts old new came (Ok a) end e = λ at. let f : Refused ≡ Limit = sym e ∙ at in cc
+refused_counts old new came (Err x) end e = λ at. let f : WriteFault ≡ Limit = sym e ∙ at in cc
+
+pub refused_text : {A : Type 0} (written : Result A Fault) (end : SessionEnd) (bytes : List ℕ) → end ≡ cond (is_ok written) Refused WriteFault → IsAtLimit end bytes
+refused_text (Ok a) end bytes e = rw e tt
+refused_text (Err x) end bytes e = rw e tt
+
+-- a message that was answered counts
+pub answered_counts : {A : Type 0} (old new : Inbox) (came : List ℕ) (written : Result A Fault) (closes : Bool) (result : Result ⊤ SessionEnd)
+    → result ≡ cond (is_ok written) (cond closes (Err Closed) (Ok tt)) (Err WriteFault)
+    → new.requests + length (unanswered new) ≤ old.requests + (length (unanswered old) + length came) → new.reads ≤ old.reads + length came
+    → Counts old new came result
+answered_counts old new came (Ok a) true result e few often = rw e (λ at. let f : Closed ≡ Limit = at in cc)
+answered_counts old new came (Ok a) false result e few often = rw e (few, often)
+answered_counts old new came (Err x) closes result e few often = rw e (λ at. let f : WriteFault ≡ Limit = at in cc)
+
+-- a session that ends at its limit has read so many bytes
+pub at_limit : (end : SessionEnd) (bytes came held : List ℕ) (requests reads : ℕ) → requests + length held ≤ length bytes → reads ≤ length bytes
+    → (end ≡ Limit → (4294967295 ≤ requests) ⊎ (4294967295 ≤ reads + length came)) → IsAtLimit end (bytes ++ came)
+at_limit Limit bytes came held requests reads few often k =
+    elim (k refl) [
+      | inl many ↦ omega (arith, many, few, length-append bytes came)
+      | inr many ↦ omega (arith, many, often, length-append bytes came)
+    ]
+at_limit Eof bytes came held requests reads few often k = tt
+at_limit Closed bytes came held requests reads few often k = tt
+at_limit Refused bytes came held requests reads few often k = tt
+at_limit ReadFault bytes came held requests reads few often k = tt
+at_limit WriteFault bytes came held requests reads few often k = tt
 
 module _ {S : Type 0} (answers : S → Asked → Option Answer → S → Type 0) (db : List ℕ) where
   -- a session that ends with the first thing it does

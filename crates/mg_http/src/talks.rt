@@ -1,9 +1,10 @@
-ghost use Rattle.std.specs.Prelude.{◌≡◌, ◌↔◌, ℕ, List, false, IsTrue};
+ghost use Rattle.std.specs.Prelude.{◌≡◌, ◌↔◌, false, IsTrue};
 ghost use Rattle.std.specs.Io.KnownBytes.{Appends, Consumes, IsAtEnd};
 ghost use Rattle.mg_engine.specs.Stands.{Stands};
 ghost use Rattle.mg_engine.specs.World.{World};
 ghost use Rattle.mg_http.specs.Device.{inner_of, has_failed};
-ghost use Rattle.mg_http.specs.Talk.{Talks};
+ghost use Rattle.mg_http.specs.Session.{Holds};
+ghost use Rattle.mg_http.specs.Talk.{AtWorld};
 
 use crate::device::Device;
 use crate::service::Solo;
@@ -30,10 +31,10 @@ impl<P: Placement + Drop> Solo<P> {
         requires reading { has_failed reader.old ≡ false }
         requires writing { has_failed writer.old ≡ false }
         ensures talk { (w : World) → Stands P.place self.old.engine w
-            → (bytes : List ℕ) × (written : List ℕ) × (u : World)
-            × Consumes (R.remaining (inner_of reader.old)) (R.remaining (inner_of reader.new)) bytes
-            × Appends (W.contents (inner_of writer.old)) (W.contents (inner_of writer.new)) written
-            × Talks db.now w bytes written u result × Stands P.place self.new.engine u }
+            → (u : World) × Holds AtWorld db.now
+                (Consumes (R.remaining (inner_of reader.old)) (R.remaining (inner_of reader.new)))
+                (Appends (W.contents (inner_of writer.old)) (W.contents (inner_of writer.new))) w u result
+            × Stands P.place self.new.engine u }
         ensures eof { result ≡ SessionEnd.Eof → IsAtEnd (R.remaining (inner_of reader.new)) }
         ensures read_fault { IsTrue (has_failed reader.new) ↔ (result ≡ SessionEnd.ReadFault) }
         ensures write_fault { IsTrue (has_failed writer.new) ↔ (result ≡ SessionEnd.WriteFault) }

@@ -6,5 +6,5 @@ pub returns-clause-talk : goal.returns-clause-talk
 returns-clause-talk g c = λ w h.
     let t = c.session.ensures.talk in
     let place = g.P.Placement.place in
-    let done = talks _ (λ s v. Stands place s.engine v) c.args.db.now (λ old command reply new v a st. at_world (λ x. Stands place new.engine x) v command reply (a.0 v st)) c.args.self.now t.0 t.1 c.session.new.service c.session.result w t.4 h in
-    (t.0, t.1, done.0, t.2, t.3, done.1, done.2)
+    let done = talks _ (λ s v. Stands place s.engine v) c.args.db.now (λ old command reply new v a st. at_world (λ x. Stands place new.engine x) v command reply (a.0 v st)) c.args.self.now t.bytes t.written c.session.new.service c.session.result w t.talk h in
+    (done.0, record { bytes = t.bytes; written = t.written; input = t.input; output = t.output; talk = done.1; limit = t.limit }, done.2)
