@@ -1,4 +1,4 @@
-use Rattle.std.proofs.Common.{ap, sym, inl, inr, ◌+◌, arith, drop-drop, length-append, length-drop}
+use Rattle.std.proofs.Common.{ap, length, sym, inl, inr, ◌+◌, arith, drop-drop, length-append, length-drop}
 use Rattle.mg_http.specs.Inbox.{unanswered}
 use Rattle.mg_http.proofs.SessionLemmas.{answered, stopped_in_body, limited, stops_at_limit, head_counts, answered_counts}
 use Rattle.mg_http.proofs.sessions.message.Goals as goal

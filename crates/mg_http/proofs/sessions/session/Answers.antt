@@ -1,4 +1,4 @@
-use Rattle.std.proofs.Common.{[], inl, inr, ap, sym, refl, rules, arith, false, length-append}
+use Rattle.std.proofs.Common.{[], length, inl, inr, ap, sym, refl, rules, arith, false, length-append}
 use Rattle.std.proofs.KnownBytes.{Consumes-nil, Appends-nil}
 use Rattle.std.proofs.lemmas.Grind.{common_steps}
 use Rattle.mg_http.specs.Inbox.{unanswered}
@@ -13,7 +13,7 @@ returns-in-Err-clause-talk g c =
       input = done.2;
       output = done.3;
       talk = done.4;
-      limit = refused_text c.write_reply.result _ [] c.refused.ensures;
+      limit = refused_text c.write_reply.result _ done.0 c.refused.ensures;
     }
 
 pub returns-in-Err-turn-clause-talk : goal.returns-in-Err-turn-clause-talk

@@ -1,4 +1,4 @@
-use Rattle.std.proofs.Common.{ap, inl, inr, refl, [], arith, length-append}
+use Rattle.std.proofs.Common.{ap, length, inl, inr, refl, arith, length-append}
 use Rattle.mg_http.specs.Inbox.{unanswered}
 use Rattle.mg_http.proofs.SessionLemmas.{refuses_now, stopped_in_head, reads_on, stops_at_limit, refused_counts}
 use Rattle.mg_http.proofs.sessions.turn.Goals as goal
@@ -35,9 +35,9 @@ returns-in-Err-clause-bytes g c =
 pub returns-in-Refused-clause-bytes : goal.returns-in-Refused-clause-bytes
 returns-in-Refused-clause-bytes g c =
     let done = refuses_now g.S.Service.answers c.args.db.now _ _ _ _ (unanswered c.args.inbox.now) _ c.write_refusal.result _ (inl (c.in-Refused.refusal, c.in-Refused.silent, c.in-Refused.ensures.front, refl)) c.write_refusal.ensures.bytes c.refused.ensures in
-    (done.0, done.1, done.2, done.3, done.4, refused_counts c.args.inbox.now _ [] c.write_refusal.result _ c.refused.ensures)
+    (done.0, done.1, done.2, done.3, done.4, refused_counts c.args.inbox.now _ done.0 c.write_refusal.result _ c.refused.ensures)
 
 pub returns-in-NoMemory-clause-bytes : goal.returns-in-NoMemory-clause-bytes
 returns-in-NoMemory-clause-bytes g c =
     let done = refuses_now g.S.Service.answers c.args.db.now _ _ _ _ (unanswered c.args.inbox.now) _ c.write_reply.result _ (inr (c.in-NoMemory.silent, inr (inr c.in-NoMemory.ensures.front), refl)) c.write_reply.ensures.bytes c.refused-in-NoMemory.ensures in
-    (done.0, done.1, done.2, done.3, done.4, refused_counts c.args.inbox.now _ [] c.write_reply.result _ c.refused-in-NoMemory.ensures)
+    (done.0, done.1, done.2, done.3, done.4, refused_counts c.args.inbox.now _ done.0 c.write_reply.result _ c.refused-in-NoMemory.ensures)
