@@ -3,6 +3,7 @@ use Rattle.std.specs.Prelude.{◌≡◌, ℕ, List, [], ◌∷◌, Option}
 use Rattle.mg_engine.specs.Commands.{Asked, Answer}
 use Rattle.mg_http.specs.Session.{Converses}
 use Rattle.mg_http.specs.declared.sessions.SessionEnd.{SessionEnd}
+use Rattle.mg_live.specs.Sitting.{Answered, Sitting}
 
 -- what a client sent, what it was sent, and how its session ended
 pub record Conversation : Type 0 where
@@ -14,3 +15,7 @@ pub record Conversation : Type 0 where
 abbrev pub InTurn : {S : Type 0} → (S → Asked → Option Answer → S → Type 0) → List ℕ → S → List Conversation → S → Type 0
 InTurn answers db old [] new = new ≡ old
 InTurn {S} answers db old (c ∷ cs) new = (mid : S) × Converses answers db old c.bytes c.written mid c.end × InTurn answers db mid cs new
+
+-- sessions of the database of this name took a seat from the first state to the last, one after another
+abbrev pub IsServed : List ℕ → Sitting → Sitting → Type 0
+IsServed db old new = (talks : List Conversation) × InTurn (Answered db) db old talks new

@@ -1,20 +1,17 @@
 -- What the program does for its words, over an input and an output. `read` and `wrote` say which bytes were read and written.
 use Rattle.std.specs.Prelude.{◌≡◌, ℕ, ◌⊎◌, List, [], Option, Some, None, MatchBool}
 use Rattle.mg_engine.specs.World.{World, empty_world}
-use Rattle.mg_http.specs.Talk.{Talks}
+use Rattle.mg_http.specs.Talk.{HoldsAt}
 use Rattle.mg_http.specs.declared.sessions.SessionEnd.{SessionEnd}
 use Rattle.mangod.specs.Arguments.{Settings, is_standard}
 use Rattle.mangod.specs.Ends.{Ending, cannot_listen, ending_of, no_memory, stopped, wrong_words}
 
--- one session was held: what was written is the talk of the empty world of this database for what was read
+-- One session was held, which began at the empty world of this database. `HoldsAt` says what was written for what was read, and that
+-- it is the transcript of it where memory sufficed.
 pub record HoldsSession (db : List ℕ) (read wrote : List ℕ → Type 0) (ending : Ending) : Type 0 where
-  pub bytes : List ℕ
-  pub written : List ℕ
   pub left : World
   pub end : SessionEnd
-  pub input : read bytes
-  pub output : wrote written
-  pub talk : Talks db (empty_world db) bytes written left end
+  pub held : HoldsAt db read wrote (empty_world db) left end
   pub ends : ending ≡ ending_of end
 
 -- the program ended at once, with nothing read and nothing written

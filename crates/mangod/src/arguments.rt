@@ -1,6 +1,6 @@
 ghost use Rattle.std.specs.Prelude.{◌≡◌, ◌≤◌, IfSome, map, option_map, string_bytes};
 ghost use Rattle.std.specs.List.{list_all};
-ghost use Rattle.mangod.specs.Arguments.{is_database_name, is_name_byte, number_of, settings_of, settings_with};
+ghost use Rattle.mangod.specs.Arguments.{is_database_name, is_name_byte, number_of, sessions_in, settings_of, settings_with};
 ghost use Rattle.mangod.specs.View.{settings_seen};
 
 use crate::config::Settings;
@@ -30,6 +30,16 @@ pub(crate) fn settings(words: &[String]) -> Option<Settings<'_>>
     }
 }
 
+/// How many sessions are asked for, one where the arguments are wrong.
+pub(crate) fn sessions(asked: Option<Settings<'_>>) -> usize
+    ensures { result ≡ sessions_in (option_map settings_seen asked.entry) }
+{
+    match asked {
+        Some(settings) => settings.sessions,
+        None => 1,
+    }
+}
+
 // The settings of a name, an address and three numbers, if all are right.
 fn checked<'a>(
     db: &'a str,
@@ -38,6 +48,9 @@ fn checked<'a>(
     workers: Option<usize>,
     sessions: Option<usize>,
 ) -> Option<Settings<'a>>
+    requires shards { IfSome shards (λ n. (1 ≤ n) × (n ≤ 64)) }
+    requires workers { IfSome workers (λ n. (1 ≤ n) × (n ≤ 32)) }
+    requires sessions { IfSome sessions (λ n. (1 ≤ n) × (n ≤ 16)) }
     ensures { option_map settings_seen result ≡ settings_with db.now addr.now shards workers sessions }
 {
     match (shards, workers, sessions) {

@@ -1,9 +1,14 @@
-/// What the program was asked for.
-#[derive(Clone, Copy, PartialEq, Debug)]
+ghost use Rattle.std.specs.Prelude.{◌≤◌};
+
+/// What the program was asked for: the arguments, of which the texts are lent.
+#[derive(Clone, Copy)]
 pub(crate) struct Settings<'a> {
     pub(crate) db: &'a str,
     pub(crate) shards: usize,
     pub(crate) workers: usize,
     pub(crate) sessions: usize,
     pub(crate) addr: &'a str,
+    ghost shards_within: { (1 ≤ shards) × (shards ≤ 64) },
+    ghost workers_within: { (1 ≤ workers) × (workers ≤ 32) },
+    ghost sessions_within: { (1 ≤ sessions) × (sessions ≤ 16) },
 }

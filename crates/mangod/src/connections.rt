@@ -12,19 +12,18 @@ use std::sync::Wait;
 use std::thread::Threads;
 use std::time::{Clock, Instant};
 
-/// Serves the connections of a lobby on which bytes come, one after another, at most so many where a number is given, and else until
-/// the listener fails. What one client does ends its own connection alone, and a client that pauses goes back to the lobby.
+/// Serves the connections of a lobby on which bytes come, one after another, until the listener fails. What one client does ends its
+/// own connection alone, and a client that pauses goes back to the lobby.
 pub(crate) fn serve_connections<H: Wait + Threads + Sync + Clock, S: Service>(
     rt: &H,
     alloc: Global,
     db: &str,
     lobby: &Lobby,
     service: &mut S,
-    turns: Option<u64>,
 )
     ensures { (talks : List Conversation) × InTurn S.answers db.now service.old talks service.new }
 {
-    for _turn in 0..turns.unwrap_or(u64::MAX) {
+    for _turn in 0..u64::MAX {
         let Some(stream) = lobby.next(rt) else {
             return;
         };

@@ -18,17 +18,16 @@ pub(crate) enum AfterFault {
     Never,
 }
 
-/// What follows from a fault of accept, by its kind and its number.
+/// What follows from a fault of accept, by its kind and its number. A signal shows no fault: std repeats an accept that
+/// one interrupts.
 pub(crate) fn after_fault(kind: ErrorKind, number: Option<i32>) -> AfterFault
-    ensures interrupted { kind ≡ ErrorKind.Interrupted → result ≡ AfterFault.Again }
     ensures aborted { kind ≡ ErrorKind.ConnectionAborted → result ≡ AfterFault.Again }
     ensures none { kind ≡ ErrorKind.WouldBlock → result ≡ AfterFault.AtAnEvent }
     ensures memory { kind ≡ ErrorKind.OutOfMemory → result ≡ AfterFault.WithMore }
     ensures other { kind ≡ ErrorKind.Uncategorized → result ≡ after_number number }
 {
     match kind {
-        ErrorKind::Interrupted
-        | ErrorKind::ConnectionAborted
+        ErrorKind::ConnectionAborted
         | ErrorKind::NetworkDown
         | ErrorKind::NetworkUnreachable
         | ErrorKind::HostUnreachable => AfterFault::Again,

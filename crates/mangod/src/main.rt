@@ -12,8 +12,9 @@ mod pace;
 mod program;
 mod seats;
 
+use crate::arguments::{sessions, settings};
 use crate::ends::{NO_MEMORY, WRONG_WORDS};
-use crate::program::{run, sessions};
+use crate::program::run;
 use mg_http::Device;
 use mg_live::History;
 use std::env;
@@ -25,14 +26,17 @@ use std::sync::ledger::Blank;
 fn main(rt: HostRuntime) -> ExitCode {
     let ending = match env::args(&rt) {
         Ok(args) => match args.skip(1).collect::<Vec<String>>(rt.alloc()) {
-            Ok(words) => run::<Brand, _, _, _>(
-                rt,
-                &words,
-                Blank::new(sessions(&words) as u64),
-                History::new(),
-                &mut Device::new(rt.stdin()),
-                &mut Device::new(rt.stdout()),
-            ),
+            Ok(words) => {
+                let asked = settings(&words);
+                run::<Brand, _, _, _>(
+                    rt,
+                    asked,
+                    Blank::new(sessions(asked) as u64),
+                    History::new(),
+                    &mut Device::new(rt.stdin()),
+                    &mut Device::new(rt.stdout()),
+                )
+            }
             Err(_) => NO_MEMORY,
         },
         Err(error) => match error.kind() {

@@ -1,19 +1,18 @@
-//! What the program does for its words, over an input and an output or over TCP.
-ghost use Rattle.std.specs.Prelude.{◌≡◌, ◌≤◌, IfOk, false, map, string_bytes};
+//! What the program does for its arguments, over an input and an output or over TCP.
+ghost use Rattle.std.specs.Prelude.{◌≡◌, IfOk, false, option_map};
 ghost use Rattle.std.specs.Io.KnownBytes.{Appends, Consumes};
 ghost use Rattle.mg_http.specs.Device.{inner_of, has_failed};
-ghost use Rattle.mangod.specs.Arguments.{name_in, sessions_in, settings_of, shards_in};
+ghost use Rattle.mangod.specs.Arguments.{name_in, sessions_in, shards_in};
 ghost use Rattle.mg_engine.specs.Stands.{Stands, shard_count};
 ghost use Rattle.mg_engine.specs.World.{empty_world};
 ghost use Rattle.mg_shard.specs.Placement.{md5_place};
 ghost use Rattle.mangod.specs.Program.{IsEndOfListening, RunsWith, Serves};
-ghost use Rattle.mangod.specs.View.{ending_seen};
+ghost use Rattle.mangod.specs.View.{ending_seen, settings_seen};
 
-use crate::arguments::settings;
 use crate::config::Settings;
-use crate::ends::{CANNOT_LISTEN, Ending, NO_MEMORY, STOPPED, WRONG_WORDS};
+use crate::ends::{CANNOT_LISTEN, Exit, NO_MEMORY, STOPPED, WRONG_WORDS};
 use crate::lobby::Lobby;
-use crate::seats::{serve_seats, services};
+use crate::seats::serve;
 use mg_engine::Engine;
 use mg_http::{Device, Solo};
 use mg_live::{Database, History, Live, Waiting};
@@ -26,8 +25,8 @@ use std::sync::ledger::Blank;
 use std::thread::Threads;
 use std::time::Clock;
 
-/// Does what the words ask for, if they are right: one session over the input and the output where the address is `-`, and else
-/// sessions with the clients that connect to the address. The history and the ledger are those of the database `D`.
+/// Does what was asked for, if the arguments were right: one session over the input and the output where the address is `-`, and
+/// else sessions with the clients that connect to the address. The history and the ledger are those of the database `D`.
 pub(crate) fn run<
     D: Database + Send + Sync,
     H: Wait
@@ -44,49 +43,39 @@ pub(crate) fn run<
     W: Write,
 >(
     rt: H,
-    words: &[String],
+    asked: Option<Settings<'_>>,
     blank: Blank,
     history: History,
     reader: &mut Device<R>,
     writer: &mut Device<W>,
-) -> Ending
-    requires name { D.db ≡ name_in (settings_of (map (λ w. string_bytes w) words.now)) }
-    requires shards { D.shards ≡ shards_in (settings_of (map (λ w. string_bytes w) words.now)) }
+) -> Exit
+    requires name { D.db ≡ name_in (option_map settings_seen asked) }
+    requires shards { D.shards ≡ shards_in (option_map settings_seen asked) }
     requires history { history ≡ D.history }
     requires ledger { (blank.name ≡ D.name) × (blank.parts ≡ D.parts) }
-    requires parts { blank.parts ≡ sessions_in (settings_of (map (λ w. string_bytes w) words.now)) }
+    requires parts { blank.parts ≡ sessions_in (option_map settings_seen asked) }
     requires reading { has_failed reader.old ≡ false }
     requires writing { has_failed writer.old ≡ false }
-    ensures { RunsWith (settings_of (map (λ w. string_bytes w) words.now))
+    ensures { RunsWith (option_map settings_seen asked.entry)
         (Consumes (R.remaining (inner_of reader.old)) (R.remaining (inner_of reader.new)))
         (Appends (W.contents (inner_of writer.old)) (W.contents (inner_of writer.new))) (ending_seen result) }
 {
-    match settings(words) {
-        Some(settings) if settings.addr == "-" => serve(&rt, settings, reader, writer),
-        Some(settings) => listen::<D, H>(rt, settings, blank, history),
-        None => WRONG_WORDS,
+    let Some(settings) = asked else {
+        return WRONG_WORDS;
+    };
+    if settings.addr == "-" {
+        return hold_session(&rt, settings, reader, writer);
     }
+    listen::<D, H>(rt, settings, blank, history)
 }
 
-/// How many sessions the words ask for, one where they are wrong.
-pub(crate) fn sessions(words: &[String]) -> usize
-    ensures { result ≡ sessions_in (settings_of (map (λ w. string_bytes w) words.now)) }
-{
-    match settings(words) {
-        Some(settings) => settings.sessions,
-        None => 1,
-    }
-}
-
-// Serves one session of a database that is empty at first.
-fn serve<H: Wait + Threads + Sync + AllocGlobal, R: Read, W: Write>(
+// Holds one session of a database that is empty at first.
+fn hold_session<H: Wait + Threads + Sync + AllocGlobal, R: Read, W: Write>(
     rt: &H,
     settings: Settings<'_>,
     reader: &mut Device<R>,
     writer: &mut Device<W>,
-) -> Ending
-    requires shards { (1 ≤ settings.shards) × (settings.shards ≤ 64) }
-    requires workers { (1 ≤ settings.workers) × (settings.workers ≤ 32) }
+) -> Exit
     requires reading { has_failed reader.old ≡ false }
     requires writing { has_failed writer.old ≡ false }
     ensures { Serves settings.entry.db.now
@@ -95,7 +84,7 @@ fn serve<H: Wait + Threads + Sync + AllocGlobal, R: Read, W: Write>(
 {
     match solo(rt, &settings) {
         Ok(mut service) => {
-            Ending::after(service.serve(rt, rt.alloc(), settings.db, reader, writer))
+            Exit::after(&service.serve(rt, rt.alloc(), settings.db, reader, writer))
         }
         Err(NoMemory) => NO_MEMORY,
     }
@@ -114,15 +103,12 @@ fn listen<
         + Clock
         + Eprint
         + Net<Listener = TcpListener, Stream = TcpStream>,
->(rt: H, settings: Settings<'_>, blank: Blank, history: History) -> Ending
+>(rt: H, settings: Settings<'_>, blank: Blank, history: History) -> Exit
     requires name { settings.db.now ≡ D.db }
     requires opened { settings.shards ≡ D.shards }
     requires history { history ≡ D.history }
     requires ledger { (blank.name ≡ D.name) × (blank.parts ≡ D.parts) }
     requires parts { blank.parts ≡ settings.sessions }
-    requires sessions { (1 ≤ settings.sessions) × (settings.sessions ≤ 16) }
-    requires shards { (1 ≤ settings.shards) × (settings.shards ≤ 64) }
-    requires workers { (1 ≤ settings.workers) × (settings.workers ≤ 32) }
     ensures { IsEndOfListening (ending_seen result) }
 {
     let alloc = rt.alloc();
@@ -132,13 +118,11 @@ fn listen<
         blank,
         history,
         settings.db,
+        Md5Placement,
         settings.shards,
         settings.sessions,
     );
     let Ok((live, seats)) = opened else {
-        return NO_MEMORY;
-    };
-    let Ok(services) = services(alloc, seats, &settings) else {
         return NO_MEMORY;
     };
     let Ok(listener) = TcpListener::bind(&rt, settings.addr) else {
@@ -152,18 +136,17 @@ fn listen<
         },
     };
     let _ = eprintln!(rt; "mangod: listening");
-    let served = serve_seats(&rt, alloc, settings.db, &lobby, services, None);
-    drop(live);
-    match served {
-        Ok(_) => STOPPED,
+    match serve(&rt, alloc, &settings, &lobby, seats) {
+        Ok(seats) => {
+            let _closed = live.close(&rt, seats);
+            STOPPED
+        }
         Err(NoMemory) => NO_MEMORY,
     }
 }
 
 // The service of a database that is empty at first.
 fn solo<H: AllocGlobal>(rt: &H, settings: &Settings<'_>) -> Result<Solo<Md5Placement>, NoMemory>
-    requires shards { (1 ≤ settings.now.shards) × (settings.now.shards ≤ 64) }
-    requires workers { (1 ≤ settings.now.workers) × (settings.now.workers ≤ 32) }
     ensures stands { IfOk result (λ solo. Stands (λ p id shards. md5_place id shards) solo.engine (empty_world settings.now.db.now)) }
     ensures shards { IfOk result (λ solo. shard_count solo.engine ≡ settings.now.shards) }
     ensures workers { IfOk result (λ solo. solo.workers ≡ settings.now.workers) }

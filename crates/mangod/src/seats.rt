@@ -1,7 +1,7 @@
 //! Clients at the seats of a database, each seat with a thread of its own.
-ghost use Rattle.std.specs.Prelude.{◌≡◌, ◌≤◌, IfOk, List, map};
-ghost use Rattle.mangod.specs.Conversations.{Conversation, InTurn};
-ghost use Rattle.mg_live.specs.Sitting.{Answered};
+ghost use Rattle.std.specs.Prelude.{◌≡◌, ◌<◌, ℕ, IfOk, map, slice_index_or, vec_len};
+ghost use Rattle.mangod.specs.Conversations.{IsServed};
+ghost use Rattle.mg_live.specs.Sitting.{Sitting};
 
 use crate::config::Settings;
 use crate::connections::serve_connections;
@@ -16,14 +16,15 @@ use std::thread::Threads;
 use std::time::Clock;
 
 /// A service for each seat, by the workers that were asked for.
-pub(crate) fn services<D: Database, C: Ends>(
+fn services<D: Database, C: Ends>(
     alloc: Global,
     seats: Vec<Seat<D, C>>,
     settings: &Settings<'_>,
 ) -> Result<Vec<SeatService<D, C>>, NoMemory>
-    requires some { 1 ≤ settings.now.workers }
-    requires most { settings.now.workers ≤ 32 }
-    ensures { IfOk result (λ services. map (λ service. service.seat) services.items ≡ seats.items) }
+    ensures count { IfOk result (λ services. vec_len services ≡ vec_len seats) }
+    ensures seats { IfOk result (λ services. map (λ service. service.seat) services.items ≡ seats.items) }
+    ensures workers { IfOk result (λ services.
+        map (λ service. service.workers) services.items ≡ map (λ _. settings.now.workers) seats.items) }
 {
     let mut services = Vec::with_capacity(alloc, seats.len())?;
     for seat in seats {
@@ -33,30 +34,53 @@ pub(crate) fn services<D: Database, C: Ends>(
     Ok(services)
 }
 
-/// Serves connections at each seat, on a thread of its own, one connection after another, at most so many a seat where a number is
-/// given, and else until the listener fails. It gives the services back once all have ended. Where a thread cannot be started, its
+/// Serves connections at each seat, on a thread of its own, one connection after another, until the listener fails. It gives the seats
+/// back once all have ended: sessions of the database took each from what it was to what it is. Where a thread cannot be started, its
 /// seat waits until another has ended.
 ///
 /// Errors: `NoMemory` where a growth was refused.
-pub(crate) fn serve_seats<
+pub(crate) fn serve<
     D: Database + Send + Sync,
     H: Wait + Threads + Clock + Send + Sync + Copy + Drop,
 >(
     rt: &H,
     alloc: Global,
+    settings: &Settings<'_>,
+    lobby: &Lobby,
+    seats: Vec<Seat<D, Waiting<H>>>,
+) -> Result<Vec<Seat<D, Waiting<H>>>, NoMemory>
+    requires { settings.now.db.now ≡ D.db }
+    ensures count { IfOk result (λ after. vec_len after ≡ vec_len seats) }
+    ensures each { IfOk result (λ after. (i : ℕ) (d : Sitting) → i < vec_len seats
+        → IsServed D.db (slice_index_or seats.items i d) (slice_index_or after.items i d)) }
+{
+    let services = services(alloc, seats, settings)?;
+    let after = attend_all(rt, alloc, settings.db, lobby, services)?;
+    Ok(after)
+}
+
+// Serves the connections of all seats, each on a thread of its own.
+fn attend_all<D: Database + Send + Sync, H: Wait + Threads + Clock + Send + Sync + Copy + Drop>(
+    rt: &H,
+    alloc: Global,
     db: &str,
     lobby: &Lobby,
     services: Vec<SeatService<D, Waiting<H>>>,
-    turns: Option<u64>,
-) -> Result<Vec<SeatService<D, Waiting<H>>>, NoMemory>
+) -> Result<Vec<Seat<D, Waiting<H>>>, NoMemory>
     requires { db.now ≡ D.db }
+    ensures count { IfOk result (λ after. vec_len after ≡ vec_len services) }
+    ensures each { IfOk result (λ after. (i : ℕ) (d : Sitting) → i < vec_len services
+        → IsServed D.db (slice_index_or (map (λ service. service.seat) services.items) i d) (slice_index_or after.items i d)) }
 {
-    let services = thread::map_vec(
+    let after = thread::map_vec(
         rt,
         services,
-        &|service| attend(rt, alloc, db, lobby, service, turns),
+        &|service: SeatService<D, Waiting<H>>| -> Seat<D, Waiting<H>>
+            requires { db.now ≡ D.db }
+            ensures { IsServed D.db service.seat result }
+        { attend(rt, alloc, db, lobby, service) },
     )?;
-    Ok(services)
+    Ok(after)
 }
 
 // Serves the connections of one seat.
@@ -66,12 +90,12 @@ fn attend<D: Database, C: Ends, H: Wait + Threads + Clock + Sync>(
     db: &str,
     lobby: &Lobby,
     service: SeatService<D, C>,
-    turns: Option<u64>,
-) -> SeatService<D, C>
-    ensures { (talks : List Conversation)
-        × InTurn (λ old command answer new. Answered D.db old.seat command answer new.seat) db.now service talks result }
+) -> Seat<D, C>
+    requires { db.now ≡ D.db }
+    ensures { IsServed D.db service.seat result }
 {
     let mut service = service;
-    serve_connections(rt, alloc, db, lobby, &mut service, turns);
-    service
+    serve_connections(rt, alloc, db, lobby, &mut service);
+    let SeatService { seat, workers: _ } = service;
+    seat
 }

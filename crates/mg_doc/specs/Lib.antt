@@ -8,3 +8,4 @@ pub mod Code
 pub mod Conversions
 pub mod Base
 pub mod Conflicts
+pub mod Ahead

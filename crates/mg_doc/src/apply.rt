@@ -1,4 +1,4 @@
-ghost use Rattle.std.specs.Prelude.{◌≡◌, ◌+◌, ◌==◌, IfErr, OnErr, OnOk, None, Some, false, option_copied};
+ghost use Rattle.std.specs.Prelude.{◌≡◌, ◌+◌, ◌==◌, IfErr, IfSome, OnErr, OnOk, None, Some, false, option_copied, string_bytes};
 ghost use Rattle.std.specs.Result.{result_map_both};
 ghost use Rattle.mg_revtree.specs.Changes.{position_below};
 ghost use Rattle.mg_value.specs.View.{view};
@@ -6,9 +6,10 @@ ghost use Rattle.mg_revtree.specs.History.{History as Paths};
 ghost use Rattle.mg_revtree.specs.Tree.{StandsFor};
 ghost use Rattle.mg_doc.specs.Brought.{Brings};
 ghost use Rattle.mg_doc.specs.Base.{CopyIs, LooksFor};
+ghost use Rattle.mg_doc.specs.Digest.{digest_of};
 ghost use Rattle.mg_doc.specs.Edit.{base_of, extended, made_over, replicated, unbased};
 
-use crate::digest::rev_id;
+use crate::digest::id_over;
 use crate::error::{EditError, Refused};
 use mg_revtree::{History, Rev, RevTree};
 use mg_value::Json;
@@ -101,24 +102,37 @@ fn copied_base(alloc: Global, tree: &RevTree) -> Result<Option<Rev>, EditError>
     }
 }
 
-// Makes a revision over the named one, or where none is named.
+// Makes a revision over the named one, or where none is named. Its id may have been made ahead, over the named one or over nothing.
 pub(crate) fn extend(
     alloc: Global,
     tree: &mut RevTree,
     named: Option<&Rev>,
     deleted: bool,
     body: Json,
+    ahead: Option<String>,
 ) -> Result<Rev, EditError>
+    requires { IfSome ahead (λ id. string_bytes id ≡ digest_of deleted (option_copied named) (view body)) }
     ensures brings { (h : Paths) → StandsFor tree.old h → Brings h deleted (view body)
         (extended h deleted (view body) (option_copied named.entry)) result tree.new }
     ensures unchanged { OnErr result (tree.new ≡ tree.old) }
 {
     match named {
-        Some(rev) => extend_over(alloc, tree, Some(rev), deleted, body),
+        Some(rev) => extend_over(alloc, tree, Some(rev), deleted, body, ahead),
         None => {
             let base = copied_base(alloc, tree)?;
-            extend_over(alloc, tree, base.as_ref(), deleted, body)
+            let ahead = over_nothing(ahead, base.as_ref());
+            extend_over(alloc, tree, base.as_ref(), deleted, body, ahead)
         }
+    }
+}
+
+// What was made over nothing, where nothing is extended.
+fn over_nothing(ahead: Option<String>, base: Option<&Rev>) -> Option<String>
+    ensures { IfSome result (λ id. (ahead ≡ Some id) × (option_copied base.entry ≡ None)) }
+{
+    match base {
+        None => ahead,
+        Some(_) => None,
     }
 }
 
@@ -135,7 +149,7 @@ pub(crate) fn extend_by_copy(
     ensures unchanged { OnErr result (tree.new ≡ tree.old) }
 {
     let body = body.copy(alloc)?;
-    Ok(extend(alloc, tree, named, deleted, body)?)
+    Ok(extend(alloc, tree, named, deleted, body, None)?)
 }
 
 // Makes a revision over a base, or the first of a document.
@@ -145,12 +159,14 @@ fn extend_over(
     base: Option<&Rev>,
     deleted: bool,
     body: Json,
+    ahead: Option<String>,
 ) -> Result<Rev, EditError>
+    requires { IfSome ahead (λ id. string_bytes id ≡ digest_of deleted (option_copied base) (view body)) }
     ensures brings { (h : Paths) → StandsFor tree.old h → Brings h deleted (view body)
         (made_over h deleted (view body) (option_copied base.entry)) result tree.new }
     ensures unchanged { OnErr result (tree.new ≡ tree.old) }
 {
-    let id = rev_id(alloc, deleted, base, &body)?;
+    let id = id_over(alloc, ahead, deleted, base, &body)?;
     let rev = Rev {
         pos: position_over(base),
         id: id.clone()?,

@@ -1,8 +1,10 @@
-ghost use Rattle.std.specs.Prelude.{◌≡◌, IfOk, option_copied, string_bytes};
+ghost use Rattle.std.specs.Prelude.{◌≡◌, IfOk, IfSome, option_copied, string_bytes};
 ghost use Rattle.mg_value.specs.Text.{compact};
 ghost use Rattle.mg_value.specs.View.{view};
+ghost use Rattle.mg_doc.specs.Ahead.{named_in};
 ghost use Rattle.mg_doc.specs.Digest.{digest_of, parent_text as text_of_parent};
 
+use crate::change::Change;
 use md5::{Digest, Md5};
 use mg_revtree::Rev;
 use mg_value::{Json, NoMemory, write};
@@ -30,6 +32,38 @@ pub fn rev_id(
     hasher.update(&body);
     hasher.update("]");
     Ok(hex::encode(alloc, hasher.finalize())?)
+}
+
+// The id of the revision that a new edit makes, where it extends what it names, or nothing. None of a replica's change.
+pub(crate) fn id_ahead(
+    alloc: Global,
+    change: &Change,
+    deleted: bool,
+    body: &Json,
+) -> Result<Option<String>, NoMemory>
+    ensures { IfOk result (λ o. IfSome o (λ id. string_bytes id ≡ digest_of deleted (named_in change.now) (view body.now))) }
+{
+    match change {
+        Change::New(named) => Ok(Some(rev_id(alloc, deleted, named.as_ref(), body)?)),
+        Change::Replica(_) => Ok(None),
+    }
+}
+
+// The id that was made ahead, and else the one that is made now.
+pub(crate) fn id_over(
+    alloc: Global,
+    ahead: Option<String>,
+    deleted: bool,
+    base: Option<&Rev>,
+    body: &Json,
+) -> Result<String, NoMemory>
+    requires { IfSome ahead (λ id. string_bytes id ≡ digest_of deleted (option_copied base) (view body.now)) }
+    ensures { IfOk result (λ id. string_bytes id ≡ digest_of deleted (option_copied base.entry) (view body.now)) }
+{
+    match ahead {
+        Some(id) => Ok(id),
+        None => rev_id(alloc, deleted, base, body),
+    }
 }
 
 // The compact text of a parent, as a text or null.

@@ -7,6 +7,7 @@ ghost use Rattle.mg_doc.specs.Document.{Gives, edit_of, is_object, members_read}
 
 use crate::apply::{check_base, extend, extend_by_copy, look_for, merge, merge_by_copy};
 use crate::change::Change;
+use crate::digest::id_ahead;
 use crate::error::{DocError, EditError};
 use crate::members::{checked_mark, keep_own, take_id};
 use crate::path::take_change;
@@ -23,12 +24,16 @@ pub struct Edit {
     change: Change,
     deleted: bool,
     body: Json,
+    // the id of the revision that a new edit makes, where it extends what it names, or nothing
+    ahead: Option<String>,
 }
 
 impl Model for Edit {
-    ghost use Rattle.std.specs.Prelude.{option_map, string_bytes};
+    ghost use Rattle.std.specs.Prelude.{◌≡◌, IfSome, option_map, string_bytes};
     ghost use Rattle.mg_value.specs.View.{view as json_view};
     ghost use Rattle.mg_doc.specs.Code.{edit_code};
+    ghost use Rattle.mg_doc.specs.Ahead.{named_in};
+    ghost use Rattle.mg_doc.specs.Digest.{digest_of};
     ghost use Rattle.mg_doc.specs.Document.{Edit as EditValue};
 
     ghost Value = { EditValue };
@@ -41,6 +46,8 @@ impl Model for Edit {
       deleted = e.deleted;
       body = json_view e.body;
     } };
+
+    ghost invariant = { λ e. IfSome e.ahead (λ id. string_bytes id ≡ digest_of e.deleted (named_in e.change) (json_view e.body)) };
 }
 
 impl Edit {
@@ -57,7 +64,8 @@ impl Edit {
     /// underscore or for a bad `_deleted`, `BadId` for a bad `_id`, `BadRev` for a bad `_rev` or
     /// `_revisions`, or for neither of them from a replica; `NoMemory` where a growth is refused, never in the place
     /// of `BadMember` or `BadId`.
-    /// Cost: the number of the members and the length of the path. Source: CouchDB's `_bulk_docs`.
+    /// Cost: the number of the members and the length of the path, and of a new edit the length of its body's text, since the id of its
+    /// revision is made here, before a tree is asked. Source: CouchDB's `_bulk_docs`.
     pub fn read(alloc: Global, document: Json, new_edit: bool) -> Result<Edit, DocError>
         requires { is_object (view document) ≡ true }
         ensures edit { Gives (edit_of new_edit (view document)) result }
@@ -84,13 +92,24 @@ impl Edit {
         requires { self.id ≡ None }
         ensures { result ≡ record self { id = Some (string_bytes id) } }
     {
+        let Edit {
+            id: _,
+            change,
+            deleted,
+            body,
+            ahead,
+        } = self;
         Edit {
             id: Some(id),
-            ..self
+            change,
+            deleted,
+            body,
+            ahead,
         }
     }
 
-    /// An equal edit. Errors: `NoMemory` where a growth was refused. Cost: its id, its path and its body.
+    /// An equal edit, which makes the id of its revision when it is applied. Errors: `NoMemory` where a growth was refused. Cost: its id,
+    /// its path and its body.
     pub fn copy(&self, alloc: Global) -> Result<Edit, NoMemory>
         ensures { IfOk result (λ edit. edit ≡ self.now) }
     {
@@ -99,6 +118,7 @@ impl Edit {
             change: self.change.copy(alloc)?,
             deleted: self.deleted,
             body: self.body.copy(alloc)?,
+            ahead: None,
         })
     }
 
@@ -146,7 +166,8 @@ impl Edit {
         }
     }
 
-    /// Does what `apply` does, and moves the body into the tree where the edit is accepted. Cost: a step of the tree.
+    /// Does what `apply` does, and moves the body into the tree where the edit is accepted. Cost: a step of the tree, and the length of the
+    /// body's text where a deleted winner is extended that the edit does not name.
     pub fn bring(self, alloc: Global, tree: &mut RevTree) -> Result<Rev, EditError>
         ensures applied { (h : Paths) → StandsFor tree.old h → Applied h self result tree.new }
         ensures unchanged { OnErr result (tree.new ≡ tree.old) }
@@ -159,9 +180,10 @@ impl Edit {
             change,
             deleted,
             body,
+            ahead,
         } = self;
         match change {
-            Change::New(named) => extend(alloc, tree, named.as_ref(), deleted, body),
+            Change::New(named) => extend(alloc, tree, named.as_ref(), deleted, body, ahead),
             Change::Replica(path) => merge(tree, &path, deleted, body),
         }
     }
@@ -193,10 +215,15 @@ fn edit_in(
     };
     let change = take_change(alloc, &mut members, new_edit)?;
     keep_own(&mut members);
+    let body = Json::Object(members);
+    let Ok(ahead) = id_ahead(alloc, &change, deleted, &body) else {
+        return Err(DocError::NoMemory);
+    };
     Ok(Edit {
         id,
         change,
         deleted,
-        body: Json::Object(members),
+        body,
+        ahead,
     })
 }

@@ -6,5 +6,6 @@ mod Numbers
 mod Reading
 mod Resharding
 mod Telling
+mod Ahead
 pub mod Whole
 mod Entries

@@ -3,6 +3,8 @@ pub mod World
 pub mod Bulk
 pub mod Reshard
 pub mod Commands
+pub mod Code
+pub mod Ahead
 pub mod Bodies
 pub mod View
 pub mod BulkView

@@ -8,6 +8,7 @@ ghost use Rattle.mg_shard.specs.Shard.{shards_seen};
 ghost use Rattle.mg_engine.specs.Run.{Answers, IsRun, kept};
 
 use crate::command::Command;
+use crate::prepared::Prepared;
 use crate::reply::Reply;
 use crate::state::State;
 use mg_index::Catalog;
@@ -148,13 +149,37 @@ impl<P: Placement + Drop> Engine<P> {
         ensures shards { IfSome (said result.0) (λ _. shard_count (unwrap_or result.1 self.now)
             ≡ shards_after (shard_count self.now) (asked command.now)) }
     {
+        match Prepared::of(alloc, command) {
+            Ok(prepared) => self.commit_prepared(rt, alloc, prepared, workers),
+            Err(NoMemory) => (Reply::NoMemory, None),
+        }
+    }
+
+    /// Does what `commit` does, of a command that was prepared before: what its body says by itself is read already. Cost: as of
+    /// `step`, but for a bulk without the reading of its documents.
+    pub fn commit_prepared<R: Threads + Sync>(
+        &self,
+        rt: &R,
+        alloc: Global,
+        prepared: Prepared<'_>,
+        workers: usize,
+    ) -> (Reply, Option<Engine<P>>)
+        requires write { is_write prepared ≡ true }
+        requires some { 1 ≤ workers }
+        requires most { workers ≤ 32 }
+        ensures answers { (w : World) → Stands P.place self.now w
+            → Answers w prepared.entry (said result.0) (Stands P.place (unwrap_or result.1 self.now)) }
+        ensures next { IsSettled result.0 result.1 }
+        ensures shards { IfSome (said result.0) (λ _. shard_count (unwrap_or result.1 self.now)
+            ≡ shards_after (shard_count self.now) prepared.entry) }
+    {
         let Ok(placement) = self.placement.clone() else {
             return (Reply::NoMemory, None);
         };
         let workers = Workers::most(workers);
         match self
             .state
-            .take(rt, alloc, &*self.placement, command, workers, &NoGate)
+            .take_prepared(rt, alloc, &*self.placement, prepared, workers)
         {
             (reply, Some(state)) => (reply, Some(Engine { placement, state })),
             (reply, None) => (reply, None),

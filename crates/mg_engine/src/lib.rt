@@ -10,6 +10,7 @@ mod engine;
 mod entry;
 mod fault;
 pub mod laws;
+mod prepared;
 mod query;
 mod read;
 mod refusal;
@@ -21,5 +22,6 @@ mod write;
 
 pub use command::Command;
 pub use engine::Engine;
+pub use prepared::Prepared;
 pub use refusal::Refusal;
 pub use reply::Reply;

@@ -8,9 +8,10 @@ ghost use Rattle.mg_engine.specs.View.{asked, said};
 ghost use Rattle.mg_engine.specs.World.{World};
 
 use crate::command::Command;
+use crate::prepared::Prepared;
 use crate::reply::Reply;
 use crate::state::State;
-use mg_scan::{Gate, Workers};
+use mg_scan::{Gate, NoGate, Workers};
 use mg_shard::Placement;
 use mg_value::NoMemory;
 use std::alloc::Global;
@@ -44,6 +45,28 @@ impl State {
             Command::Explain(body) => told(self.explain(alloc, body)),
             Command::Get { id, conflicts } => told(self.get(alloc, placement, id, *conflicts)),
             Command::Reshard(body) => settled(self.reshard(alloc, placement, body)),
+        }
+    }
+
+    /// The same for a command that was prepared, and no gate.
+    pub(crate) fn take_prepared<P: Placement, R: Threads + Sync>(
+        &self,
+        rt: &R,
+        alloc: Global,
+        placement: &P,
+        prepared: Prepared<'_>,
+        workers: Workers,
+    ) -> (Reply, Option<State>)
+        ensures answers { (w : World) → Holds (P.place placement.now) self.now w
+            → Answers w prepared.entry (said result.0) (Holds (P.place placement.now) (unwrap_or result.1 self.now)) }
+        ensures write { is_write prepared.entry ≡ true → IsSettled result.0 result.1 }
+        ensures number { IfSome (said result.0) (λ _. length (unwrap_or result.1 self.now).shards
+            ≡ shards_after (length self.now.shards) prepared.entry) }
+    {
+        let Prepared { command, bulk } = prepared;
+        match bulk {
+            Some(read) => settled(self.apply(alloc, placement, read)),
+            None => self.take(rt, alloc, placement, command, workers, &NoGate),
         }
     }
 }

@@ -1,18 +1,18 @@
 //! Bulks of edits, each with the state that it leaves.
 ghost use Rattle.std.specs.Prelude.{◌≡◌, IfOk, Ok, Some, true, length, unwrap_or};
 ghost use Rattle.mg_value.specs.View.{view};
-ghost use Rattle.mg_engine.specs.Commands.{bulk, bulk_reply, next, reply_of, world_with};
+ghost use Rattle.mg_engine.specs.Commands.{Asked, bulk, bulk_reply, next, reply_of, world_with};
 ghost use Rattle.mg_engine.specs.Objects.{BringObjects};
+ghost use Rattle.mg_engine.specs.Ahead.{Determines};
 ghost use Rattle.mg_engine.specs.Settled.{IsSettled, accepts};
 ghost use Rattle.mg_engine.specs.Stands.{Holds};
 ghost use Rattle.mg_engine.specs.View.{said};
 ghost use Rattle.mg_engine.specs.World.{World};
 
-use crate::bulk::{numbered, read_bulk, read_edits};
+use crate::bulk::numbered;
 use crate::edits::edited;
 use crate::entry::entries_line;
-use crate::fault::Fault;
-use crate::refusal::Refusal;
+use crate::prepared::ReadBulk;
 use crate::reply::Reply;
 use crate::state::State;
 use mg_doc::Edit;
@@ -34,16 +34,28 @@ impl State {
         ensures settled { IfOk result (λ r. IsSettled r.0 r.1) }
         ensures number { IfOk result (λ r. length (unwrap_or r.1 self.now).shards ≡ length self.now.shards) }
     {
-        let Some(bulk) = read_bulk(body) else {
-            return Ok((Reply::refusing(alloc, Refusal::WrongShape)?, None));
-        };
-        match read_edits(alloc, bulk.new_edits, bulk.documents) {
-            Ok(edits) => {
-                let (reply, next) = self.accept(alloc, placement, bulk.new_edits, edits)?;
+        let read = ReadBulk::of(alloc, body)?;
+        self.apply(alloc, placement, read)
+    }
+
+    /// The same of a bulk whose body was read: the reply is to each command that is determined by what was read. Cost: its documents.
+    pub(crate) fn apply<P: Placement>(
+        &self,
+        alloc: Global,
+        placement: &P,
+        read: ReadBulk,
+    ) -> Result<(Reply, Option<State>), NoMemory>
+        ensures does { IfOk result (λ r. (c : Asked) → Determines read c → (w : World) → Holds (P.place placement.now) self.now w
+            → (said r.0 ≡ Some (reply_of w c)) × Holds (P.place placement.now) (unwrap_or r.1 self.now) (next w c)) }
+        ensures settled { IfOk result (λ r. IsSettled r.0 r.1) }
+        ensures number { IfOk result (λ r. length (unwrap_or r.1 self.now).shards ≡ length self.now.shards) }
+    {
+        match read {
+            ReadBulk::Edits { new_edits, edits } => {
+                let (reply, next) = self.accept(alloc, placement, new_edits, edits)?;
                 Ok((reply, Some(next)))
             }
-            Err(Fault::Refused(refusal)) => Ok((Reply::refusing(alloc, refusal)?, None)),
-            Err(Fault::NoMemory) => Err(NoMemory),
+            ReadBulk::Refused(refusal) => Ok((Reply::refusing(alloc, refusal)?, None)),
         }
     }
 
@@ -55,10 +67,9 @@ impl State {
         new_edits: bool,
         edits: Vec<Edit>,
     ) -> Result<(Reply, State), NoMemory>
-        requires { BringObjects edits.items }
         ensures reply { IfOk result (λ r. (w : World) → Holds (P.place placement.now) self.now w
             → said r.0 ≡ Some (bulk_reply w new_edits (Ok edits.items))) }
-        ensures holds { IfOk result (λ r. (w : World) → Holds (P.place placement.now) self.now w
+        ensures holds { IfOk result (λ r. (w : World) → BringObjects edits.items → Holds (P.place placement.now) self.now w
             → Holds (P.place placement.now) r.1 (world_with w (Ok edits.items))) }
         ensures accepted { IfOk result (λ r. accepts r.0 ≡ true) }
         ensures number { IfOk result (λ r. length r.1.shards ≡ length self.now.shards) }

@@ -12,8 +12,9 @@ use Rattle.mg_http.specs.Head.{framed, unframed, asks_of, is_silent}
 use Rattle.mg_http.specs.Message.{Message, HasHead, Begins, IsRefused, IsWaiting}
 use Rattle.mg_http.specs.Reply.{text_of}
 use Rattle.mg_http.specs.Session.{Handles, HandlesBody, asked_by}
-use Rattle.mg_http.specs.Talk.{AtWorld, Stops, Speaks}
+use Rattle.mg_http.specs.Talk.{AtWorld}
 use Rattle.mg_http.specs.Target.{Request, body, asks, refuses}
+use Rattle.mg_http.specs.Transcript.{Stops, Speaks}
 use Rattle.mg_http.proofs.MessageLemmas.{in_window, one_head, HasHead-append, Begins-append, two_messages, never_framed, framed_request, no_head_more, never_none, window_more, window_full}
 
 module _ (db : List ℕ) where
@@ -68,7 +69,7 @@ module _ (db : List ℕ) where
       omega (arith, p.6, same.1, ap length one.1, ap length b.joined, length-append m.body rest)
 
   -- a message at the front leaves no room to stop
-  no_stop : (bytes : List ℕ) (m : Message) (rest text : List ℕ) → Begins db bytes m rest → Stops db bytes text → ⊥
+  pub no_stop : (bytes : List ℕ) (m : Message) (rest text : List ℕ) → Begins db bytes m rest → Stops db bytes text → ⊥
   no_stop bytes m rest text b (inl x) = message_not_waiting bytes m rest b x.0
   no_stop bytes m rest text b (inr x) = message_not_refused bytes m rest x.0 x.1 b x.2
 
@@ -99,7 +100,7 @@ one_body w endpoint bytes a b u v (inr (inr x)) y = absurd (some_none a x.0)
 one_body w endpoint bytes a b u v (inl x) (inr (inr y)) = absurd (some_none b y.0)
 one_body w endpoint bytes a b u v (inr (inl x)) (inr (inr y)) = absurd (some_none b y.0)
 
-one_reply : (w : World) (request : Request) (bytes : List ℕ) (a b : Answer) (u v : World)
+pub one_reply : (w : World) (request : Request) (bytes : List ℕ) (a b : Answer) (u v : World)
     → Handles AtWorld w request bytes (Some a) u → Handles AtWorld w request bytes (Some b) v → (a ≡ b) × (u ≡ v)
 one_reply w (body endpoint) bytes a b u v x y = one_body w endpoint bytes a b u v x y
 one_reply w (asks command) bytes a b u v x y = (x.0 ∙ sym y.0, sym x.1 ∙ y.1)
@@ -109,31 +110,31 @@ one_reply w (refuses refusal) bytes a b u v x y = (some_some a b (x.0 ∙ sym y.
 
 module _ (db : List ℕ) where
   -- where nothing more is answered in what came first
-  after_stop : (w : World) (bytes more text : List ℕ) (ns : List Message) (longer : List ℕ) → Stops db bytes text → Speaks db w (bytes ++ more) ns longer → IsPrefix text longer
+  pub after_stop : (w : World) (bytes more text : List ℕ) (ns : List Message) (longer : List ℕ) → Stops db bytes text → Speaks AtWorld db w (bytes ++ more) ns longer → IsPrefix text longer
   after_stop w bytes more text ns longer (inl x) k = (longer, rw x.1 refl)
   after_stop w bytes more text [] longer (inr x) (inl y) = absurd (waiting_not_refused db (bytes ++ more) x.0 x.1 y.0 (refused_more db bytes more x.0 x.1 x.2))
   after_stop w bytes more text [] longer (inr x) (inr y) =
       let one = refused_once db (bytes ++ more) x.0 y.0 x.1 y.1 (refused_more db bytes more x.0 x.1 x.2) y.2 in
       ([], append-nil text ∙ x.3 ∙ ap (λ (r : Refusal). text_of x.1 (refused r)) one.0 ∙ ap (λ (s : Bool). text_of s (refused y.0)) one.1 ∙ sym y.3)
   after_stop w bytes more text (n ∷ ns) longer (inr x) k =
-      absurd (message_not_refused db (bytes ++ more) n k.0 x.0 x.1 k.4 (refused_more db bytes more x.0 x.1 x.2))
+      absurd (message_not_refused db (bytes ++ more) n k.after x.0 x.1 k.begins (refused_more db bytes more x.0 x.1 x.2))
 
   pub begins : (w : World) (bytes more : List ℕ) (ms : List Message) (text : List ℕ) (ns : List Message) (longer : List ℕ)
-      → Speaks db w bytes ms text → Speaks db w (bytes ++ more) ns longer → IsPrefix text longer
+      → Speaks AtWorld db w bytes ms text → Speaks AtWorld db w (bytes ++ more) ns longer → IsPrefix text longer
   begins w bytes more [] text ns longer h k = after_stop w bytes more text ns longer h k
-  begins w bytes more (m ∷ ms) text [] longer h k = absurd (no_stop db (bytes ++ more) m (h.0 ++ more) longer (Begins-append db bytes m h.0 more h.4) k)
+  begins w bytes more (m ∷ ms) text [] longer h k = absurd (no_stop db (bytes ++ more) m (h.after ++ more) longer (Begins-append db bytes m h.after more h.begins) k)
   begins w bytes more (m ∷ ms) text (n ∷ ns) longer h k =
-      let one = two_messages db (bytes ++ more) m n (h.0 ++ more) k.0 (Begins-append db bytes m h.0 more h.4) k.4 in
-      let reply = one_reply w n.request n.body h.2 k.2 h.3 k.3 (rw one.0 at h.5) k.5 in
-      let first : text_of m.silent h.2 ≡ text_of n.silent k.2 = ap (λ (t : Message). text_of t.silent h.2) one.0 ∙ ap (text_of n.silent) reply.0 in
-      let tail : IsPrefix h.1 k.1 = elim h.7 [
-        | inl c ↦ (k.1, rw c.2 refl)
-        | inr c ↦ elim k.7 [
+      let one = two_messages db (bytes ++ more) m n (h.after ++ more) k.after (Begins-append db bytes m h.after more h.begins) k.begins in
+      let reply = one_reply w n.request n.body h.answer k.answer h.mid k.mid (rw one.0 at h.handled) k.handled in
+      let first : text_of m.silent h.answer ≡ text_of n.silent k.answer = ap (λ (t : Message). text_of t.silent h.answer) one.0 ∙ ap (text_of n.silent) reply.0 in
+      let tail : IsPrefix h.later k.later = elim h.others_follow [
+        | inl c ↦ (k.later, rw c.2 refl)
+        | inr c ↦ elim k.others_follow [
           | inl d ↦ let e : true ≡ false = sym d.0 ∙ sym (ap (λ (t : Message). t.closes) one.0) ∙ c.0 in cc
-          | inr d ↦ begins h.3 h.0 more ms h.1 ns k.1 c.1 (rw (← reply.1, ← one.1) at d.1)
+          | inr d ↦ begins h.mid h.after more ms h.later ns k.later c.1 (rw (← reply.1, ← one.1) at d.1)
         ]
       ] in (
         tail.0,
-        ap (λ (t : List ℕ). t ++ tail.0) h.6 ∙ append_assoc (text_of m.silent h.2) h.1 tail.0 ∙ ap (λ (t : List ℕ). text_of m.silent h.2 ++ t) tail.1
-            ∙ ap (λ (t : List ℕ). t ++ k.1) first ∙ sym k.6,
+        ap (λ (t : List ℕ). t ++ tail.0) h.text_is ∙ append_assoc (text_of m.silent h.answer) h.later tail.0 ∙ ap (λ (t : List ℕ). text_of m.silent h.answer ++ t) tail.1
+            ∙ ap (λ (t : List ℕ). t ++ k.later) first ∙ sym k.text_is,
       )

@@ -4,7 +4,9 @@ pub mod FaultLemmas
 pub mod HeadLemmas
 pub mod ListLemmas
 pub mod MessageLemmas
+pub mod NumberLemmas
 pub mod ReplyLemmas
 pub mod RouteLemmas
 pub mod SessionLemmas
 pub mod TalkLemmas
+pub mod TranscriptLemmas

@@ -1,12 +1,12 @@
 -- What a session has done stays done when it goes on.
-use Rattle.std.proofs.Common.{◌≡◌, ℕ, ◌+◌, ◌-◌, ◌<◌, ◌≤◌, List, [], ◌∷◌, ◌++◌, length, take, drop, Option, Some, None, refl, sym, ap, ◌∙◌, subst, append_assoc, append-nil, take-append-drop, drop-drop, arith, length-append, length-drop, inl, inr, Result, Ok, Err, is_ok, cond, Bool, true, false}
+use Rattle.std.proofs.Common.{◌≡◌, ◌⊎◌, ℕ, ◌+◌, ◌-◌, ◌<◌, ◌≤◌, List, [], ◌∷◌, ◌++◌, length, take, drop, Option, Some, None, refl, sym, ap, ◌∙◌, subst, append_assoc, append-nil, take-append-drop, drop-drop, arith, length-append, length-drop, inl, inr, Result, Ok, Err, is_ok, cond, Bool, true, false}
 use Rattle.std.specs.Prelude.{slice_range}
 use Rattle.std.specs.Bool.{⊤}
 use Rattle.std.specs.Io.KnownBytes.{Appends, Consumes}
 use Rattle.std.proofs.KnownBytes.{Consumes-nil, Appends-nil, Consumes-trans, Appends-trans}
 use Rattle.std.proofs.lemmas.Grind.{common_steps}
 use Rattle.std.proofs.lemmas.List.{drop-append-le}
-use Rattle.httparse.specs.Grammar.{RequestHead}
+use Rattle.httparse.specs.Grammar.{RequestHead, print_request}
 use Rattle.mg_engine.specs.Commands.{Asked, Answer}
 use Rattle.mg_http.specs.declared.device.Fault.{Fault}
 use Rattle.mg_http.specs.declared.head.Framed.{Framed}
@@ -18,7 +18,9 @@ use Rattle.mg_http.specs.Device.{Writes}
 use Rattle.mg_http.specs.Message.{HasHead, Begins, IsWaiting}
 use Rattle.mg_http.specs.Reply.{reply_text}
 use Rattle.mg_http.specs.Session.{Call, IsHandled, Handles, call_text, Serves, LacksMemory, Refuses, Ends, Converses}
-use Rattle.mg_http.specs.Turns.{request_in, message_of, IsFramed, Turns, StopsWith}
+use Rattle.mg_http.specs.Transcript.{IsAtLimit}
+use Rattle.mg_http.specs.Turns.{request_in, message_of, IsFramed, Turns, Progress, Counts, StopsWith}
+use Rattle.mg_http.proofs.HeadLemmas.{head_long}
 use Rattle.mg_http.proofs.MessageLemmas.{HasHead-append, Begins-append}
 
 -- what is found has no value, so nothing found has one
@@ -60,6 +62,55 @@ module _ (db : List ℕ) (h : RequestHead) (f : Framed) (bytes : List ℕ) (has 
   pub head_with : (more : List ℕ) → f.len ≤ length bytes → HasHead (bytes ++ more) h (drop f.len (bytes ++ more))
   head_with more within = rw (drop-append-le f.len bytes more within) (HasHead-append bytes h (drop f.len bytes) more has)
 
+-- a head at the front has a byte
+pub head_counts : (bytes : List ℕ) (h : RequestHead) (len : ℕ) → HasHead bytes h (drop len bytes) → len ≤ length bytes → 1 ≤ len
+head_counts bytes h len has within =
+    omega (arith, within, head_long h has.reads.0, ap length has.reads.1, length-append (print_request h) (drop len bytes), length-drop len bytes)
+
+-- a session that stopped reading ends at its limit only where the reader may not be called again
+pub stops_at_limit : (old new : Option (List ℕ)) (silent : Bool) (s : Stop) (end : SessionEnd) → StopsWith old new silent s end → end ≡ Limit → s ≡ stop.Limit
+stops_at_limit old new silent stop.End end h e = let f : Eof ≡ Limit = sym h.0 ∙ e in cc
+stops_at_limit old new silent stop.Failed end h e = let f : ReadFault ≡ Limit = sym h.0 ∙ e in cc
+stops_at_limit old new silent stop.Limit end h e = refl
+stops_at_limit old new silent stop.NoMemory Refused h e = cc
+stops_at_limit old new silent stop.NoMemory WriteFault h e = cc
+stops_at_limit old new silent stop.NoMemory Eof h e = absurd h
+stops_at_limit old new silent stop.NoMemory Closed h e = absurd h
+stops_at_limit old new silent stop.NoMemory ReadFault h e = absurd h
+stops_at_limit old new silent stop.NoMemory Limit h e = absurd h
+
+-- a text that refuses was written, or a front of it: that is no limit
+pub refused_counts : {A P : Type 0} (written : Result A Fault) (end : SessionEnd) → end ≡ cond (is_ok written) Refused WriteFault → end ≡ Limit → P
+refused_counts (Ok a) end e at = let f : Refused ≡ Limit = sym e ∙ at in cc
+refused_counts (Err x) end e at = let f : WriteFault ≡ Limit = sym e ∙ at in cc
+
+pub refused_text : {A : Type 0} (written : Result A Fault) (end : SessionEnd) (bytes : List ℕ) → end ≡ cond (is_ok written) Refused WriteFault → IsAtLimit end bytes
+refused_text (Ok a) end bytes e = rw e tt
+refused_text (Err x) end bytes e = rw e tt
+
+-- a message that was answered counts
+pub answered_counts : {A : Type 0} (old new : Progress) (came : List ℕ) (written : Result A Fault) (closes : Bool) (result : Result ⊤ SessionEnd)
+    → result ≡ cond (is_ok written) (cond closes (Err Closed) (Ok tt)) (Err WriteFault)
+    → new.requests + new.held ≤ old.requests + (old.held + length came) → new.reads ≤ old.reads + length came
+    → Counts old new came result
+answered_counts old new came (Ok a) true result e few often = rw e (λ at. let f : Closed ≡ Limit = at in cc)
+answered_counts old new came (Ok a) false result e few often = rw e (few, often)
+answered_counts old new came (Err x) closes result e few often = rw e (λ at. let f : WriteFault ≡ Limit = at in cc)
+
+-- a session that ends at its limit has read so many bytes
+pub at_limit : (end : SessionEnd) (bytes came held : List ℕ) (requests reads : ℕ) → requests + length held ≤ length bytes → reads ≤ length bytes
+    → (end ≡ Limit → (4294967295 ≤ requests) ⊎ (4294967295 ≤ reads + length came)) → IsAtLimit end (bytes ++ came)
+at_limit Limit bytes came held requests reads few often k =
+    elim (k refl) [
+      | inl many ↦ omega (arith, many, few, length-append bytes came)
+      | inr many ↦ omega (arith, many, often, length-append bytes came)
+    ]
+at_limit Eof bytes came held requests reads few often k = tt
+at_limit Closed bytes came held requests reads few often k = tt
+at_limit Refused bytes came held requests reads few often k = tt
+at_limit ReadFault bytes came held requests reads few often k = tt
+at_limit WriteFault bytes came held requests reads few often k = tt
+
 module _ {S : Type 0} (answers : S → Asked → Option Answer → S → Type 0) (db : List ℕ) where
   -- a session that ends with the first thing it does
   pub ends_at : (old : S) (bytes last : List ℕ) (new : S) (end : SessionEnd) → Ends answers db end old bytes last new
@@ -71,24 +122,32 @@ module _ {S : Type 0} (answers : S → Asked → Option Answer → S → Type 0)
   pub Serves-append : (old : S) (bytes : List ℕ) (calls : List Call) (text rest : List ℕ) (new : S) (more : List ℕ)
       → Serves answers db old bytes calls text rest new → Serves answers db old (bytes ++ more) calls text (rest ++ more) new
   Serves-append old bytes [] text rest new more h = (ap (λ (t : List ℕ). t ++ more) h.0, h.1, h.2)
-  Serves-append old bytes (call ∷ calls) text rest new more h =
-      (h.0 ++ more, h.1, h.2, Begins-append db bytes call.message h.0 more h.3, h.4, h.5, h.6, Serves-append h.2 h.0 calls h.1 rest new more h.7)
+  Serves-append old bytes (call ∷ calls) text rest new more h = record {
+    after = h.after ++ more;
+    later = h.later;
+    mid = h.mid;
+    begins = Begins-append db bytes call.message h.after more h.begins;
+    stays = h.stays;
+    handled = h.handled;
+    text_is = h.text_is;
+    others_follow = Serves-append h.mid h.after calls h.later rest new more h.others_follow;
+  }
 
   -- one run of calls after another
   pub Serves-then : (old : S) (bytes : List ℕ) (calls : List Call) (text mid : List ℕ) (between : S) (others : List Call) (later rest : List ℕ) (new : S)
       → Serves answers db old bytes calls text mid between → Serves answers db between mid others later rest new
       → Serves answers db old bytes (calls ++ others) (text ++ later) rest new
   Serves-then old bytes [] text mid between others later rest new h k = rw (h.0, h.1, ← h.2) k
-  Serves-then old bytes (call ∷ calls) text mid between others later rest new h k = (
-    h.0,
-    h.1 ++ later,
-    h.2,
-    h.3,
-    h.4,
-    h.5,
-    ap (λ (t : List ℕ). t ++ later) h.6 ∙ append_assoc (call_text call) h.1 later,
-    Serves-then h.2 h.0 calls h.1 mid between others later rest new h.7 k,
-  )
+  Serves-then old bytes (call ∷ calls) text mid between others later rest new h k = record {
+    after = h.after;
+    later = h.later ++ later;
+    mid = h.mid;
+    begins = h.begins;
+    stays = h.stays;
+    handled = h.handled;
+    text_is = ap (λ (t : List ℕ). t ++ later) h.text_is ∙ append_assoc (call_text call) h.later later;
+    others_follow = Serves-then h.mid h.after calls h.later mid between others later rest new h.others_follow k;
+  }
 
   -- a run of calls, and then a session that ends
   pub Converses-then : (old : S) (bytes : List ℕ) (calls : List Call) (text mid : List ℕ) (between : S) (written : List ℕ) (new : S) (end : SessionEnd)
@@ -117,19 +176,20 @@ module _ {S : Type 0} (answers : S → Asked → Option Answer → S → Type 0)
       × ((calls : List Call) × Serves answers db old (before ++ came) calls written held new)
 
   -- a message at the front was handled, and its reply written, or a front of it
-  handled_one : {A : Type 0} (w w' : Option (List ℕ)) (old : S) (bytes rest : List ℕ) (new : S) (call : Call) (written : Result A Fault) (closes : Bool)
+  pub handled_one : {A : Type 0} (w w' : Option (List ℕ)) (old : S) (bytes rest : List ℕ) (new : S) (call : Call) (written : Result A Fault) (closes : Bool)
       → call.message.closes ≡ closes → Begins db bytes call.message rest → IsHandled answers old call new → Writes w w' (call_text call) written
       → (text : List ℕ) × Appends w w' text
       × Turns answers db old bytes text rest new (cond (is_ok written) (cond closes (Err Closed) (Ok tt)) (Err WriteFault))
   handled_one w w' old bytes rest new call (Ok a) true c h k t =
-      (call_text call, t, ends_at old bytes (call_text call) new Closed (call, c, (rest, h, k, refl)))
+      (call_text call, t, ends_at old bytes (call_text call) new Closed (call, c, record { after = rest; begins = h; handled = k; text_is = refl }))
   handled_one w w' old bytes rest new call (Ok a) false c h k t =
-      (call_text call, t, (call ∷ [], (rest, [], new, h, c, k, sym (append-nil (call_text call)), (refl, refl, refl))))
+      let one : Serves answers db old bytes (call ∷ []) (call_text call) rest new = record { after = rest; later = []; mid = new; begins = h; stays = c; handled = k; text_is = sym (append-nil (call_text call)); others_follow = (refl, refl, refl) } in
+      (call_text call, t, (call ∷ [], one))
   handled_one w w' old bytes rest new call (Err f) closes c h k t =
-      (t.0, t.2, ends_at old bytes t.0 new WriteFault (call_text call, t.1, inl (call, (rest, h, k, refl))))
+      (t.0, t.2, ends_at old bytes t.0 new WriteFault (call_text call, t.1, inl (call, record { after = rest; begins = h; handled = k; text_is = refl })))
 
   -- a message whose head was read, whose body is there, and whose reply was written
-  pub answered : {A : Type 0} (r r' w w' : Option (List ℕ)) (old : S) (held came bytes left : List ℕ) (h : RequestHead) (f : Framed) (new : S) (reply : Option Answer)
+  abbrev pub answered : {A : Type 0} (r r' w w' : Option (List ℕ)) (old : S) (held came bytes left : List ℕ) (h : RequestHead) (f : Framed) (new : S) (reply : Option Answer)
       (written : Result A Fault) (result : Result ⊤ SessionEnd)
       → HasHead held h (drop f.len held) → IsFramed db h f → f.len ≤ length held → Consumes r r' came → bytes ≡ held ++ came → f.len + f.body ≤ length bytes
       → left ≡ drop (f.len + f.body) bytes
@@ -146,7 +206,7 @@ module _ {S : Type 0} (answers : S → Asked → Option Answer → S → Type 0)
       (came, one.0, read, one.1, subst (λ (t : List ℕ). Turns answers db old t one.0 left new result) joined last)
 
   -- the session stopped reading within a message or between two
-  stopped : (w w' : Option (List ℕ)) (old : S) (bytes : List ℕ) (silent : Bool) (s : Stop) (end : SessionEnd) → IsWaiting db bytes → LacksMemory bytes silent
+  pub stopped : (w w' : Option (List ℕ)) (old : S) (bytes : List ℕ) (silent : Bool) (s : Stop) (end : SessionEnd) → IsWaiting db bytes → LacksMemory bytes silent
       → StopsWith w w' silent s end → (text : List ℕ) × Appends w w' text × Converses answers db old bytes text old end
   stopped w w' old bytes silent stop.End end waiting lacks h = ([], rw h.1 (Appends-nil w), rw h.0 (ends_at old bytes [] old Eof (waiting, refl, refl)))
   stopped w w' old bytes silent stop.Failed end waiting lacks h = ([], rw h.1 (Appends-nil w), rw h.0 (ends_at old bytes [] old ReadFault (waiting, refl, refl)))
@@ -161,7 +221,7 @@ module _ {S : Type 0} (answers : S → Asked → Option Answer → S → Type 0)
   stopped w w' old bytes silent stop.NoMemory Limit waiting lacks h = absurd h
 
   -- in a message whose body is not there
-  pub stopped_in_body : (r r' w w' : Option (List ℕ)) (old : S) (held came bytes : List ℕ) (h : RequestHead) (f : Framed) (s : Stop) (end : SessionEnd)
+  abbrev pub stopped_in_body : (r r' w w' : Option (List ℕ)) (old : S) (held came bytes : List ℕ) (h : RequestHead) (f : Framed) (s : Stop) (end : SessionEnd)
       → HasHead held h (drop f.len held) → IsFramed db h f → f.len ≤ length held → Consumes r r' came → bytes ≡ held ++ came → length bytes < f.len + f.body
       → StopsWith w w' f.silent s end → Promises r r' w w' old held old end
   stopped_in_body r r' w w' old held came bytes h f s end has is within read joined short stops =
@@ -171,7 +231,7 @@ module _ {S : Type 0} (answers : S → Asked → Option Answer → S → Type 0)
       (came, one.0, read, one.1, subst (λ (t : List ℕ). Converses answers db old t one.0 old end) joined one.2)
 
   -- between two messages or in a head
-  pub stopped_in_head : (r r' w w' : Option (List ℕ)) (old : S) (held came bytes : List ℕ) (s : Stop) (end : SessionEnd)
+  abbrev pub stopped_in_head : (r r' w w' : Option (List ℕ)) (old : S) (held came bytes : List ℕ) (s : Stop) (end : SessionEnd)
       → IsWaiting db held → LacksMemory held false → Consumes r r' came → bytes ≡ held ++ came → bytes ≡ held
       → StopsWith w w' false s end → Promises r r' w w' old held old end
   stopped_in_head r r' w w' old held came bytes s end waiting lacks read joined none stops =
@@ -179,7 +239,7 @@ module _ {S : Type 0} (answers : S → Asked → Option Answer → S → Type 0)
       (came, one.0, read, one.1, subst (λ (t : List ℕ). Converses answers db old t one.0 old end) (sym none ∙ joined) one.2)
 
   -- a limit, with nothing written
-  pub limited : (r r' w : Option (List ℕ)) (old : S) (held came : List ℕ) → Consumes r r' came → Promises r r' w w old held old Limit
+  abbrev pub limited : (r r' w : Option (List ℕ)) (old : S) (held came : List ℕ) → Consumes r r' came → Promises r r' w w old held old Limit
   limited r r' w old held came c = (came, [], c, Appends-nil w, ends_at old (held ++ came) [] old Limit (refl, refl))
 
   -- a text that refuses was written, or a front of it
@@ -191,13 +251,13 @@ module _ {S : Type 0} (answers : S → Asked → Option Answer → S → Type 0)
       ([], k.0, Consumes-nil r, k.2, rw (append-nil held, e) (ends_at old held k.0 old WriteFault (text, k.1, inr (h, refl))))
 
   -- more is held
-  pub reads_on : (r r' w : Option (List ℕ)) (old : S) (held came left : List ℕ) → Consumes r r' came → left ≡ held ++ came
+  abbrev pub reads_on : (r r' w : Option (List ℕ)) (old : S) (held came left : List ℕ) → Consumes r r' came → left ≡ held ++ came
       → Runs r r' w w old held left old
   reads_on r r' w old held came left c e = (came, [], c, Appends-nil w, ([], (sym e, refl, refl)))
 
   module _ (r0 r1 r2 w0 w1 w2 : Option (List ℕ)) (s0 s1 s2 : S) (held : List ℕ)
       (run : (bytes : List ℕ) × (written : List ℕ) × Consumes r0 r1 bytes × Appends w0 w1 written × ((calls : List Call) × Serves answers db s0 bytes calls written held s1)) where
-    pub run_ends : (end : SessionEnd) → Promises r1 r2 w1 w2 s1 held s2 end
+    abbrev pub run_ends : (end : SessionEnd) → Promises r1 r2 w1 w2 s1 held s2 end
         → (bytes : List ℕ) × (written : List ℕ) × Consumes r0 r2 bytes × Appends w0 w2 written × Converses answers db s0 bytes written s2 end
     run_ends end k = (
       run.0 ++ k.0,
@@ -207,7 +267,7 @@ module _ {S : Type 0} (answers : S → Asked → Option Answer → S → Type 0)
       Converses-then s0 (run.0 ++ k.0) run.4.0 run.1 (held ++ k.0) s1 k.1 s2 end (Serves-append s0 run.0 run.4.0 run.1 held s1 k.0 run.4.1) k.4,
     )
 
-    pub run_goes_on : (left : List ℕ) → Runs r1 r2 w1 w2 s1 held left s2
+    abbrev pub run_goes_on : (left : List ℕ) → Runs r1 r2 w1 w2 s1 held left s2
         → (bytes : List ℕ) × (written : List ℕ) × Consumes r0 r2 bytes × Appends w0 w2 written × ((calls : List Call) × Serves answers db s0 bytes calls written left s2)
     run_goes_on left k = (
       run.0 ++ k.0,

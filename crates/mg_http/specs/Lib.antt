@@ -9,8 +9,10 @@ pub mod RouteViews
 pub mod Routes
 pub mod Segments
 pub mod Session
+pub mod Significant
 pub mod Solo
 pub mod Talk
 pub mod Target
 pub mod TargetScan
+pub mod Transcript
 pub mod Turns

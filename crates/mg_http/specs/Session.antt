@@ -54,22 +54,37 @@ IsHandled answers old call new = Handles answers old call.message.request call.m
 abbrev pub call_text : Call → List ℕ
 call_text call = reply_text call.message.silent call.reply
 
+-- The bytes begin with the message of the call, which does not end the session, and the text with its reply. `others` says of the bytes
+-- behind the message, the text behind its reply and the state between what the other calls do.
+pub record ServesFirst
+    {S : Type 0} (answers : S → Asked → Option Answer → S → Type 0) (db : List ℕ) (old : S) (bytes : List ℕ) (call : Call)
+    (text : List ℕ) (others : List ℕ → List ℕ → S → Type 0) : Type 0 where
+  pub after : List ℕ
+  pub later : List ℕ
+  pub mid : S
+  pub begins : Begins db bytes call.message after
+  pub stays : call.message.closes ≡ false
+  pub handled : IsHandled answers old call mid
+  pub text_is : text ≡ call_text call ++ later
+  pub others_follow : others after later mid
+
 -- The bytes are the messages of the calls and then rest, the text is the replies to them in order, and the service
 -- went from old to new. None of them ends the session.
 abbrev pub Serves
     : {S : Type 0} → (S → Asked → Option Answer → S → Type 0)
     → List ℕ → S → List ℕ → List Call → List ℕ → List ℕ → S → Type 0
 Serves answers db old bytes [] text rest new = (bytes ≡ rest) × (text ≡ []) × (new ≡ old)
-Serves {S} answers db old bytes (call ∷ calls) text rest new =
-    (after : List ℕ) × (later : List ℕ) × (mid : S)
-    × Begins db bytes call.message after × (call.message.closes ≡ false) × IsHandled answers old call mid
-    × (text ≡ call_text call ++ later) × Serves answers db mid after calls later rest new
+Serves answers db old bytes (call ∷ calls) text rest new =
+    ServesFirst answers db old bytes call text (λ after later mid. Serves answers db mid after calls later rest new)
 
 -- the message at the front was handled, and this text is its reply
-abbrev pub Answered
-    : {S : Type 0} → (S → Asked → Option Answer → S → Type 0) → List ℕ → S → List ℕ → Call → List ℕ → S → Type 0
-Answered answers db old bytes call text new =
-    (after : List ℕ) × Begins db bytes call.message after × IsHandled answers old call new × (text ≡ call_text call)
+pub record Answered
+    {S : Type 0} (answers : S → Asked → Option Answer → S → Type 0) (db : List ℕ) (old : S) (bytes : List ℕ) (call : Call)
+    (text : List ℕ) (new : S) : Type 0 where
+  pub after : List ℕ
+  pub begins : Begins db bytes call.message after
+  pub handled : IsHandled answers old call new
+  pub text_is : text ≡ call_text call
 
 -- There was no memory for the message: for its first byte, or its head, or what a whole head asks for and its body.
 -- Where the head is whole, it says whether the reply is without its body.

@@ -1,5 +1,5 @@
 -- Words that serve the loop of a session and the functions under it; a reader of what a session promises needs none of them.
-use Rattle.std.specs.Prelude.{◌≡◌, ℕ, ◌≤◌, List, length, drop, Bool, Option, None, Result, Ok, Err, ⊤}
+use Rattle.std.specs.Prelude.{◌≡◌, ◌⊎◌, ℕ, ◌+◌, ◌≤◌, List, length, drop, Bool, Option, None, Result, Ok, Err, ⊤}
 use Rattle.std.specs.Io.KnownBytes.{Appends}
 use Rattle.httparse.specs.Grammar.{RequestHead, ReadsRequest}
 use Rattle.mg_engine.specs.Commands.{Asked, Answer}
@@ -11,6 +11,7 @@ use Rattle.mg_http.specs.declared.head.Framing.{Framing}
 use Rattle.mg_http.specs.declared.head.Framing.TheVariants as framing
 use Rattle.mg_http.specs.declared.message.Front.{Front}
 use Rattle.mg_http.specs.declared.message.Front.TheVariants as front
+use Rattle.mg_http.specs.declared.inbox.Inbox.{Inbox}
 use Rattle.mg_http.specs.declared.inbox.Stop.{Stop}
 use Rattle.mg_http.specs.declared.inbox.Stop.TheVariants as stop
 use Rattle.mg_http.specs.declared.sessions.SessionEnd.{SessionEnd}
@@ -18,6 +19,7 @@ use Rattle.mg_http.specs.declared.sessions.SessionEnd.TheVariants.{Eof, Closed, 
 use Rattle.mg_http.specs.declared.target.Target.{Target}
 use Rattle.mg_http.specs.declared.target.Target.TheVariants as target
 use Rattle.mg_http.specs.Device.{WritesPart}
+use Rattle.mg_http.specs.Inbox.{unanswered}
 use Rattle.mg_http.specs.Reply.{reply_text}
 use Rattle.mg_http.specs.Head.{Asks, framed, unframed, asks_of, is_silent, closes_after}
 use Rattle.mg_http.specs.Message.{Message, HasHead, IsNoHead, CanGoOn, IsPartHead, IsRefused}
@@ -74,6 +76,23 @@ abbrev pub Turns
 Turns answers db old bytes written left new (Ok a) =
     (calls : List Call) × Serves answers db old bytes calls written left new
 Turns answers db old bytes written left new (Err end) = Converses answers db old bytes written new end
+
+-- what a session has done so far: how many messages it answered, how often it called its reader, and how many bytes it holds unanswered
+pub record Progress : Type 0 where
+  pub requests : ℕ
+  pub reads : ℕ
+  pub held : ℕ
+
+abbrev pub progress_of : Inbox → Progress
+progress_of inbox = record { requests = inbox.requests; reads = inbox.reads; held = length (unanswered inbox) }
+
+-- How a turn counts, in which these bytes came: each message that is answered has a byte, and so has each read that goes on. It ends
+-- a session at its limit only where so many messages were answered before, or so many reads made.
+abbrev pub Counts : Progress → Progress → List ℕ → Result ⊤ SessionEnd → Type 0
+Counts old new came (Ok a) =
+    (new.requests + new.held ≤ old.requests + (old.held + length came)) × (new.reads ≤ old.reads + length came)
+Counts old new came (Err end) =
+    end ≡ Limit → (4294967295 ≤ old.requests) ⊎ (4294967295 ≤ old.reads + length came)
 
 -- What was written of a text that refuses: all of it where the session ends Refused, a front of it at a write fault.
 abbrev pub RefusesBy : Option (List ℕ) → Option (List ℕ) → List ℕ → SessionEnd → Type 0

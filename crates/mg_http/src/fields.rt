@@ -1,11 +1,12 @@
-ghost use Rattle.std.specs.Prelude.{◌≡◌, ℕ, ◌≤◌, length, map, find, All, true};
+ghost use Rattle.std.specs.Prelude.{◌≡◌, ◌==◌, ℕ, ◌≤◌, length, map, find, All, true};
 ghost use Rattle.std.specs.List.{list_all, list_any};
 ghost use Rattle.std.specs.Option.{option_map};
 ghost use Rattle.std.specs.Char.{is_ascii_digit};
 ghost use Rattle.std.specs.Str.{str_eq_ignore_ascii_case};
 ghost use Rattle.std.specs.Str.Parse.{digits_value};
 ghost use Rattle.httparse.specs.Spans.{IsHeaderWithin, header_bytes};
-ghost use Rattle.mg_http.specs.Fields.{is_named, has_field, is_number, significant, agrees, counted, length_in, words_of, is_close, asks_close};
+ghost use Rattle.mg_http.specs.Fields.{is_named, has_field, is_number, agrees, counted, length_in, words_of, is_close, asks_close};
+ghost use Rattle.mg_http.specs.Significant.{significant};
 
 use crate::text::trim_blanks;
 use httparse::spans::HeaderSpan;
@@ -78,17 +79,29 @@ fn significant(mut text: &[u8]) -> &[u8]
     text
 }
 
-/// Whether a field, if it is a Content-Length, is the same number as the text.
-fn agrees(name: &[u8], value: &[u8], text: &[u8]) -> bool
-    ensures { result ≡ agrees text.now (name.now, value.now) }
+/// Whether two texts of digits write the same number, which may be of any length.
+fn same_number(a: &[u8], b: &[u8]) -> bool
+    requires a { list_all is_ascii_digit a.now ≡ true }
+    requires b { list_all is_ascii_digit b.now ≡ true }
+    ensures { result ≡ (digits_value 10 a.now == digits_value 10 b.now) }
 {
-    !same_name(name, b"content-length")
-        || (is_number(value) && significant(value) == significant(text))
+    let first = significant(a);
+    let second = significant(b);
+    first == second
 }
 
-/// Whether all fields that are a Content-Length are the same number as the text.
+/// Whether a field, if it is a Content-Length, is the number that the text is.
+fn agrees(name: &[u8], value: &[u8], text: &[u8]) -> bool
+    requires { list_all is_ascii_digit text.now ≡ true }
+    ensures { result ≡ agrees text.now (name.now, value.now) }
+{
+    !same_name(name, b"content-length") || (is_number(value) && same_number(value, text))
+}
+
+/// Whether all fields that are a Content-Length are the number that the text is.
 fn all_agree(bytes: &[u8], fields: &[HeaderSpan], text: &[u8]) -> bool
-    requires { All (IsHeaderWithin (length bytes.now)) fields.now }
+    requires within { All (IsHeaderWithin (length bytes.now)) fields.now }
+    requires number { list_all is_ascii_digit text.now ≡ true }
     ensures { result ≡ list_all (agrees text.now) (map (header_bytes bytes.now) fields.now) }
 {
     for field in fields {

@@ -66,7 +66,8 @@ impl Inbox {
 
     /// An inbox that holds nothing.
     pub(crate) fn new(alloc: Global) -> Result<Inbox, AllocError>
-        ensures { IfOk result (λ inbox. unanswered inbox ≡ []) }
+        ensures held { IfOk result (λ inbox. unanswered inbox ≡ []) }
+        ensures counts { IfOk result (λ inbox. (inbox.requests ≡ 0) × (inbox.reads ≡ 0)) }
     {
         Ok(Inbox {
             held: Vec::new(alloc),
@@ -85,6 +86,8 @@ impl Inbox {
         ensures front { IsFront db.now (unanswered self.old) result }
         ensures held { unanswered self.new ≡ unanswered self.old }
         ensures turns { turns_left self.new ≡ turns_left self.old }
+        ensures requests { self.new.requests ≡ self.old.requests }
+        ensures reads { self.new.reads ≡ self.old.reads }
     {
         read_front(
             alloc,
@@ -123,6 +126,12 @@ impl Inbox {
         ensures some { OnOk result (length (unanswered self.old) < length (unanswered self.new)) }
         ensures end { IsErrOf result Stop.End → IsAtEnd (R.remaining (inner_of reader.new)) }
         ensures failed { IsTrue (has_failed reader.new) ↔ IsErrOf result Stop.Failed }
+        ensures requests { self.new.requests ≡ self.old.requests }
+
+        // Each read that goes on gives a byte, so a reader that may not be called again has given as many.
+        ensures reads { OnOk result (self.new.reads + length (unanswered self.old) ≤ self.old.reads + length (unanswered self.new)) }
+        ensures limit { IsErrOf result Stop.Limit
+            → 4294967295 + length (unanswered self.old) ≤ self.old.reads + length (unanswered self.new) }
         ensures turns { OnOk result (turns_left self.new < turns_left self.old) }
         ensures turns_most { turns_left self.new ≤ turns_left self.old }
     {
@@ -158,6 +167,10 @@ impl Inbox {
         ensures short { OnErr result (length (unanswered self.new) < want) }
         ensures end { IsErrOf result Stop.End → IsAtEnd (R.remaining (inner_of reader.new)) }
         ensures failed { IsTrue (has_failed reader.new) ↔ IsErrOf result Stop.Failed }
+        ensures requests { self.new.requests ≡ self.old.requests }
+        ensures reads { OnOk result (self.new.reads + length (unanswered self.old) ≤ self.old.reads + length (unanswered self.new)) }
+        ensures limit { IsErrOf result Stop.Limit
+            → 4294967295 + length (unanswered self.old) ≤ self.old.reads + length (unanswered self.new) }
         ensures turns_most { turns_left self.new ≤ turns_left self.old }
     {
         while self.held.len() - self.start < want {

@@ -5,8 +5,8 @@ ghost use Rattle.httparse.specs.Grammar.{RequestHead};
 ghost use Rattle.mg_http.specs.Device.{inner_of, has_failed};
 ghost use Rattle.mg_http.specs.Inbox.{unanswered, turns_left};
 ghost use Rattle.mg_http.specs.Message.{HasHead};
-ghost use Rattle.mg_http.specs.Session.{Converses};
-ghost use Rattle.mg_http.specs.Turns.{IsFramed, Turns, StopsWith};
+ghost use Rattle.mg_http.specs.Transcript.{Holds};
+ghost use Rattle.mg_http.specs.Turns.{IsFramed, Turns, Counts, StopsWith, progress_of};
 
 use crate::answer::answer;
 use crate::device::{Device, Fault};
@@ -98,7 +98,8 @@ fn message<H: Wait + Threads + Sync, S: Service, R: Read, W: Write>(
         → IsFramed db h framed.now → (came : List ℕ) × (written : List ℕ)
         × Consumes (R.remaining (inner_of reader.old)) (R.remaining (inner_of reader.new)) came
         × Appends (W.contents (inner_of writer.old)) (W.contents (inner_of writer.new)) written
-        × Turns S.answers db service.old (unanswered inbox.old ++ came) written (unanswered inbox.new) service.new result }
+        × Turns S.answers db service.old (unanswered inbox.old ++ came) written (unanswered inbox.new) service.new result
+        × Counts (progress_of inbox.old) (progress_of inbox.new) came result }
     ensures end { IsErrOf result SessionEnd.Eof → IsAtEnd (R.remaining (inner_of reader.new)) }
     ensures read_fault { IsTrue (has_failed reader.new) ↔ IsErrOf result SessionEnd.ReadFault }
     ensures write_fault { IsTrue (has_failed writer.new) ↔ IsErrOf result SessionEnd.WriteFault }
@@ -142,7 +143,8 @@ fn turn<H: Wait + Threads + Sync, S: Service, R: Read, W: Write>(
     ensures bytes { (came : List ℕ) × (written : List ℕ)
         × Consumes (R.remaining (inner_of reader.old)) (R.remaining (inner_of reader.new)) came
         × Appends (W.contents (inner_of writer.old)) (W.contents (inner_of writer.new)) written
-        × Turns S.answers db.now service.old (unanswered inbox.old ++ came) written (unanswered inbox.new) service.new result }
+        × Turns S.answers db.now service.old (unanswered inbox.old ++ came) written (unanswered inbox.new) service.new result
+        × Counts (progress_of inbox.old) (progress_of inbox.new) came result }
     ensures end { IsErrOf result SessionEnd.Eof → IsAtEnd (R.remaining (inner_of reader.new)) }
     ensures read_fault { IsTrue (has_failed reader.new) ↔ IsErrOf result SessionEnd.ReadFault }
     ensures write_fault { IsTrue (has_failed writer.new) ↔ IsErrOf result SessionEnd.WriteFault }
@@ -182,10 +184,10 @@ pub fn session<H: Wait + Threads + Sync, S: Service, R: Read, W: Write>(
     requires writing { has_failed writer.old ≡ false }
 
     // What was read and what was written, and how they belong together.
-    ensures talk { (bytes : List ℕ) × (written : List ℕ)
-        × Consumes (R.remaining (inner_of reader.old)) (R.remaining (inner_of reader.new)) bytes
-        × Appends (W.contents (inner_of writer.old)) (W.contents (inner_of writer.new)) written
-        × Converses S.answers db.now service.old bytes written service.new result }
+    ensures talk { Holds S.answers db.now
+        (Consumes (R.remaining (inner_of reader.old)) (R.remaining (inner_of reader.new)))
+        (Appends (W.contents (inner_of writer.old)) (W.contents (inner_of writer.new)))
+        service.old service.new result }
     ensures eof { result ≡ SessionEnd.Eof → IsAtEnd (R.remaining (inner_of reader.new)) }
     ensures read_fault { IsTrue (has_failed reader.new) ↔ (result ≡ SessionEnd.ReadFault) }
     ensures write_fault { IsTrue (has_failed writer.new) ↔ (result ≡ SessionEnd.WriteFault) }

@@ -1,9 +1,9 @@
-ghost use Rattle.std.specs.Prelude.{◌≡◌, ◌↔◌, ℕ, List, false, IsTrue};
+ghost use Rattle.std.specs.Prelude.{◌≡◌, ◌↔◌, false, IsTrue};
 ghost use Rattle.std.specs.Io.KnownBytes.{Appends, Consumes, IsAtEnd};
 ghost use Rattle.mg_engine.specs.Stands.{Stands};
 ghost use Rattle.mg_engine.specs.World.{World};
 ghost use Rattle.mg_http.specs.Device.{inner_of, has_failed};
-ghost use Rattle.mg_http.specs.Talk.{Talks};
+ghost use Rattle.mg_http.specs.Talk.{HoldsAt};
 
 use crate::device::Device;
 use crate::service::Solo;
@@ -15,8 +15,9 @@ use std::sync::Wait;
 use std::thread::Threads;
 
 impl<P: Placement + Drop> Solo<P> {
-    /// Serves one session of the database `db`: what is written is the talk of the engine's world and the bytes that
-    /// were read, and the engine then stands for the world that they leave.
+    /// Serves one session of the database `db`: each message that was read is answered as the engine's world answers it, and the
+    /// engine then stands for the world that they leave. Where memory sufficed, what is written is the transcript of what was read;
+    /// after a failed write, or at the session's limit, it is a front of it.
     ///
     /// Errors are ends: see `SessionEnd`. Cost: that of the commands, and one pass over the bytes.
     pub fn serve<H: Wait + Threads + Sync, R: Read, W: Write>(
@@ -30,10 +31,10 @@ impl<P: Placement + Drop> Solo<P> {
         requires reading { has_failed reader.old ≡ false }
         requires writing { has_failed writer.old ≡ false }
         ensures talk { (w : World) → Stands P.place self.old.engine w
-            → (bytes : List ℕ) × (written : List ℕ) × (u : World)
-            × Consumes (R.remaining (inner_of reader.old)) (R.remaining (inner_of reader.new)) bytes
-            × Appends (W.contents (inner_of writer.old)) (W.contents (inner_of writer.new)) written
-            × Talks db.now w bytes written u result × Stands P.place self.new.engine u }
+            → (u : World) × HoldsAt db.now
+            (Consumes (R.remaining (inner_of reader.old)) (R.remaining (inner_of reader.new)))
+            (Appends (W.contents (inner_of writer.old)) (W.contents (inner_of writer.new))) w u result
+            × Stands P.place self.new.engine u }
         ensures eof { result ≡ SessionEnd.Eof → IsAtEnd (R.remaining (inner_of reader.new)) }
         ensures read_fault { IsTrue (has_failed reader.new) ↔ (result ≡ SessionEnd.ReadFault) }
         ensures write_fault { IsTrue (has_failed writer.new) ↔ (result ≡ SessionEnd.WriteFault) }

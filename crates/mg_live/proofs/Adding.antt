@@ -5,7 +5,7 @@ use Rattle.std.proofs.lemmas.Bool.Decides.{nat_tests}
 use mathlib.Core.List.{IsPrefix}
 use prog.Atomic.{either}
 use Rattle.logbook.specs.Pages.{Cell, cell, keeps, no_nib, step, Moves, Goes}
-use Rattle.mg_live.specs.declared.history.Entry.{Entry}
+use Rattle.mg_live.specs.declared.markers.Entry.{Entry}
 use Rattle.mg_live.specs.Rules.{IsKept, Adds}
 use Rattle.mg_live.proofs.Fronts.{prefix_whole}
 

@@ -1,10 +1,10 @@
--- Snapshots may cross threads and be looked at by several, and seats may cross them.
+-- Snapshots may cross threads and be looked at by several, and seats may cross them, where the placement of documents may.
 use denote.Builtin.{unit}
-use denote.Param.Send.{IsSend, IsSync, sendable, view_send}
+use denote.Param.Send.{IsSend, IsSync, sendable, view_send, view_sync}
 use denote.Param.SendFields.{as_row_send, as_row_sync, declared_send, declared_sync}
 use denote.RattleType.{RattleType}
 use denote.Struct.Field.{row_field}
-use Rattle.std.proofs.Crossing.{Arc-send, crosses, frees, send, sync}
+use Rattle.std.proofs.Crossing.{Arc-send, Arc-sync, crosses, frees, send, sync}
 use Rattle.std.proofs.MapsCrossing.{crosses as maps}
 use Rattle.std.specs.contracts.alloc.Global as Global
 use Rattle.std.specs.contracts.impls.GlobalAllocator.TheImpl as allocator
@@ -15,20 +15,23 @@ use Rattle.std.specs.contracts.sync.Mutex as Mutex
 use Rattle.std.specs.declared.sync.ledger.Ledger as ledger
 use Rattle.crossbeam_utils.specs.declared.rule.Protocol as protocol
 use Rattle.left_right.proofs.reader.Reader.TheSendSync as reader
+use Rattle.left_right.specs.declared.Absorb as absorb
 use Rattle.left_right.proofs.writer.Writer.TheSendSync as writer
 use Rattle.left_right.specs.contracts.reader.Reader as Reader
 use Rattle.left_right.specs.contracts.writer.Writer as Writer
 use Rattle.logbook.proofs.tokens.Seen.TheSendSync as seen
 use Rattle.mg_live.proofs.history.Head.TheSendSync as head
 use Rattle.mg_engine.specs.contracts.engine.Engine as Engine
+use Rattle.mg_engine.specs.contracts.engine.Engine.TheInside as engine
+use Rattle.mg_engine.specs.contracts.state.State as State
 use Rattle.mg_index.proofs.definition.IndexDef.TheSendSync as definition
 use Rattle.mg_live.specs.contracts.database.Waiting as Waiting
 use Rattle.mg_live.specs.contracts.desk.Desk as Desk
 use Rattle.mg_live.specs.contracts.desk.Desk.TheInside as desk
 use Rattle.mg_live.specs.contracts.tally.Tally.TheInside as tally
 use Rattle.mg_live.proofs.history.Front.TheSendSync as front
-use Rattle.mg_live.specs.contracts.published.Ours as Ours
-use Rattle.mg_live.specs.contracts.published.OursProtocolSnapshotUnit.TheImpl as protocol_of
+use Rattle.mg_live.specs.contracts.markers.Ours as Ours
+use Rattle.mg_live.specs.contracts.markers.OursProtocolSnapshotUnit.TheImpl as protocol_of
 use Rattle.mg_live.specs.contracts.published.SnapshotAbsorbUnit.TheImpl as absorb_of
 use Rattle.mg_live.specs.contracts.seat.Named as Named
 use Rattle.mg_live.specs.contracts.seat.Seat.TheInside as seat
@@ -38,48 +41,40 @@ use Rattle.mg_live.specs.contracts.snapshot.Snapshot as Snapshot
 use Rattle.mg_live.specs.contracts.tally.Tally as Tally
 use Rattle.mg_live.specs.declared.database.Database as database
 use Rattle.mg_scan.proofs.Crossing.{shard_send, shard_sync}
+use Rattle.mg_machine.specs.contracts.point.Point as Point
 use Rattle.mg_shard.specs.contracts.placement.Md5Placement as Md5Placement
+use Rattle.mg_shard.specs.contracts.placement.Md5PlacementPlacement.TheImpl as md5
+use Rattle.mg_shard.specs.declared.placement.Placement as placement
 
-engine_send : IsSend (Engine.the_row Md5Placement.the_row)
-engine_send = search (sendable, crosses, maps, shard_send, shard_sync, definition.the_send, definition.the_sync) depth 40
+state_send : IsSend State.the_row
+state_send = search (sendable, crosses, maps, shard_send, shard_sync, definition.the_send, definition.the_sync) depth 40
 
-engine_sync : IsSync (Engine.the_row Md5Placement.the_row)
-engine_sync = search (sendable, crosses, maps, shard_send, shard_sync, definition.the_send, definition.the_sync) depth 40
+state_sync : IsSync State.the_row
+state_sync = search (sendable, crosses, maps, shard_send, shard_sync, definition.the_send, definition.the_sync) depth 40
 
-pub snapshot_send : IsSend Snapshot.the_row
-snapshot_send = search (sendable, crosses, maps, engine_send, engine_sync, seen.the_send) depth 40
+-- ---- snapshots
 
-pub snapshot_sync : IsSync Snapshot.the_row
-snapshot_sync = search (sendable, crosses, maps, engine_send, engine_sync, seen.the_sync) depth 40
+module _ (P : RattleType) (s : IsSend P) (y : IsSync P) where
+  engine_send : IsSend (Engine.the_row P)
+  engine_send = view_send _ _ _ _ _ (declared_send (engine.the_type P) (Arc-send P s y, (state_send, tt)))
 
--- ---- readers and the writer
+  engine_sync : IsSync (Engine.the_row P)
+  engine_sync = view_sync _ _ _ _ _ (declared_sync (engine.the_type P) (Arc-sync P s y, (state_sync, tt)))
 
-abbrev rule : (D : RattleType) (d : database.Ghosts D.Denot) (l : ledger.Ghosts D.Denot) → protocol.Ghosts (Ours.the_row D).Denot (Snapshot.the_row).Denot unit.Denot
-rule D d l = protocol_of.ghosts D d protocol_of.no_dict l protocol_of.no_dict
+  point_send : IsSend (Point.the_row P)
+  point_send = declared_send (Point.the_type P) (Arc-send (Engine.the_row P) engine_send engine_sync, (search sendable depth 10, tt))
 
-abbrev Reads : (D : RattleType) (d : database.Ghosts D.Denot) (l : ledger.Ghosts D.Denot) → RattleType
-Reads D d l = Reader.the_row Snapshot.the_row unit (Ours.the_row D) Global.the_row (rule D d l) allocator.ghosts
+  point_sync : IsSync (Point.the_row P)
+  point_sync = declared_sync (Point.the_type P) (Arc-sync (Engine.the_row P) engine_send engine_sync, (search sendable depth 10, tt))
 
-reads_send : (D : RattleType) (d : database.Ghosts D.Denot) (l : ledger.Ghosts D.Denot) → IsSend (Reads D d l)
-reads_send D d l = reader.the_send Snapshot.the_row unit (Ours.the_row D) Global.the_row (rule D d l) allocator.ghosts send snapshot_sync sync frees
+  pub snapshot_send : IsSend (Snapshot.the_row P)
+  snapshot_send = declared_send (Snapshot.the_type P) (point_send, (front.the_send, tt))
 
-abbrev Writes : (D : RattleType) (d : database.Ghosts D.Denot) (l : ledger.Ghosts D.Denot) → RattleType
-Writes D d l = Writer.the_row Snapshot.the_row unit unit (Ours.the_row D) Global.the_row unit absorb_of.ghosts (rule D d l) allocator.ghosts
-
-unit_send : IsSend unit
-unit_send = search sendable depth 10
-
-writes_send : (D : RattleType) (d : database.Ghosts D.Denot) (l : ledger.Ghosts D.Denot) → IsSend (Writes D d l)
-writes_send D d l =
-    writer.the_send Snapshot.the_row unit unit (Ours.the_row D) Global.the_row unit absorb_of.ghosts (rule D d l) allocator.ghosts snapshot_send unit_send send snapshot_sync sync frees
-
--- ---- what seats share
+  pub snapshot_sync : IsSync (Snapshot.the_row P)
+  snapshot_sync = declared_sync (Snapshot.the_type P) (point_sync, (front.the_sync, tt))
 
 tally_send : (D : RattleType) (l : ledger.Ghosts D.Denot) → IsSend (Tally.the_row D l)
 tally_send D l = view_send _ _ _ _ _ (declared_send (tally.the_type D l) (search sendable depth 10, (share.the_send D l, tt)))
-
-desk_send : (D C : RattleType) (d : database.Ghosts D.Denot) (l : ledger.Ghosts D.Denot) → IsSend C → IsSend (Desk.the_row D C d l)
-desk_send D C d l c = view_send _ _ _ _ _ (declared_send (desk.the_type D C d l) (writes_send D d l, (book.the_send D l, (as_row_send (row_field C) c, tt))))
 
 mutex_send : (R : RattleType) → IsSend R → IsSend (Mutex.the_row R)
 mutex_send R s = search (sendable, crosses, s) depth 20
@@ -93,34 +88,62 @@ named_send D d l = declared_send (Named.the_type D d l) (head.the_send, (search 
 named_sync : (D : RattleType) (d : database.Ghosts D.Denot) (l : ledger.Ghosts D.Denot) → IsSync (Named.the_row D d l)
 named_sync D d l = declared_sync (Named.the_type D d l) (head.the_sync, (search (sendable, as_row_sync) depth 10, tt))
 
-shared_send : (D C : RattleType) (d : database.Ghosts D.Denot) (l : ledger.Ghosts D.Denot) → IsSend C → IsSend (Shared.the_row D C d l)
-shared_send D C d l c = declared_send (Shared.the_type D C d l) (named_send D d l, (mutex_send (Desk.the_row D C d l) (desk_send D C d l c), tt))
+unit_send : IsSend unit
+unit_send = search sendable depth 10
 
-shared_sync : (D C : RattleType) (d : database.Ghosts D.Denot) (l : ledger.Ghosts D.Denot) → IsSend C → IsSync (Shared.the_row D C d l)
-shared_sync D C d l c = declared_sync (Shared.the_type D C d l) (named_sync D d l, (mutex_sync (Desk.the_row D C d l) (desk_send D C d l c), tt))
+-- ---- a database, what ends it, and the placement of its documents
 
--- ---- seats
+module _ (D C P : RattleType) (d : database.Ghosts D.Denot) (l : ledger.Ghosts D.Denot) (p : placement.Ghosts P.Denot) (b : absorb.Ghosts (Snapshot.the_row P).Denot unit.Denot unit.Denot) (c : IsSend C) (s : IsSend P) (y : IsSync P) where
+  abbrev rule : protocol.Ghosts (Ours.the_row D P).Denot (Snapshot.the_row P).Denot unit.Denot
+  rule = protocol_of.ghosts D P d protocol_of.no_dict l protocol_of.no_dict p protocol_of.no_dict
+
+  abbrev Reads : RattleType
+  Reads = Reader.the_row (Snapshot.the_row P) unit (Ours.the_row D P) Global.the_row rule allocator.ghosts
+
+  reads_send : IsSend Reads
+  reads_send = reader.the_send (Snapshot.the_row P) unit (Ours.the_row D P) Global.the_row rule allocator.ghosts send (snapshot_sync P s y) sync frees
+
+  abbrev Writes : RattleType
+  Writes = Writer.the_row (Snapshot.the_row P) unit unit (Ours.the_row D P) Global.the_row unit b rule allocator.ghosts
+
+  writes_send : IsSend Writes
+  writes_send =
+      writer.the_send (Snapshot.the_row P) unit unit (Ours.the_row D P) Global.the_row unit b rule allocator.ghosts (snapshot_send P s y) unit_send send (snapshot_sync P s y) sync frees
+
+  desk_send : IsSend (Desk.the_row D C P b d l p)
+  desk_send = view_send _ _ _ _ _ (declared_send (desk.the_type D C P b d l p) (writes_send, (book.the_send D l, (as_row_send (row_field C) c, tt))))
+
+  shared_send : IsSend (Shared.the_row D C P d l p b)
+  shared_send = declared_send (Shared.the_type D C P d l p b) (named_send D d l, (mutex_send (Desk.the_row D C P b d l p) desk_send, tt))
+
+  shared_sync : IsSync (Shared.the_row D C P d l p b)
+  shared_sync = declared_sync (Shared.the_type D C P d l p b) (named_sync D d l, (mutex_sync (Desk.the_row D C P b d l p) desk_send, tt))
+
+  -- a seat may cross threads where what ends its database may, and the placement of its documents
+  pub seat_send_by : IsSend (Seat.the_row D C P d l p b)
+  seat_send_by = view_send _ _ _ _ _ (declared_send (seat.the_type D C P d l p b) (
+    search sendable depth 10,
+    (
+      send,
+      (
+        front.the_send,
+        (
+          tally_send D l,
+          (
+            option.the_send Reads reads_send,
+            (Arc-send (Shared.the_row D C P d l p b) shared_send shared_sync, tt),
+          ),
+        ),
+      ),
+    ),
+  ))
+
+-- ---- the program's seats
 
 -- so may what ends a database, where its runtime may
 pub waiting_send : (R : RattleType) → IsSend R → IsSend (Waiting.the_row R)
 waiting_send R s = declared_send (Waiting.the_type R) (as_row_send (row_field R) s, tt)
 
--- a seat may cross threads where what ends its database may
-pub seat_send : (D C : RattleType) (d : database.Ghosts D.Denot) (l : ledger.Ghosts D.Denot) → IsSend C → IsSend (Seat.the_row D C d l)
-seat_send D C d l c =
-    view_send _ _ _ _ _ (declared_send (seat.the_type D C d l) (
-      search sendable depth 10,
-      (
-        send,
-        (
-          front.the_send,
-          (
-            tally_send D l,
-            (
-              option.the_send (Reads D d l) (reads_send D d l),
-              (Arc-send (Shared.the_row D C d l) (shared_send D C d l c) (shared_sync D C d l c), tt),
-            ),
-          ),
-        ),
-      ),
-    ))
+-- a seat over the program's placement may cross threads where what ends its database may
+pub seat_send : (D C : RattleType) (d : database.Ghosts D.Denot) (l : ledger.Ghosts D.Denot) → IsSend C → IsSend (Seat.the_row D C Md5Placement.the_row d l md5.ghosts (absorb_of.ghosts Md5Placement.the_row))
+seat_send D C d l c = seat_send_by D C Md5Placement.the_row d l md5.ghosts (absorb_of.ghosts Md5Placement.the_row) c (search sendable depth 10) (search sendable depth 10)

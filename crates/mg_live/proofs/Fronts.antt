@@ -5,9 +5,11 @@ use Rattle.std.proofs.Common.{Bool, true, false, leb, MatchBool, ◌<◌, ◌⊎
 use mathlib.Core.List.{IsPrefix}
 use mathlib.Core.Logic.{dite}
 use native.Mathlib.Decide.{ℕ_discrete}
-use Rattle.mg_live.specs.Laws.{IsPrefix as Begins}
-use Rattle.mg_live.specs.Rules.{commit_seen, commits_seen}
-use Rattle.mg_live.specs.declared.history.Entry.{Entry}
+use Rattle.mg_machine.specs.Laws.{IsPrefix as Begins}
+use Rattle.mg_machine.specs.Machine.{Commit}
+use Rattle.mg_machine.proofs.Beginnings.{itself}
+use Rattle.mg_live.specs.View.{commit_seen, commits_seen}
+use Rattle.mg_live.specs.declared.markers.Entry.{Entry}
 
 -- of two beginnings of one list the shorter begins the longer
 pub prefix_shorter : {A : Type 0} (xs ys zs : List A) → IsPrefix xs zs → IsPrefix ys zs → length xs ≤ length ys → IsPrefix xs ys
@@ -30,6 +32,10 @@ prefix_whole (x ∷ xs) (y ∷ ys) p le =
 -- the commits of a beginning begin those of the whole
 pub seen_begins : (xs ys : List Entry) → IsPrefix xs ys → Begins (commits_seen xs) (commits_seen ys)
 seen_begins xs ys p = (commits_seen p.0, sym (ap commits_seen p.1) ∙ map-append commit_seen xs p.0)
+
+-- commits begin themselves
+pub begins_itself : (cs : List Commit) → Begins cs cs
+begins_itself cs = itself cs
 
 -- two beginnings of one list, compared by their lengths
 pub compared : (xs ys zs : List Entry) → IsPrefix xs zs → IsPrefix ys zs → (b : Bool) → leb (length xs) (length ys) ≡ b

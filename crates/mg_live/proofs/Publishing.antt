@@ -10,39 +10,40 @@ use Rattle.mg_engine.specs.View.{asked, said}
 use Rattle.mg_engine.specs.declared.command.Command.{Command}
 use Rattle.mg_engine.specs.declared.refusal.Refusal.TheVariants.{TooLarge}
 use Rattle.mg_engine.specs.declared.reply.Reply.{Reply}
-use Rattle.mg_live.specs.Laws.{IsPrefix}
-use Rattle.mg_live.specs.Machine.{Commit, after_write, are_full, write_reply}
-use Rattle.mg_live.specs.Points.{IsAfter, IsDealt}
-use Rattle.mg_live.specs.Published.{IsOf, Nexts, Publishes, Standing}
-use Rattle.mg_live.specs.Snapshots.{IsAt, commits_of}
-use Rattle.mg_live.specs.Sitting.{Sitting, Writes}
-use Rattle.mg_live.specs.Rules.{commit_seen, commits_seen, log_entry}
-use Rattle.mg_live.specs.declared.history.Entry.{Entry}
+use Rattle.mg_machine.specs.Laws.{IsPrefix}
+use Rattle.mg_machine.specs.Machine.{Commit, after_write, are_full, write_reply}
+use Rattle.mg_machine.specs.Points.{IsAfter, IsDealt}
+use Rattle.mg_live.specs.Published.{Nexts, Publishes, Standing}
+use Rattle.mg_live.specs.Snapshots.{StandsAfter, IsOf, commits_of}
+use Rattle.mg_live.specs.Sitting.{IsLater, Sitting, Writes}
+use Rattle.mg_live.specs.Rules.{log_entry}
+use Rattle.mg_live.specs.View.{commit_seen, commits_seen}
+use Rattle.mg_live.specs.declared.markers.Entry.{Entry}
 use Rattle.mg_live.specs.declared.history.Front.{Front}
-use Rattle.mg_live.specs.declared.point.Point.{Point}
+use Rattle.mg_machine.specs.declared.point.Point.{Point}
 use Rattle.mg_live.specs.declared.snapshot.Snapshot.{Snapshot}
-use Rattle.mg_live.proofs.Beginnings.{two}
+use Rattle.mg_machine.proofs.Beginnings.{itself, two}
 
 -- ---- the same snapshot in another place
 
 -- a point over the same engine after as many commits
-same_point : (name : List ℕ) (p q : Point) (cs : List Commit) → IsAfter name p cs → arc_value q.engine ≡ arc_value p.engine → q.commits ≡ p.commits → IsAfter name q cs
+same_point : {P : Type 0} {place : P → List ℕ → ℕ → ℕ} (name : List ℕ) (p q : Point P) (cs : List Commit) → IsAfter place name p cs → arc_value q.engine ≡ arc_value p.engine → q.commits ≡ p.commits → IsAfter place name q cs
 same_point name p q cs at engine commits = record {
   engine = rw engine at.engine;
   commits = commits ∙ at.commits;
 }
 
-pub same_snapshot : (book : Book) (name : List ℕ) (opened : ℕ) (s t : Snapshot) → IsOf book name opened s → t.front ≡ s.front → arc_value t.point.engine ≡ arc_value s.point.engine → t.point.commits ≡ s.point.commits → IsOf book name opened t
-same_snapshot book name opened s t is front engine commits =
+pub same_snapshot : {P : Type 0} {place : P → List ℕ → ℕ → ℕ} (book : Book) (name : List ℕ) (opened : ℕ) (s t : Snapshot P) → IsOf place book name opened s → t.front ≡ s.front → arc_value t.point.engine ≡ arc_value s.point.engine → t.point.commits ≡ s.point.commits → IsOf place book name opened t
+same_snapshot {place = place} book name opened s t is front engine commits =
     let seen : commits_of t ≡ commits_of s = ap (λ (f : Front). commits_seen f.seen.log) front in record {
       book = ap (λ f. f.seen.book) front ∙ is.book;
-      after = subst (λ (cs : List Commit). IsAfter name t.point cs) (sym seen) (same_point name s.point t.point (commits_of s) is.after engine commits);
+      after = subst (λ (cs : List Commit). IsAfter place name t.point cs) (sym seen) (same_point name s.point t.point (commits_of s) is.after engine commits);
       dealt = subst (λ (cs : List Commit). IsDealt opened t.point cs) (sym seen) (rw engine is.dealt);
     }
 
 -- what a snapshot of this database shows
-pub is_at : (book : Book) (name : List ℕ) (opened : ℕ) (s : Snapshot) → IsOf book name opened s → IsAt name opened s (commits_of s)
-is_at book name opened s is = record { commits = refl; stands = is.after.engine; shards = is.dealt }
+pub stands_after : {P : Type 0} {place : P → List ℕ → ℕ → ℕ} (book : Book) (name : List ℕ) (opened : ℕ) (s : Snapshot P) → IsOf place book name opened s → StandsAfter place name opened s (commits_of s)
+stands_after book name opened s is = record { commits = refl; stands = is.after.engine; shards = is.dealt }
 
 -- ---- a write
 
@@ -82,16 +83,16 @@ one_more name log after seat c r is taken added =
     rw is (refl, accepted, more log after seat c added)
 
 -- the point after it
-pub there : (name : List ℕ) (log after : List Entry) (seat : ℕ) (c : Command) (r : Reply) (p : Point) → said r ≡ Some (write_reply name (commits_seen log) (asked c)) → accepts r ≡ true → after ≡ log ++ log_entry seat c ∷ []
-    → IsAfter name p (after_write name (commits_seen log) seat (asked c)) → IsAfter name p (commits_seen after)
-there name log after seat c r p is taken added at =
+pub there : {P : Type 0} {place : P → List ℕ → ℕ → ℕ} (name : List ℕ) (log after : List Entry) (seat : ℕ) (c : Command) (r : Reply) (p : Point P) → said r ≡ Some (write_reply name (commits_seen log) (asked c)) → accepts r ≡ true → after ≡ log ++ log_entry seat c ∷ []
+    → IsAfter place name p (after_write name (commits_seen log) seat (asked c)) → IsAfter place name p (commits_seen after)
+there {place = place} name log after seat c r p is taken added at =
     let cs = commits_seen log in
     let accepted : is_accepted (write_reply name cs (asked c)) ≡ true = answered r (write_reply name cs (asked c)) true is taken in
-    let now : IsAfter name p (cs ++ (seat, asked c) ∷ []) = rw accepted at at in
-    subst (λ (ds : List Commit). IsAfter name p ds) (sym (more log after seat c added)) now
+    let now : IsAfter place name p (cs ++ (seat, asked c) ∷ []) = rw accepted at at in
+    subst (λ (ds : List Commit). IsAfter place name p ds) (sym (more log after seat c added)) now
 
 -- the shards after it
-pub dealt : (name : List ℕ) (opened : ℕ) (log after : List Entry) (seat : ℕ) (c : Command) (r : Reply) (p : Point) → said r ≡ Some (write_reply name (commits_seen log) (asked c)) → accepts r ≡ true → after ≡ log ++ log_entry seat c ∷ []
+pub dealt : {P : Type 0} (name : List ℕ) (opened : ℕ) (log after : List Entry) (seat : ℕ) (c : Command) (r : Reply) (p : Point P) → said r ≡ Some (write_reply name (commits_seen log) (asked c)) → accepts r ≡ true → after ≡ log ++ log_entry seat c ∷ []
     → IsDealt opened p (after_write name (commits_seen log) seat (asked c)) → IsDealt opened p (commits_seen after)
 dealt name opened log after seat c r p is taken added at =
     let cs = commits_seen log in
@@ -117,3 +118,7 @@ pub wrote : (name : List ℕ) (old : Sitting) (cs : List Commit) (c : Asked) (o 
     → Writes name old c o (record { number = old.number; seen = new.seen; tally = new.tally })
 wrote name old cs c None new p = ap (λ (s : Standing). record { number = old.number; seen = s.seen; tally = s.tally }) p
 wrote name old cs c (Some a) new p = record { commits = cs; later = p.later; answer = p.answer; seen = p.seen ∙ p.published; tally = p.tally; number = refl }
+
+-- a seat that has seen nothing more
+pub later_same : (s : Sitting) → IsLater s s
+later_same s = record { number = refl; seen = itself s.seen; tally = refl }

@@ -1,8 +1,5 @@
-pub mod Machine
-pub mod Laws
 pub mod View
 pub mod Snapshots
-pub mod Points
 pub mod Code
 pub mod Sitting
 pub mod Rules

@@ -1,22 +1,12 @@
--- For private clauses: what is published, and what a write makes of it.
+-- For private clauses: what a write makes of what is published.
 use Rattle.std.specs.Prelude.{◌≡◌, ◌++◌, ◌∷◌, [], ℕ, List, true, false, Option, Some, None}
-use Rattle.logbook.specs.Pages.{Book}
 use Rattle.mg_engine.specs.Commands.{Answer}
 use Rattle.mg_engine.specs.Settled.{is_accepted}
-use Rattle.mg_live.specs.Laws.{IsPrefix}
-use Rattle.mg_live.specs.Machine.{Commit, after_write, write_reply}
-use Rattle.mg_live.specs.Points.{IsAfter, IsDealt}
-use Rattle.mg_live.specs.Rules.{commits_seen}
+use Rattle.mg_machine.specs.Laws.{IsPrefix}
+use Rattle.mg_machine.specs.Machine.{Commit, after_write, write_reply}
+use Rattle.mg_live.specs.View.{commits_seen}
 use Rattle.mg_live.specs.Sitting.{tally_after}
-use Rattle.mg_live.specs.Snapshots.{commits_of}
 use Rattle.mg_live.specs.declared.history.Front.{Front}
-use Rattle.mg_live.specs.declared.snapshot.Snapshot.{Snapshot}
-
--- a snapshot of a history, and of a database of this name, which was opened with so many shards: its point stands after its commits
-pub record IsOf (history : Book) (name : List ℕ) (opened : ℕ) (s : Snapshot) : Type 0 where
-  pub book : s.front.seen.book ≡ history
-  pub after : IsAfter name s.point (commits_of s)
-  pub dealt : IsDealt opened s.point (commits_of s)
 
 -- the reply to a write after commits, and the commits after it where it is accepted
 abbrev pub Nexts : List ℕ → List Commit → Commit → Option Answer → Option (List Commit) → Type 0

@@ -1,10 +1,8 @@
 -- For private clauses: the rule of the history, and what its steps tell.
-use Rattle.std.specs.Prelude.{ℕ, ◌≡◌, ◌==◌, true, List, [], ◌∷◌, ◌++◌, length, map, MatchBool}
+use Rattle.std.specs.Prelude.{ℕ, ◌≡◌, ◌==◌, true, List, [], ◌∷◌, ◌++◌, length, MatchBool}
 use Rattle.logbook.specs.Pages.{Book, Cell, Named, Step, View}
-use Rattle.mg_engine.specs.View.{asked}
 use Rattle.mg_engine.specs.declared.command.Command.{Command}
-use Rattle.mg_live.specs.Machine.{Commit}
-use Rattle.mg_live.specs.declared.history.Entry.{Entry}
+use Rattle.mg_live.specs.declared.markers.Entry.{Entry}
 
 -- the first word is the length of the history; a book has two words, of which this one leaves the second at 0
 abbrev pub IsKept : List Cell → List Entry → Type 0
@@ -21,11 +19,3 @@ Adds s v found w = MatchBool (found == s.old) (w.0 ≡ v.0 ++ s.ask ∷ []) (len
 -- the entry of a seat's command
 abbrev pub log_entry : ℕ → Command → Entry
 log_entry seat c = record { seat = seat; command = c }
-
--- the commit that an entry is
-abbrev pub commit_seen : Entry → Commit
-commit_seen e = (e.seat, asked e.command)
-
--- what all of them are, in order
-abbrev pub commits_seen : List Entry → List Commit
-commits_seen es = map commit_seen es

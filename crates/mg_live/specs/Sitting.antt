@@ -5,8 +5,8 @@ use Rattle.std.specs.List.{sum_by}
 use Rattle.mg_engine.specs.Commands.{Asked, Answer, is_write, reply_of}
 use Rattle.mg_engine.specs.Settled.{is_accepted}
 use Rattle.mg_live.specs.Code.{commits_code}
-use Rattle.mg_live.specs.Laws.{IsPrefix}
-use Rattle.mg_live.specs.Machine.{Commit, after_write, longer_of, world_of, write_reply}
+use Rattle.mg_machine.specs.Laws.{IsPrefix}
+use Rattle.mg_machine.specs.Machine.{Commit, after_write, longer_of, world_of, write_reply}
 
 -- a seat: its number, the commits that it has seen, oldest first, and how many commits it has made
 pub record Sitting : Type 0 where

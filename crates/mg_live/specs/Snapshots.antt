@@ -1,32 +1,35 @@
--- What a snapshot shows: a database as it stands after some of its commits.
+-- For public clauses: what a snapshot shows, which is a database as it stands after some of its commits.
 use Rattle.std.specs.Prelude.{◌≡◌, ℕ, List, length}
 use Rattle.std.specs.Arc.{arc_value}
-use Rattle.mg_shard.specs.Placement.{md5_place}
-use Rattle.mg_shard.specs.declared.placement.Md5Placement.{Md5Placement}
+use Rattle.logbook.specs.Pages.{Book}
 use Rattle.mg_engine.specs.Stands.{Shown, Stands}
-use Rattle.mg_live.specs.Machine.{Commit, shards_of, world_of}
-use Rattle.mg_live.specs.Rules.{commits_seen}
+use Rattle.mg_machine.specs.Machine.{Commit, shards_of, world_of}
+use Rattle.mg_machine.specs.Points.{IsAfter, IsDealt}
+use Rattle.mg_live.specs.View.{commits_seen}
 use Rattle.mg_live.specs.declared.snapshot.Snapshot.{Snapshot}
 
--- where documents are placed
-abbrev pub place : Md5Placement → List ℕ → ℕ → ℕ
-place p id shards = md5_place id shards
-
 -- the commits that a snapshot stands after
-abbrev pub commits_of : Snapshot → List Commit
+abbrev pub commits_of : {P : Type 0} → Snapshot P → List Commit
 commits_of s = commits_seen s.front.seen.log
 
 -- what its engine holds
-abbrev pub shown_of : Snapshot → Shown
+abbrev pub shown_of : {P : Type 0} → Snapshot P → Shown
 shown_of s = (arc_value s.point.engine).1
 
--- a snapshot of a database of this name, which was opened with so many shards, after these commits: it stands for the world that they
--- leave, over as many shards as the last of them asked for
-pub record IsAt (name : List ℕ) (opened : ℕ) (s : Snapshot) (cs : List Commit) : Type 0 where
+-- a snapshot of a history, and of a database of this name, whose documents are placed by `place` and which was opened with so many
+-- shards: its point stands after its commits
+pub record IsOf {P : Type 0} (place : P → List ℕ → ℕ → ℕ) (history : Book) (name : List ℕ) (opened : ℕ) (s : Snapshot P) : Type 0 where
+  pub book : s.front.seen.book ≡ history
+  pub after : IsAfter place name s.point (commits_of s)
+  pub dealt : IsDealt opened s.point (commits_of s)
+
+-- a snapshot of a database of this name, whose documents are placed by `place` and which was opened with so many shards, after these
+-- commits: it stands for the world that they leave, over as many shards as the last of them asked for
+pub record StandsAfter {P : Type 0} (place : P → List ℕ → ℕ → ℕ) (name : List ℕ) (opened : ℕ) (s : Snapshot P) (cs : List Commit) : Type 0 where
   pub commits : commits_of s ≡ cs
   pub stands : Stands place (arc_value s.point.engine) (world_of name cs)
   pub shards : length (shown_of s).shards ≡ shards_of opened cs
 
 -- there is a snapshot right after these commits
-abbrev pub IsPublished : List ℕ → ℕ → List Commit → Type 0
-IsPublished name opened cs = (s : Snapshot) × IsAt name opened s cs
+abbrev pub IsPublished : {P : Type 0} → (P → List ℕ → ℕ → ℕ) → List ℕ → ℕ → List Commit → Type 0
+IsPublished place name opened cs = (s : Snapshot _) × StandsAfter place name opened s cs

@@ -1,17 +1,13 @@
--- What the program's events stand for.
+-- For public clauses: the commits that entries of the history are.
 use Rattle.std.specs.Prelude.{List, map}
 use Rattle.mg_engine.specs.View.{asked}
-use Rattle.mg_live.specs.Machine.{Event, publish, enter, answer, told}
-use Rattle.mg_live.specs.declared.interleave.Event as code
-use Rattle.mg_live.specs.declared.interleave.Event.TheVariants.{Publish, Enter, Answer, Told}
+use Rattle.mg_machine.specs.Machine.{Commit}
+use Rattle.mg_live.specs.declared.markers.Entry.{Entry}
 
--- what an event of the program is
-abbrev pub event_seen : code.Event → Event
-event_seen (Publish seat command) = publish seat (asked command)
-event_seen (Enter seat) = enter seat
-event_seen (Answer seat command) = answer seat (asked command)
-event_seen (Told seat by) = told seat by
+-- the commit that an entry is
+abbrev pub commit_seen : Entry → Commit
+commit_seen e = (e.seat, asked e.command)
 
 -- what all of them are, in order
-abbrev pub events_seen : List code.Event → List Event
-events_seen es = map event_seen es
+abbrev pub commits_seen : List Entry → List Commit
+commits_seen es = map commit_seen es

@@ -7,14 +7,20 @@ ghost use Rattle.mg_live.specs.Sitting.{Answered};
 
 use crate::database::{Database, Ends};
 use crate::seat::Seat;
+use crate::snapshot::Snapshot;
+use left_right::Absorb;
 use mg_engine::{Command, Reply};
 use mg_scan::Gate;
+use mg_shard::Placement;
 use mg_value::Json;
 use std::sync::Wait;
 use std::thread::Threads;
 
 // Each is answered as `Seat::answer` answers the command.
-impl<D: Database, C: Ends> Seat<D, C> {
+impl<D: Database, C: Ends, P: Placement + Drop> Seat<D, C, P>
+where
+    Snapshot<P>: Absorb<(), State = ()>,
+{
     /// The page of a query, by 1 to 32 workers.
     pub fn find<R: Threads + Sync>(&mut self, rt: &R, body: &Json, workers: usize) -> Reply
         requires some { 1 ≤ workers }

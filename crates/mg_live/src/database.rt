@@ -1,5 +1,8 @@
 //! Which database it is, and what ends it.
 use crate::published::Writes;
+use crate::snapshot::Snapshot;
+use left_right::Absorb;
+use mg_shard::Placement;
 use std::marker::Brand;
 use std::sync::Wait;
 use std::sync::ledger::Ledger;
@@ -34,7 +37,9 @@ impl Database for Brand {
 /// What ends the writer of a database that is let go.
 pub trait Ends: Drop {
     /// Ends it, and may wait for readers.
-    fn end<D: Database>(&self, writer: Writes<D>);
+    fn end<D: Database, P: Placement + Drop>(&self, writer: Writes<D, P>)
+    where
+        Snapshot<P>: Absorb<(), State = ()>;
 }
 
 /// Ends a writer by waiting for its readers.
@@ -42,7 +47,10 @@ pub trait Ends: Drop {
 pub struct Waiting<R: Drop>(pub R);
 
 impl<R: Wait + Drop> Ends for Waiting<R> {
-    fn end<D: Database>(&self, writer: Writes<D>) {
+    fn end<D: Database, P: Placement + Drop>(&self, writer: Writes<D, P>)
+    where
+        Snapshot<P>: Absorb<(), State = ()>,
+    {
         drop(writer.take(&self.0));
     }
 }

@@ -2,16 +2,20 @@
 ghost use Rattle.std.specs.Prelude.{◌≡◌, ◌≤◌, true, [], length, MatchBool};
 ghost use Rattle.mg_engine.specs.Commands.{is_write};
 ghost use Rattle.mg_engine.specs.View.{asked, said};
-ghost use Rattle.mg_live.specs.Laws.{IsPrefix};
-ghost use Rattle.mg_live.specs.Published.{IsOf, Publishes, standing};
-ghost use Rattle.mg_live.specs.Rules.{commits_seen, head_of};
-ghost use Rattle.mg_live.specs.Snapshots.{IsPublished, commits_of};
+ghost use Rattle.mg_machine.specs.Laws.{IsPrefix};
+ghost use Rattle.mg_live.specs.Published.{Publishes, standing};
+ghost use Rattle.mg_live.specs.Rules.{head_of};
+ghost use Rattle.mg_live.specs.Snapshots.{IsOf, IsPublished, commits_of};
+ghost use Rattle.mg_live.specs.View.{commits_seen};
 
 use crate::database::{Database, Ends};
 use crate::history::{Front, Head, Write};
 use crate::published::{Writes, publish};
+use crate::snapshot::Snapshot;
 use crate::tally::Tally;
-use mg_engine::Reply;
+use left_right::Absorb;
+use mg_engine::{Prepared, Reply};
+use mg_shard::Placement;
 use std::alloc::Global;
 use std::marker::Model;
 use std::sync::Wait;
@@ -19,31 +23,39 @@ use std::sync::ledger::{Book, Share};
 use std::thread::Threads;
 
 /// Contracts see it as the published commits.
-pub struct Desk<D: Database, C: Ends> {
-    writer: Writes<D>,
+pub struct Desk<D: Database, C: Ends, P: Placement + Drop>
+where
+    Snapshot<P>: Absorb<(), State = ()>,
+{
+    writer: Writes<D, P>,
     book: Book<D>,
     ends: C,
 }
 
-impl<D: Database, C: Ends> Model for Desk<D, C> {
+impl<D: Database, C: Ends, P: Placement + Drop> Model for Desk<D, C, P>
+where
+    Snapshot<P>: Absorb<(), State = ()>,
+{
     ghost use Rattle.std.specs.Prelude.{◌≡◌, List, length};
     ghost use Rattle.mg_live.specs.Code.{commits_code};
-    ghost use Rattle.mg_live.specs.Machine.{Commit};
+    ghost use Rattle.mg_machine.specs.Machine.{Commit};
 
     ghost Value = { List Commit };
 
     ghost coded = { commits_code };
 
-    ghost use Rattle.mg_live.specs.Published.{IsOf};
-    ghost use Rattle.mg_live.specs.Snapshots.{commits_of};
+    ghost use Rattle.mg_live.specs.Snapshots.{IsOf, commits_of};
 
     ghost view = { λ d. commits_of d.writer.desk.shown.value };
 
     ghost invariant = { λ d. (d.book.total ≡ length (commits_of d.writer.desk.shown.value))
-        × IsOf D.history D.db D.shards d.writer.desk.shown.value };
+        × IsOf P.place D.history D.db D.shards d.writer.desk.shown.value };
 }
 
-impl<D: Database, C: Ends> Drop for Desk<D, C> {
+impl<D: Database, C: Ends, P: Placement + Drop> Drop for Desk<D, C, P>
+where
+    Snapshot<P>: Absorb<(), State = ()>,
+{
     fn drop(self) {
         let Desk {
             writer,
@@ -54,51 +66,57 @@ impl<D: Database, C: Ends> Drop for Desk<D, C> {
     }
 }
 
-impl<D: Database, C: Ends> Desk<D, C> {
+impl<D: Database, C: Ends, P: Placement + Drop> Desk<D, C, P>
+where
+    Snapshot<P>: Absorb<(), State = ()>,
+{
     // A desk with no commit.
-    pub(crate) fn new(ends: C, writer: Writes<D>, book: Book<D>) -> Desk<D, C>
+    pub(crate) fn new(ends: C, writer: Writes<D, P>, book: Book<D>) -> Desk<D, C, P>
         requires empty { (commits_of writer.desk.shown.value ≡ []) × (book.total ≡ 0) }
-        requires here { IsOf D.history D.db D.shards writer.desk.shown.value }
+        requires here { IsOf P.place D.history D.db D.shards writer.desk.shown.value }
         ensures { result ≡ [] }
     {
         Desk { writer, book, ends }
     }
 
     // A write of a seat, which then has seen what is published. Where it is accepted it is published, in one step, and its seat's
-    // tally counts it. What takes memory comes before the commit is in the history, and nothing after that can fail.
+    // tally counts it. What takes memory comes before the commit is in the history, and nothing after that can fail. The snapshot that is
+    // let go comes back with the reply, so that this need not happen under the lock.
     pub(crate) fn write<R: Wait + Threads + Sync>(
         &mut self,
         rt: &R,
         alloc: Global,
         head: &Head,
         write: &Write<'_>,
+        prepared: Prepared<'_>,
         tally: &mut Tally<D>,
         front: &mut Front,
-    ) -> Reply
+    ) -> (Reply, Option<Snapshot<P>>)
         requires write { is_write (asked write.now.command.now) ≡ true }
+        requires prepared { prepared ≡ asked write.now.command.now }
         requires some { 1 ≤ write.now.workers }
         requires most { write.now.workers ≤ 32 }
         requires here { (front.old.seen.book ≡ D.history) × (head.now.word ≡ head_of D.history) }
         ensures here { front.new.seen.book ≡ D.history }
         ensures publishes { Publishes D.db (write.now.seat, asked write.now.command.now)
-            (standing self.old front.old tally.old) (said result) (standing self.new front.new tally.new) }
+            (standing self.old front.old tally.old) (said result.0) (standing self.new front.new tally.new) }
     {
         let now = self.writer.published();
         if !front.begins(&now.front) {
-            return Reply::NoMemory;
+            return (Reply::NoMemory, None);
         }
-        let (reply, next) = now.next::<D, R>(rt, alloc, head, write);
+        let (reply, next) = now.next::<D, R>(rt, alloc, head, write, prepared);
         let Some(next) = next else {
             match reply {
                 Reply::NoMemory => {}
                 Reply::Full { .. } => *front = now.front.again(),
             }
-            return reply;
+            return (reply, None);
         };
         *front = next.front.again();
         tally.add(&mut self.book);
-        publish(rt, &mut self.writer, next);
-        reply
+        let before = publish(rt, &mut self.writer, next);
+        (reply, Some(before))
     }
 
     // A seat sees what is published. False where it is ahead.
@@ -106,7 +124,7 @@ impl<D: Database, C: Ends> Desk<D, C> {
         requires { front.old.seen.book ≡ D.history }
         ensures here { front.new.seen.book ≡ D.history }
         ensures told { MatchBool result ((commits_seen front.new.seen.log ≡ self.now) × IsPrefix (commits_seen front.old.seen.log) self.now) (front.new ≡ front.old) }
-        ensures published { IsPublished D.db D.shards self.now }
+        ensures published { IsPublished P.place D.db D.shards self.now }
     {
         let now = self.writer.published();
         if !front.begins(&now.front) {

@@ -1,17 +1,13 @@
 //! The history of a database: its commits, each added in one step. It takes no memory but its length.
 ghost use Rattle.std.specs.Prelude.{◌≡◌, ◌≢◌, ◌≤◌, ◌<◌, ◌++◌, ℕ, ◌∷◌, [], length, MatchBool, IfSome};
-ghost use Rattle.mg_live.specs.Laws.{IsPrefix};
-ghost use Rattle.mg_live.specs.Rules.{commits_seen, log_entry, head_of};
+ghost use Rattle.mg_machine.specs.Laws.{IsPrefix};
+ghost use Rattle.mg_live.specs.Rules.{head_of, log_entry};
+ghost use Rattle.mg_live.specs.View.{commits_seen};
 
-use logbook::{Gain, Offer, Plain, Play, Rule, Seen, Start, Word};
+use crate::markers::{Add, Entry, Law, Nothing};
+use logbook::{Offer, Seen, Start, Word};
 use mg_engine::Command;
 use std::marker::Model;
-
-/// An entry of the history: the seat that made the commit, and its command. No value of it is made.
-pub struct Entry {
-    pub seat: usize,
-    pub command: Command,
-}
 
 /// A write that a seat asks for, with so many workers.
 #[derive(Clone, Copy)]
@@ -19,54 +15,6 @@ pub(crate) struct Write<'a> {
     pub(crate) seat: usize,
     pub(crate) command: &'a Command,
     pub(crate) workers: usize,
-}
-
-/// The rule of the history.
-pub struct Law;
-
-impl Rule<Entry, u64> for Law {
-    ghost use Rattle.std.specs.Prelude.{[]};
-    ghost use base.Fml.{ftrue};
-    ghost use Rattle.mg_live.specs.Rules.{IsKept};
-
-    ghost holds = { λ cells log. IsKept cells log };
-
-    ghost first = { [] };
-
-    ghost hinted = { λ n log. Unit {0} };
-
-    ghost shows = { λ log. [] };
-
-    ghost keeps = { λ names log. ftrue };
-
-    ghost moves = { λ ask before after answer. Unit {0} };
-}
-
-/// Seats trade nothing.
-pub(crate) struct Nothing;
-
-impl Gain<Entry, u64> for Nothing {
-    ghost use base.Fml.{ftrue};
-
-    ghost after = { λ names about answer. ftrue };
-}
-
-/// A step that adds an entry.
-pub(crate) struct Add;
-
-impl Play<Entry, u64> for Add {
-    ghost use Rattle.mg_live.specs.Rules.{Adds};
-
-    ghost then = { Adds };
-}
-
-impl<'a> Plain<Write<'a>, Entry, u64> for Add {
-    ghost use Rattle.std.specs.Prelude.{None};
-    ghost use Rattle.mg_live.specs.Rules.{log_entry};
-
-    ghost ask = { λ write. log_entry write.seat write.command.now };
-
-    ghost state = { λ write. None };
 }
 
 /// The word that counts the entries.
@@ -158,7 +106,7 @@ impl Front {
     }
 
     /// The longer of two, with which both begin.
-    #[tactic(auto, using(crate::proofs::Beginnings::itself))]
+    #[tactic(auto, using(crate::proofs::Fronts::begins_itself))]
     pub(crate) fn longer(self, other: &Front) -> Front
         requires { self.seen.book ≡ other.now.seen.book }
         ensures book { result.seen.book ≡ self.seen.book }

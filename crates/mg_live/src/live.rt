@@ -1,21 +1,24 @@
 //! Opens a database with seats, and closes it.
 ghost use Rattle.std.specs.Prelude.{◌≡◌, ◌≢◌, ◌≤◌, ◌+◌, [], List, All, IfErr, IfOk, MatchBool, OnOk, length, vec_len};
-ghost use Rattle.mg_live.specs.Laws.{IsPrefix};
-ghost use Rattle.mg_live.specs.Rules.{commits_seen};
-ghost use Rattle.mg_live.specs.Machine.{Commit};
+ghost use Rattle.mg_machine.specs.Laws.{IsPrefix};
+ghost use Rattle.mg_machine.specs.Machine.{Commit};
 ghost use Rattle.mg_live.specs.Sitting.{AreAll, IsAhead, all_tallies, new_seats};
+ghost use Rattle.mg_live.specs.View.{commits_seen};
 ghost use Rattle.mg_live.specs.declared.live.CloseError.TheVariants.{Ahead, Missing};
 
 use crate::database::{Database, Ends};
 use crate::desk::Desk;
 use crate::history::{Front, Head, History};
-use crate::point::Point;
-use crate::published::{Ours, Writes};
+use crate::markers::Ours;
+use crate::published::Writes;
 use crate::seat::{Named, Seat, Shared};
 use crate::snapshot::Snapshot;
 use crate::tally::Tally;
+use left_right::Absorb;
 use left_right::reader::Factory;
 use left_right::writer::Writer;
+use mg_machine::Point;
+use mg_shard::{Md5Placement, Placement};
 use mg_value::NoMemory;
 use std::alloc::Global;
 use std::marker::{Model, PhantomData};
@@ -24,14 +27,20 @@ use std::sync::{Arc, Mutex, Wait};
 
 /// An open database. Contracts see the number of its seats.
 #[derive(Drop)]
-pub struct Live<D: Database, C: Ends> {
-    shared: Arc<Shared<D, C>>,
+pub struct Live<D: Database, C: Ends, P: Placement + Drop = Md5Placement>
+where
+    Snapshot<P>: Absorb<(), State = ()>,
+{
+    shared: Arc<Shared<D, C, P>>,
     first: Front,
     rest: Share<D>,
     seats: usize,
 }
 
-impl<D: Database, C: Ends> Model for Live<D, C> {
+impl<D: Database, C: Ends, P: Placement + Drop> Model for Live<D, C, P>
+where
+    Snapshot<P>: Absorb<(), State = ()>,
+{
     ghost use Rattle.std.specs.Prelude.{◌≡◌, ℕ, []};
 
     ghost Value = { ℕ };
@@ -66,9 +75,12 @@ pub enum CloseError {
 }
 
 // What a database begins with: what its seats share, what makes their readers, what they have seen, and all parts of the ledger.
-struct Start<D: Database, C: Ends> {
-    shared: Shared<D, C>,
-    factory: Factory<Snapshot, (), Ours<D>>,
+struct Start<D: Database, C: Ends, P: Placement + Drop>
+where
+    Snapshot<P>: Absorb<(), State = ()>,
+{
+    shared: Shared<D, C, P>,
+    factory: Factory<Snapshot<P>, (), Ours<D, P>>,
     front: Front,
     all: Share<D>,
 }
@@ -83,15 +95,18 @@ impl Closed {
 }
 
 // What a database of this name begins with.
-fn begin<D: Database, C: Ends>(
+fn begin<D: Database, C: Ends, P: Placement + Drop>(
     ends: C,
     alloc: Global,
     blank: Blank,
     history: History,
     db: &str,
+    placement: P,
     shards: usize,
     seats: usize,
-) -> Result<Start<D, C>, NoMemory>
+) -> Result<Start<D, C, P>, NoMemory>
+where
+    Snapshot<P>: Absorb<(), State = ()>,
     requires name { db.now ≡ D.db }
     requires history { history ≡ D.history }
     requires ledger { (blank.name ≡ D.name) × (blank.parts ≡ D.parts) }
@@ -104,11 +119,11 @@ fn begin<D: Database, C: Ends>(
     let (head, front) = history.parts();
     let (book, all) = blank.open::<D>();
     let first = Snapshot {
-        point: Point::first(alloc, db, shards)?,
+        point: Point::first(alloc, db, placement, shards)?,
         front: front.again(),
     };
     let second = first.again()?;
-    let writer: Writes<D> = Writer::new(alloc, first, second, seats)?;
+    let writer: Writes<D, P> = Writer::new(alloc, first, second, seats)?;
     let factory = writer.factory().another();
     let desk = Desk::new(ends, writer, book);
     let shared = Shared {
@@ -127,7 +142,9 @@ fn begin<D: Database, C: Ends>(
 }
 
 // How many commits the seats have made together, each no more than a u64 counts.
-fn all_made<D: Database, C: Ends>(seats: &[Seat<D, C>]) -> u128
+fn all_made<D: Database, C: Ends, P: Placement + Drop>(seats: &[Seat<D, C, P>]) -> u128
+where
+    Snapshot<P>: Absorb<(), State = ()>,
     ensures { result ≡ all_tallies seats.now }
 {
     let mut made = 0u128;
@@ -138,7 +155,9 @@ fn all_made<D: Database, C: Ends>(seats: &[Seat<D, C>]) -> u128
 }
 
 // Whether a seat has seen more commits than this.
-fn is_ahead<D: Database, C: Ends>(seats: &[Seat<D, C>], made: u128) -> bool
+fn is_ahead<D: Database, C: Ends, P: Placement + Drop>(seats: &[Seat<D, C, P>], made: u128) -> bool
+where
+    Snapshot<P>: Absorb<(), State = ()>,
     ensures { MatchBool result (IsAhead seats.now made) (All (λ s. length s.seen ≤ made) seats.now) }
 {
     for seat in seats {
@@ -150,7 +169,13 @@ fn is_ahead<D: Database, C: Ends>(seats: &[Seat<D, C>], made: u128) -> bool
 }
 
 // What the seats have seen together: the longest of their lists, with which all others begin.
-fn longest<D: Database, C: Ends>(first: &Front, seats: &[Seat<D, C>], made: u128) -> Front
+fn longest<D: Database, C: Ends, P: Placement + Drop>(
+    first: &Front,
+    seats: &[Seat<D, C, P>],
+    made: u128,
+) -> Front
+where
+    Snapshot<P>: Absorb<(), State = ()>,
     requires first { (first.now.seen.book ≡ D.history) × (first.now.seen.log ≡ []) }
     requires within { All (λ s. length s.seen ≤ made) seats.now }
     ensures here { result.seen.book ≡ D.history }
@@ -165,7 +190,12 @@ fn longest<D: Database, C: Ends>(first: &Front, seats: &[Seat<D, C>], made: u128
 }
 
 // Joins the parts of all seats.
-fn join_all<D: Database, C: Ends>(rest: Share<D>, seats: Vec<Seat<D, C>>) -> Share<D>
+fn join_all<D: Database, C: Ends, P: Placement + Drop>(
+    rest: Share<D>,
+    seats: Vec<Seat<D, C, P>>,
+) -> Share<D>
+where
+    Snapshot<P>: Absorb<(), State = ()>,
     requires { (rest.parts ≡ 0) × (rest.amount ≡ 0) }
     ensures parts { result.parts ≡ vec_len seats }
     ensures amount { result.amount ≡ all_tallies seats.items }
@@ -178,9 +208,12 @@ fn join_all<D: Database, C: Ends>(rest: Share<D>, seats: Vec<Seat<D, C>>) -> Sha
     all
 }
 
-impl<D: Database, C: Ends> Live<D, C> {
-    /// Opens an empty database of this name, over this number of shards, 1 to 64, and with 1 to 16 seats, which are numbered from 0.
-    /// The ledger has a part for each seat. `ends` ends the database once all of it was let go.
+impl<D: Database, C: Ends, P: Placement + Drop> Live<D, C, P>
+where
+    Snapshot<P>: Absorb<(), State = ()>,
+{
+    /// Opens an empty database of this name, over this number of shards, 1 to 64, on which `placement` places its documents, and with
+    /// 1 to 16 seats, which are numbered from 0. The ledger has a part for each seat. `ends` ends the database once all of it was let go.
     ///
     /// Errors: `NoMemory` where a growth was refused. Cost: the number of shards and of seats, and the name.
     pub fn open(
@@ -189,9 +222,10 @@ impl<D: Database, C: Ends> Live<D, C> {
         blank: Blank,
         history: History,
         db: &str,
+        placement: P,
         shards: usize,
         seats: usize,
-    ) -> Result<(Live<D, C>, Vec<Seat<D, C>>), NoMemory>
+    ) -> Result<(Live<D, C, P>, Vec<Seat<D, C, P>>), NoMemory>
         requires name { db.now ≡ D.db }
         requires history { history ≡ D.history }
         requires ledger { (blank.name ≡ D.name) × (blank.parts ≡ D.parts) }
@@ -207,7 +241,7 @@ impl<D: Database, C: Ends> Live<D, C> {
             factory,
             front,
             mut all,
-        } = begin(ends, alloc, blank, history, db, shards, seats)?;
+        } = begin(ends, alloc, blank, history, db, placement, shards, seats)?;
         let shared = Arc::new(alloc, shared)?;
         let mut each = Vec::new(alloc);
         for number in 0..seats {
@@ -237,8 +271,8 @@ impl<D: Database, C: Ends> Live<D, C> {
     pub fn close<R: Wait>(
         self,
         rt: &R,
-        seats: Vec<Seat<D, C>>,
-    ) -> Result<Closed, (Live<D, C>, Vec<Seat<D, C>>, CloseError)>
+        seats: Vec<Seat<D, C, P>>,
+    ) -> Result<Closed, (Live<D, C, P>, Vec<Seat<D, C, P>>, CloseError)>
         requires { self ≡ D.parts }
         ensures closed { IfOk result (λ c. (commits : List Commit) × AreAll commits seats.items c) }
         ensures whole { OnOk result (vec_len seats ≡ self) }

@@ -1,84 +1,80 @@
 //! What is published: a snapshot, which readers take without a lock, and one writer replaces.
 ghost use Rattle.std.specs.Prelude.{◌≡◌, IfOk};
-ghost use Rattle.mg_live.specs.Published.{IsOf};
+ghost use Rattle.mg_live.specs.Snapshots.{IsOf};
 
 use crate::database::Database;
+use crate::markers::Ours;
 use crate::snapshot::Snapshot;
-use core::mem::replace_with;
-use crossbeam_utils::rule::{Outcome, Protocol};
+use core::mem::{replace, replace_with};
 use left_right::Absorb;
 use left_right::reader::Reader;
 use left_right::writer::Writer;
+use mg_shard::Placement;
 use std::alloc::AllocError;
-use std::marker::PhantomData;
 use std::sync::Wait;
 
-/// The rule: what is published is a snapshot of this database.
-pub struct Ours<D> {
-    of: PhantomData<D>,
-}
-
-impl<D: Database> Protocol<Snapshot, ()> for Ours<D> {
-    ghost use Rattle.mg_live.specs.Published.{IsOf};
-
-    ghost holds = { λ x views. IsOf D.history D.db D.shards x };
-
-    ghost first = { tt };
-}
-
-impl<D: Database> Outcome<Snapshot, ()> for Ours<D> {
-    ghost use Rattle.mg_live.specs.Published.{IsOf};
-
-    ghost then = { λ v x y w. IsOf D.history D.db D.shards y };
-}
-
-// No operation is ever given to the writer, since a snapshot replaces a copy as a whole.
-impl Absorb<()> for Snapshot {
+// No operation is ever given to the writer, since a snapshot replaces a copy as a whole. Every snapshot meets this bound; the types
+// that hold a writer repeat it, since the prover looks for no impl of a generic type there.
+impl<P> Absorb<()> for Snapshot<P> {
     type State = ();
 
     ghost state = { λ s. tt };
 
     ghost applied = { λ s operation. s };
 
-    fn absorb_first(&mut self, _operation: &(), _other: &Snapshot) -> Result<(), AllocError> {
+    fn absorb_first(&mut self, _operation: &(), _other: &Snapshot<P>) -> Result<(), AllocError> {
         Ok(())
     }
 }
 
 /// Reads what is published.
-pub(crate) type Reads<D> = Reader<Snapshot, (), Ours<D>>;
+pub(crate) type Reads<D, P> = Reader<Snapshot<P>, (), Ours<D, P>>;
 
 /// Publishes.
-pub type Writes<D> = Writer<Snapshot, (), (), Ours<D>>;
+pub type Writes<D, P> = Writer<Snapshot<P>, (), (), Ours<D, P>>;
 
 /// Publishes a snapshot, in one step, which takes no memory and cannot fail. It waits for the readers that still look at the copy
-/// that the snapshot replaces.
-pub(crate) fn publish<D: Database, R: Wait>(rt: &R, writer: &mut Writes<D>, snapshot: Snapshot)
-    requires { IsOf D.history D.db D.shards snapshot }
+/// that the snapshot replaces, and gives that one back: to let it go may cost as much as it holds alone.
+pub(crate) fn publish<D: Database, P: Placement + Drop, R: Wait>(
+    rt: &R,
+    writer: &mut Writes<D, P>,
+    snapshot: Snapshot<P>,
+) -> Snapshot<P>
+where
+    Snapshot<P>: Absorb<(), State = ()>,
+    requires { IsOf P.place D.history D.db D.shards snapshot }
     ensures { writer.new.desk.shown.value ≡ snapshot }
 {
     replace_with(writer, snapshot, |writer, snapshot| {
-        (show(rt, writer, snapshot), ())
+        show(rt, writer, snapshot)
     })
 }
 
 // The same, for a writer that is given and given back.
-fn show<D: Database, R: Wait>(rt: &R, writer: Writes<D>, snapshot: Snapshot) -> Writes<D>
-    requires { IsOf D.history D.db D.shards snapshot }
-    ensures { result.desk.shown.value ≡ snapshot }
+fn show<D: Database, P: Placement + Drop, R: Wait>(
+    rt: &R,
+    writer: Writes<D, P>,
+    snapshot: Snapshot<P>,
+) -> (Writes<D, P>, Snapshot<P>)
+where
+    Snapshot<P>: Absorb<(), State = ()>,
+    requires { IsOf P.place D.history D.db D.shards snapshot }
+    ensures { result.0.desk.shown.value ≡ snapshot }
 {
     let mut writer = writer;
     let (open, mut spare) = writer.desk.open(rt);
-    *spare = snapshot;
-    writer.desk = open.show_as::<Ours<D>>(spare);
-    writer
+    let before = replace(&mut *spare, snapshot);
+    writer.desk = open.show_as::<Ours<D, P>>(spare);
+    (writer, before)
 }
 
 /// What is published now. It waits for nobody.
-pub(crate) fn look<D: Database>(reader: Reads<D>) -> (Reads<D>, Result<Snapshot, AllocError>)
-    ensures { IfOk result.1 (λ s. IsOf D.history D.db D.shards s) }
+pub(crate) fn look<D: Database, P: Placement + Drop>(
+    reader: Reads<D, P>,
+) -> (Reads<D, P>, Result<Snapshot<P>, AllocError>)
+    ensures { IfOk result.1 (λ s. IsOf P.place D.history D.db D.shards s) }
 {
-    match reader.enter_as::<Ours<D>>() {
+    match reader.enter_as::<Ours<D, P>>() {
         Ok(reading) => {
             let snapshot = reading.get().again();
             (reading.leave(), snapshot)

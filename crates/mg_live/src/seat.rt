@@ -2,7 +2,7 @@
 ghost use Rattle.std.specs.Prelude.{◌≡◌, ◌≤◌, true, false, IfOk, OnErr, OnOk};
 ghost use Rattle.mg_engine.specs.Commands.{is_write};
 ghost use Rattle.mg_engine.specs.View.{asked, said};
-ghost use Rattle.mg_live.specs.Snapshots.{IsAt, IsPublished};
+ghost use Rattle.mg_live.specs.Snapshots.{StandsAfter, IsPublished};
 ghost use Rattle.mg_live.specs.Rules.{head_of};
 ghost use Rattle.mg_live.specs.Sitting.{Answered, IsLater, Reads, Told, Writes};
 
@@ -12,8 +12,10 @@ use crate::history::{Front, Head, Write};
 use crate::published::{Reads, look};
 use crate::snapshot::Snapshot;
 use crate::tally::Tally;
-use mg_engine::{Command, Reply};
+use left_right::Absorb;
+use mg_engine::{Command, Prepared, Reply};
 use mg_scan::{Gate, Place};
+use mg_shard::{Md5Placement, Placement};
 use mg_value::NoMemory;
 use std::alloc::Global;
 use std::marker::{Model, PhantomData};
@@ -22,9 +24,12 @@ use std::thread::Threads;
 
 /// What all seats share: the word of the history, and the desk under the writer's lock.
 #[derive(Drop)]
-pub(crate) struct Shared<D: Database, C: Ends> {
+pub(crate) struct Shared<D: Database, C: Ends, P: Placement + Drop>
+where
+    Snapshot<P>: Absorb<(), State = ()>,
+{
     pub(crate) named: Named<D>,
-    pub(crate) desk: Mutex<Desk<D, C>>,
+    pub(crate) desk: Mutex<Desk<D, C, P>>,
 }
 
 /// The word of this database's history.
@@ -37,16 +42,22 @@ pub(crate) struct Named<D: Database> {
 
 /// A seat at a database. Contracts see its number, the commits that it has seen, and the tally of those that it has made.
 #[derive(Drop)]
-pub struct Seat<D: Database, C: Ends> {
+pub struct Seat<D: Database, C: Ends, P: Placement + Drop = Md5Placement>
+where
+    Snapshot<P>: Absorb<(), State = ()>,
+{
     pub(crate) number: usize,
     pub(crate) alloc: Global,
     pub(crate) front: Front,
     pub(crate) tally: Tally<D>,
-    pub(crate) reader: Option<Reads<D>>,
-    pub(crate) shared: Arc<Shared<D, C>>,
+    pub(crate) reader: Option<Reads<D, P>>,
+    pub(crate) shared: Arc<Shared<D, C, P>>,
 }
 
-impl<D: Database, C: Ends> Model for Seat<D, C> {
+impl<D: Database, C: Ends, P: Placement + Drop> Model for Seat<D, C, P>
+where
+    Snapshot<P>: Absorb<(), State = ()>,
+{
     ghost use Rattle.std.specs.Prelude.{◌≡◌};
     ghost use Rattle.mg_live.specs.Sitting.{Sitting, sitting_code};
 
@@ -54,7 +65,7 @@ impl<D: Database, C: Ends> Model for Seat<D, C> {
 
     ghost coded = { sitting_code };
 
-    ghost use Rattle.mg_live.specs.Rules.{commits_seen};
+    ghost use Rattle.mg_live.specs.View.{commits_seen};
 
     ghost view = { λ s. record { number = s.number; seen = commits_seen s.front.seen.log; tally = s.tally } };
 
@@ -71,26 +82,29 @@ pub struct Seen<D: Database> {
 impl<D: Database> Model for Seen<D> {
     ghost use Rattle.std.specs.Prelude.{◌≡◌, List};
     ghost use Rattle.mg_live.specs.Code.{commits_code};
-    ghost use Rattle.mg_live.specs.Machine.{Commit};
+    ghost use Rattle.mg_machine.specs.Machine.{Commit};
 
     ghost Value = { List Commit };
 
     ghost coded = { commits_code };
 
-    ghost use Rattle.mg_live.specs.Rules.{commits_seen};
+    ghost use Rattle.mg_live.specs.View.{commits_seen};
 
     ghost view = { λ s. commits_seen s.front.seen.log };
 
     ghost invariant = { λ s. s.front.seen.book ≡ D.history };
 }
 
-impl<D: Database, C: Ends> Seat<D, C> {
+impl<D: Database, C: Ends, P: Placement + Drop> Seat<D, C, P>
+where
+    Snapshot<P>: Absorb<(), State = ()>,
+{
     /// The database as it is now, by what is published: after the commits that the seat has then seen. It waits for nobody.
     ///
     /// Errors: `NoMemory` where the snapshot was not given. Cost: the same for any documents.
-    pub fn snapshot(&mut self) -> Result<Snapshot, NoMemory>
+    pub fn snapshot(&mut self) -> Result<Snapshot<P>, NoMemory>
         ensures later { IsLater self.old self.new }
-        ensures snapshot { IfOk result (λ s. IsAt D.db D.shards s self.new.seen) }
+        ensures snapshot { IfOk result (λ s. StandsAfter P.place D.db D.shards s self.new.seen) }
     {
         let Some(reader) = self.reader.take() else {
             return Err(NoMemory);
@@ -170,7 +184,8 @@ impl<D: Database, C: Ends> Seat<D, C> {
         }
     }
 
-    // The reply to a write, after all commits.
+    // The reply to a write, after all commits. What the command says by itself is read before the lock is taken, and the snapshot that
+    // the write replaces is let go after the lock.
     pub(crate) fn write<R: Wait + Threads + Sync>(
         &mut self,
         rt: &R,
@@ -190,13 +205,28 @@ impl<D: Database, C: Ends> Seat<D, C> {
             shared,
             ..
         } = self;
+        let Ok(prepared) = Prepared::of(*alloc, command) else {
+            return Reply::NoMemory;
+        };
         let write = Write {
             seat: *number,
             command,
             workers,
         };
-        let mut desk = shared.desk.lock(rt);
-        desk.write(rt, *alloc, &shared.named.head, &write, tally, front)
+        let (reply, before) = {
+            let mut desk = shared.desk.lock(rt);
+            desk.write(
+                rt,
+                *alloc,
+                &shared.named.head,
+                &write,
+                prepared,
+                tally,
+                front,
+            )
+        };
+        drop(before);
+        reply
     }
 
     /// Catches up with all commits, under the writer's lock, and returns what another seat can `learn`: the list that is published then.
@@ -205,7 +235,7 @@ impl<D: Database, C: Ends> Seat<D, C> {
     pub fn share<R: Wait>(&mut self, rt: &R) -> Result<Seen<D>, NoMemory>
         ensures later { IsLater self.old self.new }
         ensures seen { IfOk result (λ s. s ≡ self.new.seen) }
-        ensures published { OnOk result (IsPublished D.db D.shards self.new.seen) }
+        ensures published { OnOk result (IsPublished P.place D.db D.shards self.new.seen) }
         ensures refused { OnErr result (self.new ≡ self.old) }
     {
         let desk = self.shared.desk.lock(rt);

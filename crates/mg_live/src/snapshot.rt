@@ -2,30 +2,31 @@
 ghost use Rattle.std.specs.Prelude.{◌≡◌, ◌≤◌, true, length, All, IfOk, IfSome, option_map};
 ghost use Rattle.std.specs.Arc.{arc_value};
 ghost use Rattle.mg_engine.specs.Commands.{is_write};
+ghost use Rattle.mg_engine.specs.Settled.{accepts};
 ghost use Rattle.mg_engine.specs.View.{asked, said};
-ghost use Rattle.mg_live.specs.Published.{IsOf, Nexts};
-ghost use Rattle.mg_live.specs.Snapshots.{commits_of, shown_of};
+ghost use Rattle.mg_live.specs.Published.{Nexts};
+ghost use Rattle.mg_live.specs.Snapshots.{IsOf, commits_of, shown_of};
 ghost use Rattle.mg_shard.specs.Shard.{shards_seen};
 ghost use Rattle.mg_live.specs.Rules.{head_of};
 
 use crate::database::Database;
 use crate::history::{Front, Head, Write};
-use crate::point::{Point, accepts};
-use mg_engine::Reply;
+use mg_engine::{Prepared, Reply};
 use mg_index::Catalog;
-use mg_shard::Shard;
+use mg_machine::Point;
+use mg_shard::{Md5Placement, Placement, Shard};
 use std::alloc::{AllocError, Global};
 use std::sync::Arc;
 use std::thread::Threads;
 
 /// A database as it stood after some of its commits: nothing changes it.
 #[derive(Drop)]
-pub struct Snapshot {
-    pub(crate) point: Point,
+pub struct Snapshot<P = Md5Placement> {
+    pub(crate) point: Point<P>,
     pub(crate) front: Front,
 }
 
-impl Snapshot {
+impl<P: Placement + Drop> Snapshot<P> {
     /// The catalog of its indexes. Takes no memory.
     pub fn catalog(&self) -> &Catalog
         ensures { result.now ≡ (shown_of self.now).catalog }
@@ -43,7 +44,7 @@ impl Snapshot {
     }
 
     // The same snapshot once more, over the same engine.
-    pub(crate) fn again(&self) -> Result<Snapshot, AllocError>
+    pub(crate) fn again(&self) -> Result<Snapshot<P>, AllocError>
         ensures front { IfOk result (λ s. s.front ≡ self.now.front) }
         ensures engine { IfOk result (λ s. arc_value s.point.engine ≡ arc_value self.now.point.engine) }
         ensures commits { IfOk result (λ s. s.point.commits ≡ self.now.point.commits) }
@@ -63,17 +64,22 @@ impl Snapshot {
         alloc: Global,
         head: &Head,
         write: &Write<'_>,
-    ) -> (Reply, Option<Snapshot>)
+        prepared: Prepared<'_>,
+    ) -> (Reply, Option<Snapshot<P>>)
         requires write { is_write (asked write.now.command.now) ≡ true }
+        requires prepared { prepared ≡ asked write.now.command.now }
         requires some { 1 ≤ write.now.workers }
         requires most { write.now.workers ≤ 32 }
         requires head { head.now.word ≡ head_of D.history }
-        requires here { IsOf D.history D.db D.shards self.now }
+        requires here { IsOf P.place D.history D.db D.shards self.now }
         ensures next { Nexts D.db (commits_of self.now) (write.now.seat, asked write.now.command.now) (said result.0)
             (option_map commits_of result.1) }
-        ensures there { IfSome result.1 (λ s. IsOf D.history D.db D.shards s) }
+        ensures there { IfSome result.1 (λ s. IsOf P.place D.history D.db D.shards s) }
     {
-        let Ok((reply, point)) = self.point.write(rt, alloc, write.command, write.workers) else {
+        let Ok((reply, point)) = self
+            .point
+            .write_prepared(rt, alloc, prepared, write.workers)
+        else {
             return (Reply::NoMemory, None);
         };
         if !accepts(&reply) {
@@ -83,5 +89,15 @@ impl Snapshot {
             return (Reply::NoMemory, None);
         };
         (reply, Some(Snapshot { point, front }))
+    }
+}
+
+// Whether a reply accepts its command.
+fn accepts(reply: &Reply) -> bool
+    ensures { result ≡ accepts reply.now }
+{
+    match reply {
+        Reply::Full { status, body: _ } => *status == 200 || *status == 201,
+        Reply::NoMemory => false,
     }
 }

@@ -142,30 +142,30 @@ rests_size {X} rests = length-map rests (λ (r : Bor (List X)). r.now)
 pub rests_of-set : {X : Type 0} (rests : List (Bor (List X))) (place : ℕ) (left : Bor (List X)) → rests_of (set rests place left) ≡ set (rests_of rests) place left.now
 rests_of-set {X} rests place left = map-set (λ (r : Bor (List X)). r.now) rests place left
 
-within : {X : Type 0} (rests : List (Bor (List X))) (place : ℕ) → place < length rests → place < length (rests_of rests)
+within : {X : Type 0} (rests : List (Bor (List X))) (place : ℕ) → place < length (rests_of rests) → place < length rests
 within rests place k = let e = rests_size rests in omega (arith, e)
 
 no_items : {X : Type 0} (xs : List X) → length xs ≡ 0 → xs ≡ []
 no_items [] h = refl
 no_items (x ∷ xs) h = absurd (omega (arith, h))
 
-pub ended : {X : Type 0} (order : X → X → Ordering) (rests : List (Bor (List X))) (place : ℕ) (rest : Bor (List X)) → place < length rests → rest ≡ get_or rests place rest → length rest.now ≡ 0
+pub ended : {X : Type 0} (order : X → X → Ordering) (rests : List (Bor (List X))) (place : ℕ) (rest : Bor (List X)) → place < length (rests_of rests) → rest ≡ get_or rests place rest → length rest.now ≡ 0
     → BeginsFirst order (rests_of rests) (length (rests_of rests)) place → joined (rests_of rests) ≡ []
 ended order rests place rest k e h first =
-    let empty : get_or (rests_of rests) place [] ≡ [] = sym (rest_at rests place rest k e) ∙ no_items rest.now h in
+    let empty : get_or (rests_of rests) place [] ≡ [] = sym (rest_at rests place rest (within rests place k) e) ∙ no_items rest.now h in
     none_left order (rests_of rests) (λ i l. subst (λ ys. NoneBegins order ys (get_or (rests_of rests) i [])) empty (first.least i l))
 
 pub rest_taken : {X : Type 0} (order : X → X → Ordering) → IsTotalOrder order → (rests : List (Bor (List X))) (place : ℕ) (rest : Bor (List X)) (x : X) (left : Bor (List X)) → All (IsSorted order) (rests_of rests)
-    → place < length rests → rest ≡ get_or rests place rest → rest.now ≡ x ∷ left.now → BeginsFirst order (rests_of rests) (length (rests_of rests)) place
+    → place < length (rests_of rests) → rest ≡ get_or rests place rest → rest.now ≡ x ∷ left.now → BeginsFirst order (rests_of rests) (length (rests_of rests)) place
     → sorted order (joined (rests_of rests)) ≡ x ∷ sorted order (joined (rests_of (set rests place left)))
 rest_taken order o rests place rest x left ordered k e h first =
-    first_taken order o (rests_of rests) place x left.now ordered (within rests place k) (sym (rest_at rests place rest k e) ∙ h) first
+    first_taken order o (rests_of rests) place x left.now ordered k (sym (rest_at rests place rest (within rests place k) e) ∙ h) first
     ∙ ap (λ lists. x ∷ sorted order (joined lists)) (sym (rests_of-set rests place left))
 
 pub rest_order : {X : Type 0} (order : X → X → Ordering) → IsTotalOrder order → (rests : List (Bor (List X))) (place : ℕ) (rest : Bor (List X)) (x : X) (left : Bor (List X)) → All (IsSorted order) (rests_of rests)
-    → place < length rests → rest ≡ get_or rests place rest → rest.now ≡ x ∷ left.now → All (IsSorted order) (rests_of (set rests place left))
+    → place < length (rests_of rests) → rest ≡ get_or rests place rest → rest.now ≡ x ∷ left.now → All (IsSorted order) (rests_of (set rests place left))
 rest_order order o rests place rest x left ordered k e h =
-    subst (All (IsSorted order)) (sym (rests_of-set rests place left)) (order_kept order o (rests_of rests) place x left.now ordered (within rests place k) (sym (rest_at rests place rest k e) ∙ h))
+    subst (All (IsSorted order)) (sym (rests_of-set rests place left)) (order_kept order o (rests_of rests) place x left.now ordered k (sym (rest_at rests place rest (within rests place k) e) ∙ h))
 
 lent_more : {X : Type 0} (lent : List (Bor X)) (item : Bor X) (ys : List X) → lent_of lent ++ item.now ∷ ys ≡ lent_of (lent ++ item ∷ []) ++ ys
 lent_more [] item ys = refl

@@ -10,7 +10,7 @@ use Rattle.std.proofs.lemmas.Cmp.{on_total, nat_cmp_total, upto, tied_itself}
 use Rattle.mg_collate.specs.Sorted.{inserted}
 use Rattle.mg_collate.proofs.Sorting.{all_weaker}
 use Rattle.mg_merge.specs.Rests.{AreInTurn, BeginsFirst, Climbs, begin_order, is_in, rests_of, turn_order}
-use Rattle.mg_merge.proofs.Heads.{all_at, begin_total, rests_of-set, rests_size}
+use Rattle.mg_merge.proofs.Heads.{all_at, begin_total, rests_of-set}
 use borrow.Author.Count.{below_more}
 
 two : (b : Bool) → (b ≡ true) ⊎ (b ≡ false)
@@ -212,22 +212,22 @@ first_enters order o lists size p queue rest h =
 
 -- ---- the same of the rests themselves
 
-pub rests_first : {X : Type 0} (order : X → X → Ordering) (rests : List (Bor (List X))) (queue others : List ℕ) (p : ℕ) → 0 < length queue → p ≡ get_or queue 0 p → others ≡ remove queue 0
-    → AreInTurn order (rests_of rests) (length rests) queue → AreInTurn order (rests_of rests) (length rests) (p ∷ others)
-rests_first order rests queue others p l e same h = subst (AreInTurn order (rests_of rests) (length rests)) (first_is queue p l e ∙ ap (λ ns. p ∷ ns) (sym same)) h
+pub first_out : {X : Type 0} (order : X → X → Ordering) (lists : List (List X)) (size : ℕ) (queue others : List ℕ) (p : ℕ) → 0 < length queue → p ≡ get_or queue 0 p → others ≡ remove queue 0
+    → AreInTurn order lists size queue → AreInTurn order lists size (p ∷ others)
+first_out order lists size queue others p l e same h = subst (AreInTurn order lists size) (first_is queue p l e ∙ ap (λ ns. p ∷ ns) (sym same)) h
 
-pub rests_begin : {X : Type 0} (order : X → X → Ordering) → IsTotalOrder order → (rests : List (Bor (List X))) (p : ℕ) (queue : List ℕ) → AreInTurn order (rests_of rests) (length rests) (p ∷ queue)
+pub rests_begin : {X : Type 0} (order : X → X → Ordering) → IsTotalOrder order → (rests : List (Bor (List X))) (p : ℕ) (queue : List ℕ) → AreInTurn order (rests_of rests) (length (rests_of rests)) (p ∷ queue)
     → BeginsFirst order (rests_of rests) (length (rests_of rests)) p
-rests_begin order o rests p queue h = subst (λ n. BeginsFirst order (rests_of rests) n p) (sym (rests_size rests)) (begins_first order o (rests_of rests) (length rests) p queue h)
+rests_begin order o rests p queue h = begins_first order o (rests_of rests) (length (rests_of rests)) p queue h
 
-pub rests_climb : {X : Type 0} (order : X → X → Ordering) → IsTotalOrder order → (rests : List (Bor (List X))) (p : ℕ) (queue : List ℕ) (left : Bor (List X)) → AreInTurn order (rests_of rests) (length rests) (p ∷ queue)
+pub rests_climb : {X : Type 0} (order : X → X → Ordering) → IsTotalOrder order → (rests : List (Bor (List X))) (p : ℕ) (queue : List ℕ) (left : Bor (List X)) → AreInTurn order (rests_of rests) (length (rests_of rests)) (p ∷ queue)
     → Climbs (turn_order order (rests_of (set rests p left))) queue
 rests_climb order o rests p queue left h =
-    subst (λ lists. Climbs (turn_order order lists) queue) (sym (rests_of-set rests p left)) (others_climb order o (rests_of rests) (length rests) p queue left.now h)
+    subst (λ lists. Climbs (turn_order order lists) queue) (sym (rests_of-set rests p left)) (others_climb order o (rests_of rests) (length (rests_of rests)) p queue left.now h)
 
-pub rests_in_turn : {X : Type 0} (order : X → X → Ordering) → IsTotalOrder order → (rests : List (Bor (List X))) (p : ℕ) (queue : List ℕ) (left : Bor (List X)) → AreInTurn order (rests_of rests) (length rests) (p ∷ queue)
-    → AreInTurn order (rests_of (set rests p left)) (length (set rests p left)) (inserted (turn_order order (rests_of (set rests p left))) p queue)
+pub rests_in_turn : {X : Type 0} (order : X → X → Ordering) → IsTotalOrder order → (rests : List (Bor (List X))) (p : ℕ) (queue : List ℕ) (left : Bor (List X)) → AreInTurn order (rests_of rests) (length (rests_of rests)) (p ∷ queue)
+    → AreInTurn order (rests_of (set rests p left)) (length (rests_of (set rests p left))) (inserted (turn_order order (rests_of (set rests p left))) p queue)
 rests_in_turn order o rests p queue left h =
-    let same = sym (rests_of-set rests p left) in
-    subst (λ n. AreInTurn order (rests_of (set rests p left)) n (inserted (turn_order order (rests_of (set rests p left))) p queue)) (sym (length-set rests p left))
-    (subst (λ lists. AreInTurn order lists (length rests) (inserted (turn_order order lists) p queue)) same (first_enters order o (rests_of rests) (length rests) p queue left.now h))
+    subst (λ lists. AreInTurn order lists (length lists) (inserted (turn_order order lists) p queue)) (sym (rests_of-set rests p left))
+    (subst (λ n. AreInTurn order (set (rests_of rests) p left.now) n (inserted (turn_order order (set (rests_of rests) p left.now)) p queue)) (sym (length-set (rests_of rests) p left.now))
+    (first_enters order o (rests_of rests) (length (rests_of rests)) p queue left.now h))

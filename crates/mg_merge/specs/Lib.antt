@@ -1,4 +1,5 @@
 pub mod Merged
+pub mod Pulled
 pub mod Rests
 pub mod Sharding
 pub mod Work

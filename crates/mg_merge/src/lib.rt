@@ -1,15 +1,20 @@
 //! The ordered merge of rows, as CouchDB's coordinator merges what shards list: the first of all.
 #![tactic(auto)]
 
+mod begins;
 pub mod laws;
 mod merging;
 mod order;
+mod pulled;
 mod queue;
 mod ranked;
 mod rests;
+mod source;
 mod work;
 
 pub use merging::{merge, merge_all};
 pub use order::{all_are_in_order, are_in_order};
+pub use pulled::merge_pulled;
 pub use ranked::Ranked;
+pub use source::RowSource;
 pub use work::Work;

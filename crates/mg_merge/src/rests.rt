@@ -27,21 +27,21 @@ pub(crate) fn whole_lists<'a, T>(
 // Takes what the direction lists first off the rest whose number is first in the queue, and puts
 // that number where its turn is now.
 pub(crate) fn take_first<'a, T: Ranked>(
-    rests: &mut [&'a [T]],
+    rests: &mut Vec<&'a [T]>,
     queue: &mut Vec<usize>,
     direction: Direction,
 ) -> Result<Option<&'a T>, NoMemory>
-    requires order { All (IsInOrderBy T.row_of direction) (rests_of rests.old) }
-    requires queue { AreInTurn (order_by T.row_of direction) (rests_of rests.old)
-        (length rests.old) queue.old.items }
-    ensures order { OnOk result (All (IsInOrderBy T.row_of direction) (rests_of rests.new)) }
+    requires order { All (IsInOrderBy T.row_of direction) (rests_of rests.old.items) }
+    requires queue { AreInTurn (order_by T.row_of direction) (rests_of rests.old.items)
+        (length (rests_of rests.old.items)) queue.old.items }
+    ensures order { OnOk result (All (IsInOrderBy T.row_of direction) (rests_of rests.new.items)) }
     ensures queue { IfOk result (λ taken. IfSome taken
-        (λ item. AreInTurn (order_by T.row_of direction) (rests_of rests.new)
-        (length rests.new) queue.new.items)) }
+        (λ item. AreInTurn (order_by T.row_of direction) (rests_of rests.new.items)
+        (length (rests_of rests.new.items)) queue.new.items)) }
     ensures first { IfOk result (λ taken. IfSome taken
-        (λ item. sorted (order_by T.row_of direction) (joined (rests_of rests.old))
-        ≡ item.now ∷ sorted (order_by T.row_of direction) (joined (rests_of rests.new)))) }
-    ensures end { IfOk result (λ taken. IfNone taken (joined (rests_of rests.old) ≡ [])) }
+        (λ item. sorted (order_by T.row_of direction) (joined (rests_of rests.old.items))
+        ≡ item.now ∷ sorted (order_by T.row_of direction) (joined (rests_of rests.new.items)))) }
+    ensures end { IfOk result (λ taken. IfNone taken (joined (rests_of rests.old.items) ≡ [])) }
 {
     if queue.is_empty() {
         return Ok(None);

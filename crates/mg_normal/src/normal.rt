@@ -1,4 +1,4 @@
-ghost use Rattle.std.specs.Prelude.{◌≡◌, Some, IfOk};
+ghost use Rattle.std.specs.Prelude.{◌≡◌, Some, IfOk, is_some};
 ghost use Rattle.mg_value.specs.View.{view};
 ghost use Rattle.mg_selector.specs.View.{selector_of};
 ghost use Rattle.mg_normal.specs.Normal.{IsNormalOf, normal_holds, normal_atoms};
@@ -71,5 +71,12 @@ impl Normal {
         ensures { atoms_view result.now ≡ normal_atoms self.now }
     {
         &self.atoms
+    }
+
+    /// Whether the selector asks anything besides its atoms. No memory is taken. Cost: none.
+    pub fn has_rest(&self) -> bool
+        ensures { result ≡ is_some self.now.rest }
+    {
+        self.rest.is_some()
     }
 }

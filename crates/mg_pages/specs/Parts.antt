@@ -61,12 +61,12 @@ module _ {P T : Type 0} (is_whole : P → Type 0) (seen : P → List T) where
     pub back : is_whole halves.1
     pub same : seen halves.0 ++ seen halves.1 ≡ seen p
 
--- the elements of a level and of a page, and that none of their parts is empty
+-- the elements of a level and of a page, that none of their parts is empty, and that the count is that of the elements
 abbrev pub level_seen : {P T : Type 0} → (P → List T) → Level T P → List T
 level_seen seen l = flat_map (child_seen seen) (children l.parts.items)
 
 abbrev pub level_whole : {P T : Type 0} → (P → Type 0) → (P → List T) → Level T P → Type 0
-level_whole is_whole seen l = (0 < length l.parts.items) × AreWhole (child_whole is_whole seen) (children l.parts.items)
+level_whole is_whole seen l = (0 < length l.parts.items) × (AreWhole (child_whole is_whole seen) (children l.parts.items) × (l.count ≡ length (level_seen seen l)))
 
 abbrev pub page_seen : {T : Type 0} → Page T → List T
 page_seen p = values p.elements.items
@@ -92,7 +92,8 @@ high_whole = level_whole (level_whole page_whole page_seen) (level_seen page_see
 abbrev pub root_seen : {T : Type 0} → Root T → List T
 root_seen r = level_seen high_seen r
 
--- nothing but the root itself may be empty, and the elements ascend
+-- nothing but the root itself may be empty, the elements ascend, and the root's count is theirs
 pub record IsSound {T : Type 0} (order : T → T → Ordering) (r : Root T) : Type 0 where
   pub whole : AreWhole (child_whole high_whole high_seen) (children r.parts.items)
   pub sorted : Ascends order (root_seen r)
+  pub counted : r.count ≡ length (root_seen r)

@@ -1,11 +1,11 @@
 //! Collections made of elements that are in order already.
-ghost use Rattle.std.specs.Prelude.{◌≡◌, IfOk};
+ghost use Rattle.std.specs.Prelude.{◌≡◌, ◌<◌, ◌^◌, length, IfOk};
 ghost use Rattle.std.specs.List.{flat_map};
 ghost use Rattle.mg_pages.specs.Parts.{values, children, child_seen, child_whole, page_seen, page_whole, level_seen, level_whole, AreWhole};
 
 use crate::child::{Child, child_of, copied_children};
 use crate::keyed::Keyed;
-use crate::level::Level;
+use crate::level::{Level, count_of};
 use crate::page::{Page, page_of};
 use crate::part::{LIMIT, Part};
 use std::alloc::{AllocError, Global};
@@ -36,7 +36,8 @@ pub fn grouped<T: Keyed, P: Part<T>>(
     alloc: Global,
     parts: &[Child<T, P>],
 ) -> Result<Vec<Child<T, Level<T, P>>>, AllocError>
-    requires { AreWhole (child_whole P.is_whole P.seen) (children parts.now) }
+    requires whole { AreWhole (child_whole P.is_whole P.seen) (children parts.now) }
+    requires few { length (flat_map (child_seen P.seen) (children parts.now)) < 2 ^ 64 }
     ensures whole { IfOk result (λ v. AreWhole (child_whole (level_whole P.is_whole P.seen) (level_seen P.seen)) (children v.items)) }
     ensures seen { IfOk result (λ v. flat_map (child_seen (level_seen P.seen)) (children v.items) ≡ flat_map (child_seen P.seen) (children parts.now)) }
 {
@@ -44,8 +45,9 @@ pub fn grouped<T: Keyed, P: Part<T>>(
     let mut rest = parts;
     while rest.len() > 0 {
         let (chunk, others) = rest.split_at(rest.len().min(LIMIT));
+        let count = count_of::<T, P>(chunk);
         let parts = copied_children(alloc, chunk)?;
-        let level = child_of::<T, Level<T, P>>(alloc, Level { parts })?;
+        let level = child_of::<T, Level<T, P>>(alloc, Level { parts, count })?;
         levels.push(level)?;
         rest = others;
     }

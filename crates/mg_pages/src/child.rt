@@ -1,5 +1,5 @@
 //! Parts as they stand in a level: shared, each with its last element beside it, so that a copy of a level counts once for each.
-ghost use Rattle.std.specs.Prelude.{◌≡◌, ◌<◌, [], true, false, is_some, length, List, IfOk, OnOk, OnErr};
+ghost use Rattle.std.specs.Prelude.{◌≡◌, ◌<◌, [], true, false, is_some, length, List, IfOk, IsSome, OnOk, OnErr};
 ghost use Rattle.std.specs.Arc.{arc_value};
 ghost use Rattle.mg_pages.specs.Order.{Ascends, found, inserted, removed};
 ghost use Rattle.mg_pages.specs.Parts.{IsLast, node_value, child_value, child_seen, child_whole, children};
@@ -161,6 +161,7 @@ fn take_out_of_node<T: Keyed, P: Part<T>, Q: Probe<T>>(
 ) -> Result<bool, AllocError>
     requires whole { child_whole P.is_whole P.seen (node_value node.old) }
     requires sorted { Ascends T.order (child_seen P.seen (node_value node.old)) }
+    requires there { IsSome (found (Q.against key.now) (child_seen P.seen (node_value node.old))) }
     ensures whole { IfOk result (λ emptied. emptied ≡ false → child_whole P.is_whole P.seen (node_value node.new)) }
     ensures emptied { IfOk result (λ emptied. emptied ≡ true → child_seen P.seen (node_value node.new) ≡ []) }
     ensures ok { OnOk result (child_seen P.seen (node_value node.new) ≡ removed (Q.against key.now) (child_seen P.seen (node_value node.old))) }
@@ -203,6 +204,7 @@ fn take_out_shared<T: Keyed, P: Part<T>, Q: Probe<T>>(
 ) -> Result<bool, AllocError>
     requires whole { child_whole P.is_whole P.seen (node_value (arc_value node.old)) }
     requires sorted { Ascends T.order (child_seen P.seen (node_value (arc_value node.old))) }
+    requires there { IsSome (found (Q.against key.now) (child_seen P.seen (node_value (arc_value node.old)))) }
     ensures whole { IfOk result (λ emptied. emptied ≡ false → child_whole P.is_whole P.seen (node_value (arc_value node.new))) }
     ensures emptied { IfOk result (λ emptied. emptied ≡ true → child_seen P.seen (node_value (arc_value node.new)) ≡ []) }
     ensures ok { OnOk result (child_seen P.seen (node_value (arc_value node.new)) ≡ removed (Q.against key.now) (child_seen P.seen (node_value (arc_value node.old)))) }
@@ -244,6 +246,7 @@ pub fn take_out_of<T: Keyed, P: Part<T>, Q: Probe<T>>(
 ) -> Result<bool, AllocError>
     requires whole { child_whole P.is_whole P.seen (child_value child.old) }
     requires sorted { Ascends T.order (child_seen P.seen (child_value child.old)) }
+    requires there { IsSome (found (Q.against key.now) (child_seen P.seen (child_value child.old))) }
     ensures whole { IfOk result (λ emptied. emptied ≡ false → child_whole P.is_whole P.seen (child_value child.new)) }
     ensures emptied { IfOk result (λ emptied. emptied ≡ true → child_seen P.seen (child_value child.new) ≡ []) }
     ensures ok { OnOk result (child_seen P.seen (child_value child.new) ≡ removed (Q.against key.now) (child_seen P.seen (child_value child.old))) }

@@ -1,11 +1,11 @@
 //! Levels of parts.
-ghost use Rattle.std.specs.Prelude.{◌≡◌, ◌<◌, ◌≤◌, ◌+◌, ◌∷◌, ◌++◌, [], true, false, is_some, length, take, drop, IfOk, OnOk, OnErr};
+ghost use Rattle.std.specs.Prelude.{◌≡◌, ◌<◌, ◌≤◌, ◌+◌, ◌^◌, ◌∷◌, ◌++◌, [], true, false, is_some, length, take, drop, IfOk, IsSome, OnOk, OnErr};
 ghost use Rattle.std.specs.Arc.{arc_value};
 ghost use Rattle.std.specs.List.{flat_map};
 ghost use Rattle.mg_pages.specs.Order.{Ascends, found, inserted, removed};
 ghost use Rattle.mg_pages.specs.Search.{AllBelow, AllAbove};
 ghost use Rattle.mg_pages.specs.Runs.{IsRun, IsEndRun};
-ghost use Rattle.mg_pages.specs.Parts.{values, children, child_seen, child_value, child_whole, AreWhole};
+ghost use Rattle.mg_pages.specs.Parts.{values, children, child_seen, child_value, child_whole, level_whole, AreWhole};
 
 use crate::child::{
     Child, Node, child_of, copied_children, owners_of_nodes, put_into, take_out_of,
@@ -16,14 +16,15 @@ use crate::part::{LIMIT, Part};
 use std::alloc::{AllocError, Global};
 use std::sync::Arc;
 
-/// Parts one after another, each with its last element beside it.
+/// Parts one after another, each with its last element beside it, and how many elements they have in all.
 pub struct Level<T, P> {
     pub(crate) parts: Vec<Child<T, P>>,
+    pub(crate) count: usize,
 }
 
 impl<T: Drop, P: Drop> Drop for Level<T, P> {
     fn drop(self) {
-        let Level { parts } = self;
+        let Level { parts, count: _ } = self;
         let _ = owners_of_nodes(&parts);
         drop(parts);
     }
@@ -75,6 +76,29 @@ fn place<T: Keyed, P: Part<T>, Q: Probe<T>>(parts: &[Child<T, P>], key: &Q) -> u
     low
 }
 
+/// How many elements the parts have in all. Cost: for each part a read of its count, and of nothing else below it.
+pub fn count_of<T: Keyed, P: Part<T>>(parts: &[Child<T, P>]) -> usize
+    requires whole { AreWhole (child_whole P.is_whole P.seen) (children parts.now) }
+    requires few { length (flat_map (child_seen P.seen) (children parts.now)) < 2 ^ 64 }
+    ensures { result ≡ length (flat_map (child_seen P.seen) (children parts.now)) }
+{
+    let mut count = 0;
+    for child in parts {
+        let node: &Node<T, P> = &child.node;
+        count += node.part.count();
+    }
+    count
+}
+
+// The count after an insertion, of one more where no element gave way.
+fn count_after_put(more: usize, had: bool) -> usize
+    requires { 0 < more }
+    ensures over { had ≡ true → result + 1 ≡ more }
+    ensures new { had ≡ false → result ≡ more }
+{
+    if had { more - 1 } else { more }
+}
+
 // The first elements of the parts from one on, as many as one page has; none where there are no more parts.
 fn run_from<T: Keyed, P: Part<T>>(parts: &[Child<T, P>], i: usize) -> &[Arc<T>]
     requires { AreWhole (child_whole P.is_whole P.seen) (children parts.now) }
@@ -114,6 +138,7 @@ pub fn take_out_of_parts<T: Keyed, P: Part<T>, Q: Probe<T>>(
     requires some { 0 < length parts.old.items }
     requires whole { AreWhole (child_whole P.is_whole P.seen) (children parts.old.items) }
     requires sorted { Ascends T.order (flat_map (child_seen P.seen) (children parts.old.items)) }
+    requires there { IsSome (found (Q.against key.now) (flat_map (child_seen P.seen) (children parts.old.items))) }
     ensures whole { AreWhole (child_whole P.is_whole P.seen) (children parts.new.items) }
     ensures ok { OnOk result (flat_map (child_seen P.seen) (children parts.new.items) ≡ removed (Q.against key.now) (flat_map (child_seen P.seen) (children parts.old.items))) }
     ensures err { OnErr result (flat_map (child_seen P.seen) (children parts.new.items) ≡ flat_map (child_seen P.seen) (children parts.old.items)) }
@@ -199,13 +224,25 @@ fn with_room<T: Keyed, P: Part<T>>(
 }
 
 impl<T: Keyed, P: Part<T>> Part<T> for Level<T, P> {
-    ghost use Rattle.std.specs.Prelude.{◌<◌, length};
     ghost use Rattle.std.specs.List.{flat_map};
-    ghost use Rattle.mg_pages.specs.Parts.{children, child_seen, child_whole, AreWhole};
+    ghost use Rattle.mg_pages.specs.Parts.{children, child_seen, level_whole};
 
     ghost seen = { λ l. flat_map (child_seen P.seen) (children l.parts.items) };
 
-    ghost is_whole = { λ l. (0 < length l.parts.items) × AreWhole (child_whole P.is_whole P.seen) (children l.parts.items) };
+    ghost is_whole = { level_whole P.is_whole P.seen };
+
+    fn count(&self) -> usize {
+        self.count
+    }
+
+    fn count_below<Q: Probe<T>>(&self, key: &Q) -> usize {
+        let _all = self.count();
+        let i = place::<T, P, Q>(&self.parts, key);
+        let before = count_of::<T, P>(&self.parts[..i]);
+        let child = &self.parts[i];
+        let node: &Node<T, P> = &child.node;
+        before + node.part.count_below(key)
+    }
 
     fn last(&self) -> &Arc<T> {
         let child = &self.parts[self.parts.len() - 1];
@@ -261,7 +298,8 @@ impl<T: Keyed, P: Part<T>> Part<T> for Level<T, P> {
 
     fn copy(&self, alloc: Global) -> Result<Level<T, P>, AllocError> {
         let parts = copied_children(alloc, &self.parts)?;
-        Ok(Level { parts })
+        let count = self.count;
+        Ok(Level { parts, count })
     }
 
     fn halves(
@@ -272,36 +310,52 @@ impl<T: Keyed, P: Part<T>> Part<T> for Level<T, P> {
         if self.parts.len() < LIMIT {
             return Ok(None);
         }
+        let all = self.count();
         let (front, back) = self.parts.split_at(self.parts.len() / 2);
+        let count = count_of::<T, P>(front);
         let front = copied_children(alloc, front)?;
         let back = copied_children(alloc, back)?;
-        Ok(Some((Level { parts: front }, Level { parts: back })))
+        let front = Level {
+            parts: front,
+            count,
+        };
+        let back = Level {
+            parts: back,
+            count: all - count,
+        };
+        Ok(Some((front, back)))
     }
 
     fn put(&mut self, alloc: Global, element: Arc<T>) -> Result<bool, AllocError>
-        requires whole { (0 < length self.old.parts.items) × AreWhole (child_whole P.is_whole P.seen) (children self.old.parts.items) }
+        requires whole { level_whole P.is_whole P.seen self.old }
         requires sorted { Ascends T.order (flat_map (child_seen P.seen) (children self.old.parts.items)) }
-        ensures whole { (0 < length self.new.parts.items) × AreWhole (child_whole P.is_whole P.seen) (children self.new.parts.items) }
+        ensures whole { level_whole P.is_whole P.seen self.new }
         ensures had { IfOk result (λ had. had ≡ is_some (found (T.order (arc_value element)) (flat_map (child_seen P.seen) (children self.old.parts.items)))) }
         ensures ok { OnOk result (flat_map (child_seen P.seen) (children self.new.parts.items) ≡ inserted T.order (arc_value element) (flat_map (child_seen P.seen) (children self.old.parts.items))) }
         ensures err { OnErr result (flat_map (child_seen P.seen) (children self.new.parts.items) ≡ flat_map (child_seen P.seen) (children self.old.parts.items)) }
     {
+        let Some(more) = self.count.checked_add(1) else {
+            return Err(AllocError);
+        };
         let i = with_room::<T, P>(alloc, &mut self.parts, &element)?;
         let had = put_into::<T, P>(alloc, &mut self.parts[i], element)?;
+        self.count = count_after_put(more, had);
         Ok(had)
     }
 
     fn take_out<Q: Probe<T>>(&mut self, alloc: Global, key: &Q) -> Result<bool, AllocError>
-        requires whole { (0 < length self.old.parts.items) × AreWhole (child_whole P.is_whole P.seen) (children self.old.parts.items) }
+        requires whole { level_whole P.is_whole P.seen self.old }
         requires sorted { Ascends T.order (flat_map (child_seen P.seen) (children self.old.parts.items)) }
-        ensures whole { IfOk result (λ emptied. emptied ≡ false → (0 < length self.new.parts.items) × AreWhole (child_whole P.is_whole P.seen) (children self.new.parts.items)) }
+        requires there { IsSome (found (Q.against key.now) (flat_map (child_seen P.seen) (children self.old.parts.items))) }
+        ensures whole { IfOk result (λ emptied. emptied ≡ false → level_whole P.is_whole P.seen self.new) }
         ensures some { IfOk result (λ emptied. emptied ≡ false → 0 < length (flat_map (child_seen P.seen) (children self.new.parts.items))) }
         ensures emptied { IfOk result (λ emptied. emptied ≡ true → flat_map (child_seen P.seen) (children self.new.parts.items) ≡ []) }
         ensures ok { OnOk result (flat_map (child_seen P.seen) (children self.new.parts.items) ≡ removed (Q.against key.now) (flat_map (child_seen P.seen) (children self.old.parts.items))) }
         ensures err { OnErr result (flat_map (child_seen P.seen) (children self.new.parts.items) ≡ flat_map (child_seen P.seen) (children self.old.parts.items)) }
-        ensures err_whole { OnErr result ((0 < length self.new.parts.items) × AreWhole (child_whole P.is_whole P.seen) (children self.new.parts.items)) }
+        ensures err_whole { OnErr result (level_whole P.is_whole P.seen self.new) }
     {
         take_out_of_parts::<T, P, Q>(alloc, &mut self.parts, key)?;
+        self.count -= 1;
         Ok(self.parts.is_empty())
     }
 }

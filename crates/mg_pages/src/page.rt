@@ -1,5 +1,5 @@
 //! Pages of elements.
-ghost use Rattle.std.specs.Prelude.{is_some, ◌≡◌, ◌<◌, [], true, false, length, IfOk, MatchResult, OnOk, OnErr};
+ghost use Rattle.std.specs.Prelude.{is_some, ◌≡◌, ◌<◌, [], true, false, length, IfOk, IsSome, MatchResult, OnOk, OnErr};
 ghost use Rattle.std.specs.Arc.{arc_value};
 ghost use Rattle.mg_pages.specs.Order.{Ascends, found, inserted, removed};
 ghost use Rattle.mg_pages.specs.Search.{IsTie, IsGap};
@@ -70,6 +70,17 @@ impl<T: Keyed> Part<T> for Page<T> {
     ghost seen = { λ p. values p.elements.items };
 
     ghost is_whole = { λ p. 0 < length p.elements.items };
+
+    fn count(&self) -> usize {
+        self.elements.len()
+    }
+
+    fn count_below<Q: Probe<T>>(&self, key: &Q) -> usize {
+        match find::<T, Q>(&self.elements, key, self.hints.guess(key.hint())) {
+            Ok(i) => i,
+            Err(i) => i,
+        }
+    }
 
     fn last(&self) -> &Arc<T> {
         &self.elements[self.elements.len() - 1]
@@ -173,6 +184,7 @@ impl<T: Keyed> Part<T> for Page<T> {
     fn take_out<Q: Probe<T>>(&mut self, _alloc: Global, key: &Q) -> Result<bool, AllocError>
         requires whole { 0 < length self.old.elements.items }
         requires sorted { Ascends T.order (values self.old.elements.items) }
+        requires there { IsSome (found (Q.against key.now) (values self.old.elements.items)) }
         ensures whole { IfOk result (λ emptied. emptied ≡ false → 0 < length self.new.elements.items) }
         ensures some { IfOk result (λ emptied. emptied ≡ false → 0 < length (values self.new.elements.items)) }
         ensures emptied { IfOk result (λ emptied. emptied ≡ true → values self.new.elements.items ≡ []) }

@@ -1,5 +1,5 @@
 //! Ordered collections in shared pages.
-ghost use Rattle.std.specs.Prelude.{◌≡◌, ◌↔◌, [], ◌∷◌, Some, length, IfOk, IfSome, IsTrue, OnOk, OnErr, is_some, option_map, reverse};
+ghost use Rattle.std.specs.Prelude.{◌≡◌, ◌↔◌, [], ◌∷◌, Some, length, IfOk, IfSome, IsSome, IsTrue, OnOk, OnErr, is_some, option_map, reverse};
 ghost use Rattle.std.specs.Arc.{arc_value};
 ghost use Rattle.mg_pages.specs.Order.{Ascends, above, below, found, from, inserted, removed, upto};
 ghost use Rattle.mg_pages.specs.Runs.{IsRun, IsEndRun};
@@ -29,9 +29,10 @@ fn level_of<T: Keyed, P: Part<T>>(alloc: Global, part: P) -> Result<Level<T, P>,
     ensures whole { IfOk result (λ l. level_whole P.is_whole P.seen l) }
     ensures seen { IfOk result (λ l. level_seen P.seen l ≡ P.seen part) }
 {
+    let count = part.count();
     let child = child_of::<T, P>(alloc, part)?;
     let parts = vec_of(alloc, child)?;
-    Ok(Level { parts })
+    Ok(Level { parts, count })
 }
 
 // A root with one element.
@@ -70,7 +71,8 @@ fn take_out<T: Keyed, Q: Probe<T>>(
     root: &mut Root<T>,
     key: &Q,
 ) -> Result<(), AllocError>
-    requires { IsSound T.order root.old }
+    requires sound { IsSound T.order root.old }
+    requires there { IsSome (found (Q.against key.now) (root_seen root.old)) }
     ensures sound { IsSound T.order root.new }
     ensures ok { OnOk result (root_seen root.new ≡ removed (Q.against key.now) (root_seen root.old)) }
     ensures err { OnErr result (root_seen root.new ≡ root_seen root.old) }
@@ -79,6 +81,7 @@ fn take_out<T: Keyed, Q: Probe<T>>(
         return Ok(());
     }
     take_out_of_parts::<T, Level<T, Level<T, Page<T>>>, Q>(alloc, &mut root.parts, key)?;
+    root.count -= 1;
     Ok(())
 }
 
@@ -113,11 +116,10 @@ fn vec_of<X: Drop>(alloc: Global, thing: X) -> Result<Vec<X>, AllocError>
 #[derive(Drop)]
 pub struct Pages<T: Keyed> {
     root: Root<T>,
-    len: usize,
 }
 
 impl<T: Keyed> Model for Pages<T> {
-    ghost use Rattle.std.specs.Prelude.{◌≡◌, List, length};
+    ghost use Rattle.std.specs.Prelude.{List};
 
     ghost Value = { List T };
 
@@ -125,7 +127,7 @@ impl<T: Keyed> Model for Pages<T> {
 
     ghost view = { λ a. root_seen a.root };
 
-    ghost invariant = { λ a. IsSound T.order a.root × (a.len ≡ length (root_seen a.root)) };
+    ghost invariant = { λ a. IsSound T.order a.root };
 }
 
 impl<T: Keyed> Pages<T> {
@@ -136,8 +138,8 @@ impl<T: Keyed> Pages<T> {
         Pages {
             root: Level {
                 parts: Vec::new(alloc),
+                count: 0,
             },
-            len: 0,
         }
     }
 
@@ -151,9 +153,9 @@ impl<T: Keyed> Pages<T> {
         let pages = paged(alloc, elements)?;
         let lows = grouped::<T, Page<T>>(alloc, &pages)?;
         let parts = grouped::<T, Level<T, Page<T>>>(alloc, &lows)?;
+        let count = elements.len();
         Ok(Pages {
-            root: Level { parts },
-            len: elements.len(),
+            root: Level { parts, count },
         })
     }
 
@@ -161,14 +163,14 @@ impl<T: Keyed> Pages<T> {
     pub fn len(&self) -> usize
         ensures { result ≡ length self.now }
     {
-        self.len
+        self.root.count
     }
 
     /// Whether there is no element. Cost: none.
     pub fn is_empty(&self) -> bool
         ensures { IsTrue result ↔ (self.now ≡ []) }
     {
-        self.len == 0
+        self.root.count == 0
     }
 
     /// The elements ascend: for proofs of callers. Does nothing.
@@ -190,6 +192,24 @@ impl<T: Keyed> Pages<T> {
             return None;
         }
         self.root.get(key)
+    }
+
+    /// How many elements are below the key, told by the counts of the parts before its place. Cost: the logarithm of the number of
+    /// elements, and a step for each of these parts, at most 64 a level. Takes no memory.
+    pub fn count_below<Q: Probe<T>>(&self, key: &Q) -> usize
+        ensures { result ≡ length (below (Q.against key.now) self.now) }
+    {
+        if self.root.parts.is_empty() {
+            return 0;
+        }
+        self.root.count_below(key)
+    }
+
+    /// How many elements are above the key. Cost: as of `count_below`. Takes no memory.
+    pub fn count_above<Q: Probe<T>>(&self, key: &Q) -> usize
+        ensures { result ≡ length (above (Q.against key.now) self.now) }
+    {
+        self.root.count - self.count_below(&Over { key })
     }
 
     // The first elements, as many as one page has.
@@ -290,10 +310,9 @@ impl<T: Keyed> Pages<T> {
         ensures { IfOk result (λ p. p ≡ self.now) }
     {
         let parts = copied_children(alloc, &self.root.parts)?;
-        let root = Level { parts };
+        let count = self.root.count;
         Ok(Pages {
-            root,
-            len: self.len,
+            root: Level { parts, count },
         })
     }
 
@@ -306,13 +325,7 @@ impl<T: Keyed> Pages<T> {
         ensures ok { OnOk result (self.new ≡ inserted T.order (arc_value element) self.old) }
         ensures err { OnErr result (self.new ≡ self.old) }
     {
-        let Some(more) = self.len.checked_add(1) else {
-            return Err(NoMemory);
-        };
         let had = put(alloc, &mut self.root, element)?;
-        if !had {
-            self.len = more;
-        }
         Ok(had)
     }
 
@@ -329,7 +342,6 @@ impl<T: Keyed> Pages<T> {
             return Ok(false);
         }
         take_out::<T, Q>(alloc, &mut self.root, key)?;
-        self.len -= 1;
         Ok(true)
     }
 }

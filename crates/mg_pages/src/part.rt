@@ -1,5 +1,5 @@
 //! What a collection is made of: pages of elements, and levels of parts above them.
-ghost use Rattle.std.specs.Prelude.{◌≡◌, ◌<◌, [], true, false, is_some, length, List, IfOk, OnOk, OnErr, IfSome, option_map};
+ghost use Rattle.std.specs.Prelude.{◌≡◌, ◌<◌, [], true, false, is_some, length, List, IfOk, OnOk, OnErr, IfSome, IsSome, option_map};
 ghost use Rattle.std.specs.Arc.{arc_value};
 ghost use Rattle.mg_pages.specs.Order.{inserted, removed, found, above, below, Ascends};
 ghost use Rattle.mg_pages.specs.Runs.{IsRun, IsEndRun};
@@ -20,6 +20,17 @@ pub trait Part<T: Keyed>: Drop + Sized {
 
     // nothing in it is empty
     ghost is_whole: { Self → Type 0 };
+
+    /// How many elements there are. Cost: none.
+    fn count(&self) -> usize
+        requires { is_whole self.now }
+        ensures { result ≡ length (seen self.now) };
+
+    /// How many elements are below a key.
+    fn count_below<Q: Probe<T>>(&self, key: &Q) -> usize
+        requires whole { is_whole self.now }
+        requires sorted { Ascends T.order (seen self.now) }
+        ensures { result ≡ length (below (Q.against key.now) (seen self.now)) };
 
     /// The last element.
     fn last(&self) -> &Arc<T>
@@ -85,6 +96,7 @@ pub trait Part<T: Keyed>: Drop + Sized {
     fn take_out<Q: Probe<T>>(&mut self, alloc: Global, key: &Q) -> Result<bool, AllocError>
         requires whole { is_whole self.old }
         requires sorted { Ascends T.order (seen self.old) }
+        requires there { IsSome (found (Q.against key.now) (seen self.old)) }
         ensures whole { IfOk result (λ emptied. emptied ≡ false → is_whole self.new) }
         ensures some { IfOk result (λ emptied. emptied ≡ false → 0 < length (seen self.new)) }
         ensures emptied { IfOk result (λ emptied. emptied ≡ true → seen self.new ≡ []) }

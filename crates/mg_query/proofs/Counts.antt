@@ -56,7 +56,7 @@ whole_on place n i hs h =
 -- ---- the numbers
 
 -- lists of hits with these rows have their lengths
-sizes : (rows : ShardView → List RowValue) (lists : List (Vec Hit Global)) (shards : List ShardView) → map (λ v. hit_rows v.items) lists ≡ map rows shards
+pub sizes : (rows : ShardView → List RowValue) (lists : List (Vec Hit Global)) (shards : List ShardView) → map (λ v. hit_rows v.items) lists ≡ map rows shards
     → map (λ (v : Vec Hit Global). length v.items) lists ≡ map (λ s. length (rows s)) shards
 sizes rows [] [] e = refl
 sizes rows [] (s ∷ shards) e = absurd cc
@@ -94,10 +94,9 @@ module _ (complete : RangesAreComplete) (q : Query) (columns : List Steps) (norm
       ap₂ (λ m ms. m ∷ ms) (shard_count s (histories_on place n k hs) first (whole_on place n k hs whole))
       (each_count place n (k + 1) hs shards (λ i t e. let m : k + suc i ≡ (k + 1) + i = omega arith in subst (λ j. StandFor t.documents (histories_on place n j hs)) m (each (suc i) t e)) whole)
 
-  -- the lengths of what is handed over
-  pub handed_counts : (place : Placing) (shards : List ShardView) (hs : Histories) → ShardsStandFor place shards hs → AreWhole (candidates_of hs)
-      → (lists : List (Vec Hit Global)) → map (λ v. hit_rows v.items) lists ≡ map (shard_rows normal columns q) shards
-      → map (λ (v : Vec Hit Global). length v.items) lists ≡ counts_handed columns q place (length shards) hs
-  handed_counts place shards hs stands whole lists e =
+  -- how much each shard lists
+  pub listed_counts : (place : Placing) (shards : List ShardView) (hs : Histories) → ShardsStandFor place shards hs → AreWhole (candidates_of hs)
+      → map (λ s. length (shard_rows normal columns q s)) shards ≡ counts_handed columns q place (length shards) hs
+  listed_counts place shards hs stands whole =
       let each = λ (i : ℕ) (s : ShardView) (h : slice_get shards i ≡ Some s). let here : i ≡ 0 + i = omega arith in subst (λ j. StandFor s.documents (histories_on place (length shards) j hs)) here (stands.each i s h) in
-      sizes (shard_rows normal columns q) lists shards e ∙ each_count place (length shards) 0 hs shards each whole
+      each_count place (length shards) 0 hs shards each whole

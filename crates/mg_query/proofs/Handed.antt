@@ -4,14 +4,16 @@ use Rattle.std.specs.List.{AllByRecursion, filter, filter_map, sum}
 use Rattle.std.specs.Option.{option_map_or}
 use Rattle.std.proofs.lemmas.List.{drop-map, length-append, length-map, length-take}
 use Rattle.std.proofs.lemmas.List.Sums.{sum_by-append}
-use Rattle.std.proofs.lemmas.List.Elements.{All-from_recursion, filter_agree, recursion_from_All}
+use Rattle.std.proofs.lemmas.List.Elements.{All-from_recursion, All-weaker, filter_agree, recursion_from_All}
+use denote.Ref.{Bor}
 use Rattle.mg_value.specs.Value.{item_list}
 use Rattle.mg_collate.specs.declared.direction.Direction.{Direction}
-use Rattle.mg_collate.specs.Row.{RowValue, directed_order}
+use Rattle.mg_collate.specs.declared.row.Row.{Row}
+use Rattle.mg_collate.specs.Row.{RowValue, directed_order, row_view}
 use Rattle.mg_collate.specs.Sorted.{IsInOrder, inserted, sorted, sorted_rows}
 use Rattle.mg_bookmark.specs.Bookmark.{Place}
-use Rattle.mg_index.specs.Choice.{is_usable}
-use Rattle.mg_index.specs.Definition.{Steps}
+use Rattle.mg_index.specs.Choice.{Source, is_usable}
+use Rattle.mg_index.specs.Definition.{IndexDefinition, Steps}
 use Rattle.mg_merge.specs.Merged.{IsInOrderBy, contents_of, joined, merged, merged_by, order_by}
 use Rattle.mg_merge.specs.Work.{Hand}
 use Rattle.mg_merge.specs.Sharding.{Document, rows_of}
@@ -32,11 +34,11 @@ use Rattle.mg_shard.specs.Documents.{docs_of}
 use Rattle.mg_shard.specs.Histories.{Histories}
 use Rattle.mg_shard.specs.Rows.{row_of}
 use Rattle.mg_shard.specs.Shard.{ShardView}
-use Rattle.mg_query.specs.Page.{candidates_of, page_rows, row_by}
+use Rattle.mg_query.specs.Page.{candidates_of, columns_of, page_rows, row_by}
 use Rattle.mg_query.specs.Paged.{IsWithin}
 use Rattle.mg_query.specs.Lent.{row_at, shard_rows}
 use Rattle.mg_query.specs.Query.{Query}
-use Rattle.mg_query.specs.Served.{AreWhole}
+use Rattle.mg_query.specs.Served.{AreWhole, IsListed}
 use Rattle.mg_query.proofs.Answered.{is_wanted_by, rows_of_answer}
 use Rattle.mg_query.proofs.Gathered.{listed, listed_sorted, lists_in_order, rows_asked}
 
@@ -92,10 +94,26 @@ found_rows q columns normal target range after count r a n shards h =
     found_each target (asked normal range after count q.direction) columns (shard_rows normal columns q) (found_at q columns normal target range after count r a n) shards
     (recursion_from_All (λ s. columns_at target s.definitions ≡ Some columns) shards h)
 
+-- shards in which the index is listed have the columns of its target
+pub listed_at : (source : Source) (target : Target) (shards : List ShardView) → ((ds : List IndexDefinition) → IsListed ds source → columns_at target ds ≡ Some (columns_of source)) → All (λ s. IsListed s.definitions source) shards
+    → All (λ s. columns_at target s.definitions ≡ Some (columns_of source)) shards
+listed_at source target shards at listed = All-weaker (λ s. IsListed s.definitions source) (λ s. columns_at target s.definitions ≡ Some (columns_of source)) (λ s l. at s.definitions l) shards listed
+
+-- the row that is lent
+pub rows_lent : (o : Option (Bor Row)) (p : Option Row) → option_map (λ r. r.now) o ≡ p → option_map (λ r. row_view r.now) o ≡ option_map row_view p
+rows_lent None p e = ap (option_map row_view) e
+rows_lent (Some r) p e = ap (option_map row_view) e
+
 -- the rows of hits, list by list
 contents : (lists : List (Vec Hit Global)) → map (map hit_row) (contents_of lists) ≡ map (λ v. hit_rows v.items) lists
 contents [] = refl
 contents (v ∷ lists) = ap (λ rows. hit_rows v.items ∷ rows) (contents lists)
+
+-- the rows of a merge of lists with these rows
+pub merged_rows : (direction : Direction) (most : ℕ) (hits : List Hit) (lists : List (Vec Hit Global)) (rows : List (List RowValue)) → hits ≡ merged_by hit_row direction most (contents_of lists) → map (λ v. hit_rows v.items) lists ≡ rows
+    → hit_rows hits ≡ merged direction most rows
+merged_rows direction most hits lists rows merge e =
+    ap (map hit_row) merge ∙ rows_of_merged hit_row direction most (contents_of lists) ∙ ap (merged direction most) (contents lists ∙ e)
 
 module _ (q : Query) (columns : List Steps) (normal : NormalForm) (is : IsNormalOf q.selector normal) where
   abbrev most : ℕ
@@ -120,12 +138,10 @@ module _ (q : Query) (columns : List Steps) (normal : NormalForm) (is : IsNormal
 
   -- the rows of the hits after the first are those of the page, over all documents that the histories serve
   pub rows_handed : RangesAreComplete → is_usable (atoms_of q.selector) q.sort columns ≡ true → (place : Placing) (shards : List ShardView) (hs : Histories) → ShardsStandFor place shards hs → AreWhole (candidates_of hs)
-      → (lists : List (Vec Hit Global)) → map (λ v. hit_rows v.items) lists ≡ map (shard_rows normal columns q) shards
-      → map hit_row (drop q.skip (merged_by hit_row q.direction most (contents_of lists))) ≡ map (row_by columns) (page_rows columns q (candidates_of hs))
-  rows_handed complete usable place shards hs stands whole lists e =
-      sym (drop-map hit_row q.skip (merged_by hit_row q.direction most (contents_of lists)))
-      ∙ ap (drop q.skip) (rows_of_merged hit_row q.direction most (contents_of lists) ∙ ap (merged q.direction most) (contents lists ∙ e ∙ all_listed shards))
-      ∙ rows_of_answer complete q columns (normal_holds normal) is.meaning usable place shards hs stands whole
+      → (hits : List Hit) → hit_rows hits ≡ merged q.direction most (map (shard_rows normal columns q) shards)
+      → map hit_row (drop q.skip hits) ≡ map (row_by columns) (page_rows columns q (candidates_of hs))
+  rows_handed complete usable place shards hs stands whole hits e =
+      sym (drop-map hit_row q.skip hits) ∙ ap (drop q.skip) (e ∙ ap (merged q.direction most) (all_listed shards)) ∙ rows_of_answer complete q columns (normal_holds normal) is.meaning usable place shards hs stands whole
 
   shard_in_order : (s : ShardView) → IsInOrder q.direction (shard_rows normal columns q s)
   shard_in_order s =

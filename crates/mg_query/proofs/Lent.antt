@@ -12,7 +12,7 @@ use Rattle.mg_index.specs.Definition.{Steps}
 use Rattle.mg_merge.specs.Merged.{contents_of, joined, merged_by, order_by}
 use Rattle.mg_revtree.specs.History.{History}
 use Rattle.mg_revtree.specs.Tree.{StandsFor}
-use Rattle.mg_scan.specs.Hit.{AreHitsOf, IsHitOf, hit_document, hit_form, hit_row, hit_text}
+use Rattle.mg_scan.specs.Hit.{AreHitsIn, AreHitsOf, IsHitIn, IsHitOf, hit_document, hit_form, hit_row, hit_text}
 use Rattle.mg_scan.specs.declared.hit.Hit.{Hit}
 use Rattle.mg_shard.specs.Dealt.{Placing, ShardsStandFor, histories_on}
 use Rattle.mg_shard.specs.Documents.{KeptDocuments, StandFor, kept_of}
@@ -38,16 +38,8 @@ of_shard place n i hs ds stands h is =
     let k = kept_history place n i hs (hit_row h).1 ds (kept_of (hit_document h)) stands is.document in
     record { history = k.0; known = k.1; tree = k.2; form = sym is.form ∙ k.3; text = is.text }
 
-of_lists : (place : Placing) (n k : ℕ) (hs : Histories) (shards : List ShardView) (lists : List (Vec Hit Global)) → ((i : ℕ) (s : ShardView) → slice_get shards i ≡ Some s → StandFor s.documents (histories_on place n (k + i) hs))
-    → AllZip (λ s v. AreHitsOf s.documents v.items) shards lists → AllByRecursion (IsOf hs) (joined (contents_of lists))
-of_lists place n k hs [] [] each h = tt
-of_lists place n k hs [] (v ∷ lists) each h = absurd h
-of_lists place n k hs (s ∷ shards) [] each h = absurd h
-of_lists place n k hs (s ∷ shards) (v ∷ lists) each h =
-    all_append (IsOf hs) v.items (joined (contents_of lists))
-    (all_weaker (IsHitOf s.documents) (IsOf hs) (of_shard place n (k + 0) hs s.documents (each 0 s refl)) v.items h.0)
-    (of_lists place n (suc k) hs shards lists
-    (λ i t e. let m : k + suc i ≡ suc k + i = omega arith in subst (λ j. StandFor t.documents (histories_on place n j hs)) m (each (suc i) t e)) h.1)
+of_in : (place : Placing) (hs : Histories) (shards : List ShardView) → ShardsStandFor place shards hs → (h : Hit) → IsHitIn shards h → IsOf hs h
+of_in place hs shards stands h is = of_shard place (length shards) is.place hs is.shard.documents (stands.each is.place is.shard is.there) h is.hit
 
 all_taken : {X : Type 0} (P : X → Type 0) (n : ℕ) (xs : List X) → AllByRecursion P xs → AllByRecursion P (take n xs)
 all_taken P zero xs h = tt
@@ -59,14 +51,25 @@ all_dropped P zero xs h = h
 all_dropped P (suc n) [] h = tt
 all_dropped P (suc n) (x ∷ xs) h = all_dropped P n xs h.1
 
-of_merged : (place : Placing) (hs : Histories) (shards : List ShardView) (lists : List (Vec Hit Global)) (direction : Direction) (skip most : ℕ) → ShardsStandFor place shards hs
-    → AllZip (λ s v. AreHitsOf s.documents v.items) shards lists → AllByRecursion (IsOf hs) (drop skip (merged_by hit_row direction most (contents_of lists)))
-of_merged place hs shards lists direction skip most stands h =
+-- ---- hits of lists, one for each shard, are hits in these
+
+in_lists : (all : List ShardView) (k : ℕ) (shards : List ShardView) (lists : List (Vec Hit Global)) → ((i : ℕ) (s : ShardView) → slice_get shards i ≡ Some s → slice_get all (k + i) ≡ Some s)
+    → AllZip (λ s v. AreHitsOf s.documents v.items) shards lists → AllByRecursion (IsHitIn all) (joined (contents_of lists))
+in_lists all k [] [] each h = tt
+in_lists all k [] (v ∷ lists) each h = absurd h
+in_lists all k (s ∷ shards) [] each h = absurd h
+in_lists all k (s ∷ shards) (v ∷ lists) each h =
+    all_append (IsHitIn all) v.items (joined (contents_of lists))
+    (all_weaker (IsHitOf s.documents) (IsHitIn all) (λ x is. record { place = k + 0; shard = s; there = each 0 s refl; hit = is }) v.items h.0)
+    (in_lists all (suc k) shards lists (λ i t e. let m : k + suc i ≡ suc k + i = omega arith in subst (λ j. slice_get all j ≡ Some t) m (each (suc i) t e)) h.1)
+
+-- so are those of their merge
+pub merged_in : (shards : List ShardView) (lists : List (Vec Hit Global)) (direction : Direction) (most : ℕ) → AllZip (λ s v. AreHitsOf s.documents v.items) shards lists
+    → AreHitsIn shards (merged_by hit_row direction most (contents_of lists))
+merged_in shards lists direction most h =
     let all = joined (contents_of lists) in
-    let each = λ (i : ℕ) (s : ShardView) (e : slice_get shards i ≡ Some s).
-    let here : i ≡ 0 + i = omega arith in subst (λ j. StandFor s.documents (histories_on place (length shards) j hs)) here (stands.each i s e) in
-    all_dropped (IsOf hs) skip (take most (sorted (order_by hit_row direction) all))
-    (all_taken (IsOf hs) most (sorted (order_by hit_row direction) all) (all_sorted (IsOf hs) (order_by hit_row direction) all (of_lists place (length shards) 0 hs shards lists each h)))
+    all_taken (IsHitIn shards) most (sorted (order_by hit_row direction) all)
+    (all_sorted (IsHitIn shards) (order_by hit_row direction) all (in_lists shards 0 shards lists (λ i s e. let here : i ≡ 0 + i = omega arith in subst (λ j. slice_get shards j ≡ Some s) here e) h))
 
 -- ---- so it is of the candidate whose row it has
 
@@ -99,13 +102,11 @@ known_rows columns q hs =
     (all_kept (IsKnown hs) (is_after columns q) (sorted order asked) (all_sorted (IsKnown hs) order asked (all_kept (IsKnown hs) (is_asked q) (candidates_of hs) (all_known hs)))))
 
 -- hits with the rows of a page lend its candidates
-pub lend_page : (columns : List Steps) (q : Query) (place : Placing) (hs : Histories) (shards : List ShardView) (lists : List (Vec Hit Global)) (most : ℕ) → ShardsStandFor place shards hs
-    → AllZip (λ s v. AreHitsOf s.documents v.items) shards lists
-    → map hit_row (drop q.skip (merged_by hit_row q.direction most (contents_of lists))) ≡ map (row_by columns) (page_rows columns q (candidates_of hs))
-    → LendEach columns (drop q.skip (merged_by hit_row q.direction most (contents_of lists))) (page_rows columns q (candidates_of hs))
-lend_page columns q place hs shards lists most stands h e =
-    lend_all columns hs (drop q.skip (merged_by hit_row q.direction most (contents_of lists))) (page_rows columns q (candidates_of hs)) e
-    (of_merged place hs shards lists q.direction q.skip most stands h) (known_rows columns q hs)
+pub lend_first : (columns : List Steps) (q : Query) (place : Placing) (hs : Histories) (shards : List ShardView) (hits : List Hit) → ShardsStandFor place shards hs → AreHitsIn shards hits
+    → map hit_row (drop q.skip hits) ≡ map (row_by columns) (page_rows columns q (candidates_of hs)) → LendEach columns (drop q.skip hits) (page_rows columns q (candidates_of hs))
+lend_first columns q place hs shards hits stands h e =
+    lend_all columns hs (drop q.skip hits) (page_rows columns q (candidates_of hs)) e
+    (all_dropped (IsOf hs) q.skip hits (all_weaker (IsHitIn shards) (IsOf hs) (of_in place hs shards stands) hits h)) (known_rows columns q hs)
 
 -- ---- hits and candidates one by one
 

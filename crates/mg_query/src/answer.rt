@@ -13,7 +13,7 @@ ghost use Rattle.mg_query.specs.Seen.{query_seen};
 ghost use Rattle.mg_query.specs.Served.{PageAnswers, AreWhole, source_seen};
 
 use crate::error::PageError;
-use crate::found::{Found, after_skip, find};
+use crate::found::{after_skip, find, find_first};
 use crate::query::Query;
 use crate::shown::{Page, bookmark_of, shown};
 use crate::source::Source;
@@ -59,7 +59,6 @@ pub fn page<R: Threads + Sync, G: Gate + Sync>(
         → PageAnswers (λ r. r.1.handed) result
         (handed_of catalog.now (query_seen query.now) place (length shards.now) hs) }
 {
-    let workers = Workers::exactly(workers);
     let found = find(rt, alloc, query, catalog, shards, workers, gate)?;
     let hits = after_skip(&found.hits, query.skip);
     let docs = shown_all(alloc, query, hits)?;
@@ -93,16 +92,16 @@ pub fn page_text<R: Threads + Sync, G: Gate + Sync>(
         → PageAnswers (λ r. r.1.handed) result
         (handed_of catalog.now (query_seen query.now) place (length shards.now) hs) }
 {
-    let workers = Workers::exactly(workers);
     let found = find(rt, alloc, query, catalog, shards, workers, gate)?;
-    let text = text_found(alloc, query, &found)?;
+    let text = text_found(alloc, query, found.source, &found.hits)?;
     Ok((text, found.work))
 }
 
 /// The compact text of the page that answers a query, as `page_text` says, by so many workers: where these are a most, a
-/// query that is not worth a second thread runs on the caller's.
+/// query that is not worth a second thread runs on the caller's, and passes no gate.
 ///
-/// Errors: as of `page`. Cost: as of `page_text`.
+/// Errors: as of `page`. Cost: as of `page_text`. On the caller's thread each shard is read only until its rows are not among the
+/// first: the shards find skip + limit hits together, and one more each.
 pub fn page_text_by<R: Threads + Sync, G: Gate + Sync>(
     rt: &R,
     alloc: Global,
@@ -118,18 +117,23 @@ pub fn page_text_by<R: Threads + Sync, G: Gate + Sync>(
         → PageAnswers (λ text. text.items) result
         (text_of (answer_of catalog.now (query_seen query.now) (candidates_of hs))) }
 {
-    let found = find(rt, alloc, query, catalog, shards, workers, gate)?;
-    Ok(text_found(alloc, query, &found)?)
+    let found = find_first(rt, alloc, query, catalog, shards, workers, gate)?;
+    Ok(text_found(alloc, query, found.source, &found.hits)?)
 }
 
 // The text of the page of what a query found.
-fn text_found(alloc: Global, query: &Query<'_>, found: &Found<'_>) -> Result<Vec<u8>, NoMemory>
+fn text_found(
+    alloc: Global,
+    query: &Query<'_>,
+    source: Source<'_>,
+    hits: &[Hit<'_>],
+) -> Result<Vec<u8>, NoMemory>
     ensures { IfOk result (λ text. (cs : List Candidate)
-        → LendEach (columns_of (source_seen found.now.source)) (drop query.now.skip found.now.hits.items) cs
-        → text.items ≡ compact (page_value (page_of (source_seen found.now.source) (query_seen query.now) cs))) }
+        → LendEach (columns_of (source_seen source.entry)) (drop query.now.skip hits.now) cs
+        → text.items ≡ compact (page_value (page_of (source_seen source.entry) (query_seen query.now) cs))) }
 {
-    let hits = after_skip(&found.hits, query.skip);
-    let bookmark = last_bookmark(alloc, query, found.source, hits)?;
+    let hits = after_skip(hits, query.skip);
+    let bookmark = last_bookmark(alloc, query, source, hits)?;
     text_with(alloc, query, &bookmark, hits)
 }
 

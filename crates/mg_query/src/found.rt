@@ -1,16 +1,15 @@
 // What a query finds for its page: the first hits of all shards together.
-ghost use Rattle.std.specs.Prelude.{◌≡◌, ◌+◌, All, IfOk, drop, length, map, option_map};
+ghost use Rattle.std.specs.Prelude.{◌≡◌, ◌+◌, ◌<◌, ◌≤◌, All, IfOk, drop, length, map, option_map};
 ghost use Rattle.std.specs.List.{AllZip};
 ghost use Rattle.mg_collate.specs.Row.{row_view};
-ghost use Rattle.mg_normal.specs.Normal.{IsNormalOf};
 ghost use Rattle.mg_shard.specs.Shard.{shards_seen};
 ghost use Rattle.mg_scan.specs.Hit.{AreHitsOf, hit_rows};
-ghost use Rattle.mg_selector.specs.View.{selector_of};
 ghost use Rattle.mg_shard.specs.Dealt.{Placing, ShardsStandFor};
 ghost use Rattle.mg_shard.specs.Histories.{Histories};
+ghost use Rattle.mg_query.specs.Asked.{AreFirst, IsAskedBy, rows_asked_of};
 ghost use Rattle.mg_query.specs.Page.{candidates_of, columns_of, page_rows, served_by as served_of};
 ghost use Rattle.mg_query.specs.Paged.{IsWithin, counts_handed};
-ghost use Rattle.mg_query.specs.Lent.{LendEach, row_at, shard_rows};
+ghost use Rattle.mg_query.specs.Lent.{LendEach, row_at};
 ghost use Rattle.mg_query.specs.Seen.{query_seen};
 ghost use Rattle.mg_query.specs.Served.{PageAnswers, AreWhole, IsListed, source_seen};
 
@@ -23,7 +22,7 @@ use mg_merge::{Work, merge_all};
 use mg_normal::Normal;
 use mg_range::KeyRange;
 use mg_range::laws::ranges_are_complete;
-use mg_scan::{Gate, Hit, Workers, scan_lent};
+use mg_scan::{Gate, Hit, Workers, pull_lent, scan_lent};
 use mg_shard::Shard;
 use mg_value::{NoMemory, copy_items};
 use std::alloc::Global;
@@ -39,16 +38,35 @@ pub(crate) struct Found<'a> {
     pub(crate) work: Work,
 }
 
-// What the query finds, over the indexes of the catalog, which each shard has.
+// The index that serves a query, and the hits that its page passes over and has, lent by the shards.
+#[derive(Drop)]
+pub(crate) struct FirstHits<'a> {
+    pub(crate) source: Source<'a>,
+    pub(crate) hits: Vec<Hit<'a>>,
+}
+
+// What a query asks of each shard: the index that serves it, its selector in normal form, the range of keys in which it
+// looks, and the row after which its page begins.
+#[derive(Drop)]
+pub(crate) struct Asked<'a> {
+    pub(crate) source: Source<'a>,
+    pub(crate) normal: Normal,
+    pub(crate) range: KeyRange,
+    pub(crate) after: Option<Row>,
+}
+
+// What the query finds, over the indexes of the catalog, which each shard has: each shard hands over as many hits as a page
+// looks at.
 pub(crate) fn find<'a, R: Threads + Sync, G: Gate + Sync>(
     rt: &R,
     alloc: Global,
     query: &Query<'_>,
     catalog: &'a Catalog,
     shards: &'a [Arc<Shard>],
-    workers: Workers,
+    workers: usize,
     gate: &G,
 ) -> Result<Found<'a>, PageError>
+    requires workers { (0 < workers) × (workers ≤ 32) }
     requires indexes { All (λ s. s.definitions ≡ catalog.now) (shards_seen shards.now) }
     ensures source { PageAnswers (λ f. source_seen f.source) result
         (served_of catalog.now (query_seen query.now)) }
@@ -64,11 +82,64 @@ pub(crate) fn find<'a, R: Threads + Sync, G: Gate + Sync>(
         place (length shards.now) hs) }
 {
     ranges_are_complete();
+    let asked = asked_of(alloc, query, catalog)?;
+    let (hits, work) = gathered(rt, alloc, query, &asked, shards, workers, gate)?;
+    Ok(Found {
+        source: asked.source,
+        hits,
+        work,
+    })
+}
+
+// The first hits of the query, over the indexes of the catalog, which each shard has. Where the workers are a most, and a
+// second thread is not worth its cost, or there is none, they are looked for on the caller's thread, as the merge asks for them.
+pub(crate) fn find_first<'a, R: Threads + Sync, G: Gate + Sync>(
+    rt: &R,
+    alloc: Global,
+    query: &Query<'_>,
+    catalog: &'a Catalog,
+    shards: &'a [Arc<Shard>],
+    workers: Workers,
+    gate: &G,
+) -> Result<FirstHits<'a>, PageError>
+    requires indexes { All (λ s. s.definitions ≡ catalog.now) (shards_seen shards.now) }
+    ensures source { PageAnswers (λ f. source_seen f.source) result
+        (served_of catalog.now (query_seen query.now)) }
+    ensures hits { IfOk result (λ f. (place : Placing) (hs : Histories)
+        → ShardsStandFor place (shards_seen shards.now) hs → AreWhole (candidates_of hs)
+        → LendEach (columns_of (source_seen f.source)) (drop query.now.skip f.hits.items)
+        (page_rows (columns_of (source_seen f.source)) (query_seen query.now) (candidates_of hs))) }
+{
+    ranges_are_complete();
+    let asked = asked_of(alloc, query, catalog)?;
+    let hits = first_of(rt, alloc, query, &asked, shards, workers, gate)?;
+    Ok(FirstHits {
+        source: asked.source,
+        hits,
+    })
+}
+
+// What the query asks, over the indexes of the catalog.
+fn asked_of<'a>(
+    alloc: Global,
+    query: &Query<'_>,
+    catalog: &'a Catalog,
+) -> Result<Asked<'a>, PageError>
+    ensures answers { PageAnswers (λ a. source_seen a.source) result
+        (served_of catalog.now (query_seen query.now)) }
+    ensures listed { IfOk result (λ a. IsListed catalog.now (source_seen a.source)) }
+    ensures asked { IfOk result (λ a. IsAskedBy (query_seen query.now) a) }
+{
     let normal = Normal::of(alloc, &query.selector)?;
     let source = served_by(query, &normal, catalog)?;
-    let lists = lists_of(rt, alloc, query, source, &normal, shards, workers, gate)?;
-    let (hits, work) = merge_all(alloc, &lists, query.sort.direction, row_count(query))?;
-    Ok(Found { source, hits, work })
+    let range = source.range(alloc, &normal)?;
+    let after = after_row(alloc, query)?;
+    Ok(Asked {
+        source,
+        normal,
+        range,
+        after,
+    })
 }
 
 // How many rows a page passes over and has at most.
@@ -78,36 +149,105 @@ fn row_count(query: &Query<'_>) -> usize
     query.skip as usize + query.limit as usize
 }
 
+// The first hits of all shards together, as many as a page looks at.
+fn first_of<'a, R: Threads + Sync, G: Gate + Sync>(
+    rt: &R,
+    alloc: Global,
+    query: &Query<'_>,
+    asked: &Asked<'_>,
+    shards: &'a [Arc<Shard>],
+    workers: Workers,
+    gate: &G,
+) -> Result<Vec<Hit<'a>>, NoMemory>
+    requires asked { IsAskedBy (query_seen query.now) asked.now }
+    requires indexes { All (λ s. IsListed s.definitions (source_seen asked.now.source)) (shards_seen shards.now) }
+    ensures { IfOk result
+        (λ hits. AreFirst (query_seen query.now) asked.now (shards_seen shards.now) hits.items) }
+{
+    let is_one = workers.count() < 2 || shards.len() < 2;
+    if workers.is_alone(is_one || is_small(query, &asked.range)) {
+        return pulled(alloc, query, asked, shards);
+    }
+    let (hits, _) = gathered(rt, alloc, query, asked, shards, workers.count(), gate)?;
+    Ok(hits)
+}
+
+// The same, as the merge asks for them.
+fn pulled<'a>(
+    alloc: Global,
+    query: &Query<'_>,
+    asked: &Asked<'_>,
+    shards: &'a [Arc<Shard>],
+) -> Result<Vec<Hit<'a>>, NoMemory>
+    requires asked { IsAskedBy (query_seen query.now) asked.now }
+    requires indexes { All (λ s. IsListed s.definitions (source_seen asked.now.source)) (shards_seen shards.now) }
+    ensures { IfOk result
+        (λ hits. AreFirst (query_seen query.now) asked.now (shards_seen shards.now) hits.items) }
+{
+    let (hits, _) = pull_lent(
+        alloc,
+        shards,
+        asked.source.target(),
+        &asked.normal,
+        &asked.range,
+        asked.after.as_ref(),
+        row_count(query),
+        query.sort.direction,
+    )?;
+    Ok(hits)
+}
+
+// The same out of what each shard hands over, and how many these are.
+fn gathered<'a, R: Threads + Sync, G: Gate + Sync>(
+    rt: &R,
+    alloc: Global,
+    query: &Query<'_>,
+    asked: &Asked<'_>,
+    shards: &'a [Arc<Shard>],
+    workers: usize,
+    gate: &G,
+) -> Result<(Vec<Hit<'a>>, Work), NoMemory>
+    requires workers { (0 < workers) × (workers ≤ 32) }
+    requires asked { IsAskedBy (query_seen query.now) asked.now }
+    requires indexes { All (λ s. IsListed s.definitions (source_seen asked.now.source)) (shards_seen shards.now) }
+    ensures hits { IfOk result
+        (λ made. AreFirst (query_seen query.now) asked.now (shards_seen shards.now) made.0.items) }
+    ensures work { IfOk result
+        (λ made. IsWithin (length shards.now) (query.now.skip + query.now.limit) made.1) }
+    ensures handed { IfOk result (λ made. made.1.handed
+        ≡ map (λ s. length (rows_asked_of (query_seen query.now) asked.now s)) (shards_seen shards.now)) }
+{
+    let lists = lists_of(rt, alloc, query, asked, shards, workers, gate)?;
+    let (hits, work) = merge_all(alloc, &lists, query.sort.direction, row_count(query))?;
+    Ok((hits, work))
+}
+
 // The first hits in each shard, as many as a page looks at.
 fn lists_of<'a, R: Threads + Sync, G: Gate + Sync>(
     rt: &R,
     alloc: Global,
     query: &Query<'_>,
-    source: Source<'_>,
-    normal: &Normal,
+    asked: &Asked<'_>,
     shards: &'a [Arc<Shard>],
-    workers: Workers,
+    workers: usize,
     gate: &G,
 ) -> Result<Vec<Vec<Hit<'a>>>, NoMemory>
-    requires normal { IsNormalOf (selector_of query.now.selector) normal.now }
-    requires indexes { All (λ s. IsListed s.definitions (source_seen source)) (shards_seen shards.now) }
+    requires workers { (0 < workers) × (workers ≤ 32) }
+    requires asked { IsAskedBy (query_seen query.now) asked.now }
+    requires indexes { All (λ s. IsListed s.definitions (source_seen asked.now.source)) (shards_seen shards.now) }
     ensures rows { IfOk result (λ lists. map (λ hits. hit_rows hits.items) lists.items
-        ≡ map (shard_rows normal.now (columns_of (source_seen source.entry)) (query_seen query.now))
-        (shards_seen shards.now)) }
+        ≡ map (rows_asked_of (query_seen query.now) asked.now) (shards_seen shards.now)) }
     ensures hits { IfOk result
         (λ lists. AllZip (λ s hits. AreHitsOf s.documents hits.items) (shards_seen shards.now) lists.items) }
 {
-    let range = source.range(alloc, normal)?;
-    let after = after_row(alloc, query)?;
-    let workers = workers.needed(is_small(query, &range));
     scan_lent(
         rt,
         alloc,
         shards,
-        source.target(),
-        normal,
-        &range,
-        after.as_ref(),
+        asked.source.target(),
+        &asked.normal,
+        &asked.range,
+        asked.after.as_ref(),
         row_count(query),
         query.sort.direction,
         workers,

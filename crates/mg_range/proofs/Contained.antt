@@ -98,9 +98,9 @@ find_at : {X : Type 0} (x : X) (more : Bool) (o : Option X) → more ≡ is_some
 find_at x more o e true = refl
 find_at x more o e false = e
 
-is_some-find : {X : Type 0} (p : X → Bool) (xs : List X) → list_any p xs ≡ is_some (find p xs)
-is_some-find p [] = refl
-is_some-find p (x ∷ xs) = find_at x (list_any p xs) (find p xs) (is_some-find p xs) (p x)
+pub some_found : {X : Type 0} (p : X → Bool) (xs : List X) → list_any p xs ≡ is_some (find p xs)
+some_found p [] = refl
+some_found p (x ∷ xs) = find_at x (list_any p xs) (find p xs) (some_found p xs) (p x)
 
 -- it passes, and all that pass a test of each element pass it there
 abbrev Found : {X : Type 0} → (X → Bool) → List X → X → Type 0
@@ -161,4 +161,4 @@ contained atoms (c ∷ cs) [] h = absurd (omega arith)
 contained atoms (c ∷ cs) (v ∷ vs) h =
     let bounds = bounds_on atoms c in
     at_column bounds (find is_exact bounds) refl (range_of atoms cs) v vs
-    ∙ ap₂ (λ f r. meets_all v bounds && cond f r true) (sym (is_some-find is_exact bounds)) (contained atoms cs vs (omega arith))
+    ∙ ap₂ (λ f r. meets_all v bounds && cond f r true) (sym (some_found is_exact bounds)) (contained atoms cs vs (omega arith))

@@ -1,4 +1,6 @@
 pub mod Limits
 pub mod Contained
 pub mod Together
+pub mod Bounded
 pub mod Complete
+pub mod Deciding

@@ -32,7 +32,7 @@ and_assoc : (a b c : Bool) → ((a && b) && c) ≡ (a && (b && c))
 and_assoc true b c = refl
 and_assoc false b c = refl
 
-four : (a d s t : Bool) → ((a && d) && (s && t)) ≡ ((a && s) && (d && t))
+pub four : (a d s t : Bool) → ((a && d) && (s && t)) ≡ ((a && s) && (d && t))
 four true true s t = refl
 four true false s t = and_false s
 four false d s t = refl

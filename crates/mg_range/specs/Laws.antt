@@ -1,5 +1,5 @@
 -- What key ranges are for: a search of a usable index within the range loses no document that the query finds.
-use Rattle.std.specs.Prelude.{◌≡◌, ◌≤◌, ℕ, List, true, Some, IsSome}
+use Rattle.std.specs.Prelude.{◌≡◌, ◌≤◌, ◌&&◌, ℕ, List, false, true, Some, IsSome, is_some}
 use Rattle.std.specs.List.{All}
 use Rattle.std.specs.Ordering.{is_le}
 use Rattle.mg_value.specs.Value.{Value}
@@ -10,12 +10,14 @@ use Rattle.mg_path.specs.Part.{part_of}
 use Rattle.mg_selector.specs.Meaning.{holds_in}
 use Rattle.mg_selector.specs.Selector.{Selector}
 use Rattle.mg_selector.specs.declared.sense.Sense.TheVariants.{Plain}
-use Rattle.mg_normal.specs.Atoms.{atoms_of}
+use Rattle.mg_normal.specs.Atoms.{Atom, atoms_of}
+use Rattle.mg_normal.specs.Normal.{NormalForm, IsNormalOf, all_hold, normal_atoms, normal_holds}
 use Rattle.mg_index.specs.Choice.{is_usable, id_path, rev_path}
 use Rattle.mg_index.specs.Definition.{Steps}
 use Rattle.mg_index.specs.Reading.{each_of}
-use Rattle.mg_range.specs.Place.{place_of, place_rank}
-use Rattle.mg_range.specs.Range.{Range, in_range}
+use Rattle.mg_range.specs.Decided.{decides_of, undecided}
+use Rattle.mg_range.specs.Place.{has_key, place_of, place_rank}
+use Rattle.mg_range.specs.Range.{Range, in_range, range_of}
 
 -- the document has the part at the path
 abbrev pub Has : Value → Steps → Type 0
@@ -43,3 +45,22 @@ abbrev pub RowsStandTogether : Type 0
 RowsStandTogether =
     (range : Range) (a b : List Value) (i j : List ℕ) → is_le (row_value_order (items_of a, i) (items_of b, j)) ≡ true
     → place_rank (place_of range a) ≤ place_rank (place_of range b)
+
+-- of a document that has a key at the columns, the atoms hold exactly where their range has the key and those hold that it does not decide
+abbrev pub RangeDecidesAtoms : Type 0
+RangeDecidesAtoms =
+    (atoms : List Atom) (columns : List Steps) (v : Value) (key : List Value) → HasKey columns v key
+    → all_hold (Some v) atoms ≡ (has_key (range_of atoms columns) key && all_hold (Some v) (undecided atoms columns))
+
+-- so where it decides each atom, and a normal form asks nothing besides atoms, the form holds exactly where it has the key
+abbrev pub RangeDecidesForm : Type 0
+RangeDecidesForm =
+    (n : NormalForm) (columns : List Steps) (v : Value) (key : List Value) → is_some n.rest ≡ false → decides_of (normal_atoms n) columns ≡ true
+    → HasKey columns v key → normal_holds n (Some v) ≡ has_key (range_of (normal_atoms n) columns) key
+
+-- and so does a selector whose normal form it is
+abbrev pub RangeDecides : Type 0
+RangeDecides =
+    (s : Selector) (n : NormalForm) (columns : List Steps) (v : Value) (key : List Value) → IsNormalOf s n
+    → is_some n.rest ≡ false → decides_of (normal_atoms n) columns ≡ true → HasKey columns v key
+    → holds_in s Plain (Some v) ≡ has_key (range_of (normal_atoms n) columns) key

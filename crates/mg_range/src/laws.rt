@@ -1,5 +1,5 @@
 //! What key ranges are for, each law the contract of a function that does nothing.
-ghost use Rattle.mg_range.specs.Laws.{RangesAreComplete, RangesStandTogether, RowsStandTogether};
+ghost use Rattle.mg_range.specs.Laws.{RangeDecides, RangeDecidesAtoms, RangeDecidesForm, RangesAreComplete, RangesStandTogether, RowsStandTogether};
 
 use mg_normal::laws::atoms_are_necessary;
 
@@ -17,4 +17,13 @@ pub fn ranges_are_complete()
 pub fn ranges_stand_together()
     ensures keys { RangesStandTogether }
     ensures rows { RowsStandTogether }
+{}
+
+/// Of a document that has a key at the columns, the atoms of a selector hold exactly where the range has the key and those of them
+/// hold that it does not decide. So where it decides them all and the selector asks nothing besides, the selector holds exactly
+/// where the range has the key, and no document has to be looked at.
+pub fn range_decides()
+    ensures atoms { RangeDecidesAtoms }
+    ensures form { RangeDecidesForm }
+    ensures selector { RangeDecides }
 {}

@@ -1,6 +1,7 @@
 //! Key ranges: which keys of an index a query looks at, and where a key stands to a range.
 #![tactic(auto)]
 
+mod decided;
 mod edge;
 pub mod laws;
 mod listed;
@@ -9,5 +10,6 @@ mod range;
 mod span;
 mod text;
 
+pub use decided::{decides, is_decided};
 pub use place::Place;
 pub use range::KeyRange;

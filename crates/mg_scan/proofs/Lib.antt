@@ -4,6 +4,7 @@ pub mod Entries
 pub mod Maps
 pub mod Found
 pub mod Steps
+pub mod Sources
 pub mod Builds
 pub mod Values
 pub mod Crossing

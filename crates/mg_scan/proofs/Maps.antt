@@ -59,11 +59,11 @@ slots-snoc search shards slots h i w e = h i w (snoc_none slots i w e)
 
 -- ---- lists beside the shards
 
-length-seen : (shards : List (Arc ShardView Global)) → length (shards_seen shards) ≡ length shards
+pub length-seen : (shards : List (Arc ShardView Global)) → length (shards_seen shards) ≡ length shards
 length-seen [] = refl
 length-seen (s ∷ shards) = ap (λ n. suc n) (length-seen shards)
 
-zip_more : {A B : Type 0} (R : A → B → Type 0) (xs : List A) (ys : List B) (i : ℕ) (y : B) → i < length xs → AllZip R (take i xs) ys → ((x : A) → slice_get xs i ≡ Some x → R x y)
+pub zip_more : {A B : Type 0} (R : A → B → Type 0) (xs : List A) (ys : List B) (i : ℕ) (y : B) → i < length xs → AllZip R (take i xs) ys → ((x : A) → slice_get xs i ≡ Some x → R x y)
     → AllZip R (take (suc i) xs) (ys ++ y ∷ [])
 zip_more R [] ys i y less h here = absurd (omega arith)
 zip_more R (x ∷ xs) [] zero y less h here = (here x refl, tt)

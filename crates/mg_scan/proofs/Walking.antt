@@ -18,8 +18,8 @@ use Rattle.mg_range.specs.Place.{is_place_within}
 use Rattle.mg_range.specs.Range.{Range}
 use Rattle.mg_range.specs.declared.place.Place.{Place}
 use Rattle.mg_range.specs.declared.place.Place.TheVariants.{Before, Within, Past}
-use Rattle.mg_scan.specs.Scan.{Request, comes_after, is_wanted, scanned}
-use Rattle.mg_scan.specs.Walked.{begin_order, holds_at, is_beyond, is_early, is_late, is_late_row, walked}
+use Rattle.mg_scan.specs.Scan.{Request, all_scanned, comes_after, is_wanted, scanned}
+use Rattle.mg_scan.specs.Walked.{begin_order, holds_at, is_beyond, is_early, is_late, is_late_row, walked, walked_all}
 use Rattle.mg_scan.specs.Begins.{late_rises, place_row, reached}
 use Rattle.mg_shard.specs.Documents.{KeptDocuments, docs_of, form_at}
 use Rattle.mg_shard.specs.Histories.{ServedDocument}
@@ -119,6 +119,20 @@ walked_is late holds zero rows h = refl
 walked_is late holds (suc n) [] h = refl
 walked_is late holds (suc n) (r ∷ rows) h = walk_step late holds n r rows (late r) (holds r) refl refl h.0 (walked_is late holds n rows h.1) (walked_is late holds (suc n) rows h.1)
 
+all_step : (late holds : RowValue → Bool) (r : RowValue) (rows : List RowValue) (b h : Bool) → late r ≡ b → holds r ≡ h → (late r ≡ true → AllByRecursion (λ x. late x ≡ true) rows)
+    → walked_all late holds rows ≡ filter holds (filter (λ x. not (late x)) rows)
+    → (if b then [] else if h then r ∷ walked_all late holds rows else walked_all late holds rows)
+    ≡ filter holds (cond (not b) (r ∷ filter (λ x. not (late x)) rows) (filter (λ x. not (late x)) rows))
+all_step late holds r rows true h e f last more = ap (filter holds) (sym (none_left late rows (last e)))
+all_step late holds r rows false true e f last more =
+    ap (λ xs. r ∷ xs) more ∙ ap (λ b. cond b (r ∷ filter holds (filter (λ x. not (late x)) rows)) (filter holds (filter (λ x. not (late x)) rows))) (sym f)
+all_step late holds r rows false false e f last more =
+    more ∙ ap (λ b. cond b (r ∷ filter holds (filter (λ x. not (late x)) rows)) (filter holds (filter (λ x. not (late x)) rows))) (sym f)
+
+walked_all_is : (late holds : RowValue → Bool) (rows : List RowValue) → LateLast late rows → walked_all late holds rows ≡ filter holds (filter (λ r. not (late r)) rows)
+walked_all_is late holds [] h = refl
+walked_all_is late holds (r ∷ rows) h = all_step late holds r rows (late r) (holds r) refl refl h.0 (walked_all_is late holds rows h.1)
+
 -- ---- which rows are wanted
 
 chosen : (direction : Direction) (place : Place) (b h : Bool) → ((not (is_early direction place) && b) && (not (is_late direction place) && h)) ≡ (h && (is_place_within place && b))
@@ -159,7 +173,7 @@ pushed : {X Y : Type 0} (f : X → Option Y) (b : Bool) (x : X) (xs : List X) �
 pushed f true x xs = refl
 pushed f false x xs = refl
 
-named_id : (id : List ℕ) (o : Option Items) (r : RowValue) → option_map (λ key. (key, id)) o ≡ Some r → r.1 ≡ id
+pub named_id : (id : List ℕ) (o : Option Items) (r : RowValue) → option_map (λ key. (key, id)) o ≡ Some r → r.1 ≡ id
 named_id id None r e = absurd cc
 named_id id (Some key) r e = let same : ◌≡◌ {A = RowValue} (key, id) r = cc in ap (λ (x : RowValue). x.1) (sym same)
 
@@ -175,24 +189,49 @@ asked_is columns normal ds (d ∷ docs) h =
 
 -- ---- the whole search
 
-pub found_rows : (q : Request) (ds : KeptDocuments) (rows : List RowValue) → AllByRecursion (λ d. form_at ds d.0 ≡ Some d.1) (docs_of ds)
-    → rows ≡ beyond q.direction (λ r. begin_order q.direction (place_row q.range r) (option_map (row_value_order r) q.after)) (rows_of q.columns (docs_of ds))
-    → walked (is_late_row q.direction q.range) (λ r. holds_at q.normal ds r.1) q.count rows ≡ scanned q (docs_of ds)
-found_rows q ds rows own is =
-    let direction = q.direction in
-    let unsorted = filter_map (row_of q.columns) (docs_of ds) in
-    let all = sorted_rows direction unsorted in
-    let holds : RowValue → Bool = λ r. holds_at q.normal ds r.1 in
-    let late : RowValue → Bool = is_late_row direction q.range in
-    let on_time : RowValue → Bool = λ r. not (late r) in
-    let reach : RowValue → Bool = reached direction q.range q.after in
-    let at : rows ≡ filter reach all = is ∙ begun direction q.range q.after (sorted row_value_order unsorted) ∙ ap (filter reach) (sym (sorted-directed direction unsorted)) in
-    let in_turn = rises_where (directed_order direction) reach all (rises_sorted (directed_order direction) (directed_total direction) unsorted) in
-    ap (walked late holds q.count) at ∙ walked_is late holds q.count (filter reach all) (late_last direction q.range (filter reach all) in_turn)
-    ∙ ap (take q.count)
-    (filter-both holds on_time (filter reach all) ∙ filter-both (λ r. on_time r && holds r) reach all
-    ∙ filter-same (λ r. reach r && (on_time r && holds r)) (λ r. holds r && is_wanted q r)
-    (λ r. chosen direction (place_row q.range r) (is_beyond direction (option_map (row_value_order r) q.after)) (holds r)
-    ∙ ap (λ b. holds r && (is_place_within (place_row q.range r) && b)) (beyond_is direction q.after r)) all
-    ∙ sym (filter-both (is_wanted q) holds all)
-    ∙ ap (filter (is_wanted q)) (sym (sorted_rows-where holds direction unsorted) ∙ ap (sorted_rows direction) (sym (asked_is q.columns q.normal ds (docs_of ds) own))))
+-- the rows are those of the columns, from where the search begins
+abbrev pub AreBegun : Request → KeptDocuments → List RowValue → Type 0
+AreBegun q ds rows = rows ≡ beyond q.direction (λ r. begin_order q.direction (place_row q.range r) (option_map (row_value_order r) q.after)) (rows_of q.columns (docs_of ds))
+
+module _ (q : Request) (ds : KeptDocuments) (rows : List RowValue) (own : AllByRecursion (λ d. form_at ds d.0 ≡ Some d.1) (docs_of ds)) (is : AreBegun q ds rows) where
+  abbrev direction : Direction
+  direction = q.direction
+
+  abbrev unsorted : List RowValue
+  unsorted = filter_map (row_of q.columns) (docs_of ds)
+
+  abbrev all : List RowValue
+  all = sorted_rows direction unsorted
+
+  abbrev holds : RowValue → Bool
+  holds r = holds_at q.normal ds r.1
+
+  abbrev late : RowValue → Bool
+  late = is_late_row direction q.range
+
+  abbrev on_time : RowValue → Bool
+  on_time r = not (late r)
+
+  abbrev reach : RowValue → Bool
+  reach = reached direction q.range q.after
+
+  begun_at : rows ≡ filter reach all
+  begun_at = is ∙ begun direction q.range q.after (sorted row_value_order unsorted) ∙ ap (filter reach) (sym (sorted-directed direction unsorted))
+
+  late_ones : LateLast late (filter reach all)
+  late_ones = late_last direction q.range (filter reach all) (rises_where (directed_order direction) reach all (rises_sorted (directed_order direction) (directed_total direction) unsorted))
+
+  wanted_ones : filter holds (filter on_time (filter reach all)) ≡ all_scanned q (docs_of ds)
+  wanted_ones =
+      filter-both holds on_time (filter reach all) ∙ filter-both (λ r. on_time r && holds r) reach all
+      ∙ filter-same (λ r. reach r && (on_time r && holds r)) (λ r. holds r && is_wanted q r)
+      (λ r. chosen direction (place_row q.range r) (is_beyond direction (option_map (row_value_order r) q.after)) (holds r)
+      ∙ ap (λ b. holds r && (is_place_within (place_row q.range r) && b)) (beyond_is direction q.after r)) all
+      ∙ sym (filter-both (is_wanted q) holds all)
+      ∙ ap (filter (is_wanted q)) (sym (sorted_rows-where holds direction unsorted) ∙ ap (sorted_rows direction) (sym (asked_is q.columns q.normal ds (docs_of ds) own)))
+
+  pub found_rows : walked late holds q.count rows ≡ scanned q (docs_of ds)
+  found_rows = ap (walked late holds q.count) begun_at ∙ walked_is late holds q.count (filter reach all) late_ones ∙ ap (take q.count) wanted_ones
+
+  pub all_found_rows : walked_all late holds rows ≡ all_scanned q (docs_of ds)
+  all_found_rows = ap (walked_all late holds) begun_at ∙ walked_all_is late holds (filter reach all) late_ones ∙ wanted_ones

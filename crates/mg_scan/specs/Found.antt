@@ -7,7 +7,7 @@ use Rattle.mg_index.specs.Catalog.{definition_at}
 use Rattle.mg_index.specs.Definition.{IndexDefinition, Steps}
 use Rattle.mg_normal.specs.Normal.{NormalForm}
 use Rattle.mg_range.specs.Range.{Range}
-use Rattle.mg_scan.specs.Scan.{Request, scanned}
+use Rattle.mg_scan.specs.Scan.{Request, all_scanned, scanned}
 use Rattle.mg_scan.specs.declared.target.Target.{Target}
 use Rattle.mg_scan.specs.declared.target.Target.TheVariants.{AllDocs, Index}
 use Rattle.mg_shard.specs.Documents.{docs_of}
@@ -27,3 +27,7 @@ asked normal range after count direction columns =
 -- what a scan finds in a shard, by the columns of its target; nothing where the shard has no such index
 abbrev pub found_in : Target → (List Steps → Request) → ShardView → List RowValue
 found_in target request s = option_map_or (λ columns. scanned (request columns) (docs_of s.documents)) (columns_of target s.definitions) []
+
+-- the same without a limit
+abbrev pub all_found_in : Target → (List Steps → Request) → ShardView → List RowValue
+all_found_in target request s = option_map_or (λ columns. all_scanned (request columns) (docs_of s.documents)) (columns_of target s.definitions) []

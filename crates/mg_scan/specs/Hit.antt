@@ -1,5 +1,5 @@
 -- Hits: rows that a scan found, each with its document.
-use Rattle.std.specs.Prelude.{◌≡◌, ℕ, List, Some, map}
+use Rattle.std.specs.Prelude.{◌≡◌, ℕ, List, Some, map, slice_get}
 use Rattle.std.specs.FinMap.{get}
 use Rattle.std.specs.List.{AllByRecursion}
 use Rattle.std.specs.declared.cmp.Ordering.{Ordering}
@@ -12,6 +12,7 @@ use Rattle.mg_value.specs.Value.{Value}
 use Rattle.mg_value.specs.View.{items_view, view}
 use Rattle.mg_scan.specs.declared.hit.Hit.{Hit}
 use Rattle.mg_shard.specs.Documents.{KeptDocuments, form_of, id_of, kept_of}
+use Rattle.mg_shard.specs.Shard.{ShardView}
 use Rattle.mg_shard.specs.declared.document.Document.{Document}
 
 -- the row of a hit: its key, and the id of its document
@@ -43,6 +44,17 @@ pub record IsHitOf (ds : KeptDocuments) (h : Hit) : Type 0 where
 -- each is such a hit
 abbrev pub AreHitsOf : KeptDocuments → List Hit → Type 0
 AreHitsOf ds hits = AllByRecursion (IsHitOf ds) hits
+
+-- the hit is one of a document of one of the shards
+pub record IsHitIn (shards : List ShardView) (h : Hit) : Type 0 where
+  pub place : ℕ
+  pub shard : ShardView
+  pub there : slice_get shards place ≡ Some shard
+  pub hit : IsHitOf shard.documents h
+
+-- each is such a hit
+abbrev pub AreHitsIn : List ShardView → List Hit → Type 0
+AreHitsIn shards hits = AllByRecursion (IsHitIn shards) hits
 
 -- the order of hits is that of their rows: by key, and at one key by the bytes of the id
 abbrev pub hit_order : Hit → Hit → Ordering

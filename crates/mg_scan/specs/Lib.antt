@@ -7,3 +7,4 @@ pub mod Walked
 pub mod Search
 pub mod Worked
 pub mod Begins
+pub mod Sourced

@@ -36,6 +36,10 @@ is_wanted q r = has_key q.range (item_list r.0) && comes_after q.direction q.aft
 abbrev pub asked_documents : Request → List ServedDocument → List ServedDocument
 asked_documents q ds = filter (λ d. normal_holds q.normal (Some d.1)) ds
 
--- what a scan of a shard with these documents finds
+-- what there is of it in a shard with these documents, however much
+abbrev pub all_scanned : Request → List ServedDocument → List RowValue
+all_scanned q ds = filter (is_wanted q) (sorted_rows q.direction (filter_map (row_of q.columns) (asked_documents q ds)))
+
+-- what a scan of the shard finds
 abbrev pub scanned : Request → List ServedDocument → List RowValue
-scanned q ds = take q.count (filter (is_wanted q) (sorted_rows q.direction (filter_map (row_of q.columns) (asked_documents q ds))))
+scanned q ds = take q.count (all_scanned q ds)

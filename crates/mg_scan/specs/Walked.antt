@@ -56,6 +56,11 @@ walked late holds zero rows = []
 walked late holds (suc n) [] = []
 walked late holds (suc n) (r ∷ rows) = if late r then [] else if holds r then r ∷ walked late holds n rows else walked late holds (suc n) rows
 
+-- the same without a limit
+abbrev pub walked_all : (RowValue → Bool) → (RowValue → Bool) → List RowValue → List RowValue
+walked_all late holds [] = []
+walked_all late holds (r ∷ rows) = if late r then [] else if holds r then r ∷ walked_all late holds rows else walked_all late holds rows
+
 -- the row of an id among all documents
 abbrev pub id_row : List ℕ → RowValue
 id_row id = (item (text id) no_items, id)

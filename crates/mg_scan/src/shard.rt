@@ -27,7 +27,11 @@ use mg_value::{Json, NoMemory};
 use std::alloc::Global;
 
 // The hit of a document at a key, if it is served and the selector holds of it.
-fn hit_of<'a>(key: &'a [Json], document: &'a Document, normal: &Normal) -> Option<Hit<'a>>
+pub(crate) fn hit_of<'a>(
+    key: &'a [Json],
+    document: &'a Document,
+    normal: &Normal,
+) -> Option<Hit<'a>>
     ensures row { option_map hit_row result
         ≡ if option_map_or (λ form. normal_holds normal.now (Some form)) (form_of document.now) false then Some (items_view key.now, id_of document.now) else None }
     ensures lent { (ds : KeptDocuments) → get ds (id_of document.now) ≡ Some (kept_of document.now) → IfSome result (IsHitOf ds) }
@@ -46,7 +50,7 @@ fn hit_of<'a>(key: &'a [Json], document: &'a Document, normal: &Normal) -> Optio
 }
 
 // The hit of a row, if the selector holds of its document.
-fn hit_at<'a>(shard: &'a Shard, row: &'a Row, normal: &Normal) -> Option<Hit<'a>>
+pub(crate) fn hit_at<'a>(shard: &'a Shard, row: &'a Row, normal: &Normal) -> Option<Hit<'a>>
     ensures row { option_map hit_row result ≡ if holds_at normal.now shard.now.documents (string_bytes row.now.id) then Some (row_view row.now) else None }
     ensures lent { IfSome result (IsHitOf shard.now.documents) }
 {

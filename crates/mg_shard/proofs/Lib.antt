@@ -6,5 +6,6 @@ pub mod Redealing
 pub mod Rows
 pub mod Catalogued
 pub mod Keys
+pub mod Keyed
 pub mod Walks
 pub mod Owned

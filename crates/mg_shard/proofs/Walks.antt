@@ -1,6 +1,6 @@
 -- What comes after a place, seen through a map, and what is served of documents from the last to the first.
-use Rattle.std.proofs.Common.{◌≡◌, List, [], ◌∷◌, ◌++◌, Bool, true, false, Ordering, Option, Some, None, cond, is_gt, is_lt, map, reverse, refl, ap, sym, ◌∙◌}
-use Rattle.std.proofs.lemmas.List.{reverse-append}
+use Rattle.std.proofs.Common.{◌≡◌, List, [], ◌∷◌, ◌++◌, Bool, true, false, Ordering, Option, Some, None, cond, is_gt, is_lt, length, map, reverse, refl, ap, sym, ◌∙◌}
+use Rattle.std.proofs.lemmas.List.{length-reverse, reverse-append}
 use Rattle.std.specs.List.{cons_option, filter, filter_map}
 use Rattle.mg_collate.specs.declared.direction.Direction.{Direction}
 use Rattle.mg_collate.specs.declared.direction.Direction.TheVariants.{Asc, Desc}
@@ -31,6 +31,9 @@ module _ {A B : Type 0} (f : A → B) (against : A → Ordering) (order : B → 
   pub beyond-map : (direction : Direction) (xs : List A) → map f (beyond direction against xs) ≡ beyond direction order (map f xs)
   beyond-map Asc xs = where-map is_lt xs
   beyond-map Desc xs = reverse-map f (filter (λ x. is_gt (against x)) xs) ∙ ap reverse (where-map is_gt xs)
+
+pub reversed_length : {A : Type 0} (xs : List A) → length xs ≡ length (reverse xs)
+reversed_length xs = sym (length-reverse xs)
 
 filter_map-append : {A B : Type 0} (f : A → Option B) (xs ys : List A) → filter_map f (xs ++ ys) ≡ filter_map f xs ++ filter_map f ys
 filter_map-append f [] ys = refl

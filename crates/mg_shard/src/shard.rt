@@ -1,5 +1,5 @@
 //! A shard: documents by their ids, and the rows of indexes over them.
-ghost use Rattle.std.specs.Prelude.{◌≡◌, ℕ, List, [], Some, map, option_map, reverse, unwrap_or, IfOk, IfSome};
+ghost use Rattle.std.specs.Prelude.{◌≡◌, ℕ, List, [], Some, length, map, option_map, reverse, unwrap_or, IfOk, IfSome};
 ghost use Rattle.std.specs.FinMap as finite;
 ghost use Rattle.std.specs.FinMap.{entries, get};
 ghost use Rattle.std.specs.declared.cmp.Ordering.{Ordering};
@@ -27,7 +27,7 @@ use crate::draft::Draft;
 use crate::index::{IndexRows, pages_of, row_in, sorted_rows};
 use crate::indexes::{index_at, shared, with, without};
 use crate::reply::EditReply;
-use crate::walk::{Documents, Rows, Walk};
+use crate::walk::{Documents, Rows, Walk, count_beyond};
 use mg_collate::{Direction, Row};
 use mg_doc::Edit;
 use mg_index::IndexDef;
@@ -160,6 +160,20 @@ impl Shard {
         Walk::beyond(&self.documents, place, direction)
     }
 
+    /// How many documents, deleted ones too, `documents_beyond` gives of a place in a direction. No document is passed over one by one.
+    /// Takes no memory. Cost: one look-up, and a read of the count of each part before the place, at most 64 a level.
+    pub fn count_documents_beyond<Q: Probe<Document>>(
+        &self,
+        place: &Q,
+        direction: Direction,
+    ) -> usize
+        ensures { (order : List ℕ × Kept → Ordering) → ((d : Document) → Q.against place.now d ≡ order (kept_entry d))
+            → result ≡ length (beyond direction order (entries self.now.documents)) }
+    {
+        self.documents.ascends();
+        count_beyond(&self.documents, place, direction)
+    }
+
     /// A document that is served with an `_id` is served with its own: for proofs of callers. Does nothing.
     pub fn ids_are_own(&self)
         ensures { (id : List ℕ) (form : Value) → form_at self.now.documents id ≡ Some form → HasOwnId id form }
@@ -238,6 +252,25 @@ impl Shard {
     {
         match index_at(&self.indexes, ddoc, name) {
             Some(index) => Some(Walk::beyond(&index.rows, place, direction)),
+            None => None,
+        }
+    }
+
+    /// How many rows `rows_beyond` gives of a place in a direction, and none where there is no such index. No row is passed over one by
+    /// one. Takes no memory. Cost: each definition once, one look-up, and a read of the count of each part before the place, at most 64 a
+    /// level.
+    pub fn count_rows_beyond<Q: Probe<Row>>(
+        &self,
+        ddoc: &str,
+        name: &str,
+        place: &Q,
+        direction: Direction,
+    ) -> Option<usize>
+        ensures { (order : RowValue → Ordering) → ((r : Row) → Q.against place.now r ≡ order (row_view r))
+            → result ≡ option_map (λ rows. length (beyond direction order rows)) (rows_at ddoc.now name.now self.now) }
+    {
+        match index_at(&self.indexes, ddoc, name) {
+            Some(index) => Some(count_beyond(&index.rows, place, direction)),
             None => None,
         }
     }

@@ -67,6 +67,21 @@ impl<'a, T: Keyed> Walk<'a, T> {
     }
 }
 
+// How many come after a key in the direction.
+#[tactic(auto, using(crate::proofs::Walks::reversed_length))]
+pub(crate) fn count_beyond<T: Keyed, Q: Probe<T>>(
+    pages: &Pages<T>,
+    key: &Q,
+    direction: Direction,
+) -> usize
+    ensures { result ≡ length (beyond direction (Q.against key.now) pages.now) }
+{
+    match direction {
+        Direction::Asc => pages.count_above(key),
+        Direction::Desc => pages.count_below(key),
+    }
+}
+
 impl<'a, T: Keyed> Iterator for Walk<'a, T> {
     type Item = &'a T;
 

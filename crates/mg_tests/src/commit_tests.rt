@@ -3,6 +3,7 @@ ghost use Rattle.std.specs.Prelude.{◌≡◌, string_bytes};
 
 use mg_engine::Reply;
 use mg_live::{CloseError, Database, Ends, History, Live, Seat, Waiting};
+use mg_shard::Md5Placement;
 use mg_value::{Json, read};
 use std::alloc::Global;
 use std::marker::Brand;
@@ -48,6 +49,7 @@ fn hundred<D: Database + Send + Sync, R: Threads + Wait + Abort + Sync + Send + 
         blank,
         history,
         db.as_str(),
+        Md5Placement,
         3,
         4,
     )?;
@@ -311,6 +313,7 @@ fn two<D: Database + Send + Sync, R: Threads + Wait + Abort + Sync + Send + Drop
         blank,
         history,
         db.as_str(),
+        Md5Placement,
         1,
         2,
     )?;

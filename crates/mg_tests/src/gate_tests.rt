@@ -3,6 +3,7 @@ ghost use Rattle.std.specs.Prelude.{◌≡◌, string_bytes};
 
 use mg_live::{Database, Ends, History, Live, Seat, Waiting};
 use mg_scan::{Gate, Place};
+use mg_shard::Md5Placement;
 use mg_value::read;
 use std::alloc::Global;
 use std::marker::Brand;
@@ -185,6 +186,7 @@ fn write_during_query<
         blank,
         history,
         db.as_str(),
+        Md5Placement,
         1,
         2,
     )?;

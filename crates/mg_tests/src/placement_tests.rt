@@ -13,7 +13,7 @@ use std::test::Fail;
 use std::thread::Threads;
 
 #[derive(Clone, Copy, Drop)]
-struct ByNumber;
+pub(crate) struct ByNumber;
 
 // The digit after an id's first character.
 fn number_of(id: &str) -> usize

@@ -1,6 +1,7 @@
 ghost use Rattle.std.specs.Prelude.{◌≡◌, string_bytes};
 
 use crate::engine_tests::{DOCUMENTS, IDS, PAGE};
+use crate::placement_tests::ByNumber;
 use crate::scan_tests::BothBegin;
 use mg_live::{Database, Ends, History, Live, Seat, Waiting};
 use mg_value::read;
@@ -16,7 +17,7 @@ use std::thread::Threads;
 fn is_written<D: Database, C: Ends, R: Wait + Threads + Sync>(
     rt: &R,
     alloc: Global,
-    seat: &mut Seat<D, C>,
+    seat: &mut Seat<D, C, ByNumber>,
 ) -> Result<bool, Fail> {
     let bulk = read(alloc, DOCUMENTS.as_bytes())?;
     Ok(seat.bulk(rt, &bulk, 1).status() == 201)
@@ -26,7 +27,7 @@ fn is_written<D: Database, C: Ends, R: Wait + Threads + Sync>(
 fn is_found<D: Database, C: Ends, R: Threads + Sync>(
     rt: &R,
     alloc: Global,
-    seat: &mut Seat<D, C>,
+    seat: &mut Seat<D, C, ByNumber>,
     gate: &BothBegin,
 ) -> Result<bool, Fail> {
     let query = read(alloc, IDS.as_bytes())?;
@@ -48,12 +49,13 @@ fn begun<D: Database + Send + Sync, R: Threads + Wait + Abort + Sync + Send + Dr
     requires opened { 2 ≡ D.shards }
 {
     let ends = Waiting(rt);
-    let (_live, mut seats) = Live::<D, Waiting<R>>::open(
+    let (_live, mut seats) = Live::<D, Waiting<R>, ByNumber>::open(
         ends,
         alloc,
         blank,
         history,
         db.as_str(),
+        ByNumber,
         2,
         1,
     )?;

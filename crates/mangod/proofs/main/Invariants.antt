@@ -1,13 +1,14 @@
-use Rattle.std.proofs.Common.{map, string_bytes}
-use Rattle.mangod.specs.Arguments.{name_in, settings_of, shards_in}
+use Rattle.std.proofs.Common.{option_map}
+use Rattle.mangod.specs.Arguments.{name_in, shards_in}
+use Rattle.mangod.specs.View.{settings_seen}
 use Rattle.mangod.proofs.main.Given as goal
 
--- the database that the words name
+-- the database that was asked for
 abbrev pub ghosts-run-D-Database : goal.ghosts-run-D-Database
 ghosts-run-D-Database g a = record {
   history = a.history;
-  db = name_in (settings_of (map (λ w. string_bytes w) a.words.now));
-  shards = shards_in (settings_of (map (λ w. string_bytes w) a.words.now));
+  db = name_in (option_map settings_seen a.asked);
+  shards = shards_in (option_map settings_seen a.asked);
 }
 
 abbrev pub ghosts-run-D-Ledger : goal.ghosts-run-D-Ledger

@@ -8,4 +8,4 @@ pub returns : goal.returns
 returns g c =
     let held = c.session-end in
     let talk = held.ensures.talk in
-    (record { bytes = talk.0; written = talk.1; end = held.result } ∷ [], (held.new.service, talk.4, refl))
+    (record { bytes = talk.bytes; written = talk.written; end = held.result } ∷ [], (held.new.service, talk.talk, refl))

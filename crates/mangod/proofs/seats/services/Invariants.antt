@@ -1,6 +1,10 @@
-use Rattle.std.proofs.Common.{◌≡◌, map}
+use Rattle.std.proofs.Common.{◌≡◌, length, map}
 use Rattle.mangod.proofs.seats.services.Given as goal
 
--- the services so far are those of the seats so far
+-- the services so far are those of the seats so far, with the workers that were asked for
 abbrev pub invariant-loop-seat : goal.invariant-loop-seat
-invariant-loop-seat g l = map (λ service. service.seat) l.services.items ≡ l.yielded
+invariant-loop-seat g l = record {
+  count : length l.services.items ≡ length l.yielded;
+  seats : map (λ service. service.seat) l.services.items ≡ l.yielded;
+  workers : map (λ service. service.workers) l.services.items ≡ map (λ _. l.settings.workers) l.yielded;
+}

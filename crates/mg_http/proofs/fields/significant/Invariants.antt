@@ -1,5 +1,5 @@
 use Rattle.std.proofs.Common.{◌≡◌, length}
-use Rattle.mg_http.specs.Fields.{significant}
+use Rattle.mg_http.specs.Significant.{significant}
 use Rattle.mg_http.proofs.fields.significant.Given as goal
 
 abbrev pub invariant-loop-text : goal.invariant-loop-text

@@ -1,26 +1,47 @@
-use Rattle.std.proofs.Common.{[], inl, inr, sym, refl, rules, arith, false}
+use Rattle.std.proofs.Common.{[], length, inl, inr, ap, sym, refl, rules, arith, false, length-append}
 use Rattle.std.proofs.KnownBytes.{Consumes-nil, Appends-nil}
 use Rattle.std.proofs.lemmas.Grind.{common_steps}
-use Rattle.mg_http.proofs.SessionLemmas.{refuses_now, run_ends, run_goes_on}
+use Rattle.mg_http.specs.Inbox.{unanswered}
+use Rattle.mg_http.proofs.SessionLemmas.{refuses_now, refused_text, run_ends, run_goes_on, at_limit}
+use Rattle.mg_http.proofs.TranscriptLemmas.{holds}
 use Rattle.mg_http.proofs.sessions.session.Goals as goal
 
 pub returns-in-Err-clause-talk : goal.returns-in-Err-clause-talk
 returns-in-Err-clause-talk g c =
-    refuses_now g.S.Service.answers c.args.db.now _ _ _ _ [] _ c.write_reply.result _ (inr (false, inl (refl, refl), refl)) c.write_reply.ensures.bytes c.refused.ensures
+    let done = refuses_now g.S.Service.answers c.args.db.now _ _ _ _ [] _ c.write_reply.result _ (inr (false, inl (refl, refl), refl)) c.write_reply.ensures.bytes c.refused.ensures in
+    holds g.S.Service.answers c.args.db.now _ _ _ _ _ done.0 done.1 done.2 done.3 done.4 (refused_text c.write_reply.result _ done.0 c.refused.ensures)
 
 pub returns-in-Err-turn-clause-talk : goal.returns-in-Err-turn-clause-talk
-returns-in-Err-turn-clause-talk g c = run_ends g.S.Service.answers c.args.db.now _ _ _ _ _ _ _ _ _ _ c.loop-end.invariant.run _ c.in-Err-turn.ensures.bytes
+returns-in-Err-turn-clause-talk g c =
+    let run = c.loop-end.invariant.run in
+    let turn = c.in-Err-turn.ensures.bytes in
+    let done = run_ends g.S.Service.answers c.args.db.now _ _ _ _ _ _ _ _ _ _ (run.0, run.1, run.2, run.3, run.4) _ (turn.0, turn.1, turn.2, turn.3, turn.4) in
+    let limit = at_limit _ run.0 turn.0 (unanswered c.loop-end.inbox) c.loop-end.inbox.requests c.loop-end.inbox.reads run.5 run.6 turn.5 in
+    holds g.S.Service.answers c.args.db.now _ _ _ _ _ done.0 done.1 done.2 done.3 done.4 limit
 
 pub loop-end-init : goal.loop-end-init
 loop-end-init g c = record {
-  run = ([], [], Consumes-nil _, Appends-nil _, ([], (sym c.in-Ok.ensures, refl, refl)));
+  run = (
+    [],
+    [],
+    Consumes-nil _,
+    Appends-nil _,
+    ([], (sym c.in-Ok.ensures.held, refl, refl)),
+    omega (arith, c.in-Ok.ensures.counts.0, ap length c.in-Ok.ensures.held),
+    omega (arith, c.in-Ok.ensures.counts.1),
+  );
   reading = c.requires.reading;
   writing = c.requires.writing;
 }
 
 pub loop-end-preserved : goal.loop-end-preserved
-loop-end-preserved g c = record {
-  run = run_goes_on g.S.Service.answers c.args.db.now _ _ _ _ _ _ _ _ _ _ c.loop-end.invariant.run _ c.in-Ok-turn.ensures.bytes;
-  reading = grind (arith, common_steps);
-  writing = search rules;
-}
+loop-end-preserved g c =
+    let run = c.loop-end.invariant.run in
+    let turn = c.in-Ok-turn.ensures.bytes in
+    let done = run_goes_on g.S.Service.answers c.args.db.now _ _ _ _ _ _ _ _ _ _ (run.0, run.1, run.2, run.3, run.4) _ (turn.0, turn.1, turn.2, turn.3, turn.4) in
+    let both = length-append run.0 turn.0 in
+    record {
+      run = (done.0, done.1, done.2, done.3, done.4, omega (arith, run.5, turn.5.0, both), omega (arith, run.6, turn.5.1, both));
+      reading = grind (arith, common_steps);
+      writing = search rules;
+    }

@@ -1,4 +1,4 @@
-use Rattle.std.proofs.Common.{◌≡◌, ℕ, List, false}
+use Rattle.std.proofs.Common.{◌≡◌, ℕ, ◌+◌, ◌≤◌, List, length, false}
 use Rattle.std.specs.Io.KnownBytes.{Appends, Consumes}
 use Rattle.mg_http.specs.Device.{inner_of, has_failed}
 use Rattle.mg_http.specs.Inbox.{unanswered, turns_left}
@@ -10,7 +10,8 @@ invariant-loop-end g l = record {
   run : (bytes : List ℕ) × (written : List ℕ)
       × Consumes (g.R.Read.remaining (inner_of l.fn.reader)) (g.R.Read.remaining (inner_of l.reader)) bytes
       × Appends (g.W.Write.contents (inner_of l.fn.writer)) (g.W.Write.contents (inner_of l.writer)) written
-      × ((calls : List Call) × Serves g.S.Service.answers l.fn.db l.fn.service bytes calls written (unanswered l.inbox) l.service);
+      × ((calls : List Call) × Serves g.S.Service.answers l.fn.db l.fn.service bytes calls written (unanswered l.inbox) l.service)
+      × (l.inbox.requests + length (unanswered l.inbox) ≤ length bytes) × (l.inbox.reads ≤ length bytes);
   reading : has_failed l.reader ≡ false;
   writing : has_failed l.writer ≡ false;
 }

@@ -1,8 +1,8 @@
 use Rattle.std.proofs.Common.{◌≤◌, length, subst, sym, ◌∙◌}
-use Rattle.mg_live.specs.Laws.{IsPrefix}
-use Rattle.mg_live.specs.Rules.{commits_seen}
+use Rattle.mg_machine.specs.Laws.{IsPrefix}
+use Rattle.mg_live.specs.View.{commits_seen}
 use Rattle.mg_live.specs.Sitting.{Sitting}
-use Rattle.mg_live.proofs.Beginnings.{in_turn}
+use Rattle.mg_machine.proofs.Beginnings.{in_turn}
 use Rattle.mg_live.proofs.Fronts.{below_one_more}
 use Rattle.mg_live.proofs.live.longest.Goals as goal
 

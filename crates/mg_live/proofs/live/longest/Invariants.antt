@@ -1,6 +1,6 @@
 use Rattle.std.proofs.Common.{◌≡◌, ◌≤◌, ℕ, ◌<◌, get_or, length}
-use Rattle.mg_live.specs.Laws.{IsPrefix}
-use Rattle.mg_live.specs.Rules.{commits_seen}
+use Rattle.mg_machine.specs.Laws.{IsPrefix}
+use Rattle.mg_live.specs.View.{commits_seen}
 use Rattle.mg_live.specs.Sitting.{Sitting}
 use Rattle.mg_live.proofs.live.longest.Given as goal
 

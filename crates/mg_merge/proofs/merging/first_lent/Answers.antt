@@ -1,5 +1,4 @@
-use Rattle.std.proofs.Common.{◌≡◌, ◌∷◌, ◌++◌, IfOk, IfSome, All, length, take, drop, ap, subst, sym, ◌∙◌, arith}
-use Rattle.std.proofs.Math.Seq.{take-append_seam}
+use Rattle.std.proofs.Common.{◌≡◌, ◌∷◌, IfOk, IfSome, All, length, take, ap, refl, subst, sym, ◌∙◌, arith}
 use Rattle.mg_collate.specs.Sorted.{sorted}
 use Rattle.mg_merge.specs.Merged.{IsInOrderBy, contents_of, joined, order_by}
 use Rattle.mg_merge.specs.Rests.{AreInTurn, lent_of, rests_of}
@@ -16,22 +15,19 @@ pub loop-direction-init : goal.loop-direction-init
 loop-direction-init g c = record {
   within = omega arith;
   order = subst (All (IsInOrderBy g.T.Ranked.row_of c.args.direction)) (sym c.in_ok-rests.ensures) c.requires;
-  queue = rw (sym c.deref.ensures.value) c.in_ok-queue.ensures;
+  queue = c.in_ok-queue.ensures;
   rest = rw c.new-lent.ensures.items (ap (λ lists. sorted (order_by g.T.Ranked.row_of c.args.direction) (joined lists)) (sym c.in_ok-rests.ensures));
 }
 
 pub loop-direction-preserved : goal.loop-direction-preserved
 loop-direction-preserved g c =
-    let rests = c.take_first.new.rests in
-    let size : length rests ≡ c.loop-direction.rests.len = omega arith in
-    let written : take c.loop-direction.rests.len (rests ++ drop (length rests) c.loop-direction.rests.items) ≡ rests =
-    subst (λ n. take n (rests ++ drop (length rests) c.loop-direction.rests.items) ≡ rests) size (take-append_seam rests (drop (length rests) c.loop-direction.rests.items)) in
     let order = order_by g.T.Ranked.row_of c.args.direction in
-    let first = subst (λ taken. IfSome taken (λ item. sorted order (joined (rests_of c.deref_mut.result.now)) ≡ item.now ∷ sorted order (joined (rests_of rests)))) c.in-Some.is c.in_ok-item.ensures.first in
-    rw written (record {
+    let before = c.loop-direction.rests.items in
+    let rests = c.take_first.new.rests.items in
+    let first = subst (λ taken. IfSome taken (λ item. sorted order (joined (rests_of before)) ≡ item.now ∷ sorted order (joined (rests_of rests)))) c.in-Some.is c.in_ok-item.ensures.first in
+    record {
       within = omega arith;
       order = c.in_ok-item.ensures.order;
-      queue = subst (λ taken. IfSome taken (λ item. AreInTurn order (rests_of rests) (length rests) c.take_first.new.queue.items)) c.in-Some.is c.in_ok-item.ensures.queue;
-      rest = one_more_lent order (sorted order (joined (contents_of c.args.lists.now))) c.loop-direction.lent.items c.push.new.self.items c.in-Some.item c.loop-direction.rests.items c.deref_mut.result.now rests c.loop-direction.invariant.rest
-          c.deref_mut.ensures.value first c.in_ok-push-in-Some.ensures.items;
-    })
+      queue = subst (λ taken. IfSome taken (λ item. AreInTurn order (rests_of rests) (length (rests_of rests)) c.take_first.new.queue.items)) c.in-Some.is c.in_ok-item.ensures.queue;
+      rest = one_more_lent order (sorted order (joined (contents_of c.args.lists.now))) c.loop-direction.lent.items c.push.new.self.items c.in-Some.item before before rests c.loop-direction.invariant.rest refl first c.in_ok-push-in-Some.ensures.items;
+    }

@@ -8,7 +8,7 @@ abbrev pub invariant-loop-direction : goal.invariant-loop-direction
 invariant-loop-direction g l = record {
   within : vec_len l.lent ≤ l.take;
   order : All (IsInOrderBy g.T.Ranked.row_of l.direction) (rests_of l.rests.items);
-  queue : AreInTurn (order_by g.T.Ranked.row_of l.direction) (rests_of l.rests.items) (length l.rests.items) l.queue.items;
+  queue : AreInTurn (order_by g.T.Ranked.row_of l.direction) (rests_of l.rests.items) (length (rests_of l.rests.items)) l.queue.items;
   rest : sorted (order_by g.T.Ranked.row_of l.direction) (joined (contents_of l.lists)) ≡ lent_of l.lent.items ++ sorted (order_by g.T.Ranked.row_of l.direction) (joined (rests_of l.rests.items));
 }
 

@@ -1,9 +1,8 @@
 use Rattle.mg_merge.specs.Merged.{order_by}
-use Rattle.mg_merge.specs.Rests.{rests_of}
 use Rattle.mg_merge.proofs.Queues.{next_entered}
 use Rattle.mg_merge.proofs.Rows.{by_total}
 use Rattle.mg_merge.proofs.queue.queue_of.Goals as goal
 
 pub loop-list-preserved : goal.loop-list-preserved
 loop-list-preserved g c =
-    rw c.in_ok-enter.ensures (next_entered (order_by g.T.Ranked.row_of c.args.direction) (by_total g.T.Ranked.row_of c.args.direction) (rests_of c.args.rests.now) c.loop-list.list c.loop-list.queue.items c.loop-list.invariant)
+    rw c.in_ok-enter.ensures (next_entered (order_by g.T.Ranked.row_of c.args.direction) (by_total g.T.Ranked.row_of c.args.direction) (g.B.Begins.lists c.args.lists.now) c.loop-list.list c.loop-list.queue.items c.loop-list.invariant)

@@ -1,11 +1,28 @@
 use Rattle.std.proofs.Common.{◌≡◌, ◌≤◌, ◌<◌, ◌∷◌, ◌++◌, [], length, take, drop, arith, ap, ap₂, sym, ◌∙◌}
-use Rattle.std.proofs.lemmas.List.{take-append-drop}
+use Rattle.std.proofs.lemmas.List.{length-append, take-append-drop}
 use Rattle.std.proofs.lemmas.List.Concat.{flat_map-append}
 use Rattle.std.specs.List.{flat_map}
 use Rattle.mg_pages.specs.Parts.{children, child_seen, child_value, child_whole, level_seen, level_whole}
 use Rattle.mg_pages.proofs.Parts.{front_some, front_whole, back_whole, mapped_push, mapped_take, mapped_drop}
+use Rattle.mg_pages.proofs.Counts.{count_cut}
 use Rattle.mg_pages.proofs.Built.{built_whole, built_seen}
 use Rattle.mg_pages.proofs.build.grouped.Goals as goal
+
+pub count_of-count-requires-clause-whole : goal.count_of-count-requires-clause-whole
+count_of-count-requires-clause-whole g c =
+    let left = c.loop-rest.rest.now in
+    let k = c.min.result in
+    let own : children c.split_at.result.0.now ≡ take k (children left) = ap children c.split_at.ensures.front ∙ mapped_take child_value k left in
+    front_whole (child_whole g.P.Part.is_whole g.P.Part.seen) (children left) (children c.split_at.result.0.now) k own c.loop-rest.invariant.ready
+
+pub count_of-count-requires-clause-few : goal.count_of-count-requires-clause-few
+count_of-count-requires-clause-few g c =
+    let left = c.loop-rest.rest.now in
+    let k = c.min.result in
+    let seen = child_seen g.P.Part.seen in
+    let done = flat_map (child_seen (level_seen g.P.Part.seen)) (children c.loop-rest.levels.items) in
+    let own : children c.split_at.result.0.now ≡ take k (children left) = ap children c.split_at.ensures.front ∙ mapped_take child_value k left in
+    omega (arith, ap (λ ps. length (flat_map seen ps)) own, count_cut seen (children left) k, ap length c.loop-rest.invariant.seen, length-append done (flat_map seen (children left)), c.requires.few)
 
 pub child_of-requires : goal.child_of-requires
 child_of-requires g c =
@@ -13,8 +30,10 @@ child_of-requires g c =
     let k = c.min.result in
     let own : children c.in_ok-parts.parts.items ≡ take k (children left) = c.in_ok-parts.ensures ∙ ap children c.split_at.ensures.front ∙ mapped_take child_value k left in
     let some : 0 < k = omega (arith, c.min.ensures, c.loop-rest-test.true) in
-    let within : k ≤ length left = omega (arith, c.min.ensures) in
-    (front_some child_value left c.in_ok-parts.parts.items k own some within, front_whole (child_whole g.P.Part.is_whole g.P.Part.seen) (children left) (children c.in_ok-parts.parts.items) k own c.loop-rest.invariant.ready)
+    let within : k ≤ length left = omega (arith, c.min.ensures) in (
+      front_some child_value left c.in_ok-parts.parts.items k own some within,
+      (front_whole (child_whole g.P.Part.is_whole g.P.Part.seen) (children left) (children c.in_ok-parts.parts.items) k own c.loop-rest.invariant.ready, c.count_of-count.ensures ∙ sym (ap (λ us. length (flat_map (child_seen g.P.Part.seen) us)) c.in_ok-parts.ensures)),
+    )
 
 pub loop-rest-preserved : goal.loop-rest-preserved
 loop-rest-preserved g c =

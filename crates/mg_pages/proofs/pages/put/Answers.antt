@@ -7,6 +7,7 @@ use Rattle.mg_pages.proofs.pages.put.Goals as goal
 
 pub returns-clause-sound : goal.returns-clause-sound
 returns-clause-sound g c = record {
-  whole = c.put.ensures.whole.1;
+  whole = c.put.ensures.whole.1.0;
+  counted = c.put.ensures.whole.1.1;
   sorted = subst (Ascends g.T.Keyed.order) (sym c.in_ok-had.ensures.ok) (inserted_ascends g.T.Keyed.order g.met.T.Keyed.total (arc_value c.args.element) (root_seen c.args.root.now) c.requires.sorted);
 }

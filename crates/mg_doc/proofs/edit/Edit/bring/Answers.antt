@@ -1,8 +1,11 @@
-use Rattle.std.proofs.Common.{◌≡◌, ◌∙◌, Option, Ok, Err, None, Result, option_copied, sym, ap, subst}
+use Rattle.std.proofs.Common.{◌≡◌, ◌∙◌, IfSome, Option, Ok, Err, None, Result, option_copied, string_bytes, sym, ap, subst}
 use Rattle.std.proofs.lemmas.Result.{err_from_is_err_and}
+use Rattle.mg_value.specs.View.{view}
 use Rattle.mg_revtree.specs.Revision.{Revision}
+use Rattle.mg_doc.specs.Ahead.{named_in}
 use Rattle.mg_doc.specs.Applied.{Applied, Foreseen}
 use Rattle.mg_doc.specs.Brought.{Brings}
+use Rattle.mg_doc.specs.Digest.{digest_of}
 use Rattle.mg_doc.specs.Document.{Edit}
 use Rattle.mg_doc.specs.Edit.{Accepted, accepted_by, accepted_of, extended, first_refusal, replicated}
 use Rattle.mg_doc.specs.contracts.edit.Edit.{the_view}
@@ -45,3 +48,9 @@ returns-clause-applied c = λ h stands.
     let first : first_refusal h e.change ≡ None = subst Q (sym c.self.view_is) (subst P c.in_default.is (c.in_ok-rev.ensures h stands)) in
     let said : accepted_by h e ≡ replicated h c.in-Replica.path = ap (accepted_of h e.deleted e.body) c.in-Replica.is in
     subst R c.self.view_is (applied h e c.merge.result c.merge.new.tree first (subst S (sym said) (c.merge.ensures.brings h stands)))
+
+pub extend-requires : goal.extend-requires
+extend-requires c =
+    let e = c.self.inside in
+    let P : Option Revision → Type 0 = λ n. IfSome e.ahead (λ id. string_bytes id ≡ digest_of e.deleted n (view e.body)) in
+    subst P (ap named_in c.in-New.is ∙ sym c.as_ref.ensures.value) c.self.invariant

@@ -20,7 +20,7 @@ abbrev answer : List ℕ → Option Answer
 answer t = Some (record { status = 201; body = t })
 
 pub returns-clause-holds : goal.returns-clause-holds
-returns-clause-holds g c = λ w h.
+returns-clause-holds g c = λ w bring h.
     let place = g.P.Placement.place c.args.placement.now in
     let given = c.args.edits.items in
     let made = shards_seen c.in_ok-outcomes.shards.items in
@@ -35,7 +35,7 @@ returns-clause-holds g c = λ w h.
       indexes = h.indexes;
       rows = have_same w.indexes made c.args.self.now.shards (c.in_ok-outcomes.ensures.definitions ∙ ap definitions_of shards) h.rows;
       counter = c.in_ok-edits.ensures.last ∙ ap (λ n. last_number n given) counter;
-      objects = still_objects w.docs w.counter given h.objects c.requires;
+      objects = still_objects w.docs w.counter given h.objects bring;
     })
 
 pub returns-clause-reply : goal.returns-clause-reply

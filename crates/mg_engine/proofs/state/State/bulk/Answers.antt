@@ -1,6 +1,7 @@
-use Rattle.mg_value.specs.View.{items_view}
-use Rattle.mg_engine.proofs.Whole.{read_whole}
+use Rattle.std.proofs.lemmas.Result.{IfOk-weaker}
+use Rattle.mg_value.specs.View.{view}
+use Rattle.mg_engine.specs.Commands.{bulk}
 use Rattle.mg_engine.proofs.state.State.bulk.Goals as goal
 
-pub accept-requires : goal.accept-requires
-accept-requires g c = read_whole c.in-Some.bulk.new_edits (items_view c.in-Some.bulk.documents.now) c.in-Ok.edits.items c.in-Ok.ensures
+pub returns-clause-does : goal.returns-clause-does
+returns-clause-does g c = IfOk-weaker c.apply.result _ _ (λ r does. does (bulk (view c.args.body.now)) c.in_ok-read.ensures) c.apply.ensures.does

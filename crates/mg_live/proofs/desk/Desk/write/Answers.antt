@@ -1,10 +1,10 @@
 use Rattle.std.proofs.Common.{◌≡◌, ◌∷◌, [], Some, length, length-append, ap, sym, ◌∙◌, arith}
 use Rattle.mg_engine.specs.View.{asked, said}
-use Rattle.mg_live.specs.Laws.{IsPrefix}
-use Rattle.mg_live.specs.Machine.{Commit}
-use Rattle.mg_live.specs.Published.{IsOf, Nexts, standing}
-use Rattle.mg_live.specs.Rules.{commits_seen}
-use Rattle.mg_live.specs.Snapshots.{commits_of}
+use Rattle.mg_machine.specs.Laws.{IsPrefix}
+use Rattle.mg_machine.specs.Machine.{Commit}
+use Rattle.mg_live.specs.Published.{Nexts, standing}
+use Rattle.mg_live.specs.View.{commits_seen}
+use Rattle.mg_live.specs.Snapshots.{IsOf, commits_of}
 use Rattle.mg_live.specs.declared.history.Front.{Front}
 use Rattle.mg_live.proofs.Publishing.{added, published}
 use Rattle.mg_live.proofs.desk.Desk.write.Goals as goal
@@ -16,10 +16,10 @@ invariant_of-self g c =
     let cs = commits_of c.published-now.result.now in
     let reply = said c.next-reply.result.0 in
     let next : Nexts db cs write reply (Some (commits_of c.in-Some.next)) = rw c.in-Some.is at c.next-reply.ensures.next in
-    let there : IsOf g.D.Database.history db g.D.Database.shards c.in-Some.next = rw c.in-Some.is at c.next-reply.ensures.there in
+    let there : IsOf g.P.Placement.place g.D.Database.history db g.D.Database.shards c.in-Some.next = rw c.in-Some.is at c.next-reply.ensures.there in
     let one = added db cs write reply (commits_of c.in-Some.next) next in
     let before : c.self.inside.book.total ≡ length cs = c.self.invariant.0 ∙ ap (λ s. length (commits_of s)) (sym c.published-now.ensures) in
-    rw c.publish.ensures (omega (arith, c.add.ensures.book, before, length-append cs (write ∷ []), ap length one), there)
+    rw c.publish-before.ensures (omega (arith, c.add.ensures.book, before, length-append cs (write ∷ []), ap length one), there)
 
 pub returns-clause-publishes : goal.returns-clause-publishes
 returns-clause-publishes g c =
@@ -27,10 +27,10 @@ returns-clause-publishes g c =
     let write : Commit = (c.args.write.now.seat, asked c.args.write.now.command.now) in
     let cs = commits_of c.published-now.result.now in
     let reply = said c.next-reply.result.0 in
-    let shown = commits_of c.publish.new.writer.desk.shown.value in
+    let shown = commits_of c.publish-before.new.writer.desk.shown.value in
     let next : Nexts db cs write reply (Some (commits_of c.in-Some.next)) = rw c.in-Some.is at c.next-reply.ensures.next in
     let now : cs ≡ c.args.self.now = ap commits_of c.published-now.ensures ∙ c.self.view_is in
-    let is : commits_of c.in-Some.next ≡ shown = ap commits_of (sym c.publish.ensures) in
+    let is : commits_of c.in-Some.next ≡ shown = ap commits_of (sym c.publish-before.ensures) in
     let later : IsPrefix (commits_seen c.args.front.now.seen.log) c.args.self.now = rw now at c.if-not-begins.ensures.begins in
     let adds : Nexts db c.args.self.now write reply (Some shown) = rw (now, is) at next in
     let seen : commits_seen c.again-2.result.seen.log ≡ shown = ap (λ (f : Front). commits_seen f.seen.log) c.again-2.ensures ∙ is in

@@ -1,6 +1,6 @@
 use Rattle.std.proofs.Common.{ap, subst, List, refl}
 use mathlib.Core.List.{IsPrefix}
-use Rattle.mg_live.specs.declared.history.Entry.{Entry}
+use Rattle.mg_live.specs.declared.markers.Entry.{Entry}
 use Rattle.mg_live.proofs.Fronts.{compared}
 use Rattle.mg_live.proofs.history.Front.begins.Goals as goal
 

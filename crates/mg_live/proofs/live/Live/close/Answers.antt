@@ -1,5 +1,5 @@
 use Rattle.std.proofs.Common.{◌∙◌}
-use Rattle.mg_live.proofs.Beginnings.{in_turn}
+use Rattle.mg_machine.proofs.Beginnings.{in_turn}
 use Rattle.mg_live.proofs.live.Live.close.Goals as goal
 
 pub returns-clause-closed : goal.returns-clause-closed

@@ -1,5 +1,5 @@
 use Rattle.std.proofs.Common.{refl}
-use Rattle.mg_live.specs.Machine.{world_of}
+use Rattle.mg_machine.specs.Machine.{world_of}
 use Rattle.mg_live.proofs.seat.Seat.read.Goals as goal
 
 pub returns-in-Ok-read : goal.returns-in-Ok-read

@@ -1,5 +1,5 @@
 use Rattle.std.proofs.Common.{refl}
-use Rattle.mg_live.specs.Machine.{world_of}
+use Rattle.mg_machine.specs.Machine.{world_of}
 use Rattle.mg_live.proofs.seat.Seat.reply.Goals as goal
 
 pub returns-in-Ok-reply : goal.returns-in-Ok-reply

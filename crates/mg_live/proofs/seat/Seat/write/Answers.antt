@@ -1,5 +1,5 @@
 use Rattle.mg_engine.specs.View.{asked, said}
-use Rattle.mg_live.specs.Rules.{commits_seen}
+use Rattle.mg_live.specs.View.{commits_seen}
 use Rattle.mg_live.specs.Sitting.{Sitting}
 use Rattle.mg_live.proofs.Publishing.{wrote}
 use Rattle.mg_live.proofs.seat.Seat.write.Goals as goal
@@ -8,4 +8,4 @@ pub returns : goal.returns
 returns g c =
     let s = c.self.inside in
     let old : Sitting = record { number = s.number; seen = commits_seen s.front.seen.log; tally = s.tally } in
-    rw (← c.self.view_is) (wrote g.D.Database.db old _ (asked c.args.command.now) (said c.write.result) _ c.write.ensures.publishes)
+    rw (← c.self.view_is) (wrote g.D.Database.db old _ (asked c.args.command.now) (said c.write.result.0) _ c.write.ensures.publishes)

@@ -9,7 +9,7 @@ pub guessed-requires : goal.guessed-requires
 guessed-requires g c =
     let xs = c.args.self.now.parts.items in
     let l : c.guess_among-i.result < length xs = omega (arith, c.if-i-len.true, c.len.ensures) in
-    (child_at g.P.Part.is_whole g.P.Part.seen xs c.guess_among-i.result c.index-child.result.now c.deref-node.result.now l c.index-child.ensures c.deref-node.ensures c.requires.1).0
+    (child_at g.P.Part.is_whole g.P.Part.seen xs c.guess_among-i.result c.index-child.result.now c.deref-node.result.now l c.index-child.ensures c.deref-node.ensures c.requires.1.0).0
 
 pub returns-then-i-len : goal.returns-then-i-len
 returns-then-i-len g c =

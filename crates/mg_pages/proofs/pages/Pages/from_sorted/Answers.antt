@@ -12,7 +12,11 @@ invariant_of-result g c =
     let highs = ap (λ us. flat_map (child_seen (level_seen page_seen)) (children us)) c.deref-2.ensures.value in
     let all : flat_map (child_seen high_seen) (children c.in_ok-parts.parts.items) ≡ values c.args.elements.now =
     c.in_ok-parts.ensures.seen ∙ highs ∙ c.in_ok-lows.ensures.seen ∙ lows ∙ c.in_ok-pages.ensures.seen in
-    (record { whole = c.in_ok-parts.ensures.whole; sorted = subst (Ascends g.T.Keyed.order) (sym all) c.requires }, sym (ap length all ∙ mapped_length arc_value c.args.elements.now))
+    record {
+      whole = c.in_ok-parts.ensures.whole;
+      sorted = subst (Ascends g.T.Keyed.order) (sym all) c.requires;
+      counted = sym (ap length all ∙ mapped_length arc_value c.args.elements.now);
+    }
 
 pub returns : goal.returns
 returns g c =

@@ -1,7 +1,6 @@
-use Rattle.std.proofs.Common.{◌≡◌, true, false, length, arith, Option, Some, None, is_some, option_map, ap, sym, ◌∙◌, subst, refl}
+use Rattle.std.proofs.Common.{◌≡◌, true, false, Option, Some, None, is_some, option_map, ap, sym, ◌∙◌, subst, refl}
 use Rattle.mg_pages.specs.Order.{Ascends, found}
-use Rattle.mg_pages.specs.Parts.{root_seen}
-use Rattle.mg_pages.proofs.Sorted.{removed_absent, removed_present}
+use Rattle.mg_pages.proofs.Sorted.{removed_absent}
 use Rattle.mg_pages.proofs.pages.Pages.remove.Goals as goal
 
 none_mapped : {A B : Type 0} (f : A → B) (o : Option A) → is_some o ≡ false → is_some (option_map f o) ≡ false
@@ -16,12 +15,9 @@ pub returns-then-is_none-clause-ok : goal.returns-then-is_none-clause-ok
 returns-then-is_none-clause-ok g c =
     let key = g.Q.Probe.against c.args.key.now in
     let none : is_some (found key c.args.self.now) ≡ false = sym (ap is_some c.get.ensures) ∙ none_mapped (λ t. t.now) c.get.result (c.if-is_none.ensures {u = tt}) in
-    sym (removed_absent g.T.Keyed.order key (g.met.Q.Probe.probes c.args.key.now) c.args.self.now (subst (Ascends g.T.Keyed.order) c.self.view_is c.self.invariant.0.sorted) none)
+    sym (removed_absent g.T.Keyed.order key (g.met.Q.Probe.probes c.args.key.now) c.args.self.now (subst (Ascends g.T.Keyed.order) c.self.view_is c.self.invariant.sorted) none)
 
-pub invariant_of-self-2 : goal.invariant_of-self-2
-invariant_of-self-2 g c =
+pub take_out-requires-clause-there : goal.take_out-requires-clause-there
+take_out-requires-clause-there g c =
     let key = g.Q.Probe.against c.args.key.now in
-    let xs = root_seen c.self.inside.root in
-    let some : is_some (found key xs) ≡ true = ap (λ us. is_some (found key us)) c.self.view_is ∙ sym (ap is_some c.get.ensures) ∙ some_mapped (λ t. t.now) c.get.result (c.if-is_none.ensures {u = tt}) in
-    let n = removed_present g.T.Keyed.order key (g.met.Q.Probe.probes c.args.key.now) xs c.self.invariant.0.sorted some in
-    (c.take_out.ensures.sound, omega (arith, ap length c.in_ok-take_out.ensures.ok, n, c.self.invariant.1))
+    ap (λ us. is_some (found key us)) c.self.view_is ∙ sym (ap is_some c.get.ensures) ∙ some_mapped (λ t. t.now) c.get.result (c.if-is_none.ensures {u = tt})

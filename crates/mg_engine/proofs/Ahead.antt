@@ -1,0 +1,54 @@
+-- What was read of a bulk determines what it answers and leaves.
+use Rattle.std.proofs.Common.{◌≡◌, ℕ, List, Option, Some, None, Result, Ok, Err, IfOk, IfSome, length, unwrap_or, refl, sym, ap, ◌∙◌}
+use Rattle.mg_value.specs.Value.{Value}
+use Rattle.mg_doc.specs.Document.{Edit}
+use Rattle.mg_engine.specs.Bulk.{Bulk, bulk_of, edits_of, edits_or_refusal, edits_read}
+use Rattle.mg_shard.specs.Dealt.{Placing}
+use Rattle.mg_engine.specs.Commands.{Asked, bulk, bulk_answer, bulk_reply, next, reply_of, shards_after, world_with}
+use Rattle.mg_engine.specs.Ahead.{Determines, Makes}
+use Rattle.mg_engine.specs.Run.{Answers}
+use Rattle.mg_engine.specs.Settled.{IsSettled, settled_of}
+use Rattle.mg_engine.specs.Stands.{Holds, Shown}
+use Rattle.mg_engine.specs.View.{said}
+use Rattle.mg_engine.specs.World.{World}
+use Rattle.mg_engine.specs.declared.prepared.ReadBulk.{ReadBulk}
+use Rattle.mg_engine.specs.declared.prepared.ReadBulk.TheVariants.{Edits, Refused}
+use Rattle.mg_engine.specs.declared.reply.Reply.{Reply}
+use Rattle.mg_engine.proofs.Runs.{answered}
+use Rattle.mg_engine.proofs.Whole.{read_whole}
+
+-- a bulk whose documents were all read
+pub all_read : (v : Value) (b : Bulk) (es : List Edit) → bulk_of v ≡ Some b → edits_or_refusal (edits_of b.new_edits b.documents) ≡ Ok es → Makes b.new_edits es (bulk v)
+all_read v b es is read = record {
+  objects = read_whole b.new_edits b.documents es read;
+  reply = λ w. ap (bulk_answer w) is ∙ ap (bulk_reply w b.new_edits) read;
+  world = λ w. ap (λ (o : Option Bulk). world_with w (edits_read o)) is ∙ ap (world_with w) read;
+  shards = λ n. refl;
+}
+
+-- ---- a bulk that was read, on a state
+
+-- it leaves as many shards
+keeps_number : (read : ReadBulk) (c : Asked) → Determines read c → (n : ℕ) → shards_after n c ≡ n
+keeps_number (Edits new_edits edits) c d n = d.shards n
+keeps_number (Refused r) c d n = d.shards n
+
+if_some : {X : Type 0} {Y : Type 0} (o : Option X) → Y → IfSome o (λ _. Y)
+if_some None y = tt
+if_some (Some x) y = y
+
+-- what was made of it answers the command that it determines
+pub answers : {E : Type 0} (place : Placing) (s : Shown) (read : ReadBulk) (c : Asked) (made : Result (Reply × Option Shown) E) (w : World)
+    → IfOk made (λ r. (c : Asked) → Determines read c → (w : World) → Holds place s w → (said r.0 ≡ Some (reply_of w c)) × Holds place (unwrap_or r.1 s) (next w c))
+    → Determines read c → Holds place s w → Answers w c (said (settled_of made).0) (Holds place (unwrap_or (settled_of made).1 s))
+answers place s read c (Ok r) w does d h = answered w c (said r.0) (λ u. Holds place (unwrap_or r.1 s) u) (does c d w h).0 (does c d w h).1
+answers place s read c (Err e) w does d h = h
+
+pub settles : {E : Type 0} (made : Result (Reply × Option Shown) E) → IfOk made (λ r. IsSettled r.0 r.1) → IsSettled (settled_of made).0 (settled_of made).1
+settles (Ok r) h = h
+settles (Err e) h = refl
+
+pub numbers : {E : Type 0} (s : Shown) (read : ReadBulk) (c : Asked) (made : Result (Reply × Option Shown) E) → IfOk made (λ r. length (unwrap_or r.1 s).shards ≡ length s.shards)
+    → Determines read c → IfSome (said (settled_of made).0) (λ _. length (unwrap_or (settled_of made).1 s).shards ≡ shards_after (length s.shards) c)
+numbers s read c (Ok r) h d = if_some (said r.0) (h ∙ sym (keeps_number read c d (length s.shards)))
+numbers s read c (Err e) h d = tt

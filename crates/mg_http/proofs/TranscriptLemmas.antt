@@ -1,0 +1,257 @@
+-- What a session wrote for which memory sufficed, and that no input is without a transcript.
+use Rattle.std.proofs.Common.{◌≡◌, ◌⊎◌, ℕ, zero, suc, ◌+◌, ◌-◌, ◌<◌, ◌≤◌, Bool, true, false, List, [], ◌∷◌, ◌++◌, length, map, take, drop, All, Option, Some, refl, sym, ap, ◌∙◌, subst, append_assoc, append-nil, take-append-drop, arith, length-append, length-take, length-drop, inl, inr}
+use Rattle.std.proofs.lemmas.Bool.{cases_lt}
+use Rattle.std.proofs.lemmas.List.{take_all}
+use Rattle.std.proofs.lemmas.List.Elements.{All-head, All-tail}
+use Rattle.httparse.specs.Grammar.{RequestHead, print_request}
+use Rattle.mg_engine.specs.declared.refusal.Refusal.{Refusal}
+use Rattle.mg_engine.specs.declared.refusal.Refusal.TheVariants.{HeadTooLarge, BadHead, InvalidJson}
+use Rattle.mg_engine.specs.Commands.{Asked, Answer, refused, reply_of, next}
+use Rattle.mg_engine.specs.World.{World}
+use Rattle.mg_http.specs.declared.sessions.SessionEnd.{SessionEnd}
+use Rattle.mg_http.specs.declared.sessions.SessionEnd.TheVariants.{Eof, Closed, Refused, ReadFault, WriteFault, Limit}
+use Rattle.mg_http.specs.Device.{IsPrefix}
+use Rattle.mg_http.specs.Head.{Asks, framed, unframed, asks_of, is_silent, closes_after}
+use Rattle.mg_http.specs.Message.{Message, HasHead, Begins, IsRefused, IsNoHead, CanGoOn}
+use Rattle.mg_http.specs.Reply.{text_of, reply_text}
+use Rattle.mg_http.specs.Session.{Call, Handles, call_text, Serves, Answered, Ends, Converses, asked_by}
+use Rattle.mg_http.specs.Talk.{AtWorld, Talks, IsTalk, HoldsAt}
+use Rattle.mg_http.specs.Target.{Request, body, asks, refuses}
+use Rattle.mg_http.specs.Transcript.{Stops, Speaks, IsTranscript, IsAnswered, EndsAmply, IsAmple, IsAtLimit, WroteAll, Holds}
+use Rattle.mg_http.proofs.MessageLemmas.{has_head, two_messages, Begins-append}
+use Rattle.mg_http.proofs.HeadLemmas.{head_long}
+use Rattle.mg_http.proofs.CutLemmas.{no_stop, one_reply, after_stop}
+use Rattle.mg_http.proofs.SessionLemmas.{Serves-append}
+
+-- the messages of some calls
+abbrev messages_in : List Call → List Message
+messages_in [] = []
+messages_in (call ∷ calls) = call.message ∷ messages_in calls
+
+-- a front of a front is one
+front_of_front : (xs ys zs : List ℕ) → IsPrefix xs ys → IsPrefix ys zs → IsPrefix xs zs
+front_of_front xs ys zs a b =
+    (a.0 ++ b.0, sym (append_assoc xs a.0 b.0) ∙ ap (λ (t : List ℕ). t ++ b.0) a.1 ∙ b.1)
+
+module _ {S : Type 0} (answers : S → Asked → Option Answer → S → Type 0) (db : List ℕ) where
+  -- a call whose reply is known
+  known : (w : S) (call : Call) (u : S) (has : IsAnswered call)
+      → Handles answers w call.message.request call.message.body call.reply u
+      → Handles answers w call.message.request call.message.body (Some has.0) u
+  known w call u has h = subst (λ (r : Option Answer). Handles answers w call.message.request call.message.body r u) has.1 h
+
+  -- what the calls wrote, and then a transcript of what they left
+  speaks : (w : S) (bytes : List ℕ) (calls : List Call) (text rest : List ℕ) (u : S) (ms : List Message) (later : List ℕ)
+      → Serves answers db w bytes calls text rest u → All IsAnswered calls → Speaks answers db u rest ms later
+      → Speaks answers db w bytes (messages_in calls ++ ms) (text ++ later)
+  speaks w bytes [] text rest u ms later h all k = rw (h.0, h.1, ← h.2) k
+  speaks w bytes (call ∷ calls) text rest u ms later h all k =
+      let has = All-head IsAnswered call calls all in record {
+        after = h.after;
+        later = h.later ++ later;
+        answer = has.0;
+        mid = h.mid;
+        begins = h.begins;
+        handled = known w call h.mid has h.handled;
+        text_is = ap (λ (t : List ℕ). t ++ later) h.text_is ∙ append_assoc (call_text call) h.later later
+            ∙ ap (λ (r : Option Answer). reply_text call.message.silent r ++ (h.later ++ later)) has.1;
+        others_follow = inr (h.stays, speaks h.mid h.after calls h.later rest u ms later h.others_follow (All-tail IsAnswered call calls all) k);
+      }
+
+  -- the last text is a transcript of the bytes that were left
+  last_speaks : (end : SessionEnd) (w : S) (rest last : List ℕ) (u : S) (e : Ends answers db end w rest last u)
+      → EndsAmply answers db end w rest last u e → WroteAll end → IsTranscript answers db w rest last
+  last_speaks Eof w rest last u e ample all = ([], inl (e.0, e.1))
+  last_speaks ReadFault w rest last u e ample all = ([], inl (e.0, e.1))
+  last_speaks Closed w rest last u (call, closes, answered) ample all = (
+    call.message ∷ [],
+    record {
+      after = answered.after;
+      later = [];
+      answer = ample.0;
+      mid = u;
+      begins = answered.begins;
+      handled = known w call u ample answered.handled;
+      text_is = answered.text_is ∙ ap (λ (r : Option Answer). reply_text call.message.silent r) ample.1 ∙ sym (append-nil (text_of call.message.silent ample.0));
+      others_follow = inl (closes, refl, refl);
+    },
+  )
+  last_speaks Refused w rest last u (inl r, same) ample all = ([], inr r)
+  last_speaks Refused w rest last u (inr r, same) ample all = absurd ample
+  last_speaks WriteFault w rest last u e ample all = absurd all
+  last_speaks Limit w rest last u e ample all = absurd all
+
+  pub whole_transcript : (w : S) (bytes written : List ℕ) (u : S) (end : SessionEnd) (t : Converses answers db w bytes written u end)
+      → IsAmple answers db w bytes written u end t → WroteAll end → IsTranscript answers db w bytes written
+  whole_transcript w bytes written u end t ample all =
+      let last = last_speaks end t.mid t.rest t.last u t.ended ample.last all in
+      let ms : List Message = messages_in t.calls ++ last.0 in
+      (ms, subst (λ (x : List ℕ). Speaks answers db w bytes ms x) (sym t.written_is) (speaks w bytes t.calls t.text t.rest t.mid last.0 t.last t.served ample.calls last.1))
+
+  pub holds : (read wrote : List ℕ → Type 0) (old new : S) (end : SessionEnd) (bytes written : List ℕ)
+      → read bytes → wrote written → Converses answers db old bytes written new end → IsAtLimit end bytes
+      → Holds answers db read wrote old new end
+  holds read wrote old new end bytes written input output talk limit = record {
+    bytes = bytes;
+    written = written;
+    input = input;
+    output = output;
+    talk = talk;
+    transcript = whole_transcript old bytes written new end talk;
+    limit = limit;
+  }
+
+module _ (db : List ℕ) where
+  -- a transcript goes on as the calls do
+  follows : (w : World) (bytes : List ℕ) (calls : List Call) (text rest : List ℕ) (u : World) (ns : List Message) (longer : List ℕ)
+      → Serves AtWorld db w bytes calls text rest u → All IsAnswered calls → Speaks AtWorld db w bytes ns longer
+      → (ms : List Message) × (later : List ℕ) × (longer ≡ text ++ later) × Speaks AtWorld db u rest ms later
+  follows w bytes [] text rest u ns longer h all k = (ns, longer, rw h.1 refl, rw (h.2, ← h.0) k)
+  follows w bytes (call ∷ calls) text rest u [] longer h all k = absurd (no_stop db bytes call.message h.after longer h.begins k)
+  follows w bytes (call ∷ calls) text rest u (n ∷ ns) longer h all k =
+      let has = All-head IsAnswered call calls all in
+      let one = two_messages db bytes call.message n h.after k.after h.begins k.begins in
+      let mine : Handles AtWorld w n.request n.body (Some has.0) h.mid =
+      subst (λ (m : Message). Handles AtWorld w m.request m.body (Some has.0) h.mid) one.0 (known AtWorld db w call h.mid has h.handled) in
+      let reply = one_reply w n.request n.body has.0 k.answer h.mid k.mid mine k.handled in
+      let first : call_text call ≡ text_of n.silent k.answer =
+      ap (λ (r : Option Answer). reply_text call.message.silent r) has.1 ∙ ap (λ (m : Message). text_of m.silent has.0) one.0 ∙ ap (text_of n.silent) reply.0 in
+      elim k.others_follow [
+        | inl d ↦ absurd (let e : true ≡ false = sym d.0 ∙ sym (ap (λ (m : Message). m.closes) one.0) ∙ h.stays in cc)
+        | inr d ↦
+            let same : Speaks AtWorld db h.mid h.after ns k.later =
+            subst (λ (v : World). Speaks AtWorld db v h.after ns k.later) (sym reply.1) (subst (λ (b : List ℕ). Speaks AtWorld db k.mid b ns k.later) (sym one.1) d.1) in
+            let more = follows h.mid h.after calls h.later rest u ns k.later h.others_follow (All-tail IsAnswered call calls all) same in (
+              more.0,
+              more.1,
+              k.text_is ∙ ap (λ (t : List ℕ). t ++ k.later) (sym first) ∙ ap (λ (t : List ℕ). call_text call ++ t) more.2
+                  ∙ sym (append_assoc (call_text call) h.later more.1) ∙ ap (λ (t : List ℕ). t ++ more.1) (sym h.text_is),
+              more.3,
+            )
+      ]
+
+  -- the reply to the message at the front begins a transcript, whatever follows
+  call_begins : (w : World) (rest more : List ℕ) (call : Call) (whole : List ℕ) (u : World) (ms : List Message) (later : List ℕ)
+      → Answered AtWorld db w rest call whole u → IsAnswered call → Speaks AtWorld db w (rest ++ more) ms later → IsPrefix whole later
+  call_begins w rest more call whole u [] later a has k =
+      absurd (no_stop db (rest ++ more) call.message (a.after ++ more) later (Begins-append db rest call.message a.after more a.begins) k)
+  call_begins w rest more call whole u (n ∷ ns) later a has k =
+      let one = two_messages db (rest ++ more) call.message n (a.after ++ more) k.after (Begins-append db rest call.message a.after more a.begins) k.begins in
+      let mine : Handles AtWorld w n.request n.body (Some has.0) u =
+      subst (λ (m : Message). Handles AtWorld w m.request m.body (Some has.0) u) one.0 (known AtWorld db w call u has a.handled) in
+      let reply = one_reply w n.request n.body has.0 k.answer u k.mid mine k.handled in
+      let first : whole ≡ text_of n.silent k.answer =
+      a.text_is ∙ ap (λ (r : Option Answer). reply_text call.message.silent r) has.1 ∙ ap (λ (m : Message). text_of m.silent has.0) one.0 ∙ ap (text_of n.silent) reply.0 in
+      (k.later, ap (λ (t : List ℕ). t ++ k.later) first ∙ sym k.text_is)
+
+  -- what refuses the bytes begins a transcript of them, whatever follows
+  refusal_begins : (w : World) (rest more whole : List ℕ) (ms : List Message) (later : List ℕ)
+      → ((refusal : Refusal) × (silent : Bool) × IsRefused db rest refusal silent × (whole ≡ text_of silent (refused refusal)))
+      → Speaks AtWorld db w (rest ++ more) ms later → IsPrefix whole later
+  refusal_begins w rest more whole ms later r k = after_stop db w rest more whole ms later (inr r) k
+
+  nothing_begins : (last later : List ℕ) → last ≡ [] → IsPrefix last later
+  nothing_begins last later e = (later, rw e refl)
+
+  -- the last text begins each transcript of the bytes that were left, whatever follows
+  last_begins : (end : SessionEnd) (w : World) (rest last : List ℕ) (u : World) (e : Ends AtWorld db end w rest last u)
+      → EndsAmply AtWorld db end w rest last u e → (more : List ℕ) (ms : List Message) (later : List ℕ) → Speaks AtWorld db w (rest ++ more) ms later → IsPrefix last later
+  last_begins Eof w rest last u e ample more ms later k = nothing_begins last later e.1
+  last_begins ReadFault w rest last u e ample more ms later k = nothing_begins last later e.1
+  last_begins Limit w rest last u e ample more ms later k = nothing_begins last later e.0
+  last_begins Closed w rest last u e ample more ms later k = call_begins w rest more e.0 last u ms later e.2 ample k
+  last_begins Refused w rest last u (inl r, same) ample more ms later k = refusal_begins w rest more last ms later r k
+  last_begins Refused w rest last u (inr r, same) ample more ms later k = absurd ample
+  last_begins WriteFault w rest last u (whole, front, inl a) ample more ms later k =
+      front_of_front last whole later front (call_begins w rest more a.0 whole u ms later a.1 ample k)
+  last_begins WriteFault w rest last u (whole, front, inr (inl r, same)) ample more ms later k =
+      front_of_front last whole later front (refusal_begins w rest more whole ms later r k)
+  last_begins WriteFault w rest last u (whole, front, inr (inr r, same)) ample more ms later k = absurd ample
+
+  pub front_of_transcript : (w : World) (bytes written : List ℕ) (u : World) (end : SessionEnd) (t : Talks db w bytes written u end)
+      → IsAmple AtWorld db w bytes written u end t → (more text : List ℕ) → IsTalk db w (bytes ++ more) text → IsPrefix written text
+  front_of_transcript w bytes written u end t ample more text k =
+      let served = Serves-append AtWorld db w bytes t.calls t.text t.rest t.mid more t.served in
+      let left = follows w (bytes ++ more) t.calls t.text (t.rest ++ more) t.mid k.0 text served ample.calls k.1 in
+      let last = last_begins end t.mid t.rest t.last u t.ended ample.last more left.0 left.1 left.3 in
+      (last.0, ap (λ (x : List ℕ). x ++ last.0) t.written_is ∙ append_assoc t.text t.last last.0 ∙ ap (λ (x : List ℕ). t.text ++ x) last.1 ∙ sym left.2)
+
+  pub holds_at : (read wrote : List ℕ → Type 0) (w u : World) (end : SessionEnd) (bytes written : List ℕ)
+      → read bytes → wrote written → Talks db w bytes written u end → IsAtLimit end bytes → HoldsAt db read wrote w u end
+  unfolding holds
+  holds_at read wrote w u end bytes written input output talk limit = record {
+    session = holds AtWorld db read wrote w u end bytes written input output talk limit;
+    front = front_of_transcript w bytes written u end talk;
+  }
+
+  -- ---- no input is without a transcript
+
+  -- a request has some reply
+  some_reply : (w : World) (request : Request) (bytes : List ℕ)
+      → ((answer : Answer) (u : World) → ¬ (Handles AtWorld w request bytes (Some answer) u)) → ⊥
+  some_reply w (refuses refusal) bytes lacking = lacking (refused refusal) w (refl, refl)
+  some_reply w (asks command) bytes lacking = lacking (reply_of w command) (next w command) (refl, refl)
+  some_reply w (body endpoint) bytes lacking =
+      lacking (refused InvalidJson) w (inr (inl (λ v r. lacking (reply_of w (asked_by endpoint v)) (next w (asked_by endpoint v)) (inl (v, r, (refl, refl))), refl, refl)))
+
+  -- bytes with no head are not whole, or are refused
+  no_head_stops : (bytes : List ℕ) → ((h : RequestHead) (after : List ℕ) → ¬ (HasHead bytes h after)) → ((text : List ℕ) → ¬ (Stops db bytes text)) → ⊥
+  no_head_stops bytes none stops =
+      let bad : ¬ (IsNoHead (take 16384 bytes)) = λ x. stops (text_of false (refused BadHead)) (inr (BadHead, false, inr (inl (x, refl, refl)), refl)) in
+      let going : CanGoOn (take 16384 bytes) = (λ h r reads. none h (r ++ drop 16384 bytes) (has_head bytes 16384 h r (omega arith) reads), bad) in
+      elim (cases_lt (length bytes) 16384) [
+        | inl short ↦ stops [] (inl (inl (short, rw (take_all 16384 bytes (omega (arith, short))) at going), refl))
+        | inr long ↦ stops (text_of false (refused HeadTooLarge)) (inr (HeadTooLarge, false, inr (inr (long, going, refl, refl)), refl))
+      ]
+
+  -- a head is not empty
+  rest_shorter : (bytes : List ℕ) (h : RequestHead) (after : List ℕ) (n k : ℕ) → HasHead bytes h after → length bytes < suc k → length (drop n after) < k
+  rest_shorter bytes h after n k has small =
+      omega (arith, head_long h has.reads.0, ap length has.reads.1, length-append (print_request h) after, length-drop n after)
+
+  some_transcript : (k : ℕ) (bytes : List ℕ) (w : World) → length bytes < k → ¬ ((text : List ℕ) → ¬ (IsTalk db w bytes text))
+  some_transcript zero bytes w small none = absurd (omega (arith, small))
+  some_transcript (suc k) bytes w small none =
+      let stops : (text : List ℕ) → ¬ (Stops db bytes text) = λ text s. none text ([], s) in
+      no_head_stops bytes (λ h after has.
+      elim (asks_of db h) as (λ a. asks_of db h ≡ a → ⊥) [
+        | unframed refusal ↦ λ e. stops (text_of (is_silent h) (refused refusal)) (inr (refusal, is_silent h, inl (h, after, has, e, refl), refl))
+        | framed request n ↦ λ e.
+            elim (cases_lt (length after) n) [
+              | inl short ↦ stops [] (inl (inr (h, after, request, n, has, e, short), refl))
+              | inr there ↦
+                  let m : Message = record { request = request; body = take n after; silent = is_silent h; closes = closes_after h } in
+                  let size : length (take n after) ≡ n = omega (arith, length-take n after, there) in
+                  let begins : Begins db bytes m (drop n after) = record {
+                    head = h;
+                    after = after;
+                    has = has;
+                    framed = record { asks = rw size e; silent = refl; closes = refl };
+                    joined = sym (take-append-drop n after);
+                  } in
+                  let one : (text later : List ℕ) (answer : Answer) (u : World) (ms : List Message) → Handles AtWorld w request (take n after) (Some answer) u
+                  → text ≡ text_of (is_silent h) answer ++ later
+                  → ((closes_after h ≡ true) × (ms ≡ []) × (later ≡ [])) ⊎ ((closes_after h ≡ false) × Speaks AtWorld db u (drop n after) ms later)
+                  → Speaks AtWorld db w bytes (m ∷ ms) text =
+                  λ text later answer u ms handled is others. record {
+                    after = drop n after;
+                    later = later;
+                    answer = answer;
+                    mid = u;
+                    begins = begins;
+                    handled = handled;
+                    text_is = is;
+                    others_follow = others;
+                  } in
+                  some_reply w request (take n after) (λ answer u handled.
+                  elim (closes_after h) as (λ c. closes_after h ≡ c → ⊥) [
+                    | true ↦ λ c. none (text_of (is_silent h) answer ++ []) (m ∷ [], one (text_of (is_silent h) answer ++ []) [] answer u [] handled refl (inl (c, refl, refl)))
+                    | false ↦ λ c.
+                        some_transcript k (drop n after) u (rest_shorter bytes h after n k has small)
+                        (λ later t. none (text_of (is_silent h) answer ++ later) (m ∷ t.0, one (text_of (is_silent h) answer ++ later) later answer u t.0 handled refl (inr (c, t.1))))
+                  ] refl)
+            ]
+      ] refl) stops
+
+  pub never_without : (w : World) (bytes : List ℕ) → ¬ ((text : List ℕ) → ¬ (IsTalk db w bytes text))
+  never_without w bytes = some_transcript (suc (length bytes)) bytes w (omega arith)

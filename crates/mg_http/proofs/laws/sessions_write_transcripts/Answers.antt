@@ -1,0 +1,9 @@
+use Rattle.mg_http.specs.Talk.{AtWorld}
+use Rattle.mg_http.proofs.TranscriptLemmas.{whole_transcript, front_of_transcript}
+use Rattle.mg_http.proofs.laws.sessions_write_transcripts.Goals as goal
+
+pub returns-clause-whole : goal.returns-clause-whole
+returns-clause-whole c = λ db w bytes written u end talk ample all. whole_transcript AtWorld db w bytes written u end talk ample all
+
+pub returns-clause-front : goal.returns-clause-front
+returns-clause-front c = λ db w bytes written u end talk ample more text is. front_of_transcript db w bytes written u end talk ample more text is

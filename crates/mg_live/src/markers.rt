@@ -1,0 +1,87 @@
+//! Markers, of which no value is made: types that name rules and steps for proofs.
+use crate::database::Database;
+use crate::history::Write;
+use crate::snapshot::Snapshot;
+use crossbeam_utils::rule::{Outcome, Protocol};
+use logbook::{Gain, Plain, Play, Rule};
+use mg_engine::Command;
+use mg_shard::Placement;
+use std::marker::PhantomData;
+
+// ---- the history
+
+/// An entry of the history: the seat that made the commit, and its command.
+pub struct Entry {
+    pub seat: usize,
+    pub command: Command,
+}
+
+/// The rule of the history.
+pub struct Law;
+
+impl Rule<Entry, u64> for Law {
+    ghost use Rattle.std.specs.Prelude.{[]};
+    ghost use base.Fml.{ftrue};
+    ghost use Rattle.mg_live.specs.Rules.{IsKept};
+
+    ghost holds = { λ cells log. IsKept cells log };
+
+    ghost first = { [] };
+
+    ghost hinted = { λ n log. Unit {0} };
+
+    ghost shows = { λ log. [] };
+
+    ghost keeps = { λ names log. ftrue };
+
+    ghost moves = { λ ask before after answer. Unit {0} };
+}
+
+/// Seats trade nothing.
+pub(crate) struct Nothing;
+
+impl Gain<Entry, u64> for Nothing {
+    ghost use base.Fml.{ftrue};
+
+    ghost after = { λ names about answer. ftrue };
+}
+
+/// A step that adds an entry.
+pub(crate) struct Add;
+
+impl Play<Entry, u64> for Add {
+    ghost use Rattle.mg_live.specs.Rules.{Adds};
+
+    ghost then = { Adds };
+}
+
+impl<'a> Plain<Write<'a>, Entry, u64> for Add {
+    ghost use Rattle.std.specs.Prelude.{None};
+    ghost use Rattle.mg_live.specs.Rules.{log_entry};
+
+    ghost ask = { λ write. log_entry write.seat write.command.now };
+
+    ghost state = { λ write. None };
+}
+
+// ---- what is published
+
+/// The rule: what is published is a snapshot of this database, whose documents are placed by `P`.
+pub struct Ours<D, P> {
+    of: PhantomData<D>,
+    by: PhantomData<P>,
+}
+
+impl<D: Database, P: Placement> Protocol<Snapshot<P>, ()> for Ours<D, P> {
+    ghost use Rattle.mg_live.specs.Snapshots.{IsOf};
+
+    ghost holds = { λ x views. IsOf P.place D.history D.db D.shards x };
+
+    ghost first = { tt };
+}
+
+impl<D: Database, P: Placement> Outcome<Snapshot<P>, ()> for Ours<D, P> {
+    ghost use Rattle.mg_live.specs.Snapshots.{IsOf};
+
+    ghost then = { λ v x y w. IsOf P.place D.history D.db D.shards y };
+}

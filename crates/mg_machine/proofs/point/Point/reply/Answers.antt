@@ -1,0 +1,11 @@
+use Rattle.std.proofs.lemmas.Result.{IfOk-weaker}
+use Rattle.mg_engine.specs.Commands.{reply_of}
+use Rattle.mg_engine.specs.View.{asked, said}
+use Rattle.mg_machine.proofs.Points.{said_is}
+use Rattle.mg_machine.proofs.point.Point.reply.Goals as goal
+
+pub returns : goal.returns
+returns g c =
+    IfOk-weaker c.whole.result _ _
+    (λ r told w at. said_is (said r) (reply_of w (asked c.args.command.now)) told.1 (rw told.0 (c.reply.ensures w (rw c.deref.ensures at))))
+    c.whole.ensures

@@ -1,0 +1,5 @@
+pub mod Machine
+pub mod Laws
+pub mod View
+pub mod Points
+pub mod Follow

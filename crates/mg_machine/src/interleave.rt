@@ -1,0 +1,107 @@
+//! Sessions that run side by side, one event after another.
+ghost use Rattle.std.specs.Prelude.{◌≡◌, ◌↔◌, ℕ, List, IfOk, IsTrue, is_some, map, option_and_then, vec_len};
+ghost use Rattle.mg_engine.specs.View.{said};
+ghost use Rattle.mg_machine.specs.Laws.{AreAt, IsAt};
+ghost use Rattle.mg_machine.specs.Machine.{Machine, happens, opened, replies_of_events};
+ghost use Rattle.mg_machine.specs.Follow.{Follow};
+ghost use Rattle.mg_machine.specs.View.{event_seen, events_seen};
+
+use crate::seats::Seats;
+use mg_engine::{Command, Reply};
+use mg_value::NoMemory;
+use std::alloc::Global;
+use std::thread::Threads;
+
+/// What happens at a seat. The seats are numbered from 0.
+///
+/// The command decides what is done: to publish one that only reads is to enter and then to have it answered, and to have
+/// a write answered is to publish it.
+#[derive(Debug, Drop)]
+pub enum Event {
+    /// A write, after all commits. Where it is accepted it is one commit more, and its seat has then seen all commits either way.
+    Publish { seat: usize, command: Command },
+    /// The seat looks: it has then seen all commits.
+    Enter { seat: usize },
+    /// A read, by the commits that its seat has seen.
+    Answer { seat: usize, command: Command },
+    /// The seat is told what another has seen: it has then seen the longer of the two lists of commits.
+    Told { seat: usize, by: usize },
+}
+
+/// Whether each of these events is at one of so many seats, as `replay` asks of its caller. Takes no memory. Cost: the events.
+pub fn are_at(seats: usize, events: &[Event]) -> bool
+    ensures { IsTrue result ↔ AreAt seats (events_seen events.now) }
+{
+    for event in events {
+        if !is_at(seats, event) {
+            return false;
+        }
+    }
+    true
+}
+
+// Whether an event is at one of so many seats.
+fn is_at(seats: usize, event: &Event) -> bool
+    ensures { IsTrue result ↔ IsAt seats (event_seen event.now) }
+{
+    match event {
+        Event::Publish { seat, command: _ } => *seat < seats,
+        Event::Enter { seat } => *seat < seats,
+        Event::Answer { seat, command: _ } => *seat < seats,
+        Event::Told { seat, by } => *seat < seats && *by < seats,
+    }
+}
+
+/// The replies to events at so many seats, over one shard and with one worker, by this thread alone: of `Publish` and `Answer`
+/// the reply to the command, whole, and none of `Enter` and `Told`. Each event has to be at one of these seats, which `are_at` tests.
+///
+/// Errors: `NoMemory` where a growth was refused anywhere; so no reply is a want of memory. A write is refused by 413 `too_large`
+/// where 18,446,744,073,709,551,615 commits stand already. Cost: that of each command, as of `Engine::step`, and the number of seats;
+/// `Enter` and `Told` cost the same for any documents.
+pub fn replay<R: Threads + Sync>(
+    rt: &R,
+    alloc: Global,
+    db: &str,
+    seats: usize,
+    events: &[Event],
+) -> Result<Vec<Option<Reply>>, NoMemory>
+    requires { AreAt seats (events_seen events.now) }
+    ensures replies { IfOk result (λ v. map (option_and_then said) v.items ≡ replies_of_events db.now (opened seats) (events_seen events.now)) }
+    ensures some { IfOk result (λ v. map is_some v.items ≡ map is_some (replies_of_events db.now (opened seats) (events_seen events.now))) }
+{
+    let mut at = Seats::open(alloc, db, seats)?;
+    let mut replies = Vec::with_capacity(alloc, events.len())?;
+    for event in events {
+        let reply = happen(rt, alloc, &mut at, event)?;
+        replies.push(reply)?;
+    }
+    Ok(replies)
+}
+
+// What happens at an event, and its reply.
+fn happen<R: Threads + Sync>(
+    rt: &R,
+    alloc: Global,
+    at: &mut Seats,
+    event: &Event,
+) -> Result<Option<Reply>, NoMemory>
+    requires { IsAt (vec_len at.old.each) (event_seen event.now) }
+    ensures follow { IfOk result (λ r. (name : List ℕ) (m : Machine) → Follow name at.old m
+        → (option_and_then said r ≡ (happens name m (event_seen event.now)).1)
+        × (is_some r ≡ is_some (happens name m (event_seen event.now)).1)
+        × Follow name at.new (happens name m (event_seen event.now)).0) }
+    ensures number { vec_len at.new.each ≡ vec_len at.old.each }
+{
+    match event {
+        Event::Publish { seat, command } => Ok(Some(at.publish(rt, alloc, *seat, command)?)),
+        Event::Enter { seat } => {
+            at.enter(*seat)?;
+            Ok(None)
+        }
+        Event::Answer { seat, command } => Ok(Some(at.answer(rt, alloc, *seat, command)?)),
+        Event::Told { seat, by } => {
+            at.tell(*seat, *by)?;
+            Ok(None)
+        }
+    }
+}

@@ -1,0 +1,179 @@
+//! Points of a database's history.
+ghost use Rattle.std.specs.Prelude.{◌≡◌, ◌<◌, ◌≤◌, ℕ, List, [], IfOk, Some, true, false, is_some};
+ghost use Rattle.std.specs.Arc.{arc_value};
+ghost use Rattle.mg_engine.specs.Commands.{is_write, reply_of};
+ghost use Rattle.mg_engine.specs.View.{asked, said};
+ghost use Rattle.mg_engine.specs.Stands.{Stands};
+ghost use Rattle.mg_engine.specs.World.{World};
+ghost use Rattle.mg_machine.specs.Machine.{Commit, after_write, write_reply};
+ghost use Rattle.mg_machine.specs.Points.{IsAfter, IsDealt};
+
+use mg_engine::{Command, Engine, Prepared, Refusal, Reply};
+use mg_scan::Gate;
+use mg_shard::Placement;
+use mg_value::NoMemory;
+use std::alloc::Global;
+use std::sync::Arc;
+use std::thread::Threads;
+
+/// A point of a database's history: the engine as it stood there, and the number of commits before it.
+#[derive(Drop)]
+pub struct Point<P> {
+    pub engine: Arc<Engine<P>>,
+    pub commits: u64,
+}
+
+impl<P: Placement + Drop> Point<P> {
+    /// The point before the first commit to a database of this name, over so many shards, on which documents are placed so.
+    /// Cost: their number, and the name.
+    pub fn first(alloc: Global, db: &str, placement: P, shards: usize) -> Result<Point<P>, NoMemory>
+        requires some { 1 ≤ shards }
+        requires most { shards ≤ 64 }
+        ensures after { IfOk result (λ p. IsAfter P.place db.now p []) }
+        ensures dealt { IfOk result (λ p. IsDealt shards p []) }
+    {
+        let engine = Engine::new(alloc, db, placement, shards)?;
+        let engine = Arc::new(alloc, engine)?;
+        Ok(Point { engine, commits: 0 })
+    }
+
+    /// The same point once more, over the same engine.
+    pub fn again(&self) -> Result<Point<P>, NoMemory>
+        ensures after { IfOk result (λ p. (name : List ℕ) (cs : List Commit) → IsAfter P.place name self.now cs → IsAfter P.place name p cs) }
+        ensures engine { IfOk result (λ p. arc_value p.engine ≡ arc_value self.now.engine) }
+    {
+        let engine = self.engine.clone()?;
+        Ok(Point {
+            engine,
+            commits: self.commits,
+        })
+    }
+
+    /// The reply to a command that reads, for every gate. Cost: that of the engine's reply.
+    pub fn read<R: Threads + Sync, G: Gate + Sync>(
+        &self,
+        rt: &R,
+        alloc: Global,
+        command: &Command,
+        workers: usize,
+        gate: &G,
+    ) -> Result<Reply, NoMemory>
+        requires read { is_write (asked command.now) ≡ false }
+        requires some { 1 ≤ workers }
+        requires most { workers ≤ 32 }
+        ensures { IfOk result (λ r. (w : World) → Stands P.place (arc_value self.now.engine) w
+            → said r ≡ Some (reply_of w (asked command.now))) }
+    {
+        whole(self.engine.answer(rt, alloc, command, workers, gate))
+    }
+
+    /// The reply to a command that reads, by at most so many workers. Cost: that of the engine's reply.
+    pub fn reply<R: Threads + Sync>(
+        &self,
+        rt: &R,
+        alloc: Global,
+        command: &Command,
+        workers: usize,
+    ) -> Result<Reply, NoMemory>
+        requires read { is_write (asked command.now) ≡ false }
+        requires some { 1 ≤ workers }
+        requires most { workers ≤ 32 }
+        ensures { IfOk result (λ r. (w : World) → Stands P.place (arc_value self.now.engine) w
+            → said r ≡ Some (reply_of w (asked command.now))) }
+    {
+        whole(self.engine.reply(rt, alloc, command, workers))
+    }
+
+    /// The reply to a write, and the point after it, which is one commit more where it is accepted, and else the same once more.
+    /// Cost: that of the engine's commit.
+    pub fn write<R: Threads + Sync>(
+        &self,
+        rt: &R,
+        alloc: Global,
+        command: &Command,
+        workers: usize,
+    ) -> Result<(Reply, Point<P>), NoMemory>
+        requires write { is_write (asked command.now) ≡ true }
+        requires some { 1 ≤ workers }
+        requires most { workers ≤ 32 }
+        ensures after { IfOk result (λ r. (name : List ℕ) (cs : List Commit) (seat : ℕ) → IsAfter P.place name self.now cs
+            → (said r.0 ≡ Some (write_reply name cs (asked command.now)))
+            × IsAfter P.place name r.1 (after_write name cs seat (asked command.now))) }
+        ensures dealt { IfOk result (λ r. (name : List ℕ) (shards : ℕ) (cs : List Commit) (seat : ℕ)
+            → IsAfter P.place name self.now cs → IsDealt shards self.now cs
+            → IsDealt shards r.1 (after_write name cs seat (asked command.now))) }
+    {
+        let prepared = Prepared::of(alloc, command)?;
+        self.write_prepared(rt, alloc, prepared, workers)
+    }
+
+    /// The reply to a write whose body was read before, and the point after it, as `write` gives them.
+    pub fn write_prepared<R: Threads + Sync>(
+        &self,
+        rt: &R,
+        alloc: Global,
+        prepared: Prepared<'_>,
+        workers: usize,
+    ) -> Result<(Reply, Point<P>), NoMemory>
+        requires write { is_write prepared ≡ true }
+        requires some { 1 ≤ workers }
+        requires most { workers ≤ 32 }
+        ensures after { IfOk result (λ r. (name : List ℕ) (cs : List Commit) (seat : ℕ) → IsAfter P.place name self.now cs
+            → (said r.0 ≡ Some (write_reply name cs prepared.entry))
+            × IsAfter P.place name r.1 (after_write name cs seat prepared.entry)) }
+        ensures dealt { IfOk result (λ r. (name : List ℕ) (shards : ℕ) (cs : List Commit) (seat : ℕ)
+            → IsAfter P.place name self.now cs → IsDealt shards self.now cs
+            → IsDealt shards r.1 (after_write name cs seat prepared.entry)) }
+    {
+        if self.commits == u64::MAX {
+            let reply = Reply::refusing(alloc, Refusal::TooLarge)?;
+            return Ok((reply, self.again()?));
+        }
+        self.commit(rt, alloc, prepared, workers)
+    }
+
+    // The same where there can be one commit more.
+    fn commit<R: Threads + Sync>(
+        &self,
+        rt: &R,
+        alloc: Global,
+        prepared: Prepared<'_>,
+        workers: usize,
+    ) -> Result<(Reply, Point<P>), NoMemory>
+        requires write { is_write prepared ≡ true }
+        requires some { 1 ≤ workers }
+        requires most { workers ≤ 32 }
+        requires room { self.now.commits < 18446744073709551615 }
+        ensures after { IfOk result (λ r. (name : List ℕ) (cs : List Commit) (seat : ℕ) → IsAfter P.place name self.now cs
+            → (said r.0 ≡ Some (write_reply name cs prepared.entry))
+            × IsAfter P.place name r.1 (after_write name cs seat prepared.entry)) }
+        ensures dealt { IfOk result (λ r. (name : List ℕ) (shards : ℕ) (cs : List Commit) (seat : ℕ)
+            → IsAfter P.place name self.now cs → IsDealt shards self.now cs
+            → IsDealt shards r.1 (after_write name cs seat prepared.entry)) }
+    {
+        let (reply, engine) = self.engine.commit_prepared(rt, alloc, prepared, workers);
+        let reply = whole(reply)?;
+        match engine {
+            Some(engine) => {
+                let engine = Arc::new(alloc, engine)?;
+                let commits = self.commits + 1;
+                Ok((reply, Point { engine, commits }))
+            }
+            None => {
+                let engine = self.engine.clone()?;
+                let commits = self.commits;
+                Ok((reply, Point { engine, commits }))
+            }
+        }
+    }
+}
+
+// A reply that was made whole.
+fn whole(reply: Reply) -> Result<Reply, NoMemory>
+    ensures { IfOk result (λ r. (r ≡ reply) × (is_some (said r) ≡ true)) }
+{
+    match reply {
+        Reply::NoMemory => Err(NoMemory),
+        Reply::Full { status, body } => Ok(Reply::Full { status, body }),
+    }
+}

@@ -1,0 +1,156 @@
+//! Seats at a database, gone through by one caller.
+ghost use Rattle.std.specs.Prelude.{◌≡◌, ◌<◌, ℕ, List, All, IfOk, OnOk, false, true, vec_len};
+ghost use Rattle.mg_engine.specs.Commands.{is_write};
+ghost use Rattle.mg_engine.specs.View.{asked, said};
+ghost use Rattle.mg_machine.specs.Machine.{Machine, Commit, answer, entered, happens, opened, publish, read, told, written};
+ghost use Rattle.mg_machine.specs.Follow.{Follow, by_md5};
+ghost use Rattle.mg_machine.specs.Points.{IsAfter};
+
+use crate::point::Point;
+use mg_engine::{Command, Reply};
+use mg_scan::NoGate;
+use mg_shard::Md5Placement;
+use mg_value::NoMemory;
+use std::alloc::Global;
+use std::thread::Threads;
+
+/// The latest point of a database, and for each seat the point that it has seen.
+#[derive(Drop)]
+pub(crate) struct Seats {
+    pub(crate) latest: Point<Md5Placement>,
+    pub(crate) each: Vec<Point<Md5Placement>>,
+}
+
+impl Seats {
+    /// So many seats at a database of this name that has no commit. Cost: their number, and the name.
+    pub(crate) fn open(alloc: Global, db: &str, seats: usize) -> Result<Seats, NoMemory>
+        ensures follow { IfOk result (λ s. Follow db.now s (opened seats)) }
+        ensures number { IfOk result (λ s. vec_len s.each ≡ seats) }
+    {
+        let latest = Point::first(alloc, db, Md5Placement, 1)?;
+        let each = copies(alloc, &latest, seats)?;
+        Ok(Seats { latest, each })
+    }
+
+    /// The reply to a command that is published at a seat. Cost: that of the engine's reply.
+    pub(crate) fn publish<R: Threads + Sync>(
+        &mut self,
+        rt: &R,
+        alloc: Global,
+        seat: usize,
+        command: &Command,
+    ) -> Result<Reply, NoMemory>
+        requires { seat < vec_len self.old.each }
+        ensures follow { IfOk result (λ r. (name : List ℕ) (m : Machine) → Follow name self.old m
+            → (said r ≡ (happens name m (publish seat (asked command.now))).1)
+            × Follow name self.new (happens name m (publish seat (asked command.now))).0) }
+        ensures number { vec_len self.new.each ≡ vec_len self.old.each }
+    {
+        if command.is_write() {
+            self.write(rt, alloc, seat, command)
+        } else {
+            self.enter(seat)?;
+            self.read(rt, alloc, seat, command)
+        }
+    }
+
+    /// The reply to a command that is answered at a seat. Cost: that of the engine's reply.
+    pub(crate) fn answer<R: Threads + Sync>(
+        &mut self,
+        rt: &R,
+        alloc: Global,
+        seat: usize,
+        command: &Command,
+    ) -> Result<Reply, NoMemory>
+        requires { seat < vec_len self.old.each }
+        ensures follow { IfOk result (λ r. (name : List ℕ) (m : Machine) → Follow name self.old m
+            → (said r ≡ (happens name m (answer seat (asked command.now))).1)
+            × Follow name self.new (happens name m (answer seat (asked command.now))).0) }
+        ensures number { vec_len self.new.each ≡ vec_len self.old.each }
+    {
+        if command.is_write() {
+            self.write(rt, alloc, seat, command)
+        } else {
+            self.read(rt, alloc, seat, command)
+        }
+    }
+
+    /// Has a seat look, which has then seen all commits.
+    pub(crate) fn enter(&mut self, seat: usize) -> Result<(), NoMemory>
+        requires { seat < vec_len self.old.each }
+        ensures follow { OnOk result ((name : List ℕ) (m : Machine) → Follow name self.old m → Follow name self.new (entered m seat)) }
+        ensures number { vec_len self.new.each ≡ vec_len self.old.each }
+    {
+        self.each[seat] = self.latest.again()?;
+        Ok(())
+    }
+
+    /// Tells a seat what another has seen.
+    pub(crate) fn tell(&mut self, seat: usize, by: usize) -> Result<(), NoMemory>
+        requires seat { seat < vec_len self.old.each }
+        requires by { by < vec_len self.old.each }
+        ensures follow { OnOk result ((name : List ℕ) (m : Machine) → Follow name self.old m
+            → Follow name self.new (happens name m (told seat by)).0) }
+        ensures number { vec_len self.new.each ≡ vec_len self.old.each }
+    {
+        if self.each[seat].commits < self.each[by].commits {
+            self.each[seat] = self.each[by].again()?;
+        }
+        Ok(())
+    }
+
+    // The reply to a command that reads, by what its seat has seen.
+    fn read<R: Threads + Sync>(
+        &self,
+        rt: &R,
+        alloc: Global,
+        seat: usize,
+        command: &Command,
+    ) -> Result<Reply, NoMemory>
+        requires read { is_write (asked command.now) ≡ false }
+        requires seat { seat < vec_len self.now.each }
+        ensures { IfOk result (λ r. (name : List ℕ) (m : Machine) → Follow name self.now m
+            → said r ≡ (read name m seat (asked command.now)).1) }
+    {
+        let seen = &self.each[seat];
+        let reply = seen.read(rt, alloc, command, 1, &NoGate)?;
+        Ok(reply)
+    }
+
+    // The reply to a write at a seat, which has then seen all commits.
+    fn write<R: Threads + Sync>(
+        &mut self,
+        rt: &R,
+        alloc: Global,
+        seat: usize,
+        command: &Command,
+    ) -> Result<Reply, NoMemory>
+        requires write { is_write (asked command.now) ≡ true }
+        requires seat { seat < vec_len self.old.each }
+        ensures follow { IfOk result (λ r. (name : List ℕ) (m : Machine) → Follow name self.old m
+            → (said r ≡ (written name m seat (asked command.now)).1)
+            × Follow name self.new (written name m seat (asked command.now)).0) }
+        ensures number { vec_len self.new.each ≡ vec_len self.old.each }
+    {
+        let (reply, next) = self.latest.write(rt, alloc, command, 1)?;
+        self.latest = next;
+        self.enter(seat)?;
+        Ok(reply)
+    }
+}
+
+// A point as often as is asked. Cost: their number.
+fn copies(
+    alloc: Global,
+    point: &Point<Md5Placement>,
+    number: usize,
+) -> Result<Vec<Point<Md5Placement>>, NoMemory>
+    ensures after { IfOk result (λ v. (name : List ℕ) (cs : List Commit) → IsAfter by_md5 name point.now cs → All (λ p. IsAfter by_md5 name p cs) v.items) }
+    ensures number { IfOk result (λ v. vec_len v ≡ number) }
+{
+    let mut copies = Vec::with_capacity(alloc, number)?;
+    for _ in 0..number {
+        copies.push(point.again()?)?;
+    }
+    Ok(copies)
+}

@@ -1,0 +1,64 @@
+//! What lists begin with, which is all that a merge compares.
+ghost use Rattle.std.specs.Prelude.{◌≡◌, ◌<◌, List, [], get_or, length};
+ghost use Rattle.mg_merge.specs.Merged.{order_by};
+ghost use Rattle.mg_merge.specs.Pulled.{firsts_of, lent_first};
+ghost use Rattle.mg_merge.specs.Rests.{begin_order, rests_of};
+
+use crate::ranked::Ranked;
+use mg_collate::Direction;
+use std::cmp::Ordering;
+
+// Lists of ranked things, as far as their beginnings are concerned.
+pub(crate) trait Begins<T: Ranked> {
+    // the lists, of which only what they begin with counts
+    ghost lists: { Self → List (List T) };
+
+    // How many lists there are.
+    fn count(&self) -> usize
+        ensures { result ≡ length (lists self.now) };
+
+    // Which of two lists begins with an earlier row; one at its end begins after all others.
+    fn begin(&self, list: usize, other: usize, direction: Direction) -> Ordering
+        requires list { list < length (lists self.now) }
+        requires other { other < length (lists self.now) }
+        ensures { result ≡ begin_order (order_by T.row_of direction)
+            (get_or (lists self.now) list []) (get_or (lists self.now) other []) };
+}
+
+impl<'a, T: Ranked> Begins<T> for Vec<&'a [T]> {
+    ghost lists = { λ rests. rests_of rests.items };
+
+    fn count(&self) -> usize {
+        self.len()
+    }
+
+    fn begin(&self, list: usize, other: usize, direction: Direction) -> Ordering {
+        begin(self[list].first(), self[other].first(), direction)
+    }
+}
+
+// Heads that were pulled from sources, where a source at its end has none.
+impl<T: Ranked> Begins<T> for Vec<Option<T>> {
+    ghost lists = { λ heads. firsts_of heads.items };
+
+    fn count(&self) -> usize {
+        self.len()
+    }
+
+    fn begin(&self, list: usize, other: usize, direction: Direction) -> Ordering {
+        begin(self[list].as_ref(), self[other].as_ref(), direction)
+    }
+}
+
+// Which of two comes first; nothing comes after all.
+fn begin<T: Ranked>(item: Option<&T>, other: Option<&T>, direction: Direction) -> Ordering
+    ensures { result ≡ begin_order (order_by T.row_of direction)
+        (lent_first item.entry) (lent_first other.entry) }
+{
+    match (item, other) {
+        (Some(item), Some(than)) => direction.apply(item.order(than)),
+        (Some(_), None) => Ordering::Less,
+        (None, Some(_)) => Ordering::Greater,
+        (None, None) => Ordering::Equal,
+    }
+}

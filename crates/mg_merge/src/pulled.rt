@@ -1,0 +1,151 @@
+//! The merge that pulls from its sources as it needs: the first thing of each, then one for each that is taken.
+ghost use Rattle.std.specs.Prelude.{◌≡◌, ◌≤◌, ◌+◌, ◌∷◌, ◌++◌, [], List, Option, All, IfOk, IfSome, IfNone, OnOk, length, map, option_map, take};
+ghost use Rattle.mg_collate.specs.Row.{directed_order};
+ghost use Rattle.mg_collate.specs.Sorted.{IsInOrder, sorted};
+ghost use Rattle.mg_merge.specs.Merged.{joined, merged};
+ghost use Rattle.mg_merge.specs.Pulled.{AreFrom, IsAhead, IsGivenBy, comings, firsts_of};
+
+use crate::queue::{enter, queue_of};
+use crate::ranked::Ranked;
+use crate::source::RowSource;
+use mg_collate::Direction;
+use mg_value::NoMemory;
+use std::alloc::Global;
+
+// Room for results is taken for so many at first.
+const FIRST_ROOM: usize = 64;
+
+/// The first `take` of all sources together, in the direction's order of their rows: fewer only where
+/// the sources have fewer, and none lost or doubled. Beside them stands how many were pulled from the
+/// sources: at most `take`, and one more for each source. Each source has to be in that order; it may
+/// be empty.
+///
+/// Errors: `NoMemory` where a growth was refused.
+/// Cost: what the sources need for the things that are pulled, and for each of them a number of
+/// comparisons that grows with the logarithm of the number of sources; with one source there is none.
+pub fn merge_pulled<T: Ranked + Copy, S: RowSource<T>>(
+    alloc: Global,
+    sources: &mut [S],
+    direction: Direction,
+    take: usize,
+) -> Result<(Vec<T>, u64), NoMemory>
+    requires { All (IsInOrder direction) (map S.rest sources.old) }
+    ensures rows { IfOk result
+        (λ made. map T.row_of made.0.items ≡ merged direction take (map S.rest sources.old)) }
+    ensures given { IfOk result (λ made. All (IsGivenBy S.gives sources.old) made.0.items) }
+    ensures pulled { IfOk result (λ made. made.1 ≤ take + length sources.old) }
+    ensures left { IfOk result (λ made. length (joined (map S.rest sources.old))
+        ≤ made.1 + length (joined (map S.rest sources.new))) }
+{
+    let mut heads = first_heads(alloc, sources)?;
+    let mut queue = queue_of(alloc, &heads, direction)?;
+    let items = merge_ahead(alloc, &mut heads, sources, &mut queue, direction, take)?;
+    let pulled = (items.len() + waiting(&heads)) as u64;
+    Ok((items, pulled))
+}
+
+// Pulls the first of each source.
+fn first_heads<T: Ranked + Copy, S: RowSource<T>>(
+    alloc: Global,
+    sources: &mut [S],
+) -> Result<Vec<Option<T>>, NoMemory>
+    ensures size { IfOk result (λ heads. length heads.items ≡ length sources.new) }
+    ensures same { IfOk result (λ heads. comings (map (option_map T.row_of) heads.items)
+        (map S.rest sources.new) ≡ map S.rest sources.old) }
+    ensures given { IfOk result
+        (λ heads. AreFrom S.gives sources.old heads.items sources.new) }
+{
+    let mut heads = Vec::with_capacity(alloc, sources.len())?;
+    for place in 0..sources.len() {
+        heads.push(sources[place].next())?;
+    }
+    Ok(heads)
+}
+
+// The first of all, where the first of each source was pulled.
+fn merge_ahead<T: Ranked + Copy, S: RowSource<T>>(
+    alloc: Global,
+    heads: &mut Vec<Option<T>>,
+    sources: &mut [S],
+    queue: &mut Vec<usize>,
+    direction: Direction,
+    take: usize,
+) -> Result<Vec<T>, NoMemory>
+    requires { IsAhead T.row_of direction heads.old.items (map S.rest sources.old) queue.old.items }
+    ensures within { IfOk result (λ items. length items.items ≤ take) }
+    ensures size { OnOk result (length heads.new.items ≡ length heads.old.items) }
+    ensures sources { OnOk result (length sources.new ≡ length sources.old) }
+    ensures rows { IfOk result (λ items. map T.row_of items.items ≡ merged direction take
+        (comings (map (option_map T.row_of) heads.old.items) (map S.rest sources.old))) }
+    ensures left { IfOk result (λ items. sorted (directed_order direction) (joined
+        (comings (map (option_map T.row_of) heads.old.items) (map S.rest sources.old)))
+        ≡ map T.row_of items.items ++ sorted (directed_order direction) (joined
+        (comings (map (option_map T.row_of) heads.new.items) (map S.rest sources.new)))) }
+    ensures given { IfOk result (λ items. (start : List S)
+        → AreFrom S.gives start heads.old.items sources.old
+        → All (IsGivenBy S.gives start) items.items) }
+{
+    let mut items = Vec::with_capacity(alloc, take.min(FIRST_ROOM))?;
+    while items.len() < take {
+        match pull_first(heads, sources, queue, direction)? {
+            Some(item) => items.push(item)?,
+            None => return Ok(items),
+        }
+    }
+    Ok(items)
+}
+
+// Takes the head whose source is first in the queue, pulls that source's next, and puts the source's
+// number where its turn is now.
+fn pull_first<T: Ranked + Copy, S: RowSource<T>>(
+    heads: &mut Vec<Option<T>>,
+    sources: &mut [S],
+    queue: &mut Vec<usize>,
+    direction: Direction,
+) -> Result<Option<T>, NoMemory>
+    requires { IsAhead T.row_of direction heads.old.items (map S.rest sources.old) queue.old.items }
+    ensures ahead { IfOk result (λ taken. IfSome taken (λ item. IsAhead T.row_of direction
+        heads.new.items (map S.rest sources.new) queue.new.items)) }
+    ensures first { IfOk result (λ taken. IfSome taken (λ item. sorted (directed_order direction)
+        (joined (comings (map (option_map T.row_of) heads.old.items) (map S.rest sources.old)))
+        ≡ T.row_of item ∷ sorted (directed_order direction)
+        (joined (comings (map (option_map T.row_of) heads.new.items) (map S.rest sources.new))))) }
+    ensures given { IfOk result (λ taken. (start : List S)
+        → AreFrom S.gives start heads.old.items sources.old
+        → IfSome taken (IsGivenBy S.gives start)) }
+    ensures from { IfOk result (λ taken. (start : List S)
+        → AreFrom S.gives start heads.old.items sources.old
+        → AreFrom S.gives start heads.new.items sources.new) }
+    ensures size { OnOk result (length heads.new.items ≡ length heads.old.items) }
+    ensures end { IfOk result (λ taken. IfNone taken
+        (joined (comings (map (option_map T.row_of) heads.old.items) (map S.rest sources.old)) ≡ [])) }
+    ensures stays { IfOk result (λ taken. IfNone taken
+        ((heads.new.items ≡ heads.old.items) × (sources.new ≡ sources.old))) }
+{
+    if queue.is_empty() {
+        return Ok(None);
+    }
+    let list = queue.remove(0);
+    match heads[list] {
+        None => Ok(None),
+        Some(item) => {
+            heads[list] = sources[list].next();
+            enter(queue, heads, list, direction)?;
+            Ok(Some(item))
+        }
+    }
+}
+
+// How many heads wait.
+fn waiting<T: Ranked + Copy>(heads: &[Option<T>]) -> usize
+    ensures count { result ≡ length (joined (firsts_of heads.now)) }
+    ensures within { result ≤ length heads.now }
+{
+    let mut count = 0;
+    for head in heads {
+        if head.is_some() {
+            count += 1;
+        }
+    }
+    count
+}

@@ -1,0 +1,20 @@
+ghost use Rattle.std.specs.Prelude.{◌≡◌, ◌∷◌, [], List, IfSome, IfNone};
+ghost use Rattle.mg_collate.specs.Row.{RowValue};
+
+use crate::ranked::Ranked;
+
+/// A source of things in a direction's order of their rows, which are found as they are asked for.
+pub trait RowSource<T: Ranked> {
+    // the rows that are still to come
+    ghost rest: { Self → List RowValue };
+
+    // what holds of each thing that it gives
+    ghost gives: { Self → T → Type 0 };
+
+    /// The next thing, or `None` once nothing is left. Takes no memory.
+    fn next(&mut self) -> Option<T>
+        ensures item { IfSome result (λ item. rest self.old ≡ T.row_of item ∷ rest self.new) }
+        ensures given { IfSome result (gives self.old) }
+        ensures same { (item : T) → gives self.new item → gives self.old item }
+        ensures end { IfNone result (rest self.old ≡ []) };
+}

@@ -1,0 +1,24 @@
+use Rattle.mg_normal.specs.Atoms.{atoms_of}
+use Rattle.mg_shard.specs.Shard.{shards_seen}
+use Rattle.mg_query.specs.Page.{columns_of}
+use Rattle.mg_query.specs.Seen.{query_seen}
+use Rattle.mg_query.specs.Served.{source_seen}
+use Rattle.mg_query.proofs.Handed.{rows_handed}
+use Rattle.mg_query.proofs.Lent.{lend_first}
+use Rattle.mg_query.proofs.Serving.{choice_served}
+use Rattle.mg_query.proofs.Usable.{choice_usable}
+use Rattle.mg_query.proofs.found.find_first.Goals as goal
+
+pub returns-clause-hits : goal.returns-clause-hits
+returns-clause-hits g c = λ place hs stands whole.
+    let q = query_seen c.args.query.now in
+    let ds = c.args.catalog.now in
+    let asked = c.in_ok-asked.asked in
+    let s = source_seen asked.source in
+    let columns = columns_of s in
+    let shards = shards_seen c.args.shards.now in
+    let hits = c.in_ok-hits.hits.items in
+    let first = c.in_ok-hits.ensures in
+    let usable = choice_usable ds (atoms_of q.selector) q.sort q.hint s (choice_served ds q s c.in_ok-asked.ensures.answers) in
+    lend_first columns q place hs shards hits stands first.hits
+    (rows_handed q columns asked.normal c.in_ok-asked.ensures.asked.normal c.ranges_are_complete.ensures usable place shards hs stands whole hits first.rows)

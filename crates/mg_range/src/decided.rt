@@ -1,0 +1,48 @@
+// Which of a selector's atoms a range decides.
+ghost use Rattle.std.specs.Prelude.{◌≡◌};
+ghost use Rattle.mg_normal.specs.View.{atom_view, atoms_view};
+ghost use Rattle.mg_index.specs.Bound.{is_fixed as has_one_value};
+ghost use Rattle.mg_range.specs.Decided.{decides_of, is_decided as is_decided_by};
+
+use crate::edge::fixed_value;
+use mg_index::Bound;
+use mg_normal::Atom;
+use mg_path::Path;
+
+/// Whether the range of these columns for the atoms decides this one of them: it bounds one of the bounded columns, which are the
+/// leading ones that an `$eq` bounds and the next one. Of a document that has a key at the columns it holds wherever the range has
+/// the key. Takes no memory. Cost: the columns times the atoms.
+pub fn is_decided(columns: &[Path], atoms: &[Atom], atom: &Atom) -> bool
+    ensures { result ≡ is_decided_by (atoms_view atoms.now) columns.now (atom_view atom.now) }
+{
+    for column in columns {
+        if Bound::on(column, atom).is_some() {
+            return true;
+        }
+        if !is_fixed(column, atoms) {
+            return false;
+        }
+    }
+    false
+}
+
+// Whether the atoms fix the value of the column.
+#[tactic(auto, using(crate::proofs::Contained::some_found))]
+fn is_fixed(column: &Path, atoms: &[Atom]) -> bool
+    ensures { result ≡ has_one_value (atoms_view atoms.now) column.now }
+{
+    fixed_value(column, atoms).is_some()
+}
+
+/// Whether the range of these columns for the atoms decides each of them, so that the key of a document tells whether they hold.
+/// Takes no memory. Cost: the columns times the atoms, and that for each atom.
+pub fn decides(columns: &[Path], atoms: &[Atom]) -> bool
+    ensures { result ≡ decides_of (atoms_view atoms.now) columns.now }
+{
+    for atom in atoms {
+        if !is_decided(columns, atoms, atom) {
+            return false;
+        }
+    }
+    true
+}

@@ -1,0 +1,205 @@
+-- Sources of hits: one step of each, and what all of them give.
+use Rattle.std.proofs.Common.{◌≡◌, ℕ, zero, suc, ◌+◌, ◌<◌, Bool, true, false, List, [], ◌∷◌, ◌++◌, Option, Some, None, IfNone, IfSome, All, get_or, is_some, length, map, option_map, slice_get, take, if◌then◌else◌, refl, add-one, ap, ap₂, sym, ◌∙◌, subst, arith}
+use denote.Ref.{Bor}
+use Rattle.std.proofs.Math.Seq.{take-nil}
+use Rattle.std.proofs.lemmas.List.Elements.{All-from_recursion, recursion_from_All}
+use Rattle.std.specs.Arc.{arc_value}
+use Rattle.std.specs.FinMap.{entries, get}
+use Rattle.std.specs.List.{AllByRecursion, AllZip, cons_option, filter, filter_map}
+use Rattle.std.specs.Option.{option_and_then, option_map_or}
+use Rattle.std.specs.declared.alloc.Global.{Global}
+use Rattle.std.specs.declared.sync.Arc.{Arc}
+use Rattle.mg_collate.proofs.Directed.{directed_total}
+use Rattle.mg_collate.proofs.Sorting.{all_weaker, in_order, rises_sorted}
+use Rattle.mg_collate.specs.Row.{RowValue, directed_order}
+use Rattle.mg_collate.specs.Sorted.{IsInOrder, sorted_rows}
+use Rattle.mg_index.specs.Catalog.{definition_at}
+use Rattle.mg_index.specs.Definition.{IndexDefinition, Steps}
+use Rattle.mg_merge.proofs.Cuts.{cut_lists}
+use Rattle.mg_merge.specs.Merged.{merged}
+use Rattle.mg_merge.specs.Pulled.{IsGivenBy}
+use Rattle.mg_scan.specs.Found.{columns_of}
+use Rattle.mg_scan.specs.Hit.{AreHitsIn, IsHitIn, IsHitOf, hit_row}
+use Rattle.mg_scan.specs.Scan.{all_scanned, asked_documents, is_wanted}
+use Rattle.mg_scan.specs.Search.{all_found_by, asked_by, begin_at, entry_rows, found_by, walked_all_by}
+use Rattle.mg_scan.specs.Sourced.{AreKept, IsLeft, IsSourceOf, holds_for, left_rows, row_among, walked_documents, walked_on}
+use Rattle.mg_scan.specs.Walked.{holds_at, id_row, is_late_row}
+use Rattle.mg_scan.specs.declared.hit.Hit.{Hit}
+use Rattle.mg_scan.specs.declared.search.Search.{Search}
+use Rattle.mg_scan.specs.declared.source.HitSource.{HitSource}
+use Rattle.mg_scan.proofs.Entries.{Entry, all_forms, all_rows, own_rows, rows-beyond}
+use Rattle.mg_scan.proofs.Maps.{get-map, length-seen, some_is, zip_more}
+use Rattle.mg_scan.proofs.Steps.{holds_of, if_none, if_some, row_lent}
+use Rattle.mg_scan.proofs.Walking.{all_found_rows, named_id}
+use Rattle.mg_shard.proofs.Rows.{rises_where}
+use Rattle.mg_shard.specs.Documents.{KeptDocuments, docs_of, form_at, form_of, id_of, kept_entry, kept_of}
+use Rattle.mg_shard.specs.Own.{HasOwnId, all_columns}
+use Rattle.mg_shard.specs.Rows.{key_of, row_of, rows_of}
+use Rattle.mg_shard.specs.Shard.{ShardView, shards_seen}
+use Rattle.mg_shard.specs.Walk.{beyond}
+use Rattle.mg_shard.specs.declared.document.Document.{Document}
+use Rattle.mg_value.specs.Value.{Items, Value}
+
+-- ---- one step
+
+-- nothing is found from a late row on
+pub on_late : (late : RowValue → Bool) (holds : Bool) (total : List RowValue) (r : RowValue) (rest : List RowValue) → late r ≡ true → total ≡ walked_on late holds (Some r) rest → total ≡ []
+on_late late holds total r rest e is = is ∙ ap (λ b. if b then [] else if holds then r ∷ rest else rest) e
+
+-- a row that holds is found
+pub on_hit : (late : RowValue → Bool) (holds : Bool) (total : List RowValue) (r : RowValue) (rest : List RowValue) (hit : Option Hit) → late r ≡ false → option_map hit_row hit ≡ (if holds then Some r else None)
+    → total ≡ walked_on late holds (Some r) rest → IfSome hit (λ x. total ≡ hit_row x ∷ rest)
+on_hit late holds total r rest None e h is = tt
+on_hit late holds total r rest (Some x) e h is =
+    let found = if_some holds (hit_row x) r h in
+    is ∙ ap₂ (λ (b c : Bool). if b then [] else if c then r ∷ rest else rest) e found.0 ∙ ap (λ y. y ∷ rest) (sym found.1)
+
+-- another is passed over
+pub on_miss : (late : RowValue → Bool) (holds : Bool) (total : List RowValue) (r : RowValue) (rest : List RowValue) (hit : Option Hit) → late r ≡ false → option_map hit_row hit ≡ (if holds then Some r else None)
+    → is_some hit ≡ false → total ≡ walked_on late holds (Some r) rest → total ≡ rest
+on_miss late holds total r rest None e h none is =
+    is ∙ ap₂ (λ (b c : Bool). if b then [] else if c then r ∷ rest else rest) e (if_none holds r h)
+on_miss late holds total r rest (Some x) e h none is = absurd cc
+
+-- what holds of it where a fact does
+pub some_where : {P : Type 0} (hit : Option Hit) (Q : Hit → Type 0) → (P → IfSome hit Q) → IfSome hit (λ x. P → Q x)
+some_where None Q f = tt
+some_where (Some x) Q f = f
+
+-- ---- documents
+
+docs_step : (s : Search) (ds : KeptDocuments) (d : Document) (o : Option RowValue) (rest rows : List RowValue) → ((r : RowValue) → o ≡ Some r → r.1 ≡ id_of d) → get ds (id_of d) ≡ Some (kept_of d)
+    → rest ≡ walked_all_by s ds rows → walked_on (is_late_row s.direction s.range.now) (holds_for s.normal.now d) o rest ≡ walked_all_by s ds (cons_option o rows)
+docs_step s ds d None rest rows own is e = e
+docs_step s ds d (Some r) rest rows own is e =
+    ap₂ (λ h xs. walked_on (is_late_row s.direction s.range.now) h (Some r) xs) (holds_of s.normal.now ds d is ∙ ap (holds_at s.normal.now ds) (sym (own r refl))) e
+
+-- a document that has no row is passed over
+pub among_none : (s : Search) (d : Document) (documents : List Document) → None ≡ option_and_then (key_of all_columns) (form_of d) → walked_documents s (d ∷ documents) ≡ walked_documents s documents
+among_none s d documents e =
+    let late = is_late_row s.direction s.range.now in
+    ap (λ o. walked_on late (holds_for s.normal.now d) (option_map (λ key. (key, id_of d)) o) (walked_documents s documents)) (sym e)
+
+pub among_some : (s : Search) (d : Document) (documents : List Document) (key : Items) → Some key ≡ option_and_then (key_of all_columns) (form_of d)
+    → walked_documents s (d ∷ documents) ≡ walked_on (is_late_row s.direction s.range.now) (holds_for s.normal.now d) (Some (key, id_of d)) (walked_documents s documents)
+among_some s d documents key e =
+    let late = is_late_row s.direction s.range.now in
+    ap (λ o. walked_on late (holds_for s.normal.now d) (option_map (λ k. (k, id_of d)) o) (walked_documents s documents)) (sym e)
+
+-- the rows of documents that are kept are found by what is kept
+walked_rows : (s : Search) (ds : KeptDocuments) (documents : List Document) → AreKept ds documents → walked_documents s documents ≡ walked_all_by s ds (entry_rows (map kept_entry documents))
+walked_rows s ds [] h = refl
+walked_rows s ds (d ∷ documents) h =
+    docs_step s ds d (row_among d) (walked_documents s documents) (entry_rows (map kept_entry documents)) (λ r e. named_id (id_of d) (option_and_then (key_of all_columns) (form_of d)) r e) h.0 (walked_rows s ds documents h.1)
+    ∙ ap (λ o. walked_all_by s ds (cons_option o (entry_rows (map kept_entry documents)))) (sym (row_lent d (option_and_then (key_of all_columns) (form_of d)) refl))
+
+-- all that is found among all documents
+pub source_rows : (s : Search) (ds : KeptDocuments) (documents : List Document) → AreKept ds documents → ((id : List ℕ) (form : Value) → form_at ds id ≡ Some form → HasOwnId id form)
+    → map kept_entry documents ≡ beyond s.direction (λ e. begin_at s (id_row e.0)) (entries ds) → walked_documents s documents ≡ all_scanned (asked_by s all_columns) (docs_of ds)
+source_rows s ds documents kept own is =
+    walked_rows s ds documents kept
+    ∙ ap (λ (x : List Entry). walked_all_by s ds (entry_rows x)) is
+    ∙ ap (walked_all_by s ds) (rows-beyond s.direction (begin_at s) (entries ds) (own_rows ds own) ∙ ap (beyond s.direction (begin_at s)) (all_rows ds own))
+    ∙ all_found_rows (asked_by s all_columns) ds (beyond s.direction (begin_at s) (rows_of all_columns (docs_of ds))) (all_forms ds) refl
+
+-- ---- an index
+
+-- all that is found in an index
+pub all_indexed : (s : Search) (ds : KeptDocuments) (o : Option IndexDefinition) (rows : List RowValue)
+    → Some rows ≡ option_map (beyond s.direction (begin_at s)) (option_map (λ d. rows_of d.columns (docs_of ds)) o)
+    → walked_all_by s ds rows ≡ option_map_or (λ d. all_scanned (asked_by s d.columns) (docs_of ds)) o []
+all_indexed s ds None rows e = absurd cc
+all_indexed s ds (Some d) rows e = all_found_rows (asked_by s d.columns) ds rows (all_forms ds) (some_is rows (beyond s.direction (begin_at s) (rows_of d.columns (docs_of ds))) e)
+
+pub none_indexed : (s : Search) (ds : KeptDocuments) (o : Option IndexDefinition) → None ≡ option_map (beyond s.direction (begin_at s)) (option_map (λ d. rows_of d.columns (docs_of ds)) o)
+    → ◌≡◌ {A = List RowValue} [] (option_map_or (λ d. all_scanned (asked_by s d.columns) (docs_of ds)) o [])
+none_indexed s ds None e = refl
+none_indexed s ds (Some d) e = absurd cc
+
+-- ---- all that is found, and as much of it as is asked for
+
+ordered_or : (s : Search) (ds : KeptDocuments) (o : Option (List Steps)) → IsInOrder s.direction (option_map_or (λ columns. all_scanned (asked_by s columns) (docs_of ds)) o [])
+ordered_or s ds None = in_order (directed_order s.direction) (directed_total s.direction) [] tt
+ordered_or s ds (Some columns) =
+    let q = asked_by s columns in
+    let order = directed_order s.direction in
+    let rows = filter_map (row_of columns) (asked_documents q (docs_of ds)) in
+    in_order order (directed_total s.direction) (filter (is_wanted q) (sorted_rows s.direction rows))
+    (rises_where order (is_wanted q) (sorted_rows s.direction rows) (rises_sorted order (directed_total s.direction) rows))
+
+cut_or : (n : ℕ) (f : List Steps → List RowValue) (o : Option (List Steps)) → option_map_or (λ columns. take n (f columns)) o [] ≡ take n (option_map_or f o [])
+cut_or n f None = sym (take-nil n)
+cut_or n f (Some columns) = refl
+
+-- all that a shard has is in order
+found_in_order : (s : Search) (shard : ShardView) → IsInOrder s.direction (all_found_by s shard)
+found_in_order s shard = ordered_or s shard.documents (columns_of s.target shard.definitions)
+
+all_in_order : (s : Search) (shards : List ShardView) → AllByRecursion (IsInOrder s.direction) (map (all_found_by s) shards)
+all_in_order s [] = tt
+all_in_order s (shard ∷ shards) = (found_in_order s shard, all_in_order s shards)
+
+-- what is found, so much at most, is the first of all
+cut_found : (s : Search) (shards : List ShardView) → map (take s.take) (map (all_found_by s) shards) ≡ map (found_by s) shards
+cut_found s [] = refl
+cut_found s (shard ∷ shards) =
+    ap₂ (λ rows lists. rows ∷ lists) (sym (cut_or s.take (λ columns. all_scanned (asked_by s columns) (docs_of shard.documents)) (columns_of s.target shard.definitions))) (cut_found s shards)
+
+-- ---- the sources of all shards
+
+module _ (s : Search) where
+  zip_rests : (shards : List ShardView) (sources : List HitSource) → AllZip (IsSourceOf s) shards sources → map (λ (x : HitSource). left_rows x.search x.shard.now x.left) sources ≡ map (all_found_by s) shards
+  zip_rests [] [] h = refl
+  zip_rests [] (x ∷ sources) h = absurd h
+  zip_rests (shard ∷ shards) [] h = absurd h
+  zip_rests (shard ∷ shards) (x ∷ sources) h = ap₂ (λ rows lists. rows ∷ lists) h.0.rows (zip_rests shards sources h.1)
+
+  pub sources_size : (shards : List ShardView) (sources : List HitSource) → AllZip (IsSourceOf s) shards sources → length sources ≡ length shards
+  sources_size [] [] h = refl
+  sources_size [] (x ∷ sources) h = absurd h
+  sources_size (shard ∷ shards) [] h = absurd h
+  sources_size (shard ∷ shards) (x ∷ sources) h = ap suc (sources_size shards sources h.1)
+
+  -- the sources so far, and that of one shard more
+  pub sources_more : (shards : List (Arc ShardView Global)) (sources : List HitSource) (i : ℕ) (a : Arc ShardView Global) (shard : ShardView) (x : HitSource) → i < length shards → a ≡ get_or shards i a → shard ≡ arc_value a
+      → AllZip (IsSourceOf s) (take i (shards_seen shards)) sources → IsSourceOf s shard x → AllZip (IsSourceOf s) (take (i + 1) (shards_seen shards)) (sources ++ x ∷ [])
+  sources_more shards sources i a shard x less is same so here =
+      rw add-one (zip_more (IsSourceOf s) (shards_seen shards) sources i x (omega (arith, less, length-seen shards)) so
+      (λ t e. subst (λ (y : ShardView). IsSourceOf s y x) (same ∙ some_is (arc_value a) t (sym (get-map arc_value shards i a less is) ∙ e)) here))
+
+  -- what each has still to give is in order
+  pub sources_in_order : (shards : List ShardView) (sources : List HitSource) → AllZip (IsSourceOf s) shards sources
+      → All (IsInOrder s.direction) (map (λ (x : HitSource). left_rows x.search x.shard.now x.left) sources)
+  sources_in_order shards sources h =
+      subst (All (IsInOrder s.direction)) (sym (zip_rests shards sources h)) (All-from_recursion (IsInOrder s.direction) (map (all_found_by s) shards) (all_in_order s shards))
+
+  -- the merge of what they have is the merge of what is found, so much at most in each shard
+  pub sources_merged : (shards : List ShardView) (sources : List HitSource) → AllZip (IsSourceOf s) shards sources
+      → merged s.direction s.take (map (λ (x : HitSource). left_rows x.search x.shard.now x.left) sources) ≡ merged s.direction s.take (map (found_by s) shards)
+  sources_merged shards sources h =
+      ap (merged s.direction s.take) (zip_rests shards sources h)
+      ∙ sym (cut_lists s.direction s.take (map (all_found_by s) shards) (All-from_recursion (IsInOrder s.direction) (map (all_found_by s) shards) (all_in_order s shards)))
+      ∙ ap (merged s.direction s.take) (cut_found s shards)
+
+  -- the source of a place is that of the shard there
+  zip_at : (shards : List ShardView) (sources : List HitSource) (k : ℕ) → AllZip (IsSourceOf s) shards sources → k < length sources
+      → (shard : ShardView) × (x : HitSource) × (slice_get shards k ≡ Some shard) × (get_or sources k x ≡ x) × IsSourceOf s shard x
+  zip_at [] [] k h l = absurd (omega arith)
+  zip_at [] (x ∷ sources) k h l = absurd h
+  zip_at (shard ∷ shards) [] k h l = absurd h
+  zip_at (shard ∷ shards) (x ∷ sources) zero h l = (shard, x, refl, refl, h.0)
+  zip_at (shard ∷ shards) (x ∷ sources) (suc k) h l = zip_at shards sources k h.1 (omega arith)
+
+  abbrev lent : HitSource → Hit → Type 0
+  lent x = IsLeft x.shard.now x.left
+
+  given_in : (shards : List ShardView) (sources : List HitSource) → AllZip (IsSourceOf s) shards sources → (hit : Hit) → IsGivenBy lent sources hit → IsHitIn shards hit
+  given_in shards sources h hit given =
+      let at = zip_at shards sources given.0 h given.1 in
+      let x = at.1 in
+      record { place = given.0; shard = at.0; there = at.2; hit = at.4.hits hit (subst (λ (y : HitSource). lent y hit) at.3 (given.2 x)) }
+
+  -- what they give are hits in the shards
+  pub hits_given : (shards : List ShardView) (sources : List HitSource) → AllZip (IsSourceOf s) shards sources → (hits : List Hit) → All (IsGivenBy lent sources) hits → AreHitsIn shards hits
+  hits_given shards sources h hits given =
+      all_weaker (IsGivenBy lent sources) (IsHitIn shards) (given_in shards sources h) hits (recursion_from_All (IsGivenBy lent sources) hits given)

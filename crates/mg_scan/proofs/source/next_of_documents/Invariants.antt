@@ -1,0 +1,14 @@
+use Rattle.std.proofs.Common.{◌≡◌, length}
+use Rattle.mg_scan.specs.Sourced.{AreKept, walked_documents}
+use Rattle.mg_shard.specs.Documents.{KeptDocuments}
+use Rattle.mg_scan.proofs.source.next_of_documents.Given as goal
+
+-- nothing was found so far
+abbrev pub invariant-loop-document : goal.invariant-loop-document
+invariant-loop-document l = record {
+  left : (ds : KeptDocuments) → AreKept ds l.fn.documents → AreKept ds l.documents;
+  rows : walked_documents l.search l.fn.documents ≡ walked_documents l.search l.documents;
+}
+
+abbrev pub decreases-loop-document : goal.decreases-loop-document
+decreases-loop-document l = length l.documents

@@ -1,0 +1,59 @@
+-- For private clauses: the hits of a shard that are still to come.
+use Rattle.std.specs.Prelude.{◌≡◌, Bool, true, false, List, [], ◌∷◌, Option, Some, None, option_map, if◌then◌else◌}
+use Rattle.std.specs.FinMap.{get}
+use Rattle.std.specs.List.{AllByRecursion}
+use Rattle.std.specs.Option.{option_and_then, option_map_or}
+use Rattle.mg_collate.specs.Row.{RowValue, rows_view}
+use Rattle.mg_normal.specs.Normal.{NormalForm, normal_holds}
+use Rattle.mg_scan.specs.Hit.{IsHitOf}
+use Rattle.mg_scan.specs.Search.{all_found_by, walked_all_by}
+use Rattle.mg_scan.specs.Walked.{is_late_row}
+use Rattle.mg_scan.specs.declared.hit.Hit.{Hit}
+use Rattle.mg_scan.specs.declared.search.Search.{Search}
+use Rattle.mg_scan.specs.declared.source.Left.{Left}
+use Rattle.mg_scan.specs.declared.source.Left.TheVariants as left
+use Rattle.mg_scan.specs.declared.source.HitSource.{HitSource}
+use Rattle.mg_shard.specs.Documents.{KeptDocuments, form_of, id_of, kept_of}
+use Rattle.mg_shard.specs.Own.{all_columns}
+use Rattle.mg_shard.specs.Rows.{key_of}
+use Rattle.mg_shard.specs.Shard.{ShardView}
+use Rattle.mg_shard.specs.declared.document.Document.{Document}
+
+-- the selector holds of a document, which is served
+abbrev pub holds_for : NormalForm → Document → Bool
+holds_for normal d = option_map_or (λ form. normal_holds normal (Some form)) (form_of d) false
+
+-- the row of a document among all, if it is served with an id
+abbrev pub row_among : Document → Option RowValue
+row_among d = option_map (λ key. (key, id_of d)) (option_and_then (key_of all_columns) (form_of d))
+
+-- what is found from a document on, where its row is this, and this is found after it
+abbrev pub walked_on : (RowValue → Bool) → Bool → Option RowValue → List RowValue → List RowValue
+walked_on late holds None rest = rest
+walked_on late holds (Some r) rest = if late r then [] else if holds then r ∷ rest else rest
+
+-- all that a search finds on its way through documents
+abbrev pub walked_documents : Search → List Document → List RowValue
+walked_documents s [] = []
+walked_documents s (d ∷ ds) = walked_on (is_late_row s.direction s.range.now) (holds_for s.normal.now d) (row_among d) (walked_documents s ds)
+
+-- the documents are among those that are kept
+abbrev pub AreKept : KeptDocuments → List Document → Type 0
+AreKept kept ds = AllByRecursion (λ d. get kept (id_of d) ≡ Some (kept_of d)) ds
+
+-- the rows of the hits that are still to come
+abbrev pub left_rows : Search → ShardView → Left → List RowValue
+left_rows s shard (left.Rows rows) = walked_all_by s shard.documents (rows_view rows)
+left_rows s shard (left.Documents ds) = walked_documents s ds
+left_rows s shard left.Nothing = []
+
+-- what each of these is: a hit of the shard's documents, where the documents that are left are among these
+abbrev pub IsLeft : ShardView → Left → Hit → Type 0
+IsLeft shard (left.Rows rows) h = IsHitOf shard.documents h
+IsLeft shard (left.Documents ds) h = AreKept shard.documents ds → IsHitOf shard.documents h
+IsLeft shard left.Nothing h = IsHitOf shard.documents h
+
+-- a source of all that the search finds in a shard
+pub record IsSourceOf (search : Search) (s : ShardView) (source : HitSource) : Type 0 where
+  pub rows : left_rows source.search source.shard.now source.left ≡ all_found_by search s
+  pub hits : (h : Hit) → IsLeft source.shard.now source.left h → IsHitOf s.documents h

@@ -1,0 +1,72 @@
+//! The first hits of all shards together, found as the merge asks for them.
+ghost use Rattle.std.specs.Prelude.{◌≡◌, ◌+◌, ◌≤◌, length, map, option_map, IfOk};
+ghost use Rattle.std.specs.List.{AllZip};
+ghost use Rattle.mg_collate.specs.Row.{row_view};
+ghost use Rattle.mg_merge.specs.Merged.{merged};
+ghost use Rattle.mg_shard.specs.Shard.{shards_seen};
+ghost use Rattle.mg_scan.specs.Found.{asked, found_in};
+ghost use Rattle.mg_scan.specs.Hit.{AreHitsIn, hit_rows};
+ghost use Rattle.mg_scan.specs.Sourced.{IsSourceOf};
+
+use crate::hit::Hit;
+use crate::search::Search;
+use crate::source::{HitSource, source_of};
+use crate::target::Target;
+use mg_collate::{Direction, Row};
+use mg_merge::merge_pulled;
+use mg_normal::Normal;
+use mg_range::KeyRange;
+use mg_shard::Shard;
+use mg_value::NoMemory;
+use std::alloc::Global;
+use std::sync::Arc;
+
+/// The first `take` hits of all shards together, in the direction's order of their rows: in the target's rows that the direction lists
+/// strictly after the row, if one is named, those whose key is in the range and of whose document the selector holds. Beside them
+/// stands how many hits were looked for and found: at most `take`, and one more for each shard. All is done on the caller's thread.
+///
+/// Errors: `NoMemory` where a growth was refused. Cost: in each shard one look-up of where to begin; then for each row that is
+/// read, until those hits are found, a look-up of its document and the selector on it; the merge.
+pub fn pull_lent<'a>(
+    alloc: Global,
+    shards: &'a [Arc<Shard>],
+    target: Target<'_>,
+    normal: &Normal,
+    range: &KeyRange,
+    after: Option<&Row>,
+    take: usize,
+    direction: Direction,
+) -> Result<(Vec<Hit<'a>>, u64), NoMemory>
+    ensures rows { IfOk result (λ made. hit_rows made.0.items ≡ merged direction take
+        (map (found_in target.entry (asked normal.now range.now (option_map (λ r. row_view r.now) after.entry) take direction)) (shards_seen shards.now))) }
+    ensures hits { IfOk result (λ made. AreHitsIn (shards_seen shards.now) made.0.items) }
+    ensures pulled { IfOk result (λ made. made.1 ≤ take + length shards.now) }
+{
+    let search = Search {
+        target,
+        normal,
+        range,
+        after,
+        take,
+        direction,
+    };
+    let mut sources = sources_of(alloc, shards, search)?;
+    let (hits, pulled) = merge_pulled(alloc, &mut sources, direction, take)?;
+    Ok((hits, pulled))
+}
+
+// The hits of the search in each shard, as they are asked for.
+fn sources_of<'a, 'b>(
+    alloc: Global,
+    shards: &'a [Arc<Shard>],
+    search: Search<'b>,
+) -> Result<Vec<HitSource<'a, 'b>>, NoMemory>
+    ensures { IfOk result (λ sources. AllZip (IsSourceOf search.entry) (shards_seen shards.now) sources.items) }
+{
+    let mut sources = Vec::with_capacity(alloc, shards.len())?;
+    for i in 0..shards.len() {
+        let shard: &Shard = &shards[i];
+        sources.push(source_of(shard, search))?;
+    }
+    Ok(sources)
+}

@@ -1,0 +1,120 @@
+#!/usr/bin/env python3
+"""Counts what a commit of one document takes in a small and in a large database, which share their pages with the state before.
+
+usage: sharing.py --program PATH [--full]
+
+A program serves one client; it holds 1,000 documents with an index, and then another one 50,000 (with --full also 200,000). Bulks of one
+document each come in: edits of a thousand documents that are spread over all, each of which moves the document's row, and then a
+thousand new documents. In the large database a commit may make at most 1.3 times as many requests for memory as in the small one, and
+take at most 4 times its processor time (the least of three rounds): a copy of all pages, or of all that they hold, takes much more. The
+shim refuse/refuse.c counts the requests, and needs a C compiler, `cc`. The last line is 'N passed, M failed'.
+"""
+import contextlib
+import json
+import sys
+from pathlib import Path
+
+from common.arguments import arguments
+from common.refusal import refusals
+from common.server import started
+from common.tally import Tally
+from common.wire import Wire
+from conversations import post
+from sessions import reply_of
+
+SMALL, LARGE, LARGEST = 1_000, 50_000, 200_000
+COMMITS, ROUNDS, AT_ONCE = 1_000, 3, 50
+REQUESTS, TIME = 1.3, 4
+PIECE = 50_000
+ACCEPTED = reply_of(201, "[]")
+
+
+def bulk(documents):
+    return post("_bulk_docs", json.dumps({"docs": documents, "new_edits": False}).encode())
+
+
+def edit(name, turn):
+    """A replica's edit of a document, over its edit of the turn before; the first turn is 1."""
+    path = {"start": turn, "ids": [f"r{turn}", f"r{turn - 1}"][: min(turn, 2)]}
+    return {"_id": name, "_rev": f"{turn}-r{turn}", "_revisions": path, "n": hash_of(name) * 7 + turn}
+
+
+def hash_of(name):
+    """A number that spreads the documents over an index in another order than that of their ids."""
+    return int(name[1:]) * 7919 % 1_000_003
+
+
+class Database:
+    """A program with so many documents and an index, and one client."""
+
+    def __init__(self, words, refusal, size):
+        self.refusal, self.size = refusal, size
+        self.program, port = started(words, 1, refusal.environment)
+        self.client = Wire(port)
+        index = {"index": {"fields": ["n"]}, "ddoc": "x", "name": "by"}
+        self.is_made = b'"result":"created"' in self.client.ask(post("_index", json.dumps(index).encode()))
+        for first in range(0, size, PIECE):
+            documents = [edit(f"d{number:07}", 1) for number in range(first, min(first + PIECE, size))]
+            self.is_made &= self.client.ask(bulk(documents)) == ACCEPTED
+
+    def seconds(self):
+        """The processor time of all threads of the program so far."""
+        tasks = Path(f"/proc/{self.program.pid}/task").iterdir()
+        return sum(int((task / "schedstat").read_text().split()[0]) for task in tasks) / 1e9
+
+    def commits(self, messages):
+        """How many requests for memory and how much time such a commit takes, and whether each was accepted."""
+        self.refusal.reset()
+        before, accepted = self.seconds(), 0
+        for first in range(0, len(messages), AT_ONCE):
+            part = messages[first : first + AT_ONCE]
+            self.client.send(b"".join(part))
+            accepted += sum(self.client.reply() == ACCEPTED for _ in part)
+        took = self.seconds() - before
+        return self.refusal.calls("memory") / len(messages), took / len(messages), accepted == len(messages)
+
+    def edits(self, turn):
+        step = self.size // COMMITS
+        return [bulk([edit(f"d{number * step:07}", turn)]) for number in range(COMMITS)]
+
+    def additions(self, turn):
+        step = self.size // COMMITS
+        return [bulk([edit(f"d{number * step:07}{turn}", 1)]) for number in range(COMMITS)]
+
+    def close(self):
+        self.client.close()
+        self.program.kill()
+        self.program.communicate()
+
+
+def costs(words, refusal, size):
+    """Of edits and of additions: the requests and the least time of a commit in a database of so many documents. The last is whether all was
+    accepted."""
+    with contextlib.closing(Database(words, refusal, size)) as database:
+        rounds = {kind: [getattr(database, kind)(turn) for turn in range(2, 2 + ROUNDS)] for kind in ("edits", "additions")}
+        found = {kind: [database.commits(messages) for messages in turns] for kind, turns in rounds.items()}
+        is_fine = database.is_made and all(accepted for turns in found.values() for _, _, accepted in turns)
+    return {kind: (min(turn[0] for turn in turns), min(turn[1] for turn in turns)) for kind, turns in found.items()}, is_fine
+
+
+def main():
+    words, tally = arguments(__doc__), Tally()
+    words.shards, words.workers = "1", "1"
+    if not tally.needs("cc"):
+        return tally.end()
+    with refusals() as refusal:
+        small, is_fine = costs(words, refusal, SMALL)
+        tally.expect(f"{SMALL} documents, and each commit, were accepted", is_fine, True)
+        for size in (LARGE, LARGEST) if words.full else (LARGE,):
+            large, is_fine = costs(words, refusal, size)
+            tally.expect(f"{size} documents, and each commit, were accepted", is_fine, True)
+            for kind, (requests, time) in large.items():
+                more, longer = requests / small[kind][0], time / small[kind][1]
+                print(f"{kind} in {size} documents: {requests:.1f} requests, {time * 1e6:.0f} us, {more:.2f} and {longer:.2f} times those in {SMALL}")
+                tally.expect(f"{kind} in {size} documents, requests for memory ({more:.2f} times as many)", more <= REQUESTS, True)
+                tally.expect(f"{kind} in {size} documents, processor time ({longer:.2f} times as much)", longer <= TIME, True)
+    return tally.end()
+
+
+if __name__ == "__main__":
+    sys.exit(main())
