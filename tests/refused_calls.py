@@ -1,15 +1,16 @@
 #!/usr/bin/env python3
 """Refuses requests for memory to tests of crates/mg_tests, one at a time: what was refused has changed nothing.
 
-usage: refused_calls.py --program PATH [--tests PATH] [--full]
+usage: refused_calls.py --program PATH [--tests PATH]
 
 The tests are functions that look by themselves what became of a call that was refused: `Engine::run`, which then has run nothing, and each
 call of two seats, by a database's number of commits when it is closed. The shim refuse/refuse.c refuses the nth request for memory of
-such a test, for each n until a run meets no refusal (without --full not each). A run is right where the test passes, where it says at its
-end that a call was refused and all that it looked at is as it has to be, or where what the test needs by itself was refused. Each of
-these has to come, and no assertion may fail. The built tests are crates/mg_tests/out/mg_tests_tests, which the gate leaves there. The shim
+such a test, for each n until a run meets no refusal. A run is right where the test passes, where it says at its end that a call was
+refused and all that it looked at is as it has to be, or where what the test needs by itself was refused. Each of these has to come,
+and no assertion may fail. The built tests are crates/mg_tests/out/mg_tests_tests, which the gate leaves there. The shim
 needs a C compiler, `cc`. The last line is 'N passed, M failed'.
 """
+import itertools
 import sys
 from pathlib import Path
 
@@ -24,8 +25,7 @@ SAYS = {
     "commit_tests::two_seats_tell_each_other_and_close": {CALL},
     "commit_tests::a_reshard_is_one_commit_and_changes_no_page": {CALL},
 }
-OWN = {"AllocError", "out of memory"}
-RUNS = 150
+OWN = {"AllocError", "AllocFailed { .. }", "NoMemory", "out of memory"}
 
 
 def outcome(refusal, tests, name, request):
@@ -36,21 +36,19 @@ def outcome(refusal, tests, name, request):
     if status == 0:
         return "ok"
     line = said.decode("utf-8", "replace").split("\n")[0]
-    return line.removeprefix("error: ") if status == 101 and line.startswith("error: ") else f"{status} {said!r}"
+    return line.removeprefix("error: ").strip('"') if status == 101 and line.startswith("error: ") else f"{status} {said!r}"
 
 
-def outcomes(refusal, tests, name, full):
+def outcomes(refusal, tests, name):
     """Each outcome, and the requests that gave it."""
     found = {}
     found.setdefault(outcome(refusal, tests, name, 0), []).append(0)
     count = refusal.calls("memory")
-    request, step = 1, 1 if full else max(1, count // RUNS)
-    while True:
+    for request in itertools.count(1):
         said = outcome(refusal, tests, name, request)
         if not refusal.refused("memory"):
             return found, count
         found.setdefault(said, []).append(request)
-        request += step
 
 
 def main():
@@ -60,7 +58,7 @@ def main():
     elif tally.needs("cc"):
         with refusals() as refusal:
             for name, says in SAYS.items():
-                found, count = outcomes(refusal, words.tests, name, words.full)
+                found, count = outcomes(refusal, words.tests, name)
                 print(f"{name}, {count} requests: {', '.join(f'{len(found[said])} {said}' for said in sorted(found))}")
                 tally.expect(f"{name} with nothing refused", 0 in found.get("ok", ()), True)
                 strange = {said: requests[:3] for said, requests in found.items() if said not in says | OWN | {"ok"}}

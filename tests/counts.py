@@ -1,0 +1,49 @@
+#!/usr/bin/env python3
+"""Counts the instructions of requests of each kind, and compares them with those that bench/counts.json keeps.
+
+usage: counts.py --program PATH [--counts FILE]
+
+A kind fails where a request takes a tenth more instructions than the file says, so that speed is not lost unseen. Where it takes a tenth
+less, that is printed: then, or for a change that is worth its cost, `bench/misses --program PATH --write bench/counts.json` makes the file
+anew. The counts are those of valgrind, which hardly depend on the machine; the documents, requests and numbers of shards are those that
+the file names. Each reply is compared with the answer that the documents give. The last line is 'N passed, M failed'.
+"""
+import argparse
+import json
+import sys
+from pathlib import Path
+
+TOP = Path(__file__).resolve().parent.parent
+sys.path.insert(0, str(TOP / "bench"))
+
+from common.tally import Tally
+from measuring.counted import of_sizes
+
+MORE = 1.1
+
+
+def compare(tally, name, counted, kept):
+    """Compares the instructions of one kind of request."""
+    change = f"{counted:,} instructions a request, {counted / kept:.2f} times the {kept:,} of the file"
+    tally.count(name, [change] if counted > kept * MORE else [])
+    if counted < kept / MORE:
+        print(f"{name}: {change}, which can be made anew", flush=True)
+
+
+def main():
+    parser = argparse.ArgumentParser(description=__doc__, formatter_class=argparse.RawDescriptionHelpFormatter)
+    parser.add_argument("--program", required=True)
+    parser.add_argument("--counts", default=TOP / "bench" / "counts.json")
+    words = parser.parse_args()
+    tally = Tally()
+    with open(words.counts) as file:
+        kept = json.load(file)
+    if tally.needs("valgrind") and tally.needs("callgrind_control"):
+        for setting, kinds in of_sizes(words.program, kept["sizes"]).items():
+            for kind, (instructions, _) in kinds.items():
+                compare(tally, f"{kind}, {setting} shards and workers", instructions, kept["counts"][setting][kind][0])
+    return tally.end()
+
+
+if __name__ == "__main__":
+    sys.exit(main())
