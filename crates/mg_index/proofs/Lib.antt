@@ -2,3 +2,4 @@ pub mod Catalogs
 pub mod Fields
 pub mod Paths
 pub mod Best
+mod Faults

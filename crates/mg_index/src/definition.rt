@@ -1,4 +1,5 @@
-ghost use Rattle.std.specs.Prelude.{◌≡◌, IfOk, map, string_bytes};
+ghost use Rattle.std.specs.Prelude.{◌≡◌, Err, IfOk, map, string_bytes, unwrap_or};
+ghost use Rattle.std.specs.Result.{result_err};
 ghost use Rattle.mg_value.specs.View.{view as json_view};
 ghost use Rattle.mg_path.specs.Equal.{path_eq};
 ghost use Rattle.mg_index.specs.Catalog.{is_at as is_the_one, definition_order};
@@ -7,6 +8,7 @@ ghost use Rattle.mg_index.specs.Same.{is_same_definition};
 ghost use Rattle.mg_index.specs.Reading.{Gives, definition_of};
 
 use crate::error::IndexError;
+use crate::fault::fault_of;
 use crate::field::is_same;
 use crate::listing::fields_json;
 use crate::reader;
@@ -57,12 +59,16 @@ impl IndexDef {
     ///   there; `partitioned`, false if it is there. Other members are ignored.
     ///
     /// Errors: `Shape` for any other body, or a path with an empty step; then `Mixed` for columns in both
-    /// directions; `NoMemory` where a growth is refused. Cost: the size of the body.
+    /// directions; `NoMemory` where a growth is refused, and never where the body has a fault. Cost: the size of the body.
     /// Source: `_index` of CouchDB's API reference.
     pub fn read(alloc: Global, body: &Json) -> Result<IndexDef, IndexError>
-        ensures { Gives (λ d. d) result (definition_of (json_view body.now)) }
+        ensures reading { Gives (λ d. d) result (definition_of (json_view body.now)) }
+        ensures refused { (e : IndexError) → definition_of (json_view body.now) ≡ Err e → result ≡ Err e }
     {
-        reader::read_definition(alloc, body)
+        match reader::read_definition(alloc, body) {
+            Err(IndexError::NoMemory) => Err(fault_or_refusal(alloc, body)),
+            read => read,
+        }
     }
 
     /// The name of the design document, which begins with `_design/`. Takes no memory.
@@ -146,6 +152,13 @@ impl IndexDef {
             && are_same_texts(&self.texts, &other.texts)
             && self.columns == other.columns
     }
+}
+
+// The fault of a body for which memory was refused, or that refusal.
+fn fault_or_refusal(alloc: Global, body: &Json) -> IndexError
+    ensures { result ≡ unwrap_or (result_err (definition_of (json_view body.now))) IndexError.NoMemory }
+{
+    fault_of(alloc, body).unwrap_or(IndexError::NoMemory)
 }
 
 fn are_same_texts(texts: &[String], others: &[String]) -> bool

@@ -7,6 +7,7 @@ mod choice;
 mod column;
 mod definition;
 mod error;
+mod fault;
 mod field;
 pub mod laws;
 mod listing;

@@ -1,5 +1,5 @@
 // How the body of an `_index` is read.
-ghost use Rattle.std.specs.Prelude.{◌≡◌, IfOk, Some, option_map};
+ghost use Rattle.std.specs.Prelude.{◌≡◌, IfOk, Some, is_err, is_none, option_map};
 ghost use Rattle.mg_value.specs.Value.{object};
 ghost use Rattle.mg_value.specs.View.{view, members_view};
 ghost use Rattle.mg_index.specs.Reading.{Gives, or_fault, definition_of, columns_read, is_plain as asks_plainly, is_json_type as names_json, is_no_filter as keeps_all, is_not_partitioned as has_one_part, member_of_index as member_in_index, definition_named as named_by, text_given as given_text};
@@ -37,9 +37,10 @@ fn read_fields(alloc: Global, fields: Option<&Json>) -> Result<Columns, IndexErr
 }
 
 // A text that is not empty, if it is there.
-fn text_given(value: Option<&Json>) -> Result<Option<&str>, IndexError>
-    ensures { Gives (option_map (λ t. t.now)) result
+pub(crate) fn text_given(value: Option<&Json>) -> Result<Option<&str>, IndexError>
+    ensures text { Gives (option_map (λ t. t.now)) result
         (or_fault IndexError.Shape (given_text (option_map (λ j. view j.now) value.entry))) }
+    ensures fault { is_err result ≡ is_none (given_text (option_map (λ j. view j.now) value.entry)) }
 {
     match value {
         None => Ok(None),
@@ -77,7 +78,7 @@ fn named(
 }
 
 // Whether the body asks for a JSON index of all documents.
-fn is_plain(body: &Json) -> bool
+pub(crate) fn is_plain(body: &Json) -> bool
     ensures { result ≡ asks_plainly (view body.now) }
 {
     is_json_type(body.member("type"))
@@ -123,7 +124,7 @@ fn is_not_partitioned(value: Option<&Json>) -> bool
 }
 
 // The member of `index` that has this name.
-fn member_of_index<'a>(body: &'a Json, name: &str) -> Option<&'a Json>
+pub(crate) fn member_of_index<'a>(body: &'a Json, name: &str) -> Option<&'a Json>
     ensures { option_map (λ v. view v.now) result ≡ member_in_index name.now (view body.now) }
 {
     body.member("index")?.member(name)

@@ -1,5 +1,5 @@
 //! Ordered collections in shared pages.
-ghost use Rattle.std.specs.Prelude.{◌≡◌, ◌↔◌, [], ◌∷◌, Some, length, IfOk, IfSome, IsSome, IsTrue, OnOk, OnErr, is_some, option_map, reverse};
+ghost use Rattle.std.specs.Prelude.{◌≡◌, ◌↔◌, [], ◌∷◌, None, Ok, Some, false, length, IfOk, IfSome, IsSome, IsTrue, OnOk, OnErr, is_some, option_map, reverse};
 ghost use Rattle.std.specs.Arc.{arc_value};
 ghost use Rattle.mg_pages.specs.Order.{Ascends, above, below, found, from, inserted, removed, upto};
 ghost use Rattle.mg_pages.specs.Runs.{IsRun, IsEndRun};
@@ -332,10 +332,11 @@ impl<T: Keyed> Pages<T> {
     /// Takes out the element that ties with the key, and says whether there was one. Where there is none, nothing
     /// is copied.
     ///
-    /// Errors: `NoMemory` where a growth was refused; then nothing has changed. Cost: as of `insert`.
+    /// Errors: `NoMemory` where a growth was refused, and never where there is none; then nothing has changed. Cost: as of `insert`.
     pub fn remove<Q: Probe<T>>(&mut self, alloc: Global, key: &Q) -> Result<bool, NoMemory>
         ensures had { IfOk result (λ had. had ≡ is_some (found (Q.against key.now) self.old)) }
         ensures ok { OnOk result (self.new ≡ removed (Q.against key.now) self.old) }
+        ensures absent { found (Q.against key.now) self.old ≡ None → (result ≡ Ok false) × (self.new ≡ self.old) }
         ensures err { OnErr result (self.new ≡ self.old) }
     {
         if self.get(key).is_none() {
