@@ -1,3 +1,4 @@
 mod Arms
 mod Elements
 mod Names
+mod Faults

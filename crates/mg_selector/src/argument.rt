@@ -1,4 +1,5 @@
 ghost use Rattle.std.specs.Prelude.{◌≡◌};
+ghost use Rattle.std.specs.Result.{result_err};
 ghost use Rattle.mg_value.specs.Value.{list};
 ghost use Rattle.mg_value.specs.View.{view, items_view};
 ghost use Rattle.mg_selector.specs.Argument.{exists_of, type_of, size_of, modulo_of, modulo_by, array_of};
@@ -35,8 +36,9 @@ pub(crate) fn read_operator(alloc: Global, test: Test, value: &Json) -> Result<O
     }
 }
 
-fn read_exists(value: &Json) -> Result<Op, SelError>
-    ensures { Gives operator_of result (exists_of (view value.now)) }
+pub(crate) fn read_exists(value: &Json) -> Result<Op, SelError>
+    ensures operator { Gives operator_of result (exists_of (view value.now)) }
+    ensures fault { result_err result ≡ result_err (exists_of (view value.now)) }
 {
     match value {
         Json::Flag(there) => Ok(Op::Exists(*there)),
@@ -44,8 +46,9 @@ fn read_exists(value: &Json) -> Result<Op, SelError>
     }
 }
 
-fn read_type(value: &Json) -> Result<Op, SelError>
-    ensures { Gives operator_of result (type_of (view value.now)) }
+pub(crate) fn read_type(value: &Json) -> Result<Op, SelError>
+    ensures operator { Gives operator_of result (type_of (view value.now)) }
+    ensures fault { result_err result ≡ result_err (type_of (view value.now)) }
 {
     match value {
         Json::Text(name) => match JsonType::named(name.as_str()) {
@@ -56,8 +59,9 @@ fn read_type(value: &Json) -> Result<Op, SelError>
     }
 }
 
-fn read_size(value: &Json) -> Result<Op, SelError>
-    ensures { Gives operator_of result (size_of (view value.now)) }
+pub(crate) fn read_size(value: &Json) -> Result<Op, SelError>
+    ensures operator { Gives operator_of result (size_of (view value.now)) }
+    ensures fault { result_err result ≡ result_err (size_of (view value.now)) }
 {
     match value {
         Json::Whole(size) if *size >= 0 => Ok(Op::Size(size.unsigned_abs())),
@@ -65,8 +69,9 @@ fn read_size(value: &Json) -> Result<Op, SelError>
     }
 }
 
-fn read_mod(value: &Json) -> Result<Op, SelError>
-    ensures { Gives operator_of result (modulo_of (view value.now)) }
+pub(crate) fn read_mod(value: &Json) -> Result<Op, SelError>
+    ensures operator { Gives operator_of result (modulo_of (view value.now)) }
+    ensures fault { result_err result ≡ result_err (modulo_of (view value.now)) }
 {
     match value {
         Json::List(items) => modulo_of(items),
@@ -75,7 +80,8 @@ fn read_mod(value: &Json) -> Result<Op, SelError>
 }
 
 fn modulo_of(items: &[Json]) -> Result<Op, SelError>
-    ensures { Gives operator_of result (modulo_of (list (items_view items.now))) }
+    ensures operator { Gives operator_of result (modulo_of (list (items_view items.now))) }
+    ensures fault { result_err result ≡ result_err (modulo_of (list (items_view items.now))) }
 {
     if items.len() != 2 {
         return Err(SelError::BadArg);
@@ -84,7 +90,8 @@ fn modulo_of(items: &[Json]) -> Result<Op, SelError>
 }
 
 fn modulo(divisor: &Json, remainder: &Json) -> Result<Op, SelError>
-    ensures { Gives operator_of result (modulo_by (view divisor.now) (view remainder.now)) }
+    ensures operator { Gives operator_of result (modulo_by (view divisor.now) (view remainder.now)) }
+    ensures fault { result_err result ≡ result_err (modulo_by (view divisor.now) (view remainder.now)) }
 {
     match (divisor, remainder) {
         (Json::Whole(divisor), Json::Whole(remainder)) => match NonZeroI64::new(*divisor) {

@@ -5,6 +5,7 @@ mod argument;
 mod copy;
 mod entry;
 mod error;
+mod fault;
 mod json_type;
 mod meaning;
 mod operator;

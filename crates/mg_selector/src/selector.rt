@@ -1,7 +1,10 @@
-ghost use Rattle.std.specs.Prelude.{◌≡◌, Some, Err, IfOk};
+ghost use Rattle.std.specs.Prelude.{◌≡◌, Some, Err, IfOk, unwrap_or};
+ghost use Rattle.std.specs.Result.{result_err};
+ghost use Rattle.mg_selector.specs.Reading.{reading};
 ghost use Rattle.mg_value.specs.View.{view};
 
 use crate::error::SelError;
+use crate::fault::fault_of;
 use crate::operator::Op;
 use crate::sense::Sense;
 use crate::{copy, meaning, reader};
@@ -31,7 +34,7 @@ pub enum Sel {
 
 impl Sel {
     ghost use Rattle.mg_selector.specs.Meaning.{holds_in};
-    ghost use Rattle.mg_selector.specs.Reading.{Gives, IsObject, reading};
+    ghost use Rattle.mg_selector.specs.Reading.{Gives, IsObject};
     ghost use Rattle.mg_selector.specs.View.{selector_of};
 
     /// Reads a selector such as `{"a":{"$gt":1},"b.c":2}`. With `$` in front, a name asks an operator of
@@ -41,13 +44,17 @@ impl Sel {
     /// Errors: `Shape` for a value that is no object; else the first fault, members in the order
     /// of their names, each with what is inside it: `InvalidOperator` for a name that no operator has,
     /// `BadArg` for an argument that its operator does not take, or a path with an empty step. `NoMemory`
-    /// where a growth is refused, and never in place of `Shape`.
+    /// where a growth is refused, and never where the value has a fault.
     /// Cost: the size of the value. Source: the selector syntax of CouchDB's `_find`.
     pub fn read(alloc: Global, value: &Json) -> Result<Sel, SelError>
         ensures reading { Gives selector_of result (reading (view value.now)) }
         ensures shape { ¬ IsObject (view value.now) → result ≡ Err SelError.Shape }
+        ensures refused { (e : SelError) → reading (view value.now) ≡ Err e → result ≡ Err e }
     {
-        reader::read(alloc, value)
+        match reader::read(alloc, value) {
+            Err(SelError::NoMemory) => Err(fault_or_refusal(alloc, value)),
+            read => read,
+        }
     }
 
     /// Whether the selector holds of the document. No memory is taken.
@@ -66,4 +73,11 @@ impl Sel {
     {
         copy::copied(alloc, self)
     }
+}
+
+// The fault of a value for which memory was refused, or that refusal.
+fn fault_or_refusal(alloc: Global, value: &Json) -> SelError
+    ensures { result ≡ unwrap_or (result_err (reading (view value.now))) SelError.NoMemory }
+{
+    fault_of(alloc, value).unwrap_or(SelError::NoMemory)
 }
