@@ -57,11 +57,12 @@ scan_sync a b c d e G gate =
     closure_sync (scan_holds a b c d e G)
     (lent_sync [] Global.the_row sync, (shards_sync a, (lent_sync b _ (search_sync (record { mir = named 0; lft = c })), (lent_sync d Word.the_row word_sync, (lent_sync e G gate, tt)))))
 
--- what a worker of a build holds: the allocator, the shards, the definition, the place that it counts from, and the gate
-abbrev build_holds : Lft → Lft → Lft → RattleType → List RattleType
-build_holds a b c G = lent [] Global.the_row ∷ shards_for a ∷ lent b IndexDef.the_row ∷ lent [] usize ∷ lent c G ∷ []
+-- what a worker of a build holds: the threads, the allocator, the shards, the definition, the place that it counts from, how many workers
+-- extract the rows of a shard, and the gate
+abbrev build_holds : Lft → Lft → Lft → Lft → RattleType → RattleType → List RattleType
+build_holds a b c d R G = lent a R ∷ lent [] Global.the_row ∷ shards_for b ∷ lent c IndexDef.the_row ∷ lent [] usize ∷ lent [] usize ∷ lent d G ∷ []
 
-pub build_sync : (a b c : Lft) (G : RattleType) → IsSync G → IsSync (TupleAt [] (build_holds a b c G))
-build_sync a b c G gate =
-    closure_sync (build_holds a b c G)
-    (lent_sync [] Global.the_row sync, (shards_sync a, (lent_sync b IndexDef.the_row definition_sync, (lent_sync [] usize count_sync, (lent_sync c G gate, tt)))))
+pub build_sync : (a b c d : Lft) (R G : RattleType) → IsSync R → IsSync G → IsSync (TupleAt [] (build_holds a b c d R G))
+build_sync a b c d R G threads gate =
+    closure_sync (build_holds a b c d R G)
+    (lent_sync a R threads, (lent_sync [] Global.the_row sync, (shards_sync b, (lent_sync c IndexDef.the_row definition_sync, (lent_sync [] usize count_sync, (lent_sync [] usize count_sync, (lent_sync d G gate, tt)))))))

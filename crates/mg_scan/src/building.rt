@@ -3,6 +3,7 @@ ghost use Rattle.std.specs.Prelude.{◌≡◌, ◌+◌, ◌^◌, ◌<◌, ◌≤
 ghost use Rattle.mg_scan.specs.Built.{with_index};
 ghost use Rattle.mg_scan.specs.Building.{AreRowsAt, AreRowsFrom, HasRowsAt};
 ghost use Rattle.mg_shard.specs.Shard.{shards_seen};
+ghost use Rattle.std.specs.Thread.{IsSync};
 
 use crate::gate::{Gate, Place};
 use mg_collate::Row;
@@ -15,12 +16,14 @@ use std::sync::Arc;
 use std::thread;
 use std::thread::Threads;
 
-// The rows that the index has in the i-th shard, between two passes of the gate.
-fn rows_at<G: Gate>(
+// The rows that the index has in the i-th shard, extracted by so many workers between two passes of the gate.
+fn rows_at<R: Threads + Sync, G: Gate>(
+    rt: &R,
     alloc: Global,
     shards: &[Arc<Shard>],
     definition: &IndexDef,
     i: usize,
+    workers: usize,
     gate: &G,
 ) -> Result<Vec<Row>, NoMemory>
     requires { i < length shards.now }
@@ -28,16 +31,18 @@ fn rows_at<G: Gate>(
 {
     gate.at(Place::ShardBegun(i));
     let shard: &Shard = &shards[i];
-    let rows = shard.rows_for(alloc, definition)?;
+    let rows = shard.rows_for(rt, alloc, definition, workers)?;
     gate.at(Place::ShardDone(i));
     Ok(rows)
 }
 
-// The rows that the index has in each shard, extracted here.
-fn extracted_here<G: Gate>(
+// The rows that the index has in each shard, one shard after the other, each by so many workers.
+fn extracted_in_turn<R: Threads + Sync, G: Gate>(
+    rt: &R,
     alloc: Global,
     shards: &[Arc<Shard>],
     definition: &IndexDef,
+    workers: usize,
     gate: &G,
 ) -> Result<Vec<Result<Vec<Row>, NoMemory>>, NoMemory>
     ensures rows { IfOk result (λ v. AreRowsAt definition.now (shards_seen shards.now) v.items) }
@@ -45,13 +50,13 @@ fn extracted_here<G: Gate>(
 {
     let mut all = Vec::new(alloc);
     for i in 0..shards.len() {
-        let rows = rows_at(alloc, shards, definition, i, gate);
+        let rows = rows_at(rt, alloc, shards, definition, i, workers, gate);
         all.push(rows)?;
     }
     Ok(all)
 }
 
-// The rows that the index has in so many shards from a place on, extracted by a thread each.
+// The rows that the index has in so many shards from a place on, extracted by a thread each, which has so many workers.
 fn extracted_at_once<R: Threads + Sync, G: Gate + Sync>(
     rt: &R,
     alloc: Global,
@@ -59,6 +64,7 @@ fn extracted_at_once<R: Threads + Sync, G: Gate + Sync>(
     definition: &IndexDef,
     from: usize,
     count: usize,
+    workers: usize,
     gate: &G,
 ) -> Result<Vec<Result<Vec<Row>, NoMemory>>, AllocError>
     requires { from + count ≤ length shards.now }
@@ -70,14 +76,14 @@ fn extracted_at_once<R: Threads + Sync, G: Gate + Sync>(
         alloc,
         count,
         &|k: usize| -> Result<Vec<Row>, NoMemory>
-            requires { (from + k < length shards.now) × (from + k < 2 ^ 64) }
+            requires { IsSync R.row × (from + k < length shards.now) × (from + k < 2 ^ 64) }
             ensures { HasRowsAt definition.entry.now (shards_seen shards.entry.now) (from + k) result }
-        { rows_at(alloc, shards, definition, from + k, gate) },
+        { rows_at(rt, alloc, shards, definition, from + k, workers, gate) },
     )?;
     Ok(rows)
 }
 
-// The rows that the index has in each shard, extracted by so many threads at a time.
+// The rows that the index has in each shard, extracted by so many threads at a time. Workers that are left over help with the last shards.
 fn extracted_by_threads<R: Threads + Sync, G: Gate + Sync>(
     rt: &R,
     alloc: Global,
@@ -94,13 +100,14 @@ fn extracted_by_threads<R: Threads + Sync, G: Gate + Sync>(
     while all.len() < shards.len() {
         let from = all.len();
         let count = workers.min(shards.len() - from);
-        let mut more = extracted_at_once(rt, alloc, shards, definition, from, count, gate)?;
+        let each = workers / count;
+        let mut more = extracted_at_once(rt, alloc, shards, definition, from, count, each, gate)?;
         all.append(&mut more)?;
     }
     Ok(all)
 }
 
-// The rows that the index has in each shard, extracted here or by threads.
+// The rows that the index has in each shard, extracted one shard after the other or several at once.
 fn extracted<R: Threads + Sync, G: Gate + Sync>(
     rt: &R,
     alloc: Global,
@@ -113,7 +120,7 @@ fn extracted<R: Threads + Sync, G: Gate + Sync>(
     ensures len { IfOk result (λ v. vec_len v ≡ length shards.now) }
 {
     if workers < 2 || shards.len() < 2 {
-        return extracted_here(alloc, shards, definition, gate);
+        return extracted_in_turn(rt, alloc, shards, definition, workers, gate);
     }
     extracted_by_threads(rt, alloc, shards, definition, workers, gate)
 }
@@ -173,7 +180,8 @@ fn with_all(
 }
 
 /// The shards, each with an index of this definition, instead of one of its design document and name: what `Shard::with_index` makes of
-/// each, for every number of workers, from 1 to 32, and for every gate. One worker starts no thread.
+/// each, for every number of workers, from 1 to 32, and for every gate. One worker starts no thread. Several take a shard each; where there
+/// are twice as many workers as shards left, as many threads extract the rows of a large shard as there are processors.
 ///
 /// The gate is passed before a shard's first document is read and after its last row is made.
 /// Errors: `NoMemory` where a growth was refused. Cost: each document once, and its row to its place.

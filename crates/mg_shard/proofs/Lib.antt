@@ -9,3 +9,4 @@ pub mod Keys
 pub mod Keyed
 pub mod Walks
 pub mod Owned
+pub mod Extracting

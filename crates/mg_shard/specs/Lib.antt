@@ -13,3 +13,4 @@ pub mod Laws
 pub mod Own
 pub mod Walk
 pub mod Left
+pub mod Extracted

@@ -4,6 +4,7 @@
 mod docs;
 mod document;
 mod draft;
+mod extracted;
 mod index;
 mod indexes;
 pub mod laws;

@@ -5,7 +5,7 @@ ghost use Rattle.std.specs.FinMap.{entries, get};
 ghost use Rattle.std.specs.declared.cmp.Ordering.{Ordering};
 ghost use Rattle.mg_value.specs.View.{view};
 ghost use Rattle.mg_value.specs.Text.{compact};
-ghost use Rattle.mg_shard.specs.Documents.{Kept, docs_of, kept_entry, form_at, id_of, kept_of, tree_at, StandFor};
+ghost use Rattle.mg_shard.specs.Documents.{Kept, docs_of, kept_entry, form_at, id_of, kept_of, lent, tree_at, StandFor};
 ghost use Rattle.mg_shard.specs.Own.{HasOwnId};
 ghost use Rattle.mg_shard.specs.Walk.{beyond};
 ghost use Rattle.mg_shard.specs.declared.document.Document.{Document};
@@ -24,6 +24,7 @@ ghost use Rattle.std.specs.List.{filter_map};
 use crate::docs::Docs;
 use crate::document::Document;
 use crate::draft::Draft;
+use crate::extracted::{MANY_DOCUMENTS, rows_by_threads, sorted_by_threads};
 use crate::index::{IndexRows, pages_of, row_in, sorted_rows};
 use crate::indexes::{index_at, shared, with, without};
 use crate::reply::EditReply;
@@ -39,6 +40,7 @@ use std::alloc::Global;
 use std::cmp::Ordering;
 use std::marker::Model;
 use std::sync::Arc;
+use std::thread::Threads;
 
 /// Documents by their ids and the rows of indexes, in shared pages: a share of a shard costs its tops alone, and an edit copies a
 /// document, a row or two for each index, and the ways to them.
@@ -303,14 +305,38 @@ impl Shard {
         Ok(rows)
     }
 
-    /// The rows that an index of this definition has in this shard, by key and id: what `with_rows` asks for.
+    // The served documents, lent in the order of their ids.
+    fn lent_docs(&self, alloc: Global) -> Result<Vec<(&str, &Json)>, NoMemory>
+        ensures { IfOk result (λ documents. map lent documents.items ≡ docs_of self.now.documents) }
+    {
+        let mut documents = Vec::with_capacity(alloc, self.documents.len())?;
+        for document in self.docs() {
+            documents.push(document)?;
+        }
+        Ok(documents)
+    }
+
+    /// The rows that an index of this definition has in this shard, by key and id: what `with_rows` asks for, the same for every number
+    /// of workers. One worker starts no thread, and nor does a shard of fewer than 1,000 documents; otherwise as many threads
+    /// extract the rows and sort them as there are processors.
     ///
     /// Errors: `NoMemory` where a growth was refused. Cost: each document once, a copy of its key, and the rows sorted.
-    pub fn rows_for(&self, alloc: Global, definition: &IndexDef) -> Result<Vec<Row>, NoMemory>
+    pub fn rows_for<R: Threads + Sync>(
+        &self,
+        rt: &R,
+        alloc: Global,
+        definition: &IndexDef,
+        workers: usize,
+    ) -> Result<Vec<Row>, NoMemory>
         ensures { IfOk result (λ rows. rows_view rows.items ≡ rows_of definition.now.columns (docs_of self.now.documents)) }
     {
-        let rows = self.unsorted(alloc, definition.columns())?;
-        Ok(sorted_rows(rows)?)
+        if workers < 2 || self.documents.len() < MANY_DOCUMENTS {
+            let rows = self.unsorted(alloc, definition.columns())?;
+            return Ok(sorted_rows(rows)?);
+        }
+        let documents = self.lent_docs(alloc)?;
+        let rows = rows_by_threads(rt, alloc, definition.columns(), &documents)?;
+        Ok(sorted_by_threads(rt, rows))
     }
 
     // The shard with an index of these rows, instead of one of its design document and name.

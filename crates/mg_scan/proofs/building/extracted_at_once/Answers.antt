@@ -13,7 +13,7 @@ pub map_indices-requires-send-X : goal.map_indices-requires-send-X
 map_indices-requires-send-X g c κs within = search (sendable, crosses, maps, row_send) depth 40
 
 pub map_indices-requires-sync-F : goal.map_indices-requires-sync-F
-map_indices-requires-sync-F g c κs within = record { shared = (build_sync _ _ _ _ c.type_bounds.sync-G).shared }
+map_indices-requires-sync-F g c κs within = record { shared = (build_sync _ _ _ _ _ _ c.type_bounds.sync-R c.type_bounds.sync-G).shared }
 
 pub returns-clause-rows : goal.returns-clause-rows
 returns-clause-rows g c =
