@@ -1,0 +1,7 @@
+use Rattle.std.proofs.Common.{◌++◌, ap, ◌∙◌}
+use Rattle.mg_packed.specs.Packed.{word}
+use Rattle.mg_packed.proofs.build.push_word.Goals as goal
+
+pub returns : goal.returns
+unfolding word
+returns c = c.in_ok-extend_from_slice.ensures.items ∙ ap (λ b. c.args.out.now.items ++ b) c.to_le_bytes.ensures

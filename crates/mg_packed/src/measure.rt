@@ -1,0 +1,121 @@
+// How many bytes a value takes. The walk also shows that the value can be packed at all.
+ghost use Rattle.std.specs.Prelude.{◌≡◌, ◌+◌, length, FitsSigned, IfOk, OnOk};
+ghost use Rattle.std.specs.Int.{w64};
+ghost use Rattle.mg_value.specs.Value.{whole, text as string, list, object};
+ghost use Rattle.mg_value.specs.View.{view, items_view, members_view};
+ghost use Rattle.mg_packed.specs.Packed.{packed};
+ghost use Rattle.mg_packed.specs.Kept.{IsKept, ItemsAreKept, MembersAreKept};
+ghost use Rattle.mg_packed.specs.Sizes.{items_size, members_size};
+
+use mg_value::{Json, NoMemory};
+use std::collections::BTreeMap;
+
+// The greatest length that a word holds.
+const LONGEST: usize = 4_294_967_295;
+
+// The length as a word. A length that needs more bits counts as memory that is not there.
+pub(crate) fn as_word(len: usize) -> Result<u32, NoMemory>
+    ensures { IfOk result (λ n. n ≡ len) }
+{
+    if len <= LONGEST {
+        Ok(len as u32)
+    } else {
+        Err(NoMemory)
+    }
+}
+
+fn add(a: u32, b: u32) -> Result<u32, NoMemory>
+    ensures { IfOk result (λ n. n ≡ a + b) }
+{
+    a.checked_add(b).ok_or(NoMemory)
+}
+
+// A text with its length, and `more` bytes beside it.
+fn named_len(name: &str, more: u32) -> Result<u32, NoMemory>
+    ensures { IfOk result (λ n. n ≡ 4 + length name.now + more) }
+{
+    add(add(4, as_word(name.len())?)?, more)
+}
+
+fn text_len(text: &str) -> Result<u32, NoMemory>
+    ensures { IfOk result (λ n. n ≡ length (packed (string text.now))) }
+{
+    let len = named_len(text, 1)?;
+    Ok(len)
+}
+
+// A number with its tag. The number is a parameter so that its range is known.
+fn long_len(_number: i64) -> u32
+    ensures len { result ≡ 9 }
+    ensures fits { FitsSigned w64 _number }
+{
+    9
+}
+
+fn whole_len(number: i64) -> Result<u32, NoMemory>
+    ensures len { IfOk result (λ n. n ≡ length (packed (whole number))) }
+    ensures kept { OnOk result (IsKept (whole number)) }
+{
+    let len = long_len(number);
+    Ok(len)
+}
+
+#[cycle(measure)]
+pub(crate) fn measure(value: &Json) -> Result<u32, NoMemory>
+    ensures len { IfOk result (λ n. n ≡ length (packed (view value.now))) }
+    ensures kept { OnOk result (IsKept (view value.now)) }
+{
+    match value {
+        Json::Null => Ok(1),
+        Json::Flag(false) => Ok(1),
+        Json::Flag(true) => Ok(1),
+        Json::Whole(number) => whole_len(*number),
+        Json::Text(text) => text_len(text),
+        Json::List(items) => measure_list(items),
+        Json::Object(members) => measure_object(members),
+    }
+}
+
+#[cycle(measure)]
+fn measure_list(items: &[Json]) -> Result<u32, NoMemory>
+    ensures len { IfOk result (λ n. n ≡ length (packed (list (items_view items.now)))) }
+    ensures kept { OnOk result (ItemsAreKept (items_view items.now)) }
+{
+    let len = measure_items(items)?;
+    Ok(len)
+}
+
+#[cycle(measure)]
+fn measure_object(members: &BTreeMap<String, Json>) -> Result<u32, NoMemory>
+    ensures len { IfOk result (λ n. n ≡ length (packed (object (members_view members.now.entries)))) }
+    ensures kept { OnOk result (MembersAreKept (members_view members.now.entries)) }
+{
+    let len = measure_members(members)?;
+    Ok(len)
+}
+
+// The tag and the count, and for each item its place and its bytes.
+#[cycle(measure)]
+fn measure_items(items: &[Json]) -> Result<u32, NoMemory>
+    ensures len { IfOk result (λ n. n ≡ 5 + items_size (items_view items.now)) }
+    ensures kept { OnOk result (ItemsAreKept (items_view items.now)) }
+{
+    let mut len = 5;
+    for item in items {
+        len = add(len, add(4, measure(item)?)?)?;
+    }
+    Ok(len)
+}
+
+// The tag and the count, and for each member its place, its name and its value's bytes.
+#[cycle(measure)]
+fn measure_members(members: &BTreeMap<String, Json>) -> Result<u32, NoMemory>
+    ensures len { IfOk result (λ n. n ≡ 5 + members_size (members_view members.now.entries)) }
+    ensures kept { OnOk result (MembersAreKept (members_view members.now.entries)) }
+{
+    let mut len = 5;
+    for (name, member) in members.iter() {
+        len = add(len, add(4, named_len(name, measure(member)?)?)?)?;
+    }
+    Ok(len)
+}
