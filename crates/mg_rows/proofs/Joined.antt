@@ -1,0 +1,116 @@
+-- The bytes of things one after another.
+use Rattle.std.proofs.Common.{◌≡◌, ℕ, zero, suc, ◌+◌, ◌/◌, ◌%◌, ◌<◌, ◌≤◌, arith, List, [], ◌∷◌, ◌++◌, drop, take, get_or, length, IsUtf8, Ordering, Less, string_bytes, String, Global, true, false, refl, sym, ap, ap₂, ◌∙◌, append_assoc}
+use Rattle.std.proofs.lemmas.List.{drop_at, drop_more, take_at}
+use Rattle.std.specs.List.{AllByRecursion}
+use Rattle.std.specs.List.Sorted.{IsStrictlySortedBy}
+use Rattle.std.specs.Map.{keys_of}
+use Rattle.std.specs.String.{string_cmp}
+use Rattle.mg_value.specs.Held.{AllAfter}
+use Rattle.mg_value.specs.Value.{Value, null, flag, whole, text, list, object, Items, no_items, item, Members, no_members, member}
+use Rattle.mg_value.specs.View.{view, items_view, members_view}
+use Rattle.mg_value.specs.declared.value.Json.{Json}
+use Rattle.mg_value.proofs.Views.{Entry}
+use Rattle.mg_collate.specs.Row.{RowValue, row_value_order}
+use Rattle.mg_rows.specs.Bytes.{bytes_order, big_endian, sign_turned, text_before, value_before, items_before, members_before, columns_before, row_bytes}
+use Rattle.mg_rows.specs.Stored.{AreStored, IsRow}
+use Rattle.mg_rows.proofs.Ranked.{row_cmp}
+
+-- ---- what comes after may be joined on
+
+high_append : (k n : ℕ) (s t : List ℕ) → big_endian k n (s ++ t) ≡ big_endian k n s ++ t
+high_append zero n s t = refl
+high_append (suc k) n s t = high_append k (n / 256) (n % 256 ∷ s) t
+
+pub text_append : (x s t : List ℕ) → text_before x (s ++ t) ≡ text_before x s ++ t
+text_append [] s t = refl
+text_append (b ∷ x) s t = ap (λ y. suc b ∷ y) (text_append x s t)
+
+mutual
+  pub value_append : (v : Value) (s t : List ℕ) → value_before v (s ++ t) ≡ value_before v s ++ t
+  value_append null s t = refl
+  value_append (flag false) s t = refl
+  value_append (flag true) s t = refl
+  value_append (whole z) s t = ap (λ y. 4 ∷ y) (high_append 8 (sign_turned z) s t)
+  value_append (text x) s t = ap (λ y. 5 ∷ y) (text_append x s t)
+  value_append (list vs) s t = ap (λ y. 6 ∷ y) (items_append vs s t)
+  value_append (object ms) s t = ap (λ y. 7 ∷ y) (members_append ms s t)
+
+  pub items_append : (vs : Items) (s t : List ℕ) → items_before vs (s ++ t) ≡ items_before vs s ++ t
+  items_append no_items s t = refl
+  items_append (item v vs) s t = ap (value_before v) (items_append vs s t) ∙ value_append v (items_before vs s) t
+
+  pub members_append : (ms : Members) (s t : List ℕ) → members_before ms (s ++ t) ≡ members_before ms s ++ t
+  members_append no_members s t = refl
+  members_append (member k v ms) s t =
+      ap (λ y. 5 ∷ y) (ap (text_before k) (ap (value_before v) (members_append ms s t) ∙ value_append v (members_before ms s) t) ∙ text_append k (value_before v (members_before ms s)) t)
+
+pub columns_append : (vs : Items) (s t : List ℕ) → columns_before vs (s ++ t) ≡ columns_before vs s ++ t
+columns_append no_items s t = refl
+columns_append (item v vs) s t = ap (value_before v) (columns_append vs s t) ∙ value_append v (columns_before vs s) t
+
+-- ---- a turn of a loop: what is left completes what is written
+
+turn : (v : Value) (front out rest : List ℕ) → front ≡ out ++ value_before v rest → front ≡ (out ++ value_before v []) ++ rest
+turn v front out rest e = e ∙ ap (λ y. out ++ y) (value_append v [] rest) ∙ sym (append_assoc out (value_before v []) rest)
+
+pub items_turn : (all : List Json) (i : ℕ) (v : Json) (front out new : List ℕ) → i < length all → v ≡ get_or all i v → new ≡ out ++ value_before (view v) []
+    → front ≡ out ++ items_before (items_view (drop i all)) [] → front ≡ new ++ items_before (items_view (drop (i + 1) all)) []
+items_turn all i v front out new low at e h =
+    turn (view v) front out _ (h ∙ ap (λ vs. out ++ items_before (items_view vs) []) (drop_more all i v low ∙ ap (λ x. x ∷ drop (i + 1) all) (sym at)))
+    ∙ ap (λ y. y ++ items_before (items_view (drop (i + 1) all)) []) (sym e)
+
+pub columns_turn : (all : List Json) (i : ℕ) (v : Json) (front out new : List ℕ) → i < length all → v ≡ get_or all i v → new ≡ out ++ value_before (view v) []
+    → front ≡ out ++ columns_before (items_view (drop i all)) [] → front ≡ new ++ columns_before (items_view (drop (i + 1) all)) []
+columns_turn all i v front out new low at e h =
+    turn (view v) front out _ (h ∙ ap (λ vs. out ++ columns_before (items_view vs) []) (drop_more all i v low ∙ ap (λ x. x ∷ drop (i + 1) all) (sym at)))
+    ∙ ap (λ y. y ++ columns_before (items_view (drop (i + 1) all)) []) (sym e)
+
+pub here : (all : List Json) (i : ℕ) (v : Json) → i < length all → v ≡ get_or all i v → drop i all ≡ v ∷ drop (i + 1) all
+here all i v low at = drop_more all i v low ∙ ap (λ x. x ∷ drop (i + 1) all) (sym at)
+
+past_end : (s : List ℕ) (i : ℕ) → length s ≤ i → drop i s ≡ []
+past_end [] zero h = refl
+past_end [] (suc i) h = refl
+past_end (b ∷ s) zero h = absurd (omega (arith, h))
+past_end (b ∷ s) (suc i) h = past_end s i (omega (arith, h))
+
+pub text_end : (s : List ℕ) (i : ℕ) (front out : List ℕ) → length s ≤ i → front ++ text_before s [] ≡ out ++ text_before (drop i s) [] → front ++ text_before s [] ≡ out ++ 0 ∷ []
+text_end s i front out last h = h ∙ ap (λ x. out ++ text_before x []) (past_end s i last)
+
+pub members_turn : (k : List ℕ) (v : Value) (ms : Members) (front out named new : List ℕ) → named ≡ out ++ 5 ∷ text_before k [] → new ≡ named ++ value_before v []
+    → front ≡ out ++ members_before (member k v ms) [] → front ≡ new ++ members_before ms []
+members_turn k v ms front out named new e f h =
+    h ∙ ap (λ y. out ++ 5 ∷ y) (text_append k [] (value_before v (members_before ms []))) ∙ sym (append_assoc out (5 ∷ text_before k []) _) ∙ ap (λ y. y ++ value_before v (members_before ms [])) (sym e)
+    ∙ ap (λ y. named ++ y) (value_append v [] (members_before ms [])) ∙ sym (append_assoc named (value_before v []) _) ∙ ap (λ y. y ++ members_before ms []) (sym f)
+
+-- ---- the names of a map ascend
+
+all_after : (k : String Global) (es : List Entry) → AllByRecursion (λ y. string_cmp k y ≡ Less) (keys_of es) → AllAfter (string_bytes k) (members_view es)
+all_after k [] h = tt
+all_after k (e ∷ es) h = (h.0, all_after k es h.1)
+
+-- the names after one of a map's are above it
+pub above_middle : (done : List Entry) (e : Entry) (more : List Entry) → IsStrictlySortedBy string_cmp (keys_of (done ++ e ∷ more)) → AllAfter (string_bytes e.0) (members_view more)
+unfolding IsStrictlySortedBy
+above_middle [] e more h = all_after e.0 more h.0
+above_middle (first ∷ done) e more h = above_middle done e more h.1
+
+-- ---- rows
+
+pub row_joined : (x : List ℕ) (p : List ℕ × List ℕ) (a : RowValue) → x ≡ p.0 ++ p.1 → IsRow p a → x ≡ row_bytes a
+row_joined x p a e h = e ∙ ap (λ (q : List ℕ × List ℕ). q.0 ++ q.1) h.1 ∙ sym (items_append a.0 [] a.1)
+
+pub rows_order : (x y : List ℕ) (p q : List ℕ × List ℕ) (o : Ordering) → o ≡ bytes_order x y → x ≡ p.0 ++ p.1 → y ≡ q.0 ++ q.1
+    → (a b : RowValue) → IsRow p a → IsRow q b → o ≡ row_value_order a b
+rows_order x y p q o h e f a b ra rb =
+    h ∙ ap (λ s. bytes_order s y) (row_joined x p a e ra) ∙ ap (bytes_order (row_bytes a)) (row_joined y q b f rb) ∙ row_cmp a b ra.0 rb.0
+
+-- bytes that are split behind those of a key are the parts of its row
+pub made_row : (parts : List ℕ × List ℕ) (start keyed all lent : List ℕ) (end : ℕ) (key : Items) (id : List ℕ) → AreStored key → IsUtf8 id
+    → start ≡ [] → keyed ≡ start ++ items_before key [] → end ≡ length keyed → all ≡ keyed ++ id → lent ≡ all → parts ≡ (take end lent, drop end lent) → IsRow parts (key, id)
+made_row parts start keyed all lent end key id stored utf8 none written at joined same split =
+    let key_bytes : keyed ≡ items_before key [] = written ∙ ap (λ s. s ++ items_before key []) none in
+    let whole : lent ≡ keyed ++ id = same ∙ joined in (
+      (stored, utf8),
+      split ∙ ap (λ s. (take end s, drop end s)) whole ∙ ap₂ (λ x y. (x, y)) (take_at keyed id end (sym at) ∙ key_bytes) (drop_at keyed id end (sym at)),
+    )

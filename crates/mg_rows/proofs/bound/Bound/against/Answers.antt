@@ -1,0 +1,9 @@
+use Rattle.std.proofs.Common.{ap, ◌∙◌}
+use Rattle.mg_rows.specs.Bytes.{bytes_order}
+use Rattle.mg_rows.proofs.Bounds.{bound_rows}
+use Rattle.mg_rows.proofs.bound.Bound.against.Goals as goal
+
+pub returns-clause-rows : goal.returns-clause-rows
+returns-clause-rows c =
+    bound_rows c.cmp.result c.args.self.now c.as_bytes.result.now c.args.row.now
+    (c.cmp.ensures ∙ ap (λ s. bytes_order s c.as_bytes.result.now) (c.as_slice.ensures.value ∙ c.self.view_is)) c.as_bytes.ensures

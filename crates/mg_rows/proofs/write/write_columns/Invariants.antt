@@ -1,0 +1,12 @@
+use Rattle.std.proofs.Common.{◌≡◌, [], ◌++◌, drop}
+use Rattle.mg_rows.specs.Bytes.{columns_before}
+use Rattle.mg_rows.specs.Stored.{AreStored}
+use Rattle.mg_value.specs.View.{items_view}
+use Rattle.mg_rows.proofs.write.write_columns.Given as goal
+
+-- what is left completes what is written
+abbrev pub invariant-loop-column : goal.invariant-loop-column
+invariant-loop-column l =
+    let left = items_view (drop l.column-index l.columns) in
+    (l.initial.out.items ++ columns_before (items_view l.columns) [] ≡ l.out.items ++ columns_before left [])
+    × (AreStored left → AreStored (items_view l.columns))

@@ -1,0 +1,36 @@
+-- Places between rows: before or after all whose key begins with some values.
+use Rattle.std.specs.Prelude.{◌≡◌, ℕ, List, [], ◌∷◌}
+use Rattle.std.specs.Ordering.{ordering_then}
+use Rattle.std.specs.declared.cmp.Ordering.{Ordering}
+use Rattle.std.specs.declared.cmp.Ordering.TheVariants.{Less, Greater}
+use Rattle.mg_value.specs.Value.{Items, no_items, item}
+use Rattle.mg_collate.specs.Order.{items_order}
+use Rattle.mg_collate.specs.Row.{RowValue}
+use Rattle.mg_rows.specs.Bytes.{columns_before}
+use Rattle.mg_rows.specs.Stored.{AreStored}
+use Rattle.mg_rows.specs.declared.bound.Edge.{Edge}
+use Rattle.mg_rows.specs.declared.bound.Edge.TheVariants.{Before, After}
+
+-- the first of the columns, as many as there are values, or all where there are fewer
+abbrev pub first_columns : Items → Items → Items
+first_columns no_items columns = no_items
+first_columns (item v vs) no_items = no_items
+first_columns (item v vs) (item w ws) = item w (first_columns vs ws)
+
+-- a place against the rows whose key begins with its values
+abbrev pub edge_order : Edge → Ordering
+edge_order Before = Less
+edge_order After = Greater
+
+-- a place against a row: by the first columns, and where these tie by the edge
+abbrev pub bound_order : Edge → Items → RowValue → Ordering
+bound_order edge values row = ordering_then (items_order values (first_columns values row.0)) (edge_order edge)
+
+-- the bytes behind the values: none, or one that is above all that can follow them in a row
+abbrev pub edge_bytes : Edge → List ℕ
+edge_bytes Before = []
+edge_bytes After = 255 ∷ []
+
+-- these are the bytes of the place
+abbrev pub IsBound : Edge → List ℕ → Items → Type 0
+IsBound edge bytes values = AreStored values × (bytes ≡ columns_before values (edge_bytes edge))

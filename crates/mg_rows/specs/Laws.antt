@@ -1,0 +1,31 @@
+-- What the bytes of rows are for: they are ordered as the rows are, and they give the rows back.
+use Rattle.std.specs.Prelude.{◌≡◌, ◌++◌, [], ℕ, List}
+use Rattle.mg_value.specs.Value.{Value, Items, no_items, item}
+use Rattle.mg_collate.specs.Row.{RowValue, row_value_order}
+use Rattle.mg_rows.specs.Bytes.{bytes_order, columns_before, row_bytes, row_parts, value_before}
+use Rattle.mg_rows.specs.Stored.{IsStored, IsStoredRow, IsRow}
+
+-- two rows are in the order of their bytes
+abbrev pub RowsAreInTheOrderOfTheirBytes : Type 0
+RowsAreInTheOrderOfTheirBytes = (a b : RowValue) → IsStoredRow a → IsStoredRow b → bytes_order (row_bytes a) (row_bytes b) ≡ row_value_order a b
+
+-- the bytes of a value give the value, and what comes after them
+abbrev pub BytesGiveTheValue : Type 0
+BytesGiveTheValue = (a b : Value) (s t : List ℕ) → IsStored a → IsStored b → value_before a s ≡ value_before b t → (a ≡ b) × (s ≡ t)
+
+-- the bytes of a row give the row
+abbrev pub BytesGiveTheRow : Type 0
+BytesGiveTheRow = (a b : RowValue) → IsStoredRow a → IsStoredRow b → row_bytes a ≡ row_bytes b → a ≡ b
+
+-- a key's bytes and an id's are those of one row
+abbrev pub PartsGiveTheRow : Type 0
+PartsGiveTheRow = (parts : List ℕ × List ℕ) (a b : RowValue) → IsRow parts a → IsRow parts b → a ≡ b
+
+-- the items of the first, and then those of the second
+abbrev pub joined_items : Items → Items → Items
+joined_items no_items ws = ws
+joined_items (item v vs) ws = item v (joined_items vs ws)
+
+-- the bytes of a row begin with those of its first columns
+abbrev pub FirstColumnsAreAFront : Type 0
+FirstColumnsAreAFront = (first others : Items) (id : List ℕ) → row_bytes (joined_items first others, id) ≡ columns_before first [] ++ row_bytes (others, id)

@@ -1,0 +1,20 @@
+//! Laws of the bytes of rows, each the contract of a function that does nothing.
+ghost use Rattle.mg_rows.specs.Laws.{BytesGiveTheRow, BytesGiveTheValue, FirstColumnsAreAFront};
+ghost use Rattle.mg_rows.specs.Laws.{PartsGiveTheRow, RowsAreInTheOrderOfTheirBytes};
+
+/// Two rows are in the order of their bytes: by their keys, as arrays, and where these tie by their ids.
+pub fn rows_are_in_the_order_of_their_bytes()
+    ensures { RowsAreInTheOrderOfTheirBytes }
+{}
+
+/// The bytes of a value give the value and where they end, and the bytes of a row give its key and its id.
+pub fn bytes_give_the_row()
+    ensures values { BytesGiveTheValue }
+    ensures rows { BytesGiveTheRow }
+    ensures parts { PartsGiveTheRow }
+{}
+
+/// The bytes of a row begin with those of its first columns, however many these are.
+pub fn first_columns_are_a_front()
+    ensures { FirstColumnsAreAFront }
+{}

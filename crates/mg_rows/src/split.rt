@@ -1,0 +1,124 @@
+// Bytes in two parts that do not change: few of them stand in the value itself, more in memory that copies share.
+ghost use Rattle.std.specs.Prelude.{◌≡◌, ◌≤◌, ◌++◌, IfOk, length, take, drop};
+ghost use Rattle.mg_rows.specs.Split.{held_bytes, held_end, held_parts, IsSound};
+
+use mg_value::NoMemory;
+use std::alloc::Global;
+use std::marker::Model;
+use std::sync::Arc;
+
+// How many bytes stand in the value itself. With them a row takes 48 bytes.
+const INLINE: usize = 45;
+
+#[derive(Drop)]
+pub(crate) enum Held {
+    // how many bytes there are, how many of them are the first part's, and the bytes
+    Inline(u8, u8, [u8; 45]),
+    // the bytes, and how many of them are the first part's
+    Shared(Arc<Vec<u8>>, usize),
+}
+
+/// Bytes in two parts. A copy of up to 45 of them takes no memory, and a copy of more shares them.
+#[derive(Drop)]
+pub(crate) struct SplitBytes {
+    held: Held,
+}
+
+impl Model for SplitBytes {
+    ghost use Rattle.std.specs.Prelude.{List, ℕ};
+    ghost use Rattle.mg_rows.specs.Split.{held_parts, IsSound};
+
+    // the two parts
+    ghost Value = { List ℕ × List ℕ };
+
+    ghost view = { λ split. held_parts split.held };
+
+    ghost invariant = { λ split. IsSound split.held };
+}
+
+impl SplitBytes {
+    /// These bytes, in two parts at `end`.
+    pub(crate) fn of(alloc: Global, bytes: &[u8], end: usize) -> Result<SplitBytes, NoMemory>
+        requires { end ≤ length bytes.now }
+        ensures { IfOk result (λ split. split ≡ (take end bytes.now, drop end bytes.now)) }
+    {
+        let held = hold(alloc, bytes, end)?;
+        Ok(SplitBytes { held })
+    }
+
+    /// Both parts together. Takes no memory.
+    pub(crate) fn bytes(&self) -> &[u8]
+        ensures { result.now ≡ self.now.0 ++ self.now.1 }
+    {
+        lend(&self.held)
+    }
+
+    /// The two parts. Takes no memory.
+    pub(crate) fn parts(&self) -> (&[u8], &[u8])
+        ensures first { result.0.now ≡ self.now.0 }
+        ensures second { result.1.now ≡ self.now.1 }
+    {
+        let end = end_of(&self.held);
+        lend(&self.held).split_at(end)
+    }
+
+    /// The same bytes. Takes no memory.
+    pub(crate) fn again(&self) -> Result<SplitBytes, NoMemory>
+        ensures { IfOk result (λ split. split ≡ self.now) }
+    {
+        let held = hold_again(&self.held)?;
+        Ok(SplitBytes { held })
+    }
+}
+
+fn hold(alloc: Global, bytes: &[u8], end: usize) -> Result<Held, NoMemory>
+    requires { end ≤ length bytes.now }
+    ensures bytes { IfOk result (λ held. held_bytes held ≡ bytes.now) }
+    ensures end { IfOk result (λ held. held_end held ≡ end) }
+    ensures sound { IfOk result (λ held. IsSound held) }
+{
+    let count = bytes.len();
+    if count > INLINE {
+        let all = Vec::from_slice(alloc, bytes)?;
+        return Ok(Held::Shared(Arc::new(alloc, all)?, end));
+    }
+    let mut inside = [0u8; 45];
+    inside[..count].copy_from_slice(bytes);
+    Ok(Held::Inline(count as u8, end as u8, inside))
+}
+
+fn lend(held: &Held) -> &[u8]
+    requires { IsSound held.now }
+    ensures { result.now ≡ held_bytes held.now }
+{
+    match held {
+        Held::Inline(count, _, inside) => &inside[..*count as usize],
+        Held::Shared(all, _) => all.as_slice(),
+    }
+}
+
+fn end_of(held: &Held) -> usize
+    requires { IsSound held.now }
+    ensures end { result ≡ held_end held.now }
+    ensures fits { result ≤ length (held_bytes held.now) }
+{
+    match held {
+        Held::Inline(_, end, _) => *end as usize,
+        Held::Shared(_, end) => *end,
+    }
+}
+
+fn hold_again(held: &Held) -> Result<Held, NoMemory>
+    requires { IsSound held.now }
+    ensures bytes { IfOk result (λ again. held_bytes again ≡ held_bytes held.now) }
+    ensures end { IfOk result (λ again. held_end again ≡ held_end held.now) }
+    ensures sound { IfOk result (λ again. IsSound again) }
+{
+    match held {
+        Held::Inline(count, end, inside) => Ok(Held::Inline(*count, *end, *inside)),
+        Held::Shared(all, end) => {
+            let same = all.clone()?;
+            Ok(Held::Shared(same, *end))
+        }
+    }
+}
