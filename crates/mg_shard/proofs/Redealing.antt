@@ -1,6 +1,6 @@
 -- Documents that are dealt anew: one more document of a shard, one more shard, and what the shards stand for then.
 use lib.Dec.{T, eqb}
-use Rattle.std.proofs.Common.{◌≡◌, ℕ, zero, suc, ◌+◌, ◌<◌, Bool, true, false, List, [], ◌∷◌, ◌++◌, Less, Greater, Option, Some, None, option_and_then, option_map, length, get_or, map, set, slice_get, take, cond, is_eq, refl, ap, sym, ◌∙◌, subst, add-one, arith, length-set}
+use Rattle.std.proofs.Common.{◌≡◌, ℕ, zero, suc, ◌+◌, ◌<◌, Bool, true, false, List, [], ◌∷◌, ◌++◌, Less, Option, Some, None, option_and_then, option_map, length, get_or, map, set, slice_get, take, cond, is_eq, refl, ap, sym, ◌∙◌, subst, arith, length-set}
 use Rattle.std.proofs.lemmas.Bool.{eqb-true, eq-eqb}
 use Rattle.std.proofs.lemmas.Cmp.{nat_list_cmp_total}
 use Rattle.std.proofs.lemmas.List.{length-map}
@@ -11,8 +11,7 @@ use Rattle.std.specs.declared.sync.Arc.{Arc}
 use Rattle.std.specs.FinMap.{empty, find, get, get-empty, get-from_entries, get-insert, insert, same_map}
 use Rattle.std.specs.List.{All, AllByRecursion, slice_index_or}
 use Rattle.std.specs.Option.{option_or}
-use Rattle.std.specs.Ordering.{eq_by_cmp, match_ordering, ordering_reverse}
-use Rattle.mg_index.specs.Catalog.{IsCatalog, definition_order, with_definition}
+use Rattle.std.specs.Ordering.{eq_by_cmp}
 use Rattle.mg_index.specs.Definition.{IndexDefinition}
 use Rattle.mg_pages.specs.Identified.{id_order}
 use Rattle.mg_pages.specs.Order.{Ascends}
@@ -20,12 +19,9 @@ use Rattle.mg_revtree.specs.History.{History}
 use Rattle.mg_shard.specs.Dealt.{Placing, ShardsStandFor, histories_on}
 use Rattle.mg_shard.specs.Documents.{Kept, KeptDocuments, StandsAt, kept_entry, id_of, kept_of, shown}
 use Rattle.mg_shard.specs.Histories.{Histories}
-use Rattle.mg_shard.specs.Index.{definitions_of, indexes_seen}
 use Rattle.mg_shard.specs.Redealt.{AreRedealt, all_shown, documents_in, kept_in}
 use Rattle.mg_shard.specs.Shard.{ShardView, shards_seen}
 use Rattle.mg_shard.specs.declared.document.Document.{Document}
-use Rattle.mg_shard.specs.declared.index.IndexRows.{IndexRows}
-use Rattle.mg_shard.proofs.Catalogued.{all_get, total}
 use Rattle.mg_shard.proofs.Dealing.{get-kept, not_there, same_some, slice_get-set, slice_get-set_other, stands_at}
 use Rattle.mg_shard.proofs.Shown.{bytes_cmp, bytes_exact}
 use Rattle.mg_shard.proofs.Standing.{same_id}
@@ -242,18 +238,6 @@ redealt_stand place shards new hs r st =
           (either_stands b id (kept_in (documents_in shards) id) (get hs id) (kept_stands place shards hs id st)));
     }
 
--- ---- the definitions of a catalog one after another
-
-with_step : (x d : IndexDefinition) (ds es : List IndexDefinition) → definition_order d x ≡ Greater → with_definition d ds ≡ es → with_definition d (x ∷ ds) ≡ x ∷ es
-with_step x d ds es above rest = ap (λ o. match_ordering o (d ∷ x ∷ ds) (d ∷ ds) (x ∷ with_definition d ds)) above ∙ ap (λ ys. x ∷ ys) rest
-
--- the next one goes behind those before it
-pub next_definition : (ds : List IndexDefinition) (i : ℕ) (d : IndexDefinition) → IsCatalog ds → slice_get ds i ≡ Some d → with_definition d (take i ds) ≡ take (suc i) ds
-next_definition [] i d c e = absurd cc
-next_definition (x ∷ ds) zero d c e = ap (λ y. y ∷ []) (sym (same_some x d e))
-next_definition (x ∷ ds) (suc i) d c e =
-    with_step x d (take i ds) (take (suc i) ds) (total.antisymm d x ∙ ap ordering_reverse (all_get (λ y. definition_order x y ≡ Less) ds i d c.0 e)) (next_definition ds i d c.1 e)
-
 -- ---- lists
 
 pub each_of_all : {X : Type 0} (P : X → Type 0) (xs : List X) → AllByRecursion P xs → (k : ℕ) (d : X) → k < length xs → P (slice_index_or xs k d)
@@ -268,26 +252,7 @@ documents_more [] i s l e = absurd (omega arith)
 documents_more (x ∷ shards) zero s l e = ap (λ (a : Arc ShardView Global). (arc_value a).documents ∷ []) (sym e)
 documents_more (x ∷ shards) (suc i) s l e = ap (λ ms. (arc_value x).documents ∷ ms) (documents_more shards i s (omega arith) e)
 
--- ---- the indexes of the code
-
-taken_definitions : (i : ℕ) (xs : List IndexRows) → take i (definitions_of (indexes_seen xs)) ≡ definitions_of (indexes_seen (take i xs))
-taken_definitions zero [] = refl
-taken_definitions zero (x ∷ xs) = refl
-taken_definitions (suc i) [] = refl
-taken_definitions (suc i) (x ∷ xs) = ap (λ ds. arc_value x.definition ∷ ds) (taken_definitions i xs)
-
-definition_got : (xs : List IndexRows) (i : ℕ) (x : IndexRows) → i < length xs → x ≡ get_or xs i x → slice_get (definitions_of (indexes_seen xs)) i ≡ Some (arc_value x.definition)
-definition_got [] i x l e = absurd (omega arith)
-definition_got (y ∷ xs) zero x l e = ap (λ (z : IndexRows). Some (arc_value z.definition)) (sym e)
-definition_got (y ∷ xs) (suc i) x l e = definition_got xs i x (omega arith) e
-
--- the definition of one more index
-pub next_index : (xs : List IndexRows) (i : ℕ) (x : IndexRows) → IsCatalog (definitions_of (indexes_seen xs)) → i < length xs → x ≡ get_or xs i x
-    → with_definition (arc_value x.definition) (definitions_of (indexes_seen (take i xs))) ≡ definitions_of (indexes_seen (take (i + 1) xs))
-next_index xs i x c l e =
-    ap (with_definition (arc_value x.definition)) (sym (taken_definitions i xs))
-    ∙ next_definition (definitions_of (indexes_seen xs)) i (arc_value x.definition) c (definition_got xs i x l e)
-    ∙ taken_definitions (suc i) xs ∙ ap (λ n. definitions_of (indexes_seen (take n xs))) (sym (add-one i))
+-- ---- definitions
 
 -- the definitions of the first shard are those that all have
 pub first_definitions : (shards : List ShardView) (ds those : List IndexDefinition) → ((s : ShardView) → slice_get shards 0 ≡ Some s → those ≡ s.definitions) → 0 < length shards

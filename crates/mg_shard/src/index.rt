@@ -174,6 +174,18 @@ pub(crate) fn pages_of(alloc: Global, rows: Vec<Row>) -> Result<Pages<Row>, NoMe
     Pages::from_sorted(alloc, &shared)
 }
 
+/// Pages of rows that are in order, each of which stands once among them.
+///
+/// Errors: `NoMemory` where a growth was refused. Cost: a step a row. The pages are full, but for the last.
+pub(crate) fn pages_in_order(alloc: Global, rows: Vec<Row>) -> Result<Pages<Row>, NoMemory>
+    requires once { (z : RowValue) → times row_value_order z (rows_view rows.items) ≤ 1 }
+    requires order { rows_view rows.items ≡ sorted row_value_order (rows_view rows.items) }
+    ensures { IfOk result (λ pages. rows_view pages ≡ rows_view rows.items) }
+{
+    let shared = shared_rows(alloc, rows)?;
+    Pages::from_sorted(alloc, &shared)
+}
+
 /// The rows sorted by key and id. Errors: `NoMemory` where a growth was refused. Cost: the number of the rows times its logarithm.
 pub(crate) fn sorted_rows(mut rows: Vec<Row>) -> Result<Vec<Row>, NoMemory>
     ensures { IfOk result (λ v. rows_view v.items ≡ sorted row_value_order (rows_view rows.items)) }

@@ -1,19 +1,21 @@
 //! Documents that are dealt anew to another number of shards.
 ghost use Rattle.std.specs.Prelude.{◌≡◌, ◌<◌, [], ◌∷◌, ◌++◌, All, IfOk, OnOk, List, Some, length, map, slice_get};
+ghost use Rattle.std.specs.Arc.{arc_value};
 ghost use Rattle.std.specs.List.{AllByRecursion};
 ghost use Rattle.mg_index.specs.Catalog.{IsCatalog};
 ghost use Rattle.mg_index.specs.Definition.{IndexDefinition};
 ghost use Rattle.mg_shard.specs.Dealt.{ShardsStandFor};
 ghost use Rattle.mg_shard.specs.Documents.{KeptDocuments, shown};
 ghost use Rattle.mg_shard.specs.Histories.{Histories};
-ghost use Rattle.mg_shard.specs.Index.{definitions_of, indexes_seen};
+ghost use Rattle.mg_shard.specs.Index.{HasRows, definitions_of, index_seen, indexes_seen};
 ghost use Rattle.mg_shard.specs.Redealt.{AreRedealt, all_shown, documents_in};
 ghost use Rattle.mg_shard.specs.Shard.{ShardView, shards_seen};
 
 use crate::document::Document;
-use crate::index::IndexRows;
+use crate::index::{IndexRows, pages_of};
 use crate::placement::Placement;
 use crate::shard::Shard;
+use mg_index::IndexDef;
 use mg_pages::Pages;
 use mg_value::NoMemory;
 use std::alloc::Global;
@@ -105,6 +107,37 @@ fn first_indexes(shards: &[Arc<Shard>]) -> &[IndexRows]
     }
 }
 
+// An index of a shard's documents, whose definition is shared.
+fn index_over(
+    alloc: Global,
+    shard: &Shard,
+    definition: &Arc<IndexDef>,
+) -> Result<IndexRows, NoMemory>
+    ensures definition { IfOk result (λ x. arc_value x.definition ≡ arc_value definition.now) }
+    ensures rows { IfOk result (λ x. HasRows shard.now.documents (index_seen x)) }
+{
+    let columns = definition.columns();
+    let rows = pages_of(alloc, shard.unsorted(alloc, columns)?)?;
+    let definition = definition.clone()?;
+    Ok(IndexRows { definition, rows })
+}
+
+// Indexes of a shard's documents, of the definitions that these have.
+fn indexes_over(
+    alloc: Global,
+    shard: &Shard,
+    indexes: &[IndexRows],
+) -> Result<Vec<IndexRows>, NoMemory>
+    ensures definitions { IfOk result (λ v. definitions_of (indexes_seen v.items) ≡ definitions_of (indexes_seen indexes.now)) }
+    ensures rows { IfOk result (λ v. AllByRecursion (HasRows shard.now.documents) (indexes_seen v.items)) }
+{
+    let mut all = Vec::with_capacity(alloc, indexes.len())?;
+    for index in indexes {
+        all.push(index_over(alloc, shard, &index.definition)?)?;
+    }
+    Ok(all)
+}
+
 // A shard of these documents with indexes of these definitions.
 fn indexed(
     alloc: Global,
@@ -115,14 +148,12 @@ fn indexed(
     ensures documents { IfOk result (λ s. s.documents ≡ shown documents) }
     ensures definitions { IfOk result (λ s. s.definitions ≡ definitions_of (indexes_seen indexes.now)) }
 {
-    let mut shard = Shard {
-        documents,
+    let bare = Shard {
+        documents: documents.share(alloc)?,
         indexes: Vec::new(alloc),
     };
-    for index in indexes {
-        shard = shard.with_index(alloc, &index.definition)?;
-    }
-    Ok(shard)
+    let indexes = indexes_over(alloc, &bare, indexes)?;
+    Ok(Shard { documents, indexes })
 }
 
 // Shards of these documents, each with indexes of these definitions.

@@ -25,7 +25,7 @@ use crate::docs::Docs;
 use crate::document::Document;
 use crate::draft::Draft;
 use crate::extracted::{MANY_DOCUMENTS, rows_by_threads, sorted_by_threads};
-use crate::index::{IndexRows, pages_of, row_in, sorted_rows};
+use crate::index::{IndexRows, pages_in_order, pages_of, row_in, sorted_rows};
 use crate::indexes::{index_at, shared, with, without};
 use crate::reply::EditReply;
 use crate::walk::{Documents, Rows, Walk, count_beyond};
@@ -293,7 +293,7 @@ impl Shard {
     }
 
     // The rows that an index with these columns has, in the order of the documents.
-    fn unsorted(&self, alloc: Global, columns: &[Path]) -> Result<Vec<Row>, NoMemory>
+    pub(crate) fn unsorted(&self, alloc: Global, columns: &[Path]) -> Result<Vec<Row>, NoMemory>
         ensures { IfOk result (λ rows. rows_view rows.items ≡ filter_map (row_of columns.now) (docs_of self.now.documents)) }
     {
         let mut rows = Vec::new(alloc);
@@ -368,7 +368,7 @@ impl Shard {
 
     /// The shard with an index, as of `with_index`, whose rows the caller brings: those that `rows_for` gives.
     ///
-    /// Errors: `NoMemory` where a growth was refused. Cost: a comparison and a step a row, since the rows are in order.
+    /// Errors: `NoMemory` where a growth was refused. Cost: a step a row.
     pub fn with_rows(
         &self,
         alloc: Global,
@@ -378,7 +378,7 @@ impl Shard {
         requires { rows_view rows.items ≡ rows_of definition.now.columns (docs_of self.now.documents) }
         ensures { IfOk result (λ s. s ≡ record self.now { definitions = with_definition definition.now self.now.definitions }) }
     {
-        let pages = pages_of(alloc, rows)?;
+        let pages = pages_in_order(alloc, rows)?;
         self.with(alloc, definition, pages)
     }
 

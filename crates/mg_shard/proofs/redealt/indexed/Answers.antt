@@ -1,18 +1,14 @@
-use Rattle.std.proofs.Common.{ap, ◌∙◌}
-use Rattle.std.specs.Arc.{arc_value}
-use Rattle.mg_index.specs.Catalog.{with_definition}
-use Rattle.mg_shard.specs.Shard.{ShardView}
-use Rattle.mg_shard.proofs.Redealing.{next_index}
+use Rattle.std.proofs.Common.{List, sym, ap, subst}
+use Rattle.std.specs.List.{AllByRecursion}
+use Rattle.mg_index.specs.Catalog.{IsCatalog}
+use Rattle.mg_index.specs.Definition.{IndexDefinition}
+use Rattle.mg_shard.specs.Documents.{KeptDocuments, shown}
+use Rattle.mg_shard.specs.Index.{HasRows, indexes_seen}
+use Rattle.mg_shard.specs.declared.document.Document.{Document}
 use Rattle.mg_shard.proofs.redealt.indexed.Goals as goal
 
-pub loop-index-preserved : goal.loop-index-preserved
-loop-index-preserved c =
-    let l = c.loop-index in
-    let xs = c.args.indexes.now in
-    record {
-      documents = ap (λ (v : ShardView). v.documents) c.in_ok-shard.ensures ∙ l.invariant.documents;
-      definitions = ap (λ (v : ShardView). v.definitions) c.in_ok-shard.ensures
-          ∙ ap (λ d. with_definition d l.shard.definitions) c.deref.ensures
-          ∙ ap (with_definition (arc_value c.index-item.result.definition)) l.invariant.definitions
-          ∙ next_index xs l.index-index c.index-item.result c.requires c.loop-index-test.true c.index-item.is;
-    }
+pub invariant_of-result : goal.invariant_of-result
+invariant_of-result c = record {
+  catalog = subst (λ (ds : List IndexDefinition). IsCatalog ds) (sym c.in_ok-indexes.ensures.definitions) c.requires;
+  rows = rw c.in_ok-share.ensures at c.in_ok-indexes.ensures.rows;
+}

@@ -7,10 +7,13 @@ use Rattle.mg_shard.specs.Rows.{row_of}
 use Rattle.mg_shard.proofs.Rows.{count, rows_once, sorted_again}
 use Rattle.mg_shard.proofs.shard.Shard.with_rows.Goals as goal
 
-pub pages_of-requires : goal.pages_of-requires
-pages_of-requires c = λ z.
+pub pages_in_order-requires-clause-once : goal.pages_in_order-requires-clause-once
+pages_in_order-requires-clause-once c = λ z.
     subst (λ (rows : List RowValue). count z rows ≤ 1) (sym c.requires) (rows_once c.args.definition.now.columns z c.args.self.now.documents)
 
+pub pages_in_order-requires-clause-order : goal.pages_in_order-requires-clause-order
+pages_in_order-requires-clause-order c =
+    c.requires ∙ sym (ap (sorted row_value_order) c.requires ∙ sorted_again (filter_map (row_of c.args.definition.now.columns) (docs_of c.args.self.now.documents)))
+
 pub with-requires : goal.with-requires
-with-requires c =
-    c.in_ok-pages.ensures ∙ ap (sorted row_value_order) c.requires ∙ sorted_again (filter_map (row_of c.args.definition.now.columns) (docs_of c.args.self.now.documents))
+with-requires c = c.in_ok-pages.ensures ∙ c.requires
