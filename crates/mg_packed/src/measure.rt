@@ -13,7 +13,7 @@ use std::collections::BTreeMap;
 // The greatest length that a word holds.
 const LONGEST: usize = 4_294_967_295;
 
-// The length as a word. A length that needs more bits counts as memory that is not there.
+// The length as a word; `NoMemory` where it needs more than four bytes.
 pub(crate) fn as_word(len: usize) -> Result<u32, NoMemory>
     ensures { IfOk result (λ n. n ≡ len) }
 {
