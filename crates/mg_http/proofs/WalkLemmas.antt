@@ -1,6 +1,6 @@
 -- The code's walk ends at the routes that the segments mean.
 use Rattle.std.proofs.lemmas.Bool.Decides.{nat_tests}
-use Rattle.std.proofs.Common.{◌≡◌, arith, ℕ, ◌==◌, Bool, true, false, not, ◌&&◌, ◌||◌, cond, List, [], ◌∷◌, ◌++◌, length, map, Option, Some, None, refl, sym, ap, ◌∙◌}
+use Rattle.std.proofs.Common.{◌≡◌, arith, ℕ, ◌==◌, Bool, true, false, not, ◌&&◌, ◌||◌, cond, List, [], ◌∷◌, ◌++◌, length, Option, Some, None, refl, sym, ap, ◌∙◌}
 use Rattle.std.specs.Prelude.{bytes_eq, find, fold}
 use Rattle.std.specs.List.{list_any, list_all, filter_map, cons_option}
 use Rattle.std.specs.Option.{option_map}
@@ -10,10 +10,10 @@ use Rattle.std.proofs.lemmas.List.{append_assoc, append-nil}
 use Rattle.std.proofs.lemmas.Slice.Eq.{bytes_eq-Decides}
 use Rattle.percent_encoding.specs.Percent.{percent_decode}
 use Rattle.mg_http.specs.declared.routes.Action.{Action}
-use Rattle.mg_http.specs.Routes.{Part, literal, parameter, Route, routes, same_part, takes, fits, passes_over, whole_path, means, is_asked, parameters_of}
+use Rattle.mg_http.specs.Routes.{Part, literal, parameter, Route, routes, same_part, takes, fits, passes_over, whole_path, means, parameters_of}
 use Rattle.mg_engine.specs.declared.refusal.Refusal.TheVariants.{Missing, NoDatabase}
 use Rattle.mg_http.specs.Target.{Request, refuses, names, requested_by, request_with, request_on}
-use Rattle.mg_http.specs.Walk.{Place, path_behind, route_behind, behind, begins_with, goes_on, enter, enter_as, place_of_route, ends_here, ends_with, request_at}
+use Rattle.mg_http.specs.Walk.{Place, path_behind, behind, begins_with, goes_on, enter, enter_as, place_of_route, ends_here, ends_with, request_at}
 use Rattle.mg_http.proofs.ListLemmas.{or_true, and_false}
 
 -- what a route has that was found: its method, what it asks for, and what its parameters spell
@@ -60,10 +60,10 @@ passed_literal (r ∷ rs) s segments path =
     ≡ passed (cons_option (option_map (λ rest. record r { path = rest }) (path_behind (literal s) ps)) (behind (literal s) rs)) segments path) [
       | [] ↦ passed_literal rs s segments path
       | q ∷ qs ↦ elim (same_part q (literal s)) as (λ b. (cond b (passes_over segments path qs) b || passed rs (s ∷ segments) (literal s ∷ path))
-        ≡ passed (cons_option (option_map (λ rest. record r { path = rest }) (cond b (Some qs) None)) (behind (literal s) rs)) segments path) [
-          | true ↦ ap (λ b. passes_over segments path qs || b) (passed_literal rs s segments path)
-          | false ↦ passed_literal rs s segments path
-        ]
+          ≡ passed (cons_option (option_map (λ rest. record r { path = rest }) (cond b (Some qs) None)) (behind (literal s) rs)) segments path) [
+            | true ↦ ap (λ b. passes_over segments path qs || b) (passed_literal rs s segments path)
+            | false ↦ passed_literal rs s segments path
+          ]
     ]
 
 -- the same of the parameter, where no route has the segment as a literal
@@ -89,9 +89,9 @@ passed_over (r ∷ rs) s segments path some =
       | [] ↦ λ e. passed_over rs s segments path e
       | parameter ∷ qs ↦ λ e. ap (λ b. passes_over segments path qs || b) (passed_over rs s segments path e) ∙ or_true _
       | literal t ∷ qs ↦ elim (bytes_eq t s) as (λ b. (b || goes_on (literal s) rs) ≡ true → (b || passed rs (s ∷ segments) (parameter ∷ path)) ≡ true) [
-          | true ↦ λ e. refl
-          | false ↦ λ e. passed_over rs s segments path e
-        ]
+        | true ↦ λ e. refl
+        | false ↦ λ e. passed_over rs s segments path e
+      ]
     ] some
 
 -- one segment further as a literal, route by route
@@ -108,16 +108,16 @@ by_literal all (r ∷ rs) s segments spelled some =
     ≡ cons_option (found r.method r.asks (spelled ++ parameters_of (s ∷ segments) ps) (meant_in all (s ∷ segments) ps)) later) [
       | [] ↦ rest
       | parameter ∷ qs ↦ rest ∙ sym (ap (λ (b : Bool). cons_option (found r.method r.asks (spelled ++ percent_decode s ∷ parameters_of segments qs) b) later)
-        (ap (λ (b : Bool). (takes parameter s && fits segments qs) && not b) (passed_over all s segments qs some) ∙ and_false _))
+          (ap (λ (b : Bool). (takes parameter s && fits segments qs) && not b) (passed_over all s segments qs some) ∙ and_false _))
       | literal t ∷ qs ↦ elim (bytes_eq t s) as (λ b. bytes_eq t s ≡ b →
-        all_found test spells (cons_option (option_map (λ left. record r { path = left }) (cond b (Some qs) None)) (behind (literal s) rs))
-        ≡ cons_option (found r.method r.asks (spelled ++ parameters_of segments qs) ((b && fits segments qs) && not (passed all (s ∷ segments) (literal t ∷ qs)))) later) [
-          | true ↦ λ e.
-            ap (cons_option (found r.method r.asks (spelled ++ parameters_of segments qs) (meant_in (behind (literal s) all) segments qs))) rest
-            ∙ ap (λ (b : Bool). cons_option (found r.method r.asks (spelled ++ parameters_of segments qs) (fits segments qs && not b)) later)
-            (sym (ap (λ u. passed all (s ∷ segments) (literal u ∷ qs)) ((bytes_eq-Decides t s).0 e) ∙ passed_literal all s segments qs))
-          | false ↦ λ e. rest
-        ] refl
+          all_found test spells (cons_option (option_map (λ left. record r { path = left }) (cond b (Some qs) None)) (behind (literal s) rs))
+          ≡ cons_option (found r.method r.asks (spelled ++ parameters_of segments qs) ((b && fits segments qs) && not (passed all (s ∷ segments) (literal t ∷ qs)))) later) [
+            | true ↦ λ e.
+                ap (cons_option (found r.method r.asks (spelled ++ parameters_of segments qs) (meant_in (behind (literal s) all) segments qs))) rest
+                ∙ ap (λ (b : Bool). cons_option (found r.method r.asks (spelled ++ parameters_of segments qs) (fits segments qs && not b)) later)
+                (sym (ap (λ u. passed all (s ∷ segments) (literal u ∷ qs)) ((bytes_eq-Decides t s).0 e) ∙ passed_literal all s segments qs))
+            | false ↦ λ e. rest
+          ] refl
     ]
 
 -- one segment further as a parameter, where no route has it as a literal
@@ -137,14 +137,14 @@ by_parameter all (r ∷ rs) s segments spelled none absent some =
     ≡ cons_option (found r.method r.asks (spelled ++ parameters_of (s ∷ segments) ps) (meant_in all (s ∷ segments) ps)) later) [
       | [] ↦ λ e. rest
       | parameter ∷ qs ↦ λ e.
-        ap (cons_option (found r.method r.asks ((spelled ++ percent_decode s ∷ []) ++ parameters_of segments qs) (meant_in (behind parameter all) segments qs))) rest
-        ∙ ap (λ (ws : List (List ℕ)). cons_option (found r.method r.asks ws (meant_in (behind parameter all) segments qs)) later)
-        (append_assoc spelled (percent_decode s ∷ []) (parameters_of segments qs))
-        ∙ sym (ap (λ (b : Bool). cons_option (found r.method r.asks (spelled ++ percent_decode s ∷ parameters_of segments qs) b) later)
-        (ap (λ (b : Bool). (not b && fits segments qs) && not (passed all (s ∷ segments) (parameter ∷ qs))) some
-        ∙ ap (λ (b : Bool). fits segments qs && not b) (passed_parameter all s segments qs none)))
+          ap (cons_option (found r.method r.asks ((spelled ++ percent_decode s ∷ []) ++ parameters_of segments qs) (meant_in (behind parameter all) segments qs))) rest
+          ∙ ap (λ (ws : List (List ℕ)). cons_option (found r.method r.asks ws (meant_in (behind parameter all) segments qs)) later)
+          (append_assoc spelled (percent_decode s ∷ []) (parameters_of segments qs))
+          ∙ sym (ap (λ (b : Bool). cons_option (found r.method r.asks (spelled ++ percent_decode s ∷ parameters_of segments qs) b) later)
+          (ap (λ (b : Bool). (not b && fits segments qs) && not (passed all (s ∷ segments) (parameter ∷ qs))) some
+          ∙ ap (λ (b : Bool). fits segments qs && not b) (passed_parameter all s segments qs none)))
       | literal t ∷ qs ↦ λ e. rest ∙ sym (ap (λ (b : Bool). cons_option (found r.method r.asks (spelled ++ parameters_of segments qs)
-        ((b && fits segments qs) && not (passed all (s ∷ segments) (literal t ∷ qs)))) later) e)
+          ((b && fits segments qs) && not (passed all (s ∷ segments) (literal t ∷ qs)))) later) e)
     ] parts.0
 
 -- no route goes on by an empty segment that none has as a literal
@@ -159,9 +159,9 @@ by_nothing all (r ∷ rs) s segments spelled absent empty =
     → [] ≡ cons_option (found r.method r.asks (spelled ++ parameters_of (s ∷ segments) ps) (meant_in all (s ∷ segments) ps)) later) [
       | [] ↦ λ e. rest
       | parameter ∷ qs ↦ λ e. rest ∙ sym (ap (λ (b : Bool). cons_option (found r.method r.asks (spelled ++ percent_decode s ∷ parameters_of segments qs)
-        ((not b && fits segments qs) && not (passed all (s ∷ segments) (parameter ∷ qs)))) later) empty)
+          ((not b && fits segments qs) && not (passed all (s ∷ segments) (parameter ∷ qs)))) later) empty)
       | literal t ∷ qs ↦ λ e. rest ∙ sym (ap (λ (b : Bool). cons_option (found r.method r.asks (spelled ++ parameters_of segments qs)
-        ((b && fits segments qs) && not (passed all (s ∷ segments) (literal t ∷ qs)))) later) e)
+          ((b && fits segments qs) && not (passed all (s ∷ segments) (literal t ∷ qs)))) later) e)
     ] parts.0
 
 -- at the end the routes that end are meant
@@ -186,12 +186,12 @@ walked (s ∷ segments) rs spelled =
     ≡ all_found (λ r. meant_in rs (s ∷ segments) r.path) (λ r. spelled ++ parameters_of (s ∷ segments) r.path) rs) [
       | true ↦ λ e. walked segments (behind (literal s) rs) spelled ∙ by_literal rs rs s segments spelled e
       | false ↦ λ e. elim (length s == 0) as (λ b. (length s == 0) ≡ b
-        → (let end = fold enter (record { routes_left = cond b [] (behind parameter rs); parameters = spelled ++ percent_decode s ∷ [] }) segments in
-        all_found ends_here (λ r. end.parameters) end.routes_left)
-        ≡ all_found (λ r. meant_in rs (s ∷ segments) r.path) (λ r. spelled ++ parameters_of (s ∷ segments) r.path) rs) [
-          | true ↦ λ empty. walked segments [] (spelled ++ percent_decode s ∷ []) ∙ by_nothing rs rs s segments spelled e empty
-          | false ↦ λ some. walked segments (behind parameter rs) (spelled ++ percent_decode s ∷ []) ∙ by_parameter rs rs s segments spelled e e some
-        ] refl
+          → (let end = fold enter (record { routes_left = cond b [] (behind parameter rs); parameters = spelled ++ percent_decode s ∷ [] }) segments in
+          all_found ends_here (λ r. end.parameters) end.routes_left)
+          ≡ all_found (λ r. meant_in rs (s ∷ segments) r.path) (λ r. spelled ++ parameters_of (s ∷ segments) r.path) rs) [
+            | true ↦ λ empty. walked segments [] (spelled ++ percent_decode s ∷ []) ∙ by_nothing rs rs s segments spelled e empty
+            | false ↦ λ some. walked segments (behind parameter rs) (spelled ++ percent_decode s ∷ []) ∙ by_parameter rs rs s segments spelled e e some
+          ] refl
     ] refl
 
 -- what the first route asks for that passes the test and has the method
@@ -203,10 +203,10 @@ asks_found method p f (r ∷ rs) =
     elim (p r) as (λ b. option_map (λ o. o.asks) (cond (b && bytes_eq r.method method) (Some r) (find (λ o. p o && bytes_eq o.method method) rs))
     ≡ option_map (λ x. x.0.1) (find (λ x. bytes_eq x.0.0 method) (cons_option (found r.method r.asks (f r) b) (all_found p f rs)))) [
       | true ↦ elim (bytes_eq r.method method) as (λ b. option_map (λ o. o.asks) (cond b (Some r) (find (λ o. p o && bytes_eq o.method method) rs))
-        ≡ option_map (λ x. x.0.1) (cond b (Some ((r.method, r.asks), f r)) (find (λ x. bytes_eq x.0.0 method) (all_found p f rs)))) [
-          | true ↦ refl
-          | false ↦ asks_found method p f rs
-        ]
+          ≡ option_map (λ x. x.0.1) (cond b (Some ((r.method, r.asks), f r)) (find (λ x. bytes_eq x.0.0 method) (all_found p f rs)))) [
+            | true ↦ refl
+            | false ↦ asks_found method p f rs
+          ]
       | false ↦ asks_found method p f rs
     ]
 

@@ -1,5 +1,4 @@
--- The routes: which paths and methods ask for what. A path means the routes that fit it and pass over no literal of the
--- table.
+-- The routes: which paths and methods ask for what. The segments of a path mean the routes that fit them and pass over no literal.
 use Rattle.std.specs.Prelude.{ℕ, Bool, true, false, not, ◌&&◌, ◌==◌, List, [], ◌∷◌, length, bytes_eq, codes, if◌then◌else◌}
 use Rattle.std.specs.List.{list_any, slice_split}
 use Rattle.percent_encoding.specs.Percent.{percent_decode}

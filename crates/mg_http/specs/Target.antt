@@ -55,7 +55,7 @@ requested ListIndexes parameters query = asks list_indexes
 requested DropIndex parameters query = drop_asked [] parameters
 requested DropDesignIndex parameters query = drop_asked (codes "_design/") parameters
 
--- what is asked where a route has the method, and where none has it
+-- what the route with the method asks for; `None`: there is no such route
 abbrev pub requested_by : Option Action → List (List ℕ) → List ℕ → Request
 requested_by None parameters query = refuses MethodNotAllowed
 requested_by (Some action) parameters query = requested action parameters query
@@ -65,8 +65,8 @@ abbrev pub names : List ℕ → List (List ℕ) → Bool
 names db [] = false
 names db (name ∷ parameters) = bytes_eq name db
 
--- What is asked by the parameters of the routes that are meant, and by the one with the method. It is missing where no
--- route is meant or a parameter is no text; the database comes before the method.
+-- What is asked, by what the parameters of the route spell (`None`: no route is meant), and by what the route with the method asks for
+-- (`None`: it has another method). A parameter that is not text is missing, too. The database's name is looked at before the method.
 abbrev pub request_with : List ℕ → Option (List (List ℕ)) → Option Action → List ℕ → Request
 request_with db None action query = refuses Missing
 request_with db (Some parameters) action query =

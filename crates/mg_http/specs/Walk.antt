@@ -1,5 +1,5 @@
--- For private clauses: how the code finds the routes that a path means, segment by segment. A segment that some route has
--- there as a literal is that literal.
+-- For private clauses: how the code finds the routes that a path means, segment by segment. Where some route that is left goes on by
+-- the segment as a literal, only such routes are left.
 use Rattle.std.specs.Prelude.{ℕ, Bool, true, false, not, ◌&&◌, ◌==◌, List, [], ◌∷◌, ◌++◌, length, fold, bytes_eq, find, Option, Some, None, if◌then◌else◌}
 use Rattle.std.specs.List.{list_any, list_all, filter_map}
 use Rattle.std.specs.Option.{option_map}
@@ -62,7 +62,7 @@ ends_here r = length r.path == 0
 abbrev pub ends_with : List ℕ → Route → Bool
 ends_with method r = ends_here r && bytes_eq r.method method
 
--- what is asked at a place: a route that ends there, parameters that are text, this database, and then the method
+-- what is asked at the place where the path ends
 abbrev pub request_at : List ℕ → List ℕ → List ℕ → Place → Request
 request_at db method query place =
     if not (list_any ends_here place.routes_left && list_all is_utf8 place.parameters) then refuses Missing
