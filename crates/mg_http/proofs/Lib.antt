@@ -10,3 +10,4 @@ pub mod RouteLemmas
 pub mod SessionLemmas
 pub mod TalkLemmas
 pub mod TranscriptLemmas
+pub mod WalkLemmas

@@ -12,7 +12,8 @@ use Rattle.std.proofs.lemmas.List.Elements.{filter_map-append}
 use Rattle.std.proofs.lemmas.List.Sums.{fails_before_first}
 use Rattle.matchit.specs.Rows.{RowsOf, param_token, catch_all_token}
 use Rattle.matchit.specs.Seek.{seek, param_step, own, step, or_else, first, has_slash, slash}
-use Rattle.mg_http.specs.Routes.{Route, literal, routes, goes_on}
+use Rattle.mg_http.specs.Routes.{Route, literal, routes}
+use Rattle.mg_http.specs.Walk.{goes_on}
 use Rattle.mg_http.proofs.ListLemmas.{both}
 
 module _ {K : Type 0} where

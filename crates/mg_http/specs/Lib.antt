@@ -16,3 +16,4 @@ pub mod Target
 pub mod TargetScan
 pub mod Transcript
 pub mod Turns
+pub mod Walk

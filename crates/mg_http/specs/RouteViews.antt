@@ -6,6 +6,7 @@ use Rattle.mg_http.specs.declared.routes.Part.TheVariants.{Literal, Parameter}
 use Rattle.mg_http.specs.declared.routes.Route.{Route}
 use Rattle.mg_http.specs.declared.place.Place.{Place}
 use Rattle.mg_http.specs.Routes as spec
+use Rattle.mg_http.specs.Walk as walk
 
 -- a part
 abbrev pub part_seen : Part → spec.Part
@@ -17,5 +18,5 @@ abbrev pub route_of : Route → spec.Route
 route_of r = record { method = r.method.now; path = map part_seen r.path.now; asks = r.action }
 
 -- a place
-abbrev pub place_in : Place → spec.Place
+abbrev pub place_in : Place → walk.Place
 place_in p = record { routes_left = map route_of (cow_slice_items p.routes); parameters = map (λ v. v.items) p.parameters.items }

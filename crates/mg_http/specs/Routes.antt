@@ -1,8 +1,6 @@
--- The routes: which paths and methods ask for what. A path is followed segment by segment; a segment that some route has
--- there is taken as it stands, before it may be a parameter, and there is no going back.
-use Rattle.std.specs.Prelude.{ℕ, Bool, true, false, ◌&&◌, ◌==◌, List, [], ◌∷◌, ◌++◌, length, fold, bytes_eq, codes, Option, Some, None, if◌then◌else◌}
-use Rattle.std.specs.List.{list_any, filter_map, slice_split}
-use Rattle.std.specs.Option.{option_map}
+-- The routes: which paths and methods ask for what. The segments of a path mean the routes that fit them and pass over no literal.
+use Rattle.std.specs.Prelude.{ℕ, Bool, true, false, not, ◌&&◌, ◌==◌, List, [], ◌∷◌, length, bytes_eq, codes, if◌then◌else◌}
+use Rattle.std.specs.List.{list_any, slice_split}
 use Rattle.percent_encoding.specs.Percent.{percent_decode}
 use Rattle.mg_http.specs.declared.routes.Endpoint.TheVariants.{BulkDocs, Find, Explain, CreateIndex, Reshard}
 use Rattle.mg_http.specs.declared.routes.Action.{Action}
@@ -41,6 +39,11 @@ routes =
     ∷ record { method = codes "GET"; path = parameter ∷ []; asks = Document }
     ∷ []
 
+-- the segments of a path, which begins with a slash
+abbrev pub segments_of : List ℕ → List (List ℕ)
+segments_of [] = []
+segments_of (b ∷ rest) = if b == 47 then slice_split (λ c. c == 47) rest else []
+
 -- two parts are the same
 abbrev pub same_part : Part → Part → Bool
 same_part (literal a) (literal b) = bytes_eq a b
@@ -48,60 +51,42 @@ same_part (literal a) parameter = false
 same_part parameter (literal b) = false
 same_part parameter parameter = true
 
--- what is left of a path behind the part with which it begins
-abbrev pub path_behind : Part → List Part → Option (List Part)
-path_behind part [] = None
-path_behind part (p ∷ ps) = if same_part p part then Some ps else None
+-- a literal takes the segment that equals it, a parameter any segment that is not empty
+abbrev pub takes : Part → List ℕ → Bool
+takes (literal text) segment = bytes_eq text segment
+takes parameter segment = not (length segment == 0)
 
--- what is left of a route
-abbrev pub route_behind : Part → Route → Option Route
-route_behind part r = option_map (λ path. record r { path = path }) (path_behind part r.path)
+-- the path has as many parts as there are segments, and each part takes its segment
+abbrev pub fits : List (List ℕ) → List Part → Bool
+fits [] [] = true
+fits [] (p ∷ path) = false
+fits (s ∷ segments) [] = false
+fits (s ∷ segments) (p ∷ path) = takes p s && fits segments path
 
--- what is left of the routes on which one can go on by the part
-abbrev pub behind : Part → List Route → List Route
-behind part rs = filter_map (route_behind part) rs
+-- where the path first differs from the other one, the other one has the segment as a literal
+abbrev pub passes_over : List (List ℕ) → List Part → List Part → Bool
+passes_over [] path other = false
+passes_over (s ∷ segments) [] other = false
+passes_over (s ∷ segments) (p ∷ path) [] = false
+passes_over (s ∷ segments) (p ∷ path) (q ∷ other) =
+    if same_part q p then passes_over segments path other else same_part q (literal s)
 
--- a route's path begins with the part
-abbrev pub begins_with : Part → List Part → Bool
-begins_with part [] = false
-begins_with part (p ∷ ps) = same_part p part
+-- a route's path from its start: the name of the database is its first parameter
+abbrev pub whole_path : Route → List Part
+whole_path r = parameter ∷ r.path
 
--- on some route one can go on by the part
-abbrev pub goes_on : Part → List Route → Bool
-goes_on part rs = list_any (λ r. begins_with part r.path) rs
+-- the segments mean the route: it fits them, and passes over no literal of the table
+abbrev pub means : List (List ℕ) → Route → Bool
+means segments r =
+    fits segments (whole_path r) && not (list_any (λ other. passes_over segments (whole_path r) (whole_path other)) routes)
 
--- where a path has led so far: what is left of the routes on it, and what its parameters spell
-pub record Place : Type 0 where
-  pub routes_left : List Route
-  pub parameters : List (List ℕ)
+-- they mean it, and it has the method
+abbrev pub is_asked : List ℕ → List (List ℕ) → Route → Bool
+is_asked method segments r = means segments r && bytes_eq r.method method
 
--- one segment further, taken as it stands or as a parameter
-abbrev pub enter_as : Bool → Place → List ℕ → Place
-enter_as true place segment = record place { routes_left = behind (literal segment) place.routes_left }
-enter_as false place segment = record {
-  routes_left = if length segment == 0 then [] else behind parameter place.routes_left;
-  parameters = place.parameters ++ percent_decode segment ∷ [];
-}
-
--- one segment further
-abbrev pub enter : Place → List ℕ → Place
-enter place segment = enter_as (goes_on (literal segment) place.routes_left) place segment
-
--- where the segments lead: the first one names the database
-abbrev pub place_of_route : List (List ℕ) → Place
-place_of_route [] = record { routes_left = []; parameters = [] }
-place_of_route (name ∷ below) =
-    fold enter (record { routes_left = if length name == 0 then [] else routes; parameters = percent_decode name ∷ [] }) below
-
--- the segments of a path, which begins with a slash
-abbrev pub segments_of : List ℕ → List (List ℕ)
-segments_of [] = []
-segments_of (b ∷ rest) = if b == 47 then slice_split (λ c. c == 47) rest else []
-
--- the route ends at the place
-abbrev pub ends_here : Route → Bool
-ends_here r = length r.path == 0
-
--- and has the method
-abbrev pub is_asked : List ℕ → Route → Bool
-is_asked method r = ends_here r && bytes_eq r.method method
+-- what the parameters of a path spell
+abbrev pub parameters_of : List (List ℕ) → List Part → List (List ℕ)
+parameters_of [] path = []
+parameters_of (s ∷ segments) [] = []
+parameters_of (s ∷ segments) (literal text ∷ path) = parameters_of segments path
+parameters_of (s ∷ segments) (parameter ∷ path) = percent_decode s ∷ parameters_of segments path

@@ -1,6 +1,7 @@
 -- What the method and the target of a head ask for (RFC 9110, section 9; RFC 3986, sections 2 and 3).
 use Rattle.std.specs.Prelude.{ℕ, Bool, false, not, ◌&&◌, List, [], ◌∷◌, ◌++◌, bytes_eq, codes, find, Option, Some, None, if◌then◌else◌}
 use Rattle.std.specs.List.{list_all, list_any}
+use Rattle.std.specs.Option.{option_map}
 use Rattle.std.specs.Str.{is_utf8}
 use Rattle.std.specs.Str.Lossy.{utf8_lossy}
 use Rattle.form_urlencoded.specs.Form.{split_once, raw_pairs, decode}
@@ -10,7 +11,7 @@ use Rattle.mg_engine.specs.Commands.{Asked, get, list_indexes, drop_index}
 use Rattle.mg_http.specs.declared.routes.Endpoint.{Endpoint}
 use Rattle.mg_http.specs.declared.routes.Action.{Action}
 use Rattle.mg_http.specs.declared.routes.Action.TheVariants.{Body, Document, ListIndexes, DropIndex, DropDesignIndex}
-use Rattle.mg_http.specs.Routes.{Route, Place, place_of_route, segments_of, ends_here, is_asked}
+use Rattle.mg_http.specs.Routes.{routes, whole_path, means, is_asked, parameters_of, segments_of}
 
 -- what is asked: what an endpoint does with the value that the body is, a command, or a refusal
 pub data Request : Type 0 where
@@ -54,23 +55,30 @@ requested ListIndexes parameters query = asks list_indexes
 requested DropIndex parameters query = drop_asked [] parameters
 requested DropDesignIndex parameters query = drop_asked (codes "_design/") parameters
 
--- the same of the route that was found; there is none for another method
-abbrev pub requested_by : Option Route → List (List ℕ) → List ℕ → Request
+-- what the route with the method asks for; `None`: there is no such route
+abbrev pub requested_by : Option Action → List (List ℕ) → List ℕ → Request
 requested_by None parameters query = refuses MethodNotAllowed
-requested_by (Some r) parameters query = requested r.asks parameters query
+requested_by (Some action) parameters query = requested action parameters query
 
 -- the first parameter is this database's name
 abbrev pub names : List ℕ → List (List ℕ) → Bool
 names db [] = false
 names db (name ∷ parameters) = bytes_eq name db
 
--- what is asked at a place: a route that ends there, parameters that are text, this database, and then the method
-abbrev pub request_at : List ℕ → List ℕ → List ℕ → Place → Request
-request_at db method query place =
-    if not (list_any ends_here place.routes_left && list_all is_utf8 place.parameters) then refuses Missing
-    else (if names db place.parameters then requested_by (find (is_asked method) place.routes_left) place.parameters query
-    else refuses NoDatabase)
+-- What is asked, by what the parameters of the route spell (`None`: no route is meant), and by what the route with the method asks for
+-- (`None`: it has another method). A parameter that is not text is missing, too. The database's name is looked at before the method.
+abbrev pub request_with : List ℕ → Option (List (List ℕ)) → Option Action → List ℕ → Request
+request_with db None action query = refuses Missing
+request_with db (Some parameters) action query =
+    if not (list_all is_utf8 parameters) then refuses Missing
+    else (if names db parameters then requested_by action parameters query else refuses NoDatabase)
+
+-- what a method and the segments of a path ask of the database
+abbrev pub request_on : List ℕ → List ℕ → List ℕ → List (List ℕ) → Request
+request_on db method query segments =
+    request_with db (option_map (λ r. parameters_of segments (whole_path r)) (find (means segments) routes))
+    (option_map (λ r. r.asks) (find (is_asked method segments) routes)) query
 
 -- what a method and a target ask of the database
 abbrev pub request_of : List ℕ → List ℕ → List ℕ → Request
-request_of db method target = request_at db method (query_in target) (place_of_route (segments_of (path_in target)))
+request_of db method target = request_on db method (query_in target) (segments_of (path_in target))

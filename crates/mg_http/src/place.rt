@@ -6,8 +6,9 @@ ghost use Rattle.std.specs.List.{list_any};
 ghost use Rattle.std.specs.Option.{option_map};
 ghost use Rattle.std.specs.Cow.{cow_slice_items};
 ghost use Rattle.mg_http.specs.RouteViews.{part_seen, route_of, place_in};
-ghost use Rattle.mg_http.specs.Routes.{literal, routes, same_part, route_behind, behind, begins_with, goes_on, enter, place_of_route, segments_of, ends_here, is_asked};
+ghost use Rattle.mg_http.specs.Routes.{literal, routes, same_part, segments_of};
 ghost use Rattle.mg_http.specs.Segments.{segments_left};
+ghost use Rattle.mg_http.specs.Walk.{route_behind, behind, begins_with, goes_on, enter, place_of_route, ends_here, ends_with};
 
 use crate::decode::decoded;
 use crate::routes::{Action, Part, Route, all_routes};
@@ -139,8 +140,8 @@ fn ends_here(route: &Route) -> bool
 }
 
 /// Whether the route ends here and has the method.
-fn is_asked(route: &Route, method: &[u8]) -> bool
-    ensures { result ≡ is_asked method.now (route_of route.now) }
+fn ends_with(route: &Route, method: &[u8]) -> bool
+    ensures { result ≡ ends_with method.now (route_of route.now) }
 {
     ends_here(route) && route.method == method
 }
@@ -240,9 +241,9 @@ impl Place {
 
     /// What the first route asks for that ends here and has the method.
     pub(crate) fn action(&self, method: &[u8]) -> Option<Action>
-        ensures { result ≡ option_map (λ r. r.asks) (find (is_asked method.now) (place_in self.now).routes_left) }
+        ensures { result ≡ option_map (λ r. r.asks) (find (ends_with method.now) (place_in self.now).routes_left) }
     {
-        let route = self.routes.iter().find(|route| is_asked(route, method))?;
+        let route = self.routes.iter().find(|route| ends_with(route, method))?;
         Some(route.action)
     }
 }

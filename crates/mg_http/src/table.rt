@@ -1,7 +1,8 @@
 //! The second segments that some route has as they stand.
 ghost use Rattle.std.specs.Prelude.{◌≡◌, ℕ, List, is_some};
 ghost use Rattle.matchit.specs.Seek.{first};
-ghost use Rattle.mg_http.specs.Routes.{literal, routes, goes_on};
+ghost use Rattle.mg_http.specs.Routes.{literal, routes};
+ghost use Rattle.mg_http.specs.Walk.{goes_on};
 
 use matchit::{InsertError, Router};
 use std::alloc::{AllocError, Global};

@@ -3,8 +3,9 @@ ghost use Rattle.std.specs.Prelude.{◌≡◌, map, IfOk, true};
 ghost use Rattle.std.specs.List.{list_all};
 ghost use Rattle.std.specs.Str.{is_utf8};
 ghost use Rattle.mg_http.specs.RouteViews.{place_in};
-ghost use Rattle.mg_http.specs.Target.{path_in, query_in, names, document_asked, drop_asked, request_at, request_of};
+ghost use Rattle.mg_http.specs.Target.{path_in, query_in, names, document_asked, drop_asked, request_of};
 ghost use Rattle.mg_http.specs.Turns.{request_in};
+ghost use Rattle.mg_http.specs.Walk.{request_at};
 
 use crate::decode::asks_conflicts;
 use crate::place::Place;

@@ -3,7 +3,7 @@ use Rattle.std.proofs.lemmas.List.{take_all}
 use Rattle.std.specs.List.{filter_map}
 use Rattle.mg_http.specs.declared.routes.Route as rust
 use Rattle.mg_http.specs.RouteViews.{part_seen, route_of}
-use Rattle.mg_http.specs.Routes.{route_behind}
+use Rattle.mg_http.specs.Walk.{route_behind}
 use Rattle.mg_http.proofs.RouteLemmas.{filter_map-map, one_behind}
 use Rattle.mg_http.proofs.place.behind.Goals as goal
 

@@ -1,7 +1,7 @@
 use Rattle.std.proofs.Common.{◌≡◌, map, take}
 use Rattle.std.specs.List.{filter_map}
 use Rattle.mg_http.specs.RouteViews.{part_seen, route_of}
-use Rattle.mg_http.specs.Routes.{route_behind}
+use Rattle.mg_http.specs.Walk.{route_behind}
 use Rattle.mg_http.proofs.place.behind.Given as goal
 
 abbrev pub invariant-loop-route : goal.invariant-loop-route

@@ -4,7 +4,8 @@ use Rattle.std.proofs.lemmas.Iterator.{YieldsList-from_slice}
 use Rattle.std.proofs.lemmas.Iterator.Search.{any_from_yields_List}
 use Rattle.mg_http.specs.declared.routes.Route as rust
 use Rattle.mg_http.specs.RouteViews.{route_of}
-use Rattle.mg_http.specs.Routes.{Route, literal, begins_with}
+use Rattle.mg_http.specs.Routes.{Route, literal}
+use Rattle.mg_http.specs.Walk.{begins_with}
 use Rattle.mg_http.proofs.ListLemmas.{any_map}
 use Rattle.mg_http.proofs.place.goes_on.Goals as goal
 

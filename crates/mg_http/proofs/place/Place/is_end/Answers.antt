@@ -5,7 +5,7 @@ use Rattle.std.proofs.lemmas.Iterator.Search.{any_from_yields_List}
 use Rattle.std.specs.Cow.{cow_slice_items}
 use Rattle.mg_http.specs.declared.routes.Route as rust
 use Rattle.mg_http.specs.RouteViews.{route_of}
-use Rattle.mg_http.specs.Routes.{ends_here}
+use Rattle.mg_http.specs.Walk.{ends_here}
 use Rattle.mg_http.proofs.ListLemmas.{any_map}
 use Rattle.mg_http.proofs.place.Place.is_end.Goals as goal
 
