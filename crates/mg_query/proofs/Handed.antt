@@ -24,6 +24,7 @@ use Rattle.mg_normal.specs.Normal.{IsNormalOf, NormalForm, normal_atoms, normal_
 use Rattle.mg_range.specs.Laws.{RangesAreComplete}
 use Rattle.mg_range.specs.Place.{has_key}
 use Rattle.mg_range.specs.Range.{Range, range_of}
+use Rattle.mg_scan.specs.Decided.{IsDecidedIn}
 use Rattle.mg_scan.specs.Found.{asked, columns_of as columns_at, found_in}
 use Rattle.mg_scan.specs.Hit.{hit_row, hit_rows}
 use Rattle.mg_scan.specs.Scan.{Request, scanned}
@@ -34,11 +35,13 @@ use Rattle.mg_shard.specs.Documents.{docs_of}
 use Rattle.mg_shard.specs.Histories.{Histories}
 use Rattle.mg_shard.specs.Rows.{row_of}
 use Rattle.mg_shard.specs.Shard.{ShardView}
+use Rattle.mg_query.specs.Asked.{AreFirst, AreOfPage, IsDecidedBy}
 use Rattle.mg_query.specs.Page.{candidates_of, columns_of, page_rows, row_by}
 use Rattle.mg_query.specs.Paged.{IsWithin}
 use Rattle.mg_query.specs.Lent.{row_at, shard_rows}
 use Rattle.mg_query.specs.Query.{Query}
 use Rattle.mg_query.specs.Served.{AreWhole, IsListed}
+use Rattle.mg_query.specs.declared.found.Asked.{Asked}
 use Rattle.mg_query.proofs.Answered.{is_wanted_by, rows_of_answer}
 use Rattle.mg_query.proofs.Gathered.{listed, listed_sorted, lists_in_order, rows_asked}
 
@@ -99,6 +102,17 @@ pub listed_at : (source : Source) (target : Target) (shards : List ShardView) �
     → All (λ s. columns_at target s.definitions ≡ Some (columns_of source)) shards
 listed_at source target shards at listed = All-weaker (λ s. IsListed s.definitions source) (λ s. columns_at target s.definitions ≡ Some (columns_of source)) (λ s l. at s.definitions l) shards listed
 
+-- where the range decides, it does so in each shard
+pub decided_in : (source : Source) (target : Target) (normal : NormalForm) (range : Range) (shards : List ShardView) → All (λ s. columns_at target s.definitions ≡ Some (columns_of source)) shards
+    → IsDecidedBy (columns_of source) normal → range ≡ range_of (normal_atoms normal) (columns_of source) → All (IsDecidedIn target normal range) shards
+decided_in source target normal range shards there decided is =
+    All-weaker (λ s. columns_at target s.definitions ≡ Some (columns_of source)) (IsDecidedIn target normal range)
+    (λ s e. record { columns = columns_of source; there = e; alone = decided.0; decides = decided.1; bounds = is }) shards there
+
+-- the first hits, of which the page passes over some
+pub first_passed : (q : Query) (a : Asked) (shards : List ShardView) (hits : List Hit) → AreFirst q a shards hits → AreOfPage q a shards q.skip hits
+first_passed q a shards hits first = record { rows = sym (drop-map hit_row q.skip hits) ∙ ap (drop q.skip) first.rows; hits = first.hits }
+
 -- the row that is lent
 pub rows_lent : (o : Option (Bor Row)) (p : Option Row) → option_map (λ r. r.now) o ≡ p → option_map (λ r. row_view r.now) o ≡ option_map row_view p
 rows_lent None p e = ap (option_map row_view) e
@@ -136,12 +150,18 @@ module _ (q : Query) (columns : List Steps) (normal : NormalForm) (is : IsNormal
   all_listed [] = refl
   all_listed (s ∷ shards) = ap₂ (λ rows lists. rows ∷ lists) (shard_listed s) (all_listed shards)
 
-  -- the rows of the hits after the first are those of the page, over all documents that the histories serve
+  -- the merged rows after the first are those of the page, over all documents that the histories serve
+  pub rows_merged : RangesAreComplete → is_usable (atoms_of q.selector) q.sort columns ≡ true → (place : Placing) (shards : List ShardView) (hs : Histories) → ShardsStandFor place shards hs → AreWhole (candidates_of hs)
+      → drop q.skip (merged q.direction most (map (shard_rows normal columns q) shards)) ≡ map (row_by columns) (page_rows columns q (candidates_of hs))
+  rows_merged complete usable place shards hs stands whole =
+      ap (λ lists. drop q.skip (merged q.direction most lists)) (all_listed shards) ∙ rows_of_answer complete q columns (normal_holds normal) is.meaning usable place shards hs stands whole
+
+  -- the rows of the hits after the first are those of the page
   pub rows_handed : RangesAreComplete → is_usable (atoms_of q.selector) q.sort columns ≡ true → (place : Placing) (shards : List ShardView) (hs : Histories) → ShardsStandFor place shards hs → AreWhole (candidates_of hs)
       → (hits : List Hit) → hit_rows hits ≡ merged q.direction most (map (shard_rows normal columns q) shards)
       → map hit_row (drop q.skip hits) ≡ map (row_by columns) (page_rows columns q (candidates_of hs))
   rows_handed complete usable place shards hs stands whole hits e =
-      sym (drop-map hit_row q.skip hits) ∙ ap (drop q.skip) (e ∙ ap (merged q.direction most) (all_listed shards)) ∙ rows_of_answer complete q columns (normal_holds normal) is.meaning usable place shards hs stands whole
+      sym (drop-map hit_row q.skip hits) ∙ ap (drop q.skip) e ∙ rows_merged complete usable place shards hs stands whole
 
   shard_in_order : (s : ShardView) → IsInOrder q.direction (shard_rows normal columns q s)
   shard_in_order s =

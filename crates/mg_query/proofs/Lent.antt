@@ -102,11 +102,11 @@ known_rows columns q hs =
     (all_kept (IsKnown hs) (is_after columns q) (sorted order asked) (all_sorted (IsKnown hs) order asked (all_kept (IsKnown hs) (is_asked q) (candidates_of hs) (all_known hs)))))
 
 -- hits with the rows of a page lend its candidates
-pub lend_first : (columns : List Steps) (q : Query) (place : Placing) (hs : Histories) (shards : List ShardView) (hits : List Hit) → ShardsStandFor place shards hs → AreHitsIn shards hits
-    → map hit_row (drop q.skip hits) ≡ map (row_by columns) (page_rows columns q (candidates_of hs)) → LendEach columns (drop q.skip hits) (page_rows columns q (candidates_of hs))
-lend_first columns q place hs shards hits stands h e =
-    lend_all columns hs (drop q.skip hits) (page_rows columns q (candidates_of hs)) e
-    (all_dropped (IsOf hs) q.skip hits (all_weaker (IsHitIn shards) (IsOf hs) (of_in place hs shards stands) hits h)) (known_rows columns q hs)
+pub lend_first : (columns : List Steps) (q : Query) (place : Placing) (hs : Histories) (shards : List ShardView) (skip : ℕ) (hits : List Hit) → ShardsStandFor place shards hs → AreHitsIn shards hits
+    → map hit_row (drop skip hits) ≡ map (row_by columns) (page_rows columns q (candidates_of hs)) → LendEach columns (drop skip hits) (page_rows columns q (candidates_of hs))
+lend_first columns q place hs shards skip hits stands h e =
+    lend_all columns hs (drop skip hits) (page_rows columns q (candidates_of hs)) e
+    (all_dropped (IsOf hs) skip hits (all_weaker (IsHitIn shards) (IsOf hs) (of_in place hs shards stands) hits h)) (known_rows columns q hs)
 
 -- ---- hits and candidates one by one
 

@@ -1,8 +1,10 @@
 -- For private clauses: what a query asks of each shard, and what is first of all that they have.
-use Rattle.std.specs.Prelude.{◌≡◌, ◌+◌, List, map, option_map}
+use Rattle.std.specs.Prelude.{◌≡◌, ℕ, ◌+◌, true, false, List, drop, is_some, map, option_map}
 use Rattle.mg_collate.specs.Row.{RowValue, row_view}
 use Rattle.mg_merge.specs.Merged.{merged}
-use Rattle.mg_normal.specs.Normal.{IsNormalOf, normal_atoms}
+use Rattle.mg_index.specs.Definition.{Steps}
+use Rattle.mg_normal.specs.Normal.{IsNormalOf, NormalForm, normal_atoms}
+use Rattle.mg_range.specs.Decided.{decides_of}
 use Rattle.mg_range.specs.Range.{range_of}
 use Rattle.mg_scan.specs.Hit.{AreHitsIn, hit_rows}
 use Rattle.mg_scan.specs.declared.hit.Hit.{Hit}
@@ -13,11 +15,16 @@ use Rattle.mg_query.specs.Query.{Query}
 use Rattle.mg_query.specs.Served.{source_seen}
 use Rattle.mg_query.specs.declared.found.Asked.{Asked}
 
+-- the normal form asks nothing besides atoms, and their range at the columns decides each of them
+abbrev pub IsDecidedBy : List Steps → NormalForm → Type 0
+IsDecidedBy columns normal = (is_some normal.rest ≡ false) × (decides_of (normal_atoms normal) columns ≡ true)
+
 -- it is what the query asks
 pub record IsAskedBy (q : Query) (a : Asked) : Type 0 where
   pub normal : IsNormalOf q.selector a.normal
   pub range : a.range ≡ range_of (normal_atoms a.normal) (columns_of (source_seen a.source))
   pub after : option_map row_view a.after ≡ option_map row_at q.bookmark
+  pub decided : a.is_decided ≡ true → IsDecidedBy (columns_of (source_seen a.source)) a.normal
 
 -- what a shard lists of it
 abbrev pub rows_asked_of : Query → Asked → ShardView → List RowValue
@@ -26,4 +33,9 @@ rows_asked_of q a = shard_rows a.normal (columns_of (source_seen a.source)) q
 -- the hits are the first of what all shards list, each of a document of one of them
 pub record AreFirst (q : Query) (a : Asked) (shards : List ShardView) (found : List Hit) : Type 0 where
   pub rows : hit_rows found ≡ merged q.direction (q.skip + q.limit) (map (rows_asked_of q a) shards)
+  pub hits : AreHitsIn shards found
+
+-- the hits after the first `skip` of these are those that the page has at most, each of a document of one of the shards
+pub record AreOfPage (q : Query) (a : Asked) (shards : List ShardView) (skip : ℕ) (found : List Hit) : Type 0 where
+  pub rows : hit_rows (drop skip found) ≡ drop q.skip (merged q.direction (q.skip + q.limit) (map (rows_asked_of q a) shards))
   pub hits : AreHitsIn shards found

@@ -1,5 +1,5 @@
 //! The page that answers a query, as values and as text.
-ghost use Rattle.std.specs.Prelude.{◌≡◌, ◌+◌, ◌<◌, ◌≤◌, List, All, IfOk, drop, length, map, string_bytes};
+ghost use Rattle.std.specs.Prelude.{◌≡◌, ◌+◌, ◌<◌, ◌≤◌, List, All, IfOk, length, map, string_bytes};
 ghost use Rattle.mg_value.specs.Text.{compact};
 ghost use Rattle.mg_value.specs.View.{view};
 ghost use Rattle.mg_index.specs.Definition.{Steps};
@@ -93,7 +93,8 @@ pub fn page_text<R: Threads + Sync, G: Gate + Sync>(
         (handed_of catalog.now (query_seen query.now) place (length shards.now) hs) }
 {
     let found = find(rt, alloc, query, catalog, shards, workers, gate)?;
-    let text = text_found(alloc, query, found.source, &found.hits)?;
+    let hits = after_skip(&found.hits, query.skip);
+    let text = text_found(alloc, query, found.source, hits)?;
     Ok((text, found.work))
 }
 
@@ -101,7 +102,8 @@ pub fn page_text<R: Threads + Sync, G: Gate + Sync>(
 /// query that is not worth a second thread runs on the caller's, and passes no gate.
 ///
 /// Errors: as of `page`. Cost: as of `page_text`. On the caller's thread each shard is read only until its rows are not among the
-/// first: the shards find skip + limit hits together, and one more each.
+/// first: the shards find skip + limit hits together, and one more each. Where the range of the index decides the whole selector, a
+/// document is looked up for each hit that the page has, and a row that it passes over costs a step.
 pub fn page_text_by<R: Threads + Sync, G: Gate + Sync>(
     rt: &R,
     alloc: Global,
@@ -118,10 +120,11 @@ pub fn page_text_by<R: Threads + Sync, G: Gate + Sync>(
         (text_of (answer_of catalog.now (query_seen query.now) (candidates_of hs))) }
 {
     let found = find_first(rt, alloc, query, catalog, shards, workers, gate)?;
-    Ok(text_found(alloc, query, found.source, &found.hits)?)
+    let hits = after_skip(&found.hits, found.skip);
+    Ok(text_found(alloc, query, found.source, hits)?)
 }
 
-// The text of the page of what a query found.
+// The text of the page of these hits.
 fn text_found(
     alloc: Global,
     query: &Query<'_>,
@@ -129,10 +132,9 @@ fn text_found(
     hits: &[Hit<'_>],
 ) -> Result<Vec<u8>, NoMemory>
     ensures { IfOk result (λ text. (cs : List Candidate)
-        → LendEach (columns_of (source_seen source.entry)) (drop query.now.skip hits.now) cs
+        → LendEach (columns_of (source_seen source.entry)) hits.now cs
         → text.items ≡ compact (page_value (page_of (source_seen source.entry) (query_seen query.now) cs))) }
 {
-    let hits = after_skip(hits, query.skip);
     let bookmark = last_bookmark(alloc, query, source, hits)?;
     text_with(alloc, query, &bookmark, hits)
 }

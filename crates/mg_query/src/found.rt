@@ -1,12 +1,12 @@
 // What a query finds for its page: the first hits of all shards together.
-ghost use Rattle.std.specs.Prelude.{◌≡◌, ◌+◌, ◌<◌, ◌≤◌, All, IfOk, drop, length, map, option_map};
+ghost use Rattle.std.specs.Prelude.{◌≡◌, ◌+◌, ◌<◌, ◌≤◌, true, All, IfOk, drop, length, map, option_map};
 ghost use Rattle.std.specs.List.{AllZip};
 ghost use Rattle.mg_collate.specs.Row.{row_view};
 ghost use Rattle.mg_shard.specs.Shard.{shards_seen};
 ghost use Rattle.mg_scan.specs.Hit.{AreHitsOf, hit_rows};
 ghost use Rattle.mg_shard.specs.Dealt.{Placing, ShardsStandFor};
 ghost use Rattle.mg_shard.specs.Histories.{Histories};
-ghost use Rattle.mg_query.specs.Asked.{AreFirst, IsAskedBy, rows_asked_of};
+ghost use Rattle.mg_query.specs.Asked.{AreFirst, AreOfPage, IsAskedBy, rows_asked_of};
 ghost use Rattle.mg_query.specs.Page.{candidates_of, columns_of, page_rows, served_by as served_of};
 ghost use Rattle.mg_query.specs.Paged.{IsWithin, counts_handed};
 ghost use Rattle.mg_query.specs.Lent.{LendEach, row_at};
@@ -22,7 +22,7 @@ use mg_merge::{Work, merge_all};
 use mg_normal::Normal;
 use mg_range::KeyRange;
 use mg_range::laws::ranges_are_complete;
-use mg_scan::{Gate, Hit, Workers, pull_lent, scan_lent};
+use mg_scan::{Gate, Hit, Workers, pull_lent, pull_rows, reads_at_most, scan_lent};
 use mg_shard::Shard;
 use mg_value::{NoMemory, copy_items};
 use std::alloc::Global;
@@ -38,21 +38,23 @@ pub(crate) struct Found<'a> {
     pub(crate) work: Work,
 }
 
-// The index that serves a query, and the hits that its page passes over and has, lent by the shards.
+// The index that serves a query, and the hits of its page, lent by the shards, behind `skip` others.
 #[derive(Drop)]
 pub(crate) struct FirstHits<'a> {
     pub(crate) source: Source<'a>,
     pub(crate) hits: Vec<Hit<'a>>,
+    pub(crate) skip: u32,
 }
 
 // What a query asks of each shard: the index that serves it, its selector in normal form, the range of keys in which it
-// looks, and the row after which its page begins.
+// looks, the row after which its page begins, and whether the range decides the whole selector.
 #[derive(Drop)]
 pub(crate) struct Asked<'a> {
     pub(crate) source: Source<'a>,
     pub(crate) normal: Normal,
     pub(crate) range: KeyRange,
     pub(crate) after: Option<Row>,
+    pub(crate) is_decided: bool,
 }
 
 // What the query finds, over the indexes of the catalog, which each shard has: each shard hands over as many hits as a page
@@ -91,7 +93,7 @@ pub(crate) fn find<'a, R: Threads + Sync, G: Gate + Sync>(
     })
 }
 
-// The first hits of the query, over the indexes of the catalog, which each shard has. Where the workers are a most, and a
+// The hits of the query's page, over the indexes of the catalog, which each shard has. Where the workers are a most, and a
 // second thread is not worth its cost, or there is none, they are looked for on the caller's thread, as the merge asks for them.
 pub(crate) fn find_first<'a, R: Threads + Sync, G: Gate + Sync>(
     rt: &R,
@@ -107,15 +109,16 @@ pub(crate) fn find_first<'a, R: Threads + Sync, G: Gate + Sync>(
         (served_of catalog.now (query_seen query.now)) }
     ensures hits { IfOk result (λ f. (place : Placing) (hs : Histories)
         → ShardsStandFor place (shards_seen shards.now) hs → AreWhole (candidates_of hs)
-        → LendEach (columns_of (source_seen f.source)) (drop query.now.skip f.hits.items)
+        → LendEach (columns_of (source_seen f.source)) (drop f.skip f.hits.items)
         (page_rows (columns_of (source_seen f.source)) (query_seen query.now) (candidates_of hs))) }
 {
     ranges_are_complete();
     let asked = asked_of(alloc, query, catalog)?;
-    let hits = first_of(rt, alloc, query, &asked, shards, workers, gate)?;
+    let (hits, skip) = first_of(rt, alloc, query, &asked, shards, workers, gate)?;
     Ok(FirstHits {
         source: asked.source,
         hits,
+        skip,
     })
 }
 
@@ -134,11 +137,13 @@ fn asked_of<'a>(
     let source = served_by(query, &normal, catalog)?;
     let range = source.range(alloc, &normal)?;
     let after = after_row(alloc, query)?;
+    let is_decided = source.is_decided(&normal);
     Ok(Asked {
         source,
         normal,
         range,
         after,
+        is_decided,
     })
 }
 
@@ -149,7 +154,7 @@ fn row_count(query: &Query<'_>) -> usize
     query.skip as usize + query.limit as usize
 }
 
-// The first hits of all shards together, as many as a page looks at.
+// The hits of the page, behind so many others that it passes over.
 fn first_of<'a, R: Threads + Sync, G: Gate + Sync>(
     rt: &R,
     alloc: Global,
@@ -158,21 +163,69 @@ fn first_of<'a, R: Threads + Sync, G: Gate + Sync>(
     shards: &'a [Arc<Shard>],
     workers: Workers,
     gate: &G,
-) -> Result<Vec<Hit<'a>>, NoMemory>
+) -> Result<(Vec<Hit<'a>>, u32), NoMemory>
     requires asked { IsAskedBy (query_seen query.now) asked.now }
     requires indexes { All (λ s. IsListed s.definitions (source_seen asked.now.source)) (shards_seen shards.now) }
     ensures { IfOk result
-        (λ hits. AreFirst (query_seen query.now) asked.now (shards_seen shards.now) hits.items) }
+        (λ made. AreOfPage (query_seen query.now) asked.now (shards_seen shards.now) made.1 made.0.items) }
 {
     let is_one = workers.count() < 2 || shards.len() < 2;
-    if workers.is_alone(is_one || is_small(query, &asked.range)) {
-        return pulled(alloc, query, asked, shards);
+    if workers.is_alone(is_one || is_small(query, asked, shards)) {
+        return found_alone(alloc, query, asked, shards);
     }
     let (hits, _) = gathered(rt, alloc, query, asked, shards, workers.count(), gate)?;
+    Ok((hits, query.skip))
+}
+
+// The same on the caller's thread, as the merge asks for them. Where the range decides, those that the page passes over are rows, whose
+// documents are not looked up.
+fn found_alone<'a>(
+    alloc: Global,
+    query: &Query<'_>,
+    asked: &Asked<'_>,
+    shards: &'a [Arc<Shard>],
+) -> Result<(Vec<Hit<'a>>, u32), NoMemory>
+    requires asked { IsAskedBy (query_seen query.now) asked.now }
+    requires indexes { All (λ s. IsListed s.definitions (source_seen asked.now.source)) (shards_seen shards.now) }
+    ensures { IfOk result
+        (λ made. AreOfPage (query_seen query.now) asked.now (shards_seen shards.now) made.1 made.0.items) }
+{
+    if asked.is_decided {
+        let hits = pulled_rows(alloc, query, asked, shards)?;
+        return Ok((hits, 0));
+    }
+    let hits = pulled(alloc, query, asked, shards)?;
+    Ok((hits, query.skip))
+}
+
+// The hits of the page alone, where the range decides.
+fn pulled_rows<'a>(
+    alloc: Global,
+    query: &Query<'_>,
+    asked: &Asked<'_>,
+    shards: &'a [Arc<Shard>],
+) -> Result<Vec<Hit<'a>>, NoMemory>
+    requires decided { asked.now.is_decided ≡ true }
+    requires asked { IsAskedBy (query_seen query.now) asked.now }
+    requires indexes { All (λ s. IsListed s.definitions (source_seen asked.now.source)) (shards_seen shards.now) }
+    ensures { IfOk result
+        (λ hits. AreOfPage (query_seen query.now) asked.now (shards_seen shards.now) 0 hits.items) }
+{
+    let (hits, _) = pull_rows(
+        alloc,
+        shards,
+        asked.source.target(),
+        &asked.normal,
+        &asked.range,
+        asked.after.as_ref(),
+        query.skip as usize,
+        row_count(query),
+        query.sort.direction,
+    )?;
     Ok(hits)
 }
 
-// The same, as the merge asks for them.
+// The first hits of all shards together, as many as a page looks at, as the merge asks for them.
 fn pulled<'a>(
     alloc: Global,
     query: &Query<'_>,
@@ -258,11 +311,32 @@ fn lists_of<'a, R: Threads + Sync, G: Gate + Sync>(
 // A page of at most so many rows is small where its range has a bound. Threads cost some 100 µs each, a row at most 1 µs.
 const SMALL_PAGE: usize = 1000;
 
-// Whether a query is not worth a second thread, by its text alone: the rows in its range are not counted.
-fn is_small(query: &Query<'_>, range: &KeyRange) -> bool {
-    let has_bound = range.entered_at(Direction::Asc).is_some()
-        || range.entered_at(Direction::Desc).is_some();
-    has_bound && row_count(query) <= SMALL_PAGE
+// A page of at most so many rows is small where its range decides: a row whose document is not looked up costs at most 0.1 µs.
+const SMALL_ROWS: usize = 4000;
+
+// So many documents or rows that can be read, of all shards together, are few.
+const SMALL_SCAN: usize = 1000;
+
+// Whether a query is not worth a second thread: by its text, or since there is not much to read.
+fn is_small(query: &Query<'_>, asked: &Asked<'_>, shards: &[Arc<Shard>]) -> bool {
+    is_small_page(query, asked)
+        || reads_at_most(
+            shards,
+            asked.source.target(),
+            &asked.normal,
+            &asked.range,
+            asked.after.as_ref(),
+            query.sort.direction,
+            SMALL_SCAN,
+        )
+}
+
+// Whether its page is, by its text alone.
+fn is_small_page(query: &Query<'_>, asked: &Asked<'_>) -> bool {
+    let count = row_count(query);
+    let has_bound = asked.range.entered_at(Direction::Asc).is_some()
+        || asked.range.entered_at(Direction::Desc).is_some();
+    has_bound && count <= SMALL_PAGE || asked.is_decided && count <= SMALL_ROWS
 }
 
 // The row after which the page begins, if there is a bookmark.

@@ -1,5 +1,5 @@
 // The index that serves a query, and whether a bookmark is of it.
-ghost use Rattle.std.specs.Prelude.{◌≡◌, List, Some, IfOk, length, option_map};
+ghost use Rattle.std.specs.Prelude.{◌≡◌, List, Some, true, IfOk, length, option_map};
 ghost use Rattle.mg_value.specs.View.{view, items_view};
 ghost use Rattle.mg_value.specs.Value.{item_list};
 ghost use Rattle.mg_bookmark.specs.Seen.{bookmark_place};
@@ -10,6 +10,7 @@ ghost use Rattle.mg_range.specs.Range.{range_of};
 ghost use Rattle.mg_normal.specs.Normal.{IsNormalOf};
 ghost use Rattle.mg_scan.specs.Found.{columns_of as columns_at};
 ghost use Rattle.mg_selector.specs.View.{selector_of};
+ghost use Rattle.mg_query.specs.Asked.{IsDecidedBy};
 ghost use Rattle.mg_query.specs.Explain.{listed_source};
 ghost use Rattle.mg_query.specs.Page.{columns_of, ddoc_of, fits as fits_source, is_ddoc as is_same_ddoc, is_place_in as is_place_of_source, name_of, served_by as served_of};
 ghost use Rattle.mg_query.specs.Seen.{query_seen};
@@ -21,7 +22,7 @@ use mg_bookmark::Bookmark;
 use mg_index::{Catalog, Choice, IndexDef, all_docs_listed, choose, is_same};
 use mg_normal::Normal;
 use mg_path::{Path, PathError};
-use mg_range::KeyRange;
+use mg_range::{KeyRange, decides};
 use mg_scan::Target;
 use mg_value::{Json, NoMemory};
 use std::alloc::Global;
@@ -162,6 +163,19 @@ impl<'a> Source<'a> {
         match self {
             Source::AllDocs => id_range(alloc, normal),
             Source::Defined(definition) => KeyRange::of(alloc, definition.columns(), normal),
+        }
+    }
+
+    // Whether the range of its keys decides the whole selector, so that no document has to be asked. False for the index of all
+    // documents, where the documents are at hand.
+    pub(crate) fn is_decided(self, normal: &Normal) -> bool
+        ensures { result ≡ true → IsDecidedBy (columns_of (source_seen self.entry)) normal.now }
+    {
+        match self {
+            Source::AllDocs => false,
+            Source::Defined(definition) => {
+                !normal.has_rest() && decides(definition.columns(), normal.atoms())
+            }
         }
     }
 

@@ -10,3 +10,7 @@ pub mod Values
 pub mod Crossing
 pub mod Asked
 pub mod Lent
+pub mod Begun
+pub mod Decided
+pub mod Leads
+pub mod AddedUp

@@ -102,20 +102,6 @@ source_rows s ds documents kept own is =
     ∙ ap (walked_all_by s ds) (rows-beyond s.direction (begin_at s) (entries ds) (own_rows ds own) ∙ ap (beyond s.direction (begin_at s)) (all_rows ds own))
     ∙ all_found_rows (asked_by s all_columns) ds (beyond s.direction (begin_at s) (rows_of all_columns (docs_of ds))) (all_forms ds) refl
 
--- ---- an index
-
--- all that is found in an index
-pub all_indexed : (s : Search) (ds : KeptDocuments) (o : Option IndexDefinition) (rows : List RowValue)
-    → Some rows ≡ option_map (beyond s.direction (begin_at s)) (option_map (λ d. rows_of d.columns (docs_of ds)) o)
-    → walked_all_by s ds rows ≡ option_map_or (λ d. all_scanned (asked_by s d.columns) (docs_of ds)) o []
-all_indexed s ds None rows e = absurd cc
-all_indexed s ds (Some d) rows e = all_found_rows (asked_by s d.columns) ds rows (all_forms ds) (some_is rows (beyond s.direction (begin_at s) (rows_of d.columns (docs_of ds))) e)
-
-pub none_indexed : (s : Search) (ds : KeptDocuments) (o : Option IndexDefinition) → None ≡ option_map (beyond s.direction (begin_at s)) (option_map (λ d. rows_of d.columns (docs_of ds)) o)
-    → ◌≡◌ {A = List RowValue} [] (option_map_or (λ d. all_scanned (asked_by s d.columns) (docs_of ds)) o [])
-none_indexed s ds None e = refl
-none_indexed s ds (Some d) e = absurd cc
-
 -- ---- all that is found, and as much of it as is asked for
 
 ordered_or : (s : Search) (ds : KeptDocuments) (o : Option (List Steps)) → IsInOrder s.direction (option_map_or (λ columns. all_scanned (asked_by s columns) (docs_of ds)) o [])
@@ -147,59 +133,82 @@ cut_found s (shard ∷ shards) =
 
 -- ---- the sources of all shards
 
-module _ (s : Search) where
-  zip_rests : (shards : List ShardView) (sources : List HitSource) → AllZip (IsSourceOf s) shards sources → map (λ (x : HitSource). left_rows x.search x.shard.now x.left) sources ≡ map (all_found_by s) shards
+-- what holds of something in one of the shards
+abbrev pub InOneOf : {H : Type 0} → (ShardView → H → Type 0) → List ShardView → H → Type 0
+InOneOf P shards h = (place : ℕ) × (shard : ShardView) × (slice_get shards place ≡ Some shard) × P shard h
+
+module _ {X : Type 0} (s : Search) (Is : ShardView → X → Type 0) (rows : X → List RowValue) (same : (shard : ShardView) (x : X) → Is shard x → rows x ≡ all_found_by s shard) where
+  zip_rests : (shards : List ShardView) (sources : List X) → AllZip Is shards sources → map rows sources ≡ map (all_found_by s) shards
   zip_rests [] [] h = refl
   zip_rests [] (x ∷ sources) h = absurd h
   zip_rests (shard ∷ shards) [] h = absurd h
-  zip_rests (shard ∷ shards) (x ∷ sources) h = ap₂ (λ rows lists. rows ∷ lists) h.0.rows (zip_rests shards sources h.1)
+  zip_rests (shard ∷ shards) (x ∷ sources) h = ap₂ (λ found lists. found ∷ lists) (same shard x h.0) (zip_rests shards sources h.1)
 
-  pub sources_size : (shards : List ShardView) (sources : List HitSource) → AllZip (IsSourceOf s) shards sources → length sources ≡ length shards
+  pub sources_size : (shards : List ShardView) (sources : List X) → AllZip Is shards sources → length sources ≡ length shards
   sources_size [] [] h = refl
   sources_size [] (x ∷ sources) h = absurd h
   sources_size (shard ∷ shards) [] h = absurd h
   sources_size (shard ∷ shards) (x ∷ sources) h = ap suc (sources_size shards sources h.1)
 
-  -- the sources so far, and that of one shard more
-  pub sources_more : (shards : List (Arc ShardView Global)) (sources : List HitSource) (i : ℕ) (a : Arc ShardView Global) (shard : ShardView) (x : HitSource) → i < length shards → a ≡ get_or shards i a → shard ≡ arc_value a
-      → AllZip (IsSourceOf s) (take i (shards_seen shards)) sources → IsSourceOf s shard x → AllZip (IsSourceOf s) (take (i + 1) (shards_seen shards)) (sources ++ x ∷ [])
-  sources_more shards sources i a shard x less is same so here =
-      rw add-one (zip_more (IsSourceOf s) (shards_seen shards) sources i x (omega (arith, less, length-seen shards)) so
-      (λ t e. subst (λ (y : ShardView). IsSourceOf s y x) (same ∙ some_is (arc_value a) t (sym (get-map arc_value shards i a less is) ∙ e)) here))
-
   -- what each has still to give is in order
-  pub sources_in_order : (shards : List ShardView) (sources : List HitSource) → AllZip (IsSourceOf s) shards sources
-      → All (IsInOrder s.direction) (map (λ (x : HitSource). left_rows x.search x.shard.now x.left) sources)
+  pub sources_in_order : (shards : List ShardView) (sources : List X) → AllZip Is shards sources → All (IsInOrder s.direction) (map rows sources)
   sources_in_order shards sources h =
       subst (All (IsInOrder s.direction)) (sym (zip_rests shards sources h)) (All-from_recursion (IsInOrder s.direction) (map (all_found_by s) shards) (all_in_order s shards))
 
   -- the merge of what they have is the merge of what is found, so much at most in each shard
-  pub sources_merged : (shards : List ShardView) (sources : List HitSource) → AllZip (IsSourceOf s) shards sources
-      → merged s.direction s.take (map (λ (x : HitSource). left_rows x.search x.shard.now x.left) sources) ≡ merged s.direction s.take (map (found_by s) shards)
+  pub sources_merged : (shards : List ShardView) (sources : List X) → AllZip Is shards sources
+      → merged s.direction s.take (map rows sources) ≡ merged s.direction s.take (map (found_by s) shards)
   sources_merged shards sources h =
       ap (merged s.direction s.take) (zip_rests shards sources h)
       ∙ sym (cut_lists s.direction s.take (map (all_found_by s) shards) (All-from_recursion (IsInOrder s.direction) (map (all_found_by s) shards) (all_in_order s shards)))
       ∙ ap (merged s.direction s.take) (cut_found s shards)
 
+module _ {X : Type 0} (Is : ShardView → X → Type 0) where
+  -- the sources so far, and that of one shard more
+  pub sources_more : (shards : List (Arc ShardView Global)) (sources : List X) (i : ℕ) (a : Arc ShardView Global) (shard : ShardView) (x : X) → i < length shards → a ≡ get_or shards i a → shard ≡ arc_value a
+      → AllZip Is (take i (shards_seen shards)) sources → Is shard x → AllZip Is (take (i + 1) (shards_seen shards)) (sources ++ x ∷ [])
+  sources_more shards sources i a shard x less is same so here =
+      rw add-one (zip_more Is (shards_seen shards) sources i x (omega (arith, less, length-seen shards)) so
+      (λ t e. subst (λ (y : ShardView). Is y x) (same ∙ some_is (arc_value a) t (sym (get-map arc_value shards i a less is) ∙ e)) here))
+
   -- the source of a place is that of the shard there
-  zip_at : (shards : List ShardView) (sources : List HitSource) (k : ℕ) → AllZip (IsSourceOf s) shards sources → k < length sources
-      → (shard : ShardView) × (x : HitSource) × (slice_get shards k ≡ Some shard) × (get_or sources k x ≡ x) × IsSourceOf s shard x
+  zip_at : (shards : List ShardView) (sources : List X) (k : ℕ) → AllZip Is shards sources → k < length sources
+      → (shard : ShardView) × (x : X) × (slice_get shards k ≡ Some shard) × (get_or sources k x ≡ x) × Is shard x
   zip_at [] [] k h l = absurd (omega arith)
   zip_at [] (x ∷ sources) k h l = absurd h
   zip_at (shard ∷ shards) [] k h l = absurd h
   zip_at (shard ∷ shards) (x ∷ sources) zero h l = (shard, x, refl, refl, h.0)
   zip_at (shard ∷ shards) (x ∷ sources) (suc k) h l = zip_at shards sources k h.1 (omega arith)
 
-  abbrev lent : HitSource → Hit → Type 0
-  lent x = IsLeft x.shard.now x.left
+  module _ {H : Type 0} (lent : X → H → Type 0) (P : ShardView → H → Type 0) (each : (shard : ShardView) (x : X) → Is shard x → (h : H) → lent x h → P shard h) where
+    given_in : (shards : List ShardView) (sources : List X) → AllZip Is shards sources → (hit : H) → IsGivenBy lent sources hit → InOneOf P shards hit
+    given_in shards sources h hit given =
+        let at = zip_at shards sources given.0 h given.1 in
+        let x = at.1 in
+        (given.0, at.0, at.2, each at.0 x at.4 hit (subst (λ (y : X). lent y hit) at.3 (given.2 x)))
 
-  given_in : (shards : List ShardView) (sources : List HitSource) → AllZip (IsSourceOf s) shards sources → (hit : Hit) → IsGivenBy lent sources hit → IsHitIn shards hit
-  given_in shards sources h hit given =
-      let at = zip_at shards sources given.0 h given.1 in
-      let x = at.1 in
-      record { place = given.0; shard = at.0; there = at.2; hit = at.4.hits hit (subst (λ (y : HitSource). lent y hit) at.3 (given.2 x)) }
+    -- what they give is of the shards
+    pub all_given : (shards : List ShardView) (sources : List X) → AllZip Is shards sources → (hits : List H) → All (IsGivenBy lent sources) hits → AllByRecursion (InOneOf P shards) hits
+    all_given shards sources h hits given =
+        all_weaker (IsGivenBy lent sources) (InOneOf P shards) (given_in shards sources h) hits (recursion_from_All (IsGivenBy lent sources) hits given)
 
-  -- what they give are hits in the shards
-  pub hits_given : (shards : List ShardView) (sources : List HitSource) → AllZip (IsSourceOf s) shards sources → (hits : List Hit) → All (IsGivenBy lent sources) hits → AreHitsIn shards hits
-  hits_given shards sources h hits given =
-      all_weaker (IsGivenBy lent sources) (IsHitIn shards) (given_in shards sources h) hits (recursion_from_All (IsGivenBy lent sources) hits given)
+-- ---- those that give hits
+
+abbrev pub hit_rests : HitSource → List RowValue
+hit_rests x = left_rows x.search x.shard.now x.left
+
+pub hits_size : (s : Search) (shards : List ShardView) (sources : List HitSource) → AllZip (IsSourceOf s) shards sources → length sources ≡ length shards
+hits_size s shards sources h = sources_size s (IsSourceOf s) hit_rests (λ shard x is. is.rows) shards sources h
+
+pub hits_in_order : (s : Search) (shards : List ShardView) (sources : List HitSource) → AllZip (IsSourceOf s) shards sources → All (IsInOrder s.direction) (map hit_rests sources)
+hits_in_order s shards sources h = sources_in_order s (IsSourceOf s) hit_rests (λ shard x is. is.rows) shards sources h
+
+pub hits_merged : (s : Search) (shards : List ShardView) (sources : List HitSource) → AllZip (IsSourceOf s) shards sources → merged s.direction s.take (map hit_rests sources) ≡ merged s.direction s.take (map (found_by s) shards)
+hits_merged s shards sources h = sources_merged s (IsSourceOf s) hit_rests (λ shard x is. is.rows) shards sources h
+
+-- what they give are hits in the shards
+pub hits_given : (s : Search) (shards : List ShardView) (sources : List HitSource) → AllZip (IsSourceOf s) shards sources → (hits : List Hit)
+    → All (IsGivenBy (λ x. IsLeft x.shard.now x.left) sources) hits → AreHitsIn shards hits
+hits_given s shards sources h hits given =
+    all_weaker (InOneOf (λ shard. IsHitOf shard.documents) shards) (IsHitIn shards) (λ hit is. record { place = is.0; shard = is.1; there = is.2; hit = is.3 }) hits
+    (all_given (IsSourceOf s) (λ x. IsLeft x.shard.now x.left) (λ shard. IsHitOf shard.documents) (λ shard x is. is.hits) shards sources h hits given)

@@ -38,7 +38,7 @@ both_step : {X : Type 0} (p : X → Bool) (b : Bool) (x : X) (ys zs : List X) �
 both_step p true x ys zs e = ap (λ us. cond (p x) (x ∷ us) us) e
 both_step p false x ys zs e = e
 
-filter-both : {X : Type 0} (p q : X → Bool) (xs : List X) → filter p (filter q xs) ≡ filter (λ x. q x && p x) xs
+pub filter-both : {X : Type 0} (p q : X → Bool) (xs : List X) → filter p (filter q xs) ≡ filter (λ x. q x && p x) xs
 filter-both p q [] = refl
 filter-both p q (x ∷ xs) = both_step p (q x) x (filter q xs) (filter (λ y. q y && p y) xs) (filter-both p q xs)
 
@@ -65,7 +65,7 @@ sorted-directed : (direction : Direction) (xs : List RowValue) → sorted_rows d
 sorted-directed Asc xs = refl
 sorted-directed Desc xs = sorted_descending xs
 
-sorted_rows-where : (p : RowValue → Bool) (direction : Direction) (xs : List RowValue) → sorted_rows direction (filter p xs) ≡ filter p (sorted_rows direction xs)
+pub sorted_rows-where : (p : RowValue → Bool) (direction : Direction) (xs : List RowValue) → sorted_rows direction (filter p xs) ≡ filter p (sorted_rows direction xs)
 sorted_rows-where p direction xs =
     sorted-directed direction (filter p xs) ∙ ap (in_direction direction) (sorted-where p xs) ∙ sym (filter-directed p direction (sorted row_value_order xs)) ∙ ap (filter p) (sym (sorted-directed direction xs))
 

@@ -8,3 +8,7 @@ pub mod Search
 pub mod Worked
 pub mod Begins
 pub mod Sourced
+pub mod Begun
+pub mod Decided
+pub mod Lead
+pub mod Ahead

@@ -10,8 +10,8 @@ use Rattle.mg_scan.specs.Search.{all_found_by, walked_all_by}
 use Rattle.mg_scan.specs.Walked.{is_late_row}
 use Rattle.mg_scan.specs.declared.hit.Hit.{Hit}
 use Rattle.mg_scan.specs.declared.search.Search.{Search}
-use Rattle.mg_scan.specs.declared.source.Left.{Left}
-use Rattle.mg_scan.specs.declared.source.Left.TheVariants as left
+use Rattle.mg_scan.specs.declared.left.Left.{Left}
+use Rattle.mg_scan.specs.declared.left.Left.TheVariants as left
 use Rattle.mg_scan.specs.declared.source.HitSource.{HitSource}
 use Rattle.mg_shard.specs.Documents.{KeptDocuments, form_of, id_of, kept_of}
 use Rattle.mg_shard.specs.Own.{all_columns}

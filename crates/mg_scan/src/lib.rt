@@ -3,8 +3,12 @@
 
 mod begin;
 mod building;
+mod counting;
 mod gate;
 mod hit;
+mod lead;
+mod lead_source;
+mod left;
 mod pulling;
 mod scanning;
 mod search;
@@ -15,9 +19,10 @@ mod worker_count;
 mod workers;
 
 pub use building::build;
+pub use counting::reads_at_most;
 pub use gate::{Gate, NoGate, Place};
 pub use hit::Hit;
-pub use pulling::pull_lent;
+pub use pulling::{pull_lent, pull_rows};
 pub use scanning::{scan, scan_lent};
 pub use target::Target;
 pub use worker_count::Workers;

@@ -1,14 +1,18 @@
 //! The first hits of all shards together, found as the merge asks for them.
-ghost use Rattle.std.specs.Prelude.{◌≡◌, ◌+◌, ◌≤◌, length, map, option_map, IfOk};
+ghost use Rattle.std.specs.Prelude.{◌≡◌, ◌+◌, ◌≤◌, drop, length, map, option_map, All, IfOk};
 ghost use Rattle.std.specs.List.{AllZip};
 ghost use Rattle.mg_collate.specs.Row.{row_view};
 ghost use Rattle.mg_merge.specs.Merged.{merged};
 ghost use Rattle.mg_shard.specs.Shard.{shards_seen};
+ghost use Rattle.mg_scan.specs.Decided.{IsDecidedIn};
 ghost use Rattle.mg_scan.specs.Found.{asked, found_in};
 ghost use Rattle.mg_scan.specs.Hit.{AreHitsIn, hit_rows};
+ghost use Rattle.mg_scan.specs.Lead.{IsLeadSourceOf};
 ghost use Rattle.mg_scan.specs.Sourced.{IsSourceOf};
 
 use crate::hit::Hit;
+use crate::lead::hits_after;
+use crate::lead_source::{LeadSource, lead_source_of};
 use crate::search::Search;
 use crate::source::{HitSource, source_of};
 use crate::target::Target;
@@ -55,6 +59,43 @@ pub fn pull_lent<'a>(
     Ok((hits, pulled))
 }
 
+/// The same hits without the first `skip` of them, where the range decides: in each shard the key of a row tells whether the selector
+/// holds of its document. Documents are looked up only for the hits that are given, and the selector is not asked. Beside them stands
+/// how many rows were looked for and found: at most `take`, and one more for each shard. All is done on the caller's thread.
+///
+/// Errors: `NoMemory` where a growth was refused. Cost: in each shard one look-up of where to begin; then a step for each row that is
+/// read, until `take` are found, and the merge; a look-up of a document for each hit that is given.
+pub fn pull_rows<'a>(
+    alloc: Global,
+    shards: &'a [Arc<Shard>],
+    target: Target<'_>,
+    normal: &Normal,
+    range: &KeyRange,
+    after: Option<&Row>,
+    skip: usize,
+    take: usize,
+    direction: Direction,
+) -> Result<(Vec<Hit<'a>>, u64), NoMemory>
+    requires decided { All (IsDecidedIn target normal.now range.now) (shards_seen shards.now) }
+    ensures rows { IfOk result (λ made. hit_rows made.0.items ≡ drop skip (merged direction take
+        (map (found_in target.entry (asked normal.now range.now (option_map (λ r. row_view r.now) after.entry) take direction)) (shards_seen shards.now)))) }
+    ensures hits { IfOk result (λ made. AreHitsIn (shards_seen shards.now) made.0.items) }
+    ensures pulled { IfOk result (λ made. made.1 ≤ take + length shards.now) }
+{
+    let search = Search {
+        target,
+        normal,
+        range,
+        after,
+        take,
+        direction,
+    };
+    let mut sources = lead_sources_of(alloc, shards, search)?;
+    let (leads, pulled) = merge_pulled(alloc, &mut sources, direction, take)?;
+    let hits = hits_after(alloc, &leads, skip)?;
+    Ok((hits, pulled))
+}
+
 // The hits of the search in each shard, as they are asked for.
 fn sources_of<'a, 'b>(
     alloc: Global,
@@ -67,6 +108,22 @@ fn sources_of<'a, 'b>(
     for i in 0..shards.len() {
         let shard: &Shard = &shards[i];
         sources.push(source_of(shard, search))?;
+    }
+    Ok(sources)
+}
+
+// The rows in the search's range in each shard, as they are asked for.
+fn lead_sources_of<'a, 'b>(
+    alloc: Global,
+    shards: &'a [Arc<Shard>],
+    search: Search<'b>,
+) -> Result<Vec<LeadSource<'a, 'b>>, NoMemory>
+    ensures { IfOk result (λ sources. AllZip (IsLeadSourceOf search.entry) (shards_seen shards.now) sources.items) }
+{
+    let mut sources = Vec::with_capacity(alloc, shards.len())?;
+    for i in 0..shards.len() {
+        let shard: &Shard = &shards[i];
+        sources.push(lead_source_of(shard, search))?;
     }
     Ok(sources)
 }

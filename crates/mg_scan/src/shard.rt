@@ -66,7 +66,7 @@ fn is_over(search: Search<'_>, found: usize, key: &[Json]) -> bool
 }
 
 // Puts a hit behind the others, if there is one.
-fn push_if<'a>(hits: &mut Vec<Hit<'a>>, hit: Option<Hit<'a>>) -> Result<(), NoMemory>
+pub(crate) fn push_if<'a>(hits: &mut Vec<Hit<'a>>, hit: Option<Hit<'a>>) -> Result<(), NoMemory>
     ensures { OnOk result (hits.new.items ≡ hits.old.items ++ listed hit.entry) }
 {
     if let Some(hit) = hit {

@@ -1,38 +1,21 @@
 //! Hits of a shard that are found as they are asked for.
 ghost use Rattle.std.specs.Prelude.{◌≡◌, ◌∷◌, [], map, IfNone, IfSome};
-ghost use Rattle.std.specs.Option.{option_map_or};
 ghost use Rattle.mg_collate.specs.Row.{rows_view};
-ghost use Rattle.mg_index.specs.Catalog.{definition_at};
 ghost use Rattle.mg_range.specs.Place.{place_of};
 ghost use Rattle.mg_value.specs.View.{view};
-ghost use Rattle.mg_shard.specs.Documents.{KeptDocuments, docs_of};
-ghost use Rattle.mg_shard.specs.Own.{all_columns};
+ghost use Rattle.mg_shard.specs.Documents.{KeptDocuments};
 ghost use Rattle.mg_scan.specs.Hit.{IsHitOf, hit_row};
-ghost use Rattle.mg_scan.specs.Scan.{all_scanned};
-ghost use Rattle.mg_scan.specs.Search.{asked_by, walked_all_by};
+ghost use Rattle.mg_scan.specs.Search.{walked_all_by};
 ghost use Rattle.mg_scan.specs.Sourced.{AreKept, IsLeft, IsSourceOf, left_rows, walked_documents};
 ghost use Rattle.mg_scan.specs.Walked.{is_late as stands_late};
-ghost use Rattle.mg_scan.specs.declared.hit.Hit.{Hit};
 
-use crate::begin::Begin;
 use crate::hit::Hit;
+use crate::left::{Left, left_of};
 use crate::search::{Search, is_late};
 use crate::shard::{hit_at, hit_of};
-use crate::target::Target;
 use mg_merge::RowSource;
 use mg_shard::{Documents, Rows, Shard};
 use mg_value::Json;
-
-/// What a search has still to read in a shard.
-#[derive(Drop)]
-pub(crate) enum Left<'a> {
-    /// Rows of an index.
-    Rows(Rows<'a>),
-    /// Documents, by their ids.
-    Documents(Documents<'a>),
-    /// Nothing more, or there is no such index.
-    Nothing,
-}
 
 /// The hits of a search in one shard that are still to come.
 #[derive(Drop)]
@@ -57,7 +40,7 @@ impl<'a, 'b> RowSource<Hit<'a>> for HitSource<'a, 'b> {
 }
 
 // Whether a search looks no further than a row of this key.
-fn is_past(search: Search<'_>, key: &[Json]) -> bool
+pub(crate) fn is_past(search: Search<'_>, key: &[Json]) -> bool
     ensures { result ≡ stands_late search.entry.direction (place_of search.entry.range.now (map view key.now)) }
 {
     is_late(search.direction, search.range.place(key))
@@ -109,49 +92,9 @@ fn next_of_documents<'a>(documents: &mut Documents<'a>, search: Search<'_>) -> O
 pub(crate) fn source_of<'a, 'b>(shard: &'a Shard, search: Search<'b>) -> HitSource<'a, 'b>
     ensures { IsSourceOf search.entry shard.now result }
 {
-    match search.target {
-        Target::AllDocs => source_of_all(shard, search),
-        Target::Index { ddoc, name } => source_of_index(shard, ddoc, name, search),
-    }
-}
-
-// The hits among all documents.
-fn source_of_all<'a, 'b>(shard: &'a Shard, search: Search<'b>) -> HitSource<'a, 'b>
-    ensures rows { left_rows result.search result.shard.now result.left
-        ≡ all_scanned (asked_by search.entry all_columns) (docs_of shard.now.documents) }
-    ensures hits { (h : Hit) → IsLeft result.shard.now result.left h → IsHitOf shard.now.documents h }
-{
-    shard.ids_are_own();
-    let documents = shard.documents_beyond(&Begin { search }, search.direction);
     HitSource {
         shard,
-        left: Left::Documents(documents),
+        left: left_of(shard, search),
         search,
-    }
-}
-
-// The hits of an index, and none where the shard has no such index.
-fn source_of_index<'a, 'b>(
-    shard: &'a Shard,
-    ddoc: &str,
-    name: &str,
-    search: Search<'b>,
-) -> HitSource<'a, 'b>
-    ensures rows { left_rows result.search result.shard.now result.left
-        ≡ option_map_or (λ d. all_scanned (asked_by search.entry d.columns) (docs_of shard.now.documents))
-        (definition_at ddoc.now name.now shard.now.definitions) [] }
-    ensures hits { (h : Hit) → IsLeft result.shard.now result.left h → IsHitOf shard.now.documents h }
-{
-    match shard.rows_beyond(ddoc, name, &Begin { search }, search.direction) {
-        Some(rows) => HitSource {
-            shard,
-            left: Left::Rows(rows),
-            search,
-        },
-        None => HitSource {
-            shard,
-            left: Left::Nothing,
-            search,
-        },
     }
 }

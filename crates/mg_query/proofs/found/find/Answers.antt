@@ -25,7 +25,7 @@ returns-clause-hits g c = λ place hs stands whole.
     let hits = c.in_ok-hits.hits.items in
     let first = c.in_ok-hits.ensures.hits in
     let usable = choice_usable ds (atoms_of q.selector) q.sort q.hint s (choice_served ds q s c.in_ok-asked.ensures.answers) in
-    lend_first columns q place hs shards hits stands first.hits
+    lend_first columns q place hs shards q.skip hits stands first.hits
     (rows_handed q columns asked.normal c.in_ok-asked.ensures.asked.normal c.ranges_are_complete.ensures usable place shards hs stands whole hits first.rows)
 
 pub returns-clause-handed : goal.returns-clause-handed

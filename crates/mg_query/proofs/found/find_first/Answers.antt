@@ -1,9 +1,10 @@
+use Rattle.std.proofs.Common.{◌∙◌}
 use Rattle.mg_normal.specs.Atoms.{atoms_of}
 use Rattle.mg_shard.specs.Shard.{shards_seen}
 use Rattle.mg_query.specs.Page.{columns_of}
 use Rattle.mg_query.specs.Seen.{query_seen}
 use Rattle.mg_query.specs.Served.{source_seen}
-use Rattle.mg_query.proofs.Handed.{rows_handed}
+use Rattle.mg_query.proofs.Handed.{rows_merged}
 use Rattle.mg_query.proofs.Lent.{lend_first}
 use Rattle.mg_query.proofs.Serving.{choice_served}
 use Rattle.mg_query.proofs.Usable.{choice_usable}
@@ -20,5 +21,5 @@ returns-clause-hits g c = λ place hs stands whole.
     let hits = c.in_ok-hits.hits.items in
     let first = c.in_ok-hits.ensures in
     let usable = choice_usable ds (atoms_of q.selector) q.sort q.hint s (choice_served ds q s c.in_ok-asked.ensures.answers) in
-    lend_first columns q place hs shards hits stands first.hits
-    (rows_handed q columns asked.normal c.in_ok-asked.ensures.asked.normal c.ranges_are_complete.ensures usable place shards hs stands whole hits first.rows)
+    lend_first columns q place hs shards c.in_ok-hits.skip hits stands first.hits
+    (first.rows ∙ rows_merged q columns asked.normal c.in_ok-asked.ensures.asked.normal c.ranges_are_complete.ensures usable place shards hs stands whole)

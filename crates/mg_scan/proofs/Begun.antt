@@ -1,0 +1,120 @@
+-- What a search finds of what it has to read when it begins.
+use Rattle.std.proofs.Common.{◌≡◌, ℕ, Bool, true, false, cond, List, [], ◌∷◌, Option, Some, None, Ordering, is_gt, is_some, option_map, if◌then◌else◌, refl, ap, sym, ◌∙◌, subst}
+use Rattle.std.specs.List.{AllByRecursion, cons_option, filter_map}
+use Rattle.std.specs.Option.{option_map_or}
+use Rattle.mg_collate.specs.Row.{RowValue, row_value_order, rows_view}
+use Rattle.mg_collate.specs.Sorted.{inserted, sorted}
+use Rattle.mg_index.specs.Definition.{IndexDefinition, Steps}
+use Rattle.mg_scan.specs.Begun.{AreBegun, IsBegunIn}
+use Rattle.mg_scan.specs.Hit.{IsHitOf}
+use Rattle.mg_scan.specs.Lead.{AreServed, IsLeadLeft, IsLeadOf, lead_rows, rows_on_way, unasked}
+use Rattle.mg_scan.specs.Scan.{all_scanned}
+use Rattle.mg_scan.specs.Search.{asked_by, begin_at, walked_all_by}
+use Rattle.mg_scan.specs.Sourced.{IsLeft, left_rows}
+use Rattle.mg_scan.specs.Walked.{id_row, is_late_row}
+use Rattle.mg_scan.specs.declared.hit.Hit.{Hit}
+use Rattle.mg_scan.specs.declared.lead.Lead.{Lead}
+use Rattle.mg_scan.specs.declared.left.Left.{Left}
+use Rattle.mg_scan.specs.declared.left.Left.TheVariants as left
+use Rattle.mg_scan.specs.declared.search.Search.{Search}
+use Rattle.mg_scan.proofs.Entries.{all_beyond, all_forms}
+use Rattle.mg_scan.proofs.Found.{all_owned}
+use Rattle.mg_scan.proofs.Maps.{some_is}
+use Rattle.mg_scan.proofs.Sources.{source_rows}
+use Rattle.mg_scan.proofs.Walking.{all_found_rows, named_id}
+use Rattle.mg_shard.specs.Documents.{KeptDocuments, docs_of, form_at}
+use Rattle.mg_shard.specs.Histories.{ServedDocument}
+use Rattle.mg_shard.specs.Rows.{key_of, row_of, rows_of}
+use Rattle.mg_shard.specs.Shard.{ShardView}
+use Rattle.mg_shard.specs.Walk.{beyond}
+
+-- ---- what is read of an index
+
+pub rows_begun : (s : Search) (ds : KeptDocuments) (o : Option IndexDefinition) (rows : List RowValue) → Some rows ≡ option_map (beyond s.direction (begin_at s)) (option_map (λ d. rows_of d.columns (docs_of ds)) o)
+    → (columns : List Steps) × (option_map (λ d. d.columns) o ≡ Some columns) × (rows ≡ beyond s.direction (begin_at s) (rows_of columns (docs_of ds)))
+rows_begun s ds None rows e = absurd cc
+rows_begun s ds (Some d) rows e = (d.columns, refl, some_is rows (beyond s.direction (begin_at s) (rows_of d.columns (docs_of ds))) e)
+
+pub none_begun : (s : Search) (ds : KeptDocuments) (o : Option IndexDefinition) → None ≡ option_map (beyond s.direction (begin_at s)) (option_map (λ d. rows_of d.columns (docs_of ds)) o)
+    → option_map (λ d. d.columns) o ≡ None
+none_begun s ds None e = refl
+none_begun s ds (Some d) e = absurd cc
+
+-- ---- hits
+
+-- all that is found on the way from there is all that there is
+pub begun_hits : (at : Option (List Steps)) (s : Search) (shard : ShardView) (l : Left) → IsBegunIn at s shard l
+    → left_rows s shard l ≡ option_map_or (λ columns. all_scanned (asked_by s columns) (docs_of shard.documents)) at []
+begun_hits at s shard (left.Rows rows) b =
+    let ds = shard.documents in
+    all_found_rows (asked_by s b.0) ds (rows_view rows) (all_forms ds) b.2 ∙ ap (λ o. option_map_or (λ columns. all_scanned (asked_by s columns) (docs_of ds)) o []) (sym b.1)
+begun_hits at s shard (left.Documents documents) b =
+    let ds = shard.documents in
+    source_rows s ds documents (all_owned ds s.direction (λ e. begin_at s (id_row e.0)) documents b.1.begun) b.1.own b.1.begun
+    ∙ ap (λ o. option_map_or (λ columns. all_scanned (asked_by s columns) (docs_of ds)) o []) (sym b.0)
+begun_hits at s shard left.Nothing b = ap (λ o. option_map_or (λ columns. all_scanned (asked_by s columns) (docs_of shard.documents)) o []) (sym b)
+
+pub begun_lent : (at : Option (List Steps)) (s : Search) (shard : ShardView) (l : Left) → IsBegunIn at s shard l → (h : Hit) → IsLeft shard l h → IsHitOf shard.documents h
+begun_lent at s shard (left.Rows rows) b h lent = lent
+begun_lent at s shard (left.Documents documents) b h lent = lent (all_owned shard.documents s.direction (λ e. begin_at s (id_row e.0)) documents b.1.begun)
+begun_lent at s shard left.Nothing b h lent = lent
+
+-- ---- rows of served documents
+
+all_if : (P : RowValue → Type 0) (b : Bool) (xs ys : List RowValue) → AllByRecursion P xs → AllByRecursion P ys → AllByRecursion P (cond b xs ys)
+all_if P true xs ys h k = h
+all_if P false xs ys h k = k
+
+all_inserted : (P : RowValue → Type 0) (order : RowValue → RowValue → Ordering) (x : RowValue) (ys : List RowValue) → P x → AllByRecursion P ys → AllByRecursion P (inserted order x ys)
+all_inserted P order x [] h k = (h, tt)
+all_inserted P order x (y ∷ ys) h k = all_if P (is_gt (order x y)) (y ∷ inserted order x ys) (x ∷ y ∷ ys) (k.0, all_inserted P order x ys h k.1) (h, k)
+
+all_sorted : (P : RowValue → Type 0) (order : RowValue → RowValue → Ordering) (xs : List RowValue) → AllByRecursion P xs → AllByRecursion P (sorted order xs)
+all_sorted P order [] h = tt
+all_sorted P order (x ∷ xs) h = all_inserted P order x (sorted order xs) h.0 (all_sorted P order xs h.1)
+
+served_step : (ds : KeptDocuments) (o : Option RowValue) (rows : List RowValue) → ((r : RowValue) → o ≡ Some r → is_some (form_at ds r.1) ≡ true) → AreServed ds rows → AreServed ds (cons_option o rows)
+served_step ds None rows f h = h
+served_step ds (Some r) rows f h = (f r refl, h)
+
+served_rows : (columns : List Steps) (ds : KeptDocuments) (docs : List ServedDocument) → AllByRecursion (λ d. form_at ds d.0 ≡ Some d.1) docs → AreServed ds (filter_map (row_of columns) docs)
+served_rows columns ds [] h = tt
+served_rows columns ds (d ∷ docs) h =
+    served_step ds (row_of columns d) (filter_map (row_of columns) docs)
+    (λ r e. ap (λ id. is_some (form_at ds id)) (named_id d.0 (key_of columns d.1) r e) ∙ ap is_some h.0) (served_rows columns ds docs h.1)
+
+-- the rows of an index are of served documents
+pub served_begun : (s : Search) (ds : KeptDocuments) (columns : List Steps) (rows : List RowValue) → rows ≡ beyond s.direction (begin_at s) (rows_of columns (docs_of ds)) → AreServed ds rows
+served_begun s ds columns rows e =
+    let served : RowValue → Type 0 = λ r. is_some (form_at ds r.1) ≡ true in
+    subst (λ (rs : List RowValue). AllByRecursion served rs) (sym e)
+    (all_beyond served s.direction (begin_at s) (rows_of columns (docs_of ds))
+    (all_sorted served row_value_order (filter_map (row_of columns) (docs_of ds)) (served_rows columns ds (docs_of ds) (all_forms ds))))
+
+-- ---- leads
+
+held_step : (s : Search) (ds : KeptDocuments) (r : RowValue) (b : Bool) (xs ys : List RowValue) (o : Option _) → form_at ds r.1 ≡ o → is_some o ≡ true → xs ≡ ys
+    → (if b then [] else r ∷ xs) ≡ (if b then [] else if option_map_or (λ form. true) o false then r ∷ ys else ys)
+held_step s ds r b xs ys None e f g = absurd cc
+held_step s ds r true xs ys (Some form) e f g = refl
+held_step s ds r false xs ys (Some form) e f g = ap (λ zs. r ∷ zs) g
+
+-- rows of served documents are all found where nothing is asked of them
+on_way : (s : Search) (ds : KeptDocuments) (rows : List RowValue) → AreServed ds rows → rows_on_way s rows ≡ walked_all_by (unasked s) ds rows
+on_way s ds [] h = refl
+on_way s ds (r ∷ rows) h =
+    held_step s ds r (is_late_row s.direction s.range.now r) (rows_on_way s rows) (walked_all_by (unasked s) ds rows) (form_at ds r.1) refl h.0 (on_way s ds rows h.1)
+
+-- all rows on the way from there are all that there are, where nothing is asked of documents
+pub begun_leads : (at : Option (List Steps)) (s : Search) (shard : ShardView) (l : Left) → IsBegunIn at s shard l
+    → lead_rows s l ≡ option_map_or (λ columns. all_scanned (asked_by (unasked s) columns) (docs_of shard.documents)) at []
+begun_leads at s shard (left.Rows rows) b =
+    on_way s shard.documents (rows_view rows) (served_begun s shard.documents b.0 (rows_view rows) b.2) ∙ begun_hits at (unasked s) shard (left.Rows rows) b
+begun_leads at s shard (left.Documents documents) b =
+    begun_hits at (unasked s) shard (left.Documents documents) (b.0, record { own = b.1.own; begun = b.1.begun })
+begun_leads at s shard left.Nothing b = begun_hits at (unasked s) shard left.Nothing b
+
+pub begun_led : (at : Option (List Steps)) (s : Search) (shard : ShardView) (l : Left) → IsBegunIn at s shard l → (lead : Lead) → IsLeadLeft shard l lead → IsLeadOf shard lead
+begun_led at s shard (left.Rows rows) b lead lent = lent (served_begun s shard.documents b.0 (rows_view rows) b.2)
+begun_led at s shard (left.Documents documents) b lead lent = lent (all_owned shard.documents s.direction (λ e. begin_at s (id_row e.0)) documents b.1.begun)
+begun_led at s shard left.Nothing b lead lent = lent

@@ -1,0 +1,126 @@
+-- Leads: one step of their sources, and the hits of them.
+use Rattle.std.proofs.Common.{◌≡◌, ℕ, zero, suc, ◌+◌, ◌<◌, ◌≤◌, Bool, true, false, List, [], ◌∷◌, ◌++◌, Option, Some, None, IfSome, All, get_or, is_some, drop, length, map, option_map, append_assoc, append-nil, if◌then◌else◌, refl, ap, ap₂, sym, ◌∙◌, subst, arith}
+use Rattle.std.specs.FinMap.{get}
+use Rattle.std.specs.List.{AllByRecursion, AllZip}
+use Rattle.std.specs.Option.{option_and_then, option_map_or}
+use Rattle.mg_collate.proofs.Sorting.{all_append, all_weaker}
+use Rattle.mg_collate.specs.Row.{RowValue}
+use Rattle.mg_collate.specs.Sorted.{IsInOrder}
+use Rattle.mg_merge.specs.Merged.{merged}
+use Rattle.mg_merge.specs.Pulled.{IsGivenBy}
+use Rattle.mg_normal.specs.Normal.{normal_holds}
+use Rattle.mg_scan.specs.Decided.{IsDecidedIn, everything}
+use Rattle.mg_scan.specs.Hit.{AreHitsIn, IsHitIn, IsHitOf, hit_row, hit_rows}
+use Rattle.mg_scan.specs.Lead.{AreLeadsIn, IsLeadIn, IsLeadLeft, IsLeadOf, IsLeadSourceOf, lead_row, lead_rows, unasked}
+use Rattle.mg_scan.specs.Search.{found_by}
+use Rattle.mg_scan.specs.Sourced.{walked_on}
+use Rattle.mg_scan.specs.Walked.{listed}
+use Rattle.mg_scan.specs.declared.hit.Hit.{Hit}
+use Rattle.mg_scan.specs.declared.lead.Lead.{Lead}
+use Rattle.mg_scan.specs.declared.lead_source.LeadSource.{LeadSource}
+use Rattle.mg_scan.specs.declared.search.Search.{Search}
+use Rattle.mg_scan.proofs.Decided.{all_alike}
+use Rattle.mg_scan.proofs.Sources.{InOneOf, all_given, sources_in_order, sources_merged, sources_size}
+use Rattle.mg_scan.proofs.Steps.{rows-push}
+use Rattle.mg_shard.specs.Documents.{Kept, KeptDocuments, form_at, form_of, id_of, kept_of}
+use Rattle.mg_shard.specs.Own.{all_columns}
+use Rattle.mg_shard.specs.Rows.{key_of}
+use Rattle.mg_shard.specs.Shard.{ShardView}
+use Rattle.mg_shard.specs.declared.document.Document.{Document}
+use Rattle.mg_value.specs.Value.{Items, Value}
+
+-- ---- one step
+
+-- a row that is not late is the next
+pub on_lead : (late : RowValue → Bool) (holds : Bool) (total : List RowValue) (r : RowValue) (rest : List RowValue) → late r ≡ false → holds ≡ true → total ≡ walked_on late holds (Some r) rest → total ≡ r ∷ rest
+on_lead late holds total r rest e f is = is ∙ ap₂ (λ (b c : Bool). if b then [] else if c then r ∷ rest else rest) e f
+
+-- nothing is asked of a document that has a key
+pub keyed_holds : (o : Option Value) (key : Items) → Some key ≡ option_and_then (key_of all_columns) o → option_map_or (λ form. normal_holds everything (Some form)) o false ≡ true
+keyed_holds None key e = absurd cc
+keyed_holds (Some form) key e = refl
+
+form_there : (o : Option Value) (key : Items) → Some key ≡ option_and_then (key_of all_columns) o → is_some o ≡ true
+form_there None key e = absurd cc
+form_there (Some form) key e = refl
+
+-- a document that is kept and has a key is served
+pub keyed_served : (ds : KeptDocuments) (d : Document) (key : Items) → get ds (id_of d) ≡ Some (kept_of d) → Some key ≡ option_and_then (key_of all_columns) (form_of d) → is_some (form_at ds (id_of d)) ≡ true
+keyed_served ds d key kept e = ap (λ (o : Option Kept). is_some (option_and_then (λ (k : Kept). k.1) o)) kept ∙ form_there (form_of d) key e
+
+-- what holds of it where a fact does
+pub lead_where : {P : Type 0} (lead : Option Lead) (Q : Lead → Type 0) → (P → IfSome lead Q) → IfSome lead (λ x. P → Q x)
+lead_where None Q f = tt
+lead_where (Some x) Q f = f
+
+-- ---- leads in the shards
+
+abbrev pub lead_rests : LeadSource → List RowValue
+lead_rests x = lead_rows x.search x.left
+
+pub leads_size : (s : Search) (shards : List ShardView) (sources : List LeadSource) → AllZip (IsLeadSourceOf s) shards sources → length sources ≡ length shards
+leads_size s shards sources h = sources_size (unasked s) (IsLeadSourceOf s) lead_rests (λ shard x is. is.rows) shards sources h
+
+pub leads_in_order : (s : Search) (shards : List ShardView) (sources : List LeadSource) → AllZip (IsLeadSourceOf s) shards sources → All (IsInOrder s.direction) (map lead_rests sources)
+leads_in_order s shards sources h = sources_in_order (unasked s) (IsLeadSourceOf s) lead_rests (λ shard x is. is.rows) shards sources h
+
+-- where the range decides in each shard, the merge of their rows is that of what is found
+pub leads_merged : (s : Search) (shards : List ShardView) (sources : List LeadSource) → AllZip (IsLeadSourceOf s) shards sources → All (IsDecidedIn s.target s.normal.now s.range.now) shards
+    → merged s.direction s.take (map lead_rests sources) ≡ merged s.direction s.take (map (found_by s) shards)
+leads_merged s shards sources h decided =
+    sources_merged (unasked s) (IsLeadSourceOf s) lead_rests (λ shard x is. is.rows) shards sources h ∙ ap (merged s.direction s.take) (all_alike s shards decided)
+
+-- what the sources give are leads in the shards
+pub leads_given : (s : Search) (shards : List ShardView) (sources : List LeadSource) → AllZip (IsLeadSourceOf s) shards sources → (leads : List Lead)
+    → All (IsGivenBy (λ x. IsLeadLeft x.shard.now x.left) sources) leads → AreLeadsIn shards leads
+leads_given s shards sources h leads given =
+    all_weaker (InOneOf IsLeadOf shards) (IsLeadIn shards) (λ lead is. record { place = is.0; shard = is.1; there = is.2; lead = is.3 }) leads
+    (all_given (IsLeadSourceOf s) (λ x. IsLeadLeft x.shard.now x.left) IsLeadOf (λ shard x is. is.leads) shards sources h leads given)
+
+lead_at : (shards : List ShardView) (leads : List Lead) (i : ℕ) (lead : Lead) → AreLeadsIn shards leads → i < length leads → lead ≡ get_or leads i lead → IsLeadIn shards lead
+lead_at shards [] i lead h less is = absurd (omega arith)
+lead_at shards (x ∷ leads) zero lead h less is = subst (IsLeadIn shards) (sym is) h.0
+lead_at shards (x ∷ leads) (suc i) lead h less is = lead_at shards leads i lead h.1 (omega arith) is
+
+-- ---- the hits of leads
+
+-- the lead at a place is the first of those from there on
+pub drop_at : (leads : List Lead) (i : ℕ) (lead : Lead) → i < length leads → lead ≡ get_or leads i lead → drop i leads ≡ lead ∷ drop (i + 1) leads
+drop_at [] i lead less is = absurd (omega arith)
+drop_at (x ∷ leads) zero lead less is = ap (λ y. y ∷ leads) (sym is)
+drop_at (x ∷ leads) (suc i) lead less is =
+    let n : suc (i + 1) ≡ suc i + 1 = omega arith in
+    drop_at leads i lead (omega arith) is ∙ ap (λ m. lead ∷ drop m (x ∷ leads)) n
+
+pub drop_end : (leads : List Lead) (i : ℕ) → length leads ≤ i → drop i leads ≡ []
+drop_end [] zero le = refl
+drop_end [] (suc i) le = refl
+drop_end (x ∷ leads) zero le = absurd (omega arith)
+drop_end (x ∷ leads) (suc i) le = drop_end leads i (omega arith)
+
+-- the hit of a lead comes behind the others
+pub led_one : (hits : List Hit) (hit : Option Hit) (leads : List Lead) (i : ℕ) (lead : Lead) (all : List RowValue) → i < length leads → lead ≡ get_or leads i lead → option_map hit_row hit ≡ Some (lead_row lead)
+    → hit_rows hits ++ map lead_row (drop i leads) ≡ all → hit_rows (hits ++ listed hit) ++ map lead_row (drop (i + 1) leads) ≡ all
+led_one hits None leads i lead all less is e sum = absurd cc
+led_one hits (Some hit) leads i lead all less is e sum =
+    let row : hit_row hit ≡ lead_row lead = cc in
+    let rest = map lead_row (drop (i + 1) leads) in
+    ap (λ rows. rows ++ rest) (rows-push hits hit ∙ ap (λ r. hit_rows hits ++ r ∷ []) row)
+    ∙ append_assoc (hit_rows hits) (lead_row lead ∷ []) rest
+    ∙ ap (λ (xs : List Lead). hit_rows hits ++ map lead_row xs) (sym (drop_at leads i lead less is))
+    ∙ sum
+
+one_in : (shards : List ShardView) (lead : Lead) (hit : Hit) → IsLeadIn shards lead → IsHitOf lead.shard.now.documents hit → IsHitIn shards hit
+one_in shards lead hit is here =
+    record { place = is.place; shard = is.shard; there = is.there; hit = subst (λ (s : ShardView). IsHitOf s.documents hit) is.lead.shard here }
+
+pub led_in : (shards : List ShardView) (hits : List Hit) (hit : Option Hit) (leads : List Lead) (i : ℕ) (lead : Lead) → i < length leads → lead ≡ get_or leads i lead → AreLeadsIn shards leads
+    → IfSome hit (IsHitOf lead.shard.now.documents) → AreHitsIn shards hits → AreHitsIn shards (hits ++ listed hit)
+led_in shards hits None leads i lead less is all here h = subst (AreHitsIn shards) (sym (append-nil hits)) h
+led_in shards hits (Some hit) leads i lead less is all here h = all_append (IsHitIn shards) hits (hit ∷ []) h (one_in shards lead hit (lead_at shards leads i lead all less is) here, tt)
+
+-- the lead's document is served
+pub lead_served : (shards : List ShardView) (leads : List Lead) (i : ℕ) (lead : Lead) → i < length leads → lead ≡ get_or leads i lead → AreLeadsIn shards leads → is_some (form_at lead.shard.now.documents lead.id.now) ≡ true
+lead_served shards leads i lead less is all =
+    let here = lead_at shards leads i lead all less is in
+    ap (λ (s : ShardView). is_some (form_at s.documents lead.id.now)) here.lead.shard ∙ here.lead.served

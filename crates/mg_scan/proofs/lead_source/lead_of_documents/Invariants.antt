@@ -1,0 +1,14 @@
+use Rattle.std.proofs.Common.{◌≡◌, length}
+use Rattle.mg_scan.specs.Lead.{unasked}
+use Rattle.mg_scan.specs.Sourced.{AreKept, walked_documents}
+use Rattle.mg_scan.proofs.lead_source.lead_of_documents.Given as goal
+
+-- nothing was found so far
+abbrev pub invariant-loop-document : goal.invariant-loop-document
+invariant-loop-document l = record {
+  left : AreKept l.shard.documents l.fn.documents → AreKept l.shard.documents l.documents;
+  rows : walked_documents (unasked l.search) l.fn.documents ≡ walked_documents (unasked l.search) l.documents;
+}
+
+abbrev pub decreases-loop-document : goal.decreases-loop-document
+decreases-loop-document l = length l.documents

@@ -1,0 +1,24 @@
+-- How much a scan can read in a shard.
+use Rattle.std.specs.Prelude.{ℕ, Option, length, option_map}
+use Rattle.std.specs.FinMap.{entries}
+use Rattle.std.specs.Option.{option_map_or}
+use Rattle.mg_collate.specs.Row.{RowValue, row_value_order}
+use Rattle.mg_collate.specs.declared.direction.Direction.{Direction}
+use Rattle.mg_range.specs.Place.{place_of}
+use Rattle.mg_range.specs.Range.{Range}
+use Rattle.mg_scan.specs.Walked.{begin_order, id_row}
+use Rattle.mg_scan.specs.declared.target.Target.{Target}
+use Rattle.mg_scan.specs.declared.target.Target.TheVariants.{AllDocs, Index}
+use Rattle.mg_shard.specs.Shard.{ShardView, rows_at}
+use Rattle.mg_shard.specs.Walk.{beyond}
+use Rattle.mg_value.specs.Value.{item_list}
+use Rattle.std.specs.declared.cmp.Ordering.{Ordering}
+
+-- where a scan begins, against a row
+abbrev pub begins_at : Range → Option RowValue → Direction → RowValue → Ordering
+begins_at range after direction r = begin_order direction (place_of range (item_list r.0)) (option_map (row_value_order r) after)
+
+-- how many documents, deleted ones too, or rows of the index come after where a scan begins; none where there is no such index
+abbrev pub count_ahead : Target → Range → Option RowValue → Direction → ShardView → ℕ
+count_ahead AllDocs range after direction s = length (beyond direction (λ e. begins_at range after direction (id_row e.0)) (entries s.documents))
+count_ahead (Index ddoc name) range after direction s = option_map_or (λ rows. length (beyond direction (begins_at range after direction) rows)) (rows_at ddoc.now name.now s) 0

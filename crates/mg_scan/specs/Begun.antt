@@ -1,0 +1,33 @@
+-- For private clauses: what a search has to read in a shard when it begins.
+use Rattle.std.specs.Prelude.{◌≡◌, ℕ, List, Option, Some, None, map}
+use Rattle.std.specs.FinMap.{entries}
+use Rattle.mg_collate.specs.Row.{rows_view}
+use Rattle.mg_index.specs.Definition.{Steps}
+use Rattle.mg_scan.specs.Found.{columns_of}
+use Rattle.mg_scan.specs.Search.{begin_at}
+use Rattle.mg_scan.specs.Walked.{id_row}
+use Rattle.mg_scan.specs.declared.left.Left.{Left}
+use Rattle.mg_scan.specs.declared.left.Left.TheVariants as left
+use Rattle.mg_scan.specs.declared.search.Search.{Search}
+use Rattle.mg_shard.specs.Documents.{KeptDocuments, docs_of, form_at, kept_entry}
+use Rattle.mg_shard.specs.Own.{HasOwnId, all_columns}
+use Rattle.mg_shard.specs.Rows.{rows_of}
+use Rattle.mg_shard.specs.Shard.{ShardView}
+use Rattle.mg_shard.specs.Walk.{beyond}
+use Rattle.mg_shard.specs.declared.document.Document.{Document}
+use Rattle.mg_value.specs.Value.{Value}
+
+-- the documents are those from where the search begins, and each that is served with an `_id` is served with its own
+pub record AreBegun (s : Search) (ds : KeptDocuments) (documents : List Document) : Type 0 where
+  pub own : (id : List ℕ) (form : Value) → form_at ds id ≡ Some form → HasOwnId id form
+  pub begun : map kept_entry documents ≡ beyond s.direction (λ e. begin_at s (id_row e.0)) (entries ds)
+
+-- what is left is all from where the search begins, in these columns, if the shard has them
+abbrev pub IsBegunIn : Option (List Steps) → Search → ShardView → Left → Type 0
+IsBegunIn at s shard (left.Rows rows) = (columns : List Steps) × (at ≡ Some columns) × (rows_view rows ≡ beyond s.direction (begin_at s) (rows_of columns (docs_of shard.documents)))
+IsBegunIn at s shard (left.Documents documents) = (at ≡ Some all_columns) × AreBegun s shard.documents documents
+IsBegunIn at s shard left.Nothing = at ≡ None
+
+-- what is left is all from where the search begins in its target
+abbrev pub IsBegun : Search → ShardView → Left → Type 0
+IsBegun s shard = IsBegunIn (columns_of s.target shard.definitions) s shard

@@ -1,0 +1,65 @@
+-- For private clauses: rows that shards lend before their documents are looked up.
+use Rattle.std.specs.Prelude.{◌≡◌, ℕ, Bool, true, List, [], None, Some, is_some, map, slice_get}
+use Rattle.std.specs.List.{AllByRecursion}
+use Rattle.mg_collate.specs.Row.{RowValue, rows_view}
+use Rattle.mg_scan.specs.Decided.{everything}
+use Rattle.mg_scan.specs.Search.{all_found_by}
+use Rattle.mg_scan.specs.Sourced.{AreKept, walked_documents}
+use Rattle.mg_scan.specs.Walked.{is_late_row, walked_all}
+use Rattle.mg_scan.specs.declared.lead.Lead.{Lead}
+use Rattle.mg_scan.specs.declared.lead_source.LeadSource.{LeadSource}
+use Rattle.mg_scan.specs.declared.left.Left.{Left}
+use Rattle.mg_scan.specs.declared.left.Left.TheVariants as left
+use Rattle.mg_scan.specs.declared.search.Search.{Search}
+use Rattle.mg_shard.specs.Documents.{KeptDocuments, form_at}
+use Rattle.mg_shard.specs.Shard.{ShardView}
+use Rattle.mg_value.specs.View.{items_view}
+
+-- the row of a lead
+abbrev pub lead_row : Lead → RowValue
+lead_row l = (items_view l.key.now, l.id.now)
+
+-- the lead is a row of this shard, which serves its document
+pub record IsLeadOf (s : ShardView) (l : Lead) : Type 0 where
+  pub shard : l.shard.now ≡ s
+  pub served : is_some (form_at s.documents l.id.now) ≡ true
+
+-- the lead is a row of one of the shards
+pub record IsLeadIn (shards : List ShardView) (l : Lead) : Type 0 where
+  pub place : ℕ
+  pub shard : ShardView
+  pub there : slice_get shards place ≡ Some shard
+  pub lead : IsLeadOf shard l
+
+-- each is such a lead
+abbrev pub AreLeadsIn : List ShardView → List Lead → Type 0
+AreLeadsIn shards leads = AllByRecursion (IsLeadIn shards) leads
+
+-- the document of each of the rows is served
+abbrev pub AreServed : KeptDocuments → List RowValue → Type 0
+AreServed ds rows = AllByRecursion (λ r. is_some (form_at ds r.1) ≡ true) rows
+
+-- the same search of any document
+abbrev pub unasked : Search → Search
+unasked s = record s { normal = record { ref_ptr = s.normal.ref_ptr; now = everything } }
+
+-- all rows on a search's way, whatever their documents
+abbrev pub rows_on_way : Search → List RowValue → List RowValue
+rows_on_way s rows = walked_all (is_late_row s.direction s.range.now) (λ r. true) rows
+
+-- the rows of the leads that are still to come
+abbrev pub lead_rows : Search → Left → List RowValue
+lead_rows s (left.Rows rows) = rows_on_way s (rows_view rows)
+lead_rows s (left.Documents ds) = walked_documents (unasked s) ds
+lead_rows s left.Nothing = []
+
+-- what each of these is: a lead of the shard, where what is left is of its served documents
+abbrev pub IsLeadLeft : ShardView → Left → Lead → Type 0
+IsLeadLeft shard (left.Rows rows) l = AreServed shard.documents (rows_view rows) → IsLeadOf shard l
+IsLeadLeft shard (left.Documents ds) l = AreKept shard.documents ds → IsLeadOf shard l
+IsLeadLeft shard left.Nothing l = IsLeadOf shard l
+
+-- a source of all rows in the search's range, whatever their documents
+pub record IsLeadSourceOf (search : Search) (s : ShardView) (source : LeadSource) : Type 0 where
+  pub rows : lead_rows source.search source.left ≡ all_found_by (unasked search) s
+  pub leads : (l : Lead) → IsLeadLeft source.shard.now source.left l → IsLeadOf s l

@@ -1,0 +1,73 @@
+//! How much a scan can read, by counts.
+ghost use Rattle.std.specs.Prelude.{◌≡◌, length, nat_le, option_map};
+ghost use Rattle.std.specs.List.{sum_by};
+ghost use Rattle.mg_collate.specs.Row.{row_view};
+ghost use Rattle.std.specs.Option.{option_map_or};
+ghost use Rattle.mg_shard.specs.Shard.{rows_at, shards_seen};
+ghost use Rattle.mg_shard.specs.Walk.{beyond};
+ghost use Rattle.mg_scan.specs.Ahead.{count_ahead as count_ahead_in};
+ghost use Rattle.mg_scan.specs.Search.{after_of, begin_at};
+
+use crate::begin::Begin;
+use crate::search::Search;
+use crate::target::Target;
+use mg_collate::{Direction, Row};
+use mg_normal::Normal;
+use mg_range::KeyRange;
+use mg_shard::Shard;
+use std::sync::Arc;
+
+/// Whether a scan of all shards reads at most `most` documents or rows, wherever its range ends: so many come after where it begins.
+/// Nothing is read for it. Takes no memory. Cost: in each shard one look-up of where to begin, with the counts on the way there.
+pub fn reads_at_most(
+    shards: &[Arc<Shard>],
+    target: Target<'_>,
+    normal: &Normal,
+    range: &KeyRange,
+    after: Option<&Row>,
+    direction: Direction,
+    most: usize,
+) -> bool
+    ensures { result ≡ nat_le (sum_by (count_ahead_in target.entry range.now (option_map (λ r. row_view r.now) after.entry) direction)
+        (shards_seen shards.now)) most }
+{
+    let search = Search {
+        target,
+        normal,
+        range,
+        after,
+        take: most,
+        direction,
+    };
+    let mut left = most;
+    for i in 0..shards.len() {
+        let shard: &Shard = &shards[i];
+        let count = count_ahead(shard, search);
+        if count > left {
+            return false;
+        }
+        left -= count;
+    }
+    true
+}
+
+// How many documents or rows come after where the search begins in a shard.
+fn count_ahead(shard: &Shard, search: Search<'_>) -> usize
+    ensures { result ≡ count_ahead_in search.entry.target search.entry.range.now (after_of search.entry) search.entry.direction shard.now }
+{
+    match search.target {
+        Target::AllDocs => shard.count_documents_beyond(&Begin { search }, search.direction),
+        Target::Index { ddoc, name } => count_rows_ahead(shard, ddoc, name, search),
+    }
+}
+
+// How many rows of an index do, and none where there is no such index.
+fn count_rows_ahead(shard: &Shard, ddoc: &str, name: &str, search: Search<'_>) -> usize
+    ensures { result ≡ option_map_or (λ rows. length (beyond search.entry.direction (begin_at search.entry) rows))
+        (rows_at ddoc.now name.now shard.now) 0 }
+{
+    match shard.count_rows_beyond(ddoc, name, &Begin { search }, search.direction) {
+        Some(count) => count,
+        None => 0,
+    }
+}

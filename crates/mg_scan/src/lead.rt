@@ -1,0 +1,66 @@
+//! Rows that a scan found, lent before their documents are looked up.
+ghost use Rattle.std.specs.Prelude.{◌≡◌, List, Some, true, is_some, drop, map, option_map, IfOk, IfSome};
+ghost use Rattle.mg_scan.specs.Hit.{AreHitsIn, IsHitOf, hit_row, hit_rows};
+ghost use Rattle.mg_scan.specs.Lead.{AreLeadsIn, lead_row};
+ghost use Rattle.mg_shard.specs.Documents.{form_at};
+ghost use Rattle.mg_shard.specs.Shard.{ShardView};
+
+use crate::hit::Hit;
+use crate::shard::push_if;
+use mg_collate::compare_keys;
+use mg_merge::Ranked;
+use mg_shard::Shard;
+use mg_value::{Json, NoMemory};
+use std::alloc::Global;
+use std::cmp::Ordering;
+
+/// A row of a shard that serves its document, lent by it. Leads are ordered by key, and at one key by the bytes of the id.
+#[derive(Clone, Copy, Drop)]
+pub(crate) struct Lead<'a> {
+    pub(crate) shard: &'a Shard,
+    pub(crate) key: &'a [Json],
+    pub(crate) id: &'a str,
+}
+
+impl<'a> Ranked for Lead<'a> {
+    ghost row_of = { lead_row };
+
+    fn order(&self, other: &Lead<'a>) -> Ordering {
+        compare_keys(self.key, other.key).then(self.id.cmp(other.id))
+    }
+}
+
+// The hit of a lead. Cost: a look-up of its document.
+fn hit_of_lead<'a>(lead: Lead<'a>) -> Option<Hit<'a>>
+    ensures row { is_some (form_at lead.entry.shard.now.documents lead.entry.id.now) ≡ true
+        → option_map hit_row result ≡ Some (lead_row lead.entry) }
+    ensures lent { IfSome result (IsHitOf lead.entry.shard.now.documents) }
+{
+    let document = lead.shard.document(lead.id)?;
+    let form = document.form()?;
+    let text = document.text()?;
+    Some(Hit {
+        key: lead.key,
+        document,
+        form,
+        text,
+    })
+}
+
+// The hits of the leads from a place on. Cost: a look-up of a document for each of these.
+pub(crate) fn hits_after<'a>(
+    alloc: Global,
+    leads: &[Lead<'a>],
+    skip: usize,
+) -> Result<Vec<Hit<'a>>, NoMemory>
+    ensures rows { IfOk result (λ hits. (shards : List ShardView) → AreLeadsIn shards leads.now
+        → hit_rows hits.items ≡ map lead_row (drop skip leads.now)) }
+    ensures hits { IfOk result (λ hits. (shards : List ShardView) → AreLeadsIn shards leads.now
+        → AreHitsIn shards hits.items) }
+{
+    let mut hits = Vec::with_capacity(alloc, leads.len().saturating_sub(skip))?;
+    for place in skip..leads.len() {
+        push_if(&mut hits, hit_of_lead(leads[place]))?;
+    }
+    Ok(hits)
+}

@@ -1,0 +1,49 @@
+//! What a search has still to read in a shard.
+ghost use Rattle.std.specs.Prelude.{◌≡◌, option_map};
+ghost use Rattle.mg_index.specs.Catalog.{definition_at};
+ghost use Rattle.mg_scan.specs.Begun.{AreBegun, IsBegun, IsBegunIn};
+
+use crate::begin::Begin;
+use crate::search::Search;
+use crate::target::Target;
+use mg_shard::{Documents, Rows, Shard};
+
+/// What a search has still to read in a shard.
+#[derive(Drop)]
+pub(crate) enum Left<'a> {
+    /// Rows of an index.
+    Rows(Rows<'a>),
+    /// Documents, by their ids.
+    Documents(Documents<'a>),
+    /// Nothing more, or there is no such index.
+    Nothing,
+}
+
+// All that a search has to read in a shard. Cost: one look-up of where to begin.
+pub(crate) fn left_of<'a>(shard: &'a Shard, search: Search<'_>) -> Left<'a>
+    ensures { IsBegun search.entry shard.now result }
+{
+    match search.target {
+        Target::AllDocs => Left::Documents(documents_of(shard, search)),
+        Target::Index { ddoc, name } => rows_of(shard, ddoc, name, search),
+    }
+}
+
+// All documents from where the search begins.
+fn documents_of<'a>(shard: &'a Shard, search: Search<'_>) -> Documents<'a>
+    ensures { AreBegun search.entry shard.now.documents result }
+{
+    shard.ids_are_own();
+    shard.documents_beyond(&Begin { search }, search.direction)
+}
+
+// The rows of an index from where the search begins, and nothing where the shard has no such index.
+fn rows_of<'a>(shard: &'a Shard, ddoc: &str, name: &str, search: Search<'_>) -> Left<'a>
+    ensures { IsBegunIn (option_map (λ d. d.columns) (definition_at ddoc.now name.now shard.now.definitions))
+        search.entry shard.now result }
+{
+    match shard.rows_beyond(ddoc, name, &Begin { search }, search.direction) {
+        Some(rows) => Left::Rows(rows),
+        None => Left::Nothing,
+    }
+}
