@@ -1,6 +1,6 @@
 -- Documents that are dealt anew: one more document of a shard, one more shard, and what the shards stand for then.
 use lib.Dec.{T, eqb}
-use Rattle.std.proofs.Common.{◌≡◌, ℕ, zero, suc, ◌+◌, ◌<◌, Bool, true, false, List, [], ◌∷◌, ◌++◌, Less, Option, Some, None, option_and_then, option_map, length, get_or, map, set, slice_get, take, cond, is_eq, refl, ap, sym, ◌∙◌, subst, arith, length-set}
+use Rattle.std.proofs.Common.{◌≡◌, ℕ, zero, suc, ◌<◌, Bool, true, false, List, [], ◌∷◌, ◌++◌, Less, Option, Some, None, option_and_then, option_map, length, get_or, map, set, slice_get, take, cond, is_eq, refl, ap, sym, ◌∙◌, subst, arith, length-set}
 use Rattle.std.proofs.lemmas.Bool.{eqb-true, eq-eqb}
 use Rattle.std.proofs.lemmas.Cmp.{nat_list_cmp_total}
 use Rattle.std.proofs.lemmas.List.{length-map}

@@ -1,9 +1,5 @@
-use Rattle.std.proofs.Common.{◌≤◌, List, sym, ap, ◌∙◌, subst}
-use Rattle.mg_collate.specs.Row.{RowValue, row_value_order}
-use Rattle.mg_collate.specs.Sorted.{sorted}
-use Rattle.mg_index.specs.Definition.{IndexDefinition, Steps}
-use Rattle.mg_shard.specs.Documents.{docs_of}
-use Rattle.mg_shard.specs.Rows.{rows_of}
+use Rattle.std.proofs.Common.{◌≤◌, List, sym, subst}
+use Rattle.mg_collate.specs.Row.{RowValue}
 use Rattle.mg_shard.proofs.Rows.{at_most_once, count}
 use Rattle.mg_shard.proofs.redealt.index_over.Goals as goal
 
