@@ -2,7 +2,7 @@
 use Rattle.std.specs.Prelude.{◌≡◌, ◌++◌, [], ℕ, List}
 use Rattle.mg_value.specs.Value.{Value, Items, no_items, item}
 use Rattle.mg_collate.specs.Row.{RowValue, row_value_order}
-use Rattle.mg_rows.specs.Bytes.{bytes_order, columns_before, row_bytes, row_parts, value_before}
+use Rattle.mg_rows.specs.Bytes.{bytes_order, columns_before, row_bytes, value_before}
 use Rattle.mg_rows.specs.Stored.{IsStored, IsStoredRow, IsRow}
 
 -- two rows are in the order of their bytes
