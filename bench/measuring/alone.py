@@ -13,19 +13,30 @@ from .program import Program, message, titled
 from .rows import build, load, say
 
 
+def placed_anew(program, shards):
+    """The time of a reshard by the clock."""
+    clock = time.monotonic()
+    status, body = program.connection.exchange(message("POST", "_placement", {"shards": shards}))
+    if status != b"200":
+        raise SystemExit(f"a reshard was answered by {status} {body}")
+    return time.monotonic() - clock
+
+
 def workers(words):
-    """A scan and a build over 16 shards with one worker and with four, by the clock."""
+    """A scan, a build and a reshard to 16 shards, from one shard and from 16, with one worker and with four, by the clock."""
     corpus, rows = words.corpus(max(BULK, int(100000 * words.share))), []
-    for setting in ((16, 1), (16, 4)):
+    for setting in ((1, 1), (1, 4), (16, 1), (16, 4)):
         with contextlib.closing(Program(words.program, corpus, setting)) as program:
             load(program, corpus)
             client = program.client()
             asked = [(client.prepare(request), request.answer) for request in corpus.requests("scan", 10, 1)]
             clock = run(client, asked)[1] / len(asked)
             built = build(program, "kind")
+            dealt = placed_anew(program, 16)
         title = f"{corpus.count:,} documents, {titled(setting)}"
         rows.append((f"{title}: one document without an index, ms by the clock", f"{clock * 1e3:.1f}"))
         rows.append((f"{title}: an index on two fields, ms by the clock", f"{built.clock * 1e3:.1f}"))
+        rows.append((f"{title}: a reshard to 16 shards, with that index, ms by the clock", f"{dealt * 1e3:.1f}"))
     return rows
 
 
