@@ -18,11 +18,17 @@ mod live_tests;
 #[cfg(test)]
 mod merge_tests;
 #[cfg(test)]
+mod packed_tests;
+#[cfg(test)]
+mod packed_text_tests;
+#[cfg(test)]
 mod pages_tests;
 #[cfg(test)]
 mod placement_tests;
 #[cfg(test)]
 mod revtree_tests;
+#[cfg(test)]
+mod rows_tests;
 #[cfg(test)]
 mod run_tests;
 #[cfg(test)]

@@ -1,0 +1,144 @@
+//! A value in one block, whose parts were worked out by hand: it has an empty array, an empty object, a text with an escape and one
+//! beyond ASCII, a negative number, and names one of which is a front of the other.
+use mg_packed::{Array, Kind, Object, Packed, Part};
+use mg_path::Path;
+use mg_value::read;
+use std::alloc::Global;
+use std::test::Fail;
+
+const GIVEN: &str =
+    r#" { "n" : {"":0}, "list": [-7,"q\"",null,true,[false,"\u00e9"]], "ab":{}, "a":[] } "#;
+
+// The compact text of it: no white space, and members by their names.
+pub(crate) const COMPACT: &str =
+    r#"{"a":[],"ab":{},"list":[-7,"q\"",null,true,[false,"é"]],"n":{"":0}}"#;
+
+// The texts of the members, by their names and by their places.
+const MEMBERS: &[(&str, Option<&str>)] = &[
+    ("a", Some("[]")),
+    ("ab", Some("{}")),
+    ("list", Some(r#"[-7,"q\"",null,true,[false,"é"]]"#)),
+    ("n", Some(r#"{"":0}"#)),
+    ("", None),
+    ("abc", None),
+    ("o", None),
+];
+
+// The texts of the parts at paths.
+const PARTS: &[(&str, Option<&str>)] = &[
+    ("ab", Some("{}")),
+    ("list.0", Some("-7")),
+    ("list.1", Some(r#""q\"""#)),
+    ("list.2", Some("null")),
+    ("list.4.1", Some(r#""é""#)),
+    ("list.4.2", None),
+    ("list.5", None),
+    ("list.00", None),
+    ("list.n", None),
+    ("list.0.0", None),
+    ("a.0", None),
+    ("n.a", None),
+];
+
+pub(crate) fn given(alloc: Global) -> Result<Packed, Fail> {
+    let value = read(alloc, GIVEN.as_bytes())?;
+    Ok(Packed::of(alloc, &value)?)
+}
+
+// Whether the part is there and has this text, or is missing where there is no text.
+pub(crate) fn is_part(
+    alloc: Global,
+    part: Option<Part<'_>>,
+    text: Option<&str>,
+) -> Result<bool, Fail> {
+    match (part, text) {
+        (Some(part), Some(text)) => Ok(part.text(alloc)?.as_slice() == text.as_bytes()),
+        (None, None) => Ok(true),
+        _ => Ok(false),
+    }
+}
+
+fn is_at(alloc: Global, whole: &Part<'_>, path: &str, text: Option<&str>) -> Result<bool, Fail> {
+    let path = Path::parse(alloc, path)?;
+    is_part(alloc, whole.get(&path), text)
+}
+
+// The item at a place, by the call that asks for a place that is there.
+fn item_at<'a>(items: &Array<'a>, place: usize) -> Option<Part<'a>> {
+    if place < items.len() {
+        Some(items.item(place))
+    } else {
+        None
+    }
+}
+
+// Whether the item is of the kind that stands in that place of the list.
+fn is_item(place: usize, item: &Part<'_>) -> bool {
+    match (place, item.kind()) {
+        (0, Kind::Whole(number)) => number == -7,
+        (1, Kind::Text(text)) => text == "q\"",
+        (2, Kind::Null) => true,
+        (3, Kind::Flag(flag)) => flag,
+        (4, Kind::List(items)) => items.len() == 2,
+        _ => false,
+    }
+}
+
+// Whether the list has its five items, by both calls, and no sixth.
+fn has_items(list: &Part<'_>) -> bool {
+    let Kind::List(items) = list.kind() else {
+        return false;
+    };
+    for place in 0..5 {
+        let (Some(item), Some(same)) = (item_at(&items, place), items.get(place)) else {
+            return false;
+        };
+        if !is_item(place, &item) || !is_item(place, &same) {
+            return false;
+        }
+    }
+    items.len() == 5 && items.get(5).is_none()
+}
+
+// The name and the value at a place of the members, where it is there.
+fn member_at<'a>(members: &Object<'a>, place: usize) -> Option<(&'a str, Part<'a>)> {
+    if place < members.len() {
+        Some((members.name(place), members.value(place)))
+    } else {
+        None
+    }
+}
+
+// Whether the member is found by its place and by its name, in the object and in the part.
+fn is_member(alloc: Global, whole: &Part<'_>, place: usize) -> Result<bool, Fail> {
+    let Kind::Object(members) = whole.lend().kind() else {
+        return Ok(false);
+    };
+    let Some((name, text)) = MEMBERS.get(place) else {
+        return Ok(false);
+    };
+    let by_place = match member_at(&members, place) {
+        Some((found, value)) => found == *name && is_part(alloc, Some(value), *text)?,
+        None => text.is_none(),
+    };
+    let by_name = is_part(alloc, members.get(*name), *text)?;
+    let in_part = is_part(alloc, whole.member(*name), *text)?;
+    Ok(by_place && by_name && in_part)
+}
+
+#[test]
+fn parts_are_found_by_names_places_and_paths(rt: HostRuntime) -> Result<(), Fail> {
+    let packed = given(rt.alloc())?;
+    let whole = packed.part();
+    for place in 0..MEMBERS.len() {
+        assert!(rt; is_member(rt.alloc(), &whole, place)?, "member {place}");
+    }
+    for (path, text) in PARTS {
+        assert!(rt; is_at(rt.alloc(), &whole, path, *text)?, "at {path}");
+    }
+    match whole.member("list") {
+        Some(list) => assert!(rt; has_items(&list)),
+        None => assert!(rt; false, "no list"),
+    }
+    Ok(())
+}

@@ -1,0 +1,150 @@
+//! Rows of an index as bytes. The bytes and their order were worked out by hand from what `RowBytes` and `Bound` say.
+use mg_rows::{Bound, Edge, RowBytes};
+use mg_value::{Json, read};
+use std::alloc::Global;
+use std::cmp::Ordering;
+use std::test::Fail;
+
+// The text of a key, the id, and the bytes of the row.
+#[derive(Clone, Copy, Drop)]
+struct Written(&'static str, &'static str, &'static [u8]);
+
+// In the order of rows: null, false, true, numbers, texts, arrays, objects. A key, a text and an array are above each of their fronts.
+const ROWS: &[Written] = &[
+    Written("[]", "z", &[0, 122]),
+    Written("[null]", "b", &[1, 0, 98]),
+    Written("[null,false,true]", "b", &[1, 2, 3, 0, 98]),
+    Written("[false]", "a", &[2, 0, 97]),
+    Written("[true]", "a", &[3, 0, 97]),
+    Written(
+        "[-1]",
+        "a",
+        &[4, 127, 255, 255, 255, 255, 255, 255, 255, 0, 97],
+    ),
+    Written("[0]", "a", &[4, 128, 0, 0, 0, 0, 0, 0, 0, 0, 97]),
+    Written("[1]", "a", &[4, 128, 0, 0, 0, 0, 0, 0, 1, 0, 97]),
+    Written("[1]", "b", &[4, 128, 0, 0, 0, 0, 0, 0, 1, 0, 98]),
+    Written(r#"["a"]"#, "", &[5, 98, 0, 0]),
+    Written(r#"["a\u0000"]"#, "", &[5, 98, 1, 0, 0]),
+    Written(r#"["ab"]"#, "", &[5, 98, 99, 0, 0]),
+    // 46 bytes, one more than stand in the row itself
+    Written(
+        r#"["xxxxxxxxxxxxxxxxxxxxxxxxxxxxxxxxxxxxxxxxxx"]"#,
+        "a",
+        &[
+            5, 121, 121, 121, 121, 121, 121, 121, 121, 121, 121, 121, 121, 121, 121, 121, 121, 121,
+            121, 121, 121, 121, 121, 121, 121, 121, 121, 121, 121, 121, 121, 121, 121, 121, 121,
+            121, 121, 121, 121, 121, 121, 121, 121, 0, 0, 97,
+        ],
+    ),
+    Written(r#"["é"]"#, "é", &[5, 196, 170, 0, 0, 195, 169]),
+    Written("[[]]", "a", &[6, 0, 0, 97]),
+    Written("[[true,[]]]", "a", &[6, 3, 6, 0, 0, 0, 97]),
+    Written("[{}]", "a", &[7, 0, 0, 97]),
+    Written(r#"[{"a":null}]"#, "a", &[7, 5, 98, 0, 1, 0, 0, 97]),
+];
+
+// The values of a place, its side, and how many of those rows are below it.
+const PLACES: &[(&str, Edge, usize)] = &[
+    ("[]", Edge::Before, 0),
+    ("[]", Edge::After, 18),
+    ("[null,false]", Edge::Before, 2),
+    ("[null,false]", Edge::After, 3),
+    ("[1]", Edge::Before, 7),
+    ("[1]", Edge::After, 9),
+    (r#"["a"]"#, Edge::Before, 9),
+    (r#"["a"]"#, Edge::After, 10),
+    (r#"["é"]"#, Edge::After, 14),
+    ("[[]]", Edge::After, 15),
+    ("[{}]", Edge::Before, 16),
+];
+
+fn values_of(alloc: Global, text: &str) -> Result<Vec<Json>, Fail> {
+    match read(alloc, text.as_bytes())? {
+        Json::List(values) => Ok(values),
+        _ => Err(Fail::from("no array")),
+    }
+}
+
+fn row_of(alloc: Global, written: &Written) -> Result<RowBytes, Fail> {
+    let key = values_of(alloc, written.0)?;
+    Ok(RowBytes::of(alloc, &key, written.1)?)
+}
+
+// The same row, by way of a buffer that earlier rows were written into.
+fn row_with(alloc: Global, scratch: &mut Vec<u8>, written: &Written) -> Result<RowBytes, Fail> {
+    let key = values_of(alloc, written.0)?;
+    Ok(RowBytes::of_with(alloc, scratch, &key, written.1)?)
+}
+
+// Whether the row has the bytes, the id and the key.
+fn is_written(alloc: Global, row: &RowBytes, written: &Written) -> Result<bool, Fail> {
+    let key = values_of(alloc, written.0)?;
+    let same_key = row.key(alloc)? == key;
+    Ok(same_key && row.id() == written.1 && row.as_bytes() == written.2)
+}
+
+fn all_rows(alloc: Global) -> Result<Vec<RowBytes>, Fail> {
+    let mut rows = Vec::new(alloc);
+    for written in ROWS {
+        rows.push(row_of(alloc, written)?)?;
+    }
+    Ok(rows)
+}
+
+// Whether the row stands in that place of the rows.
+fn is_in_place(rows: &[RowBytes], row: &RowBytes, place: usize) -> bool {
+    for (other_place, other) in rows.iter().enumerate() {
+        let wanted = place.cmp(&other_place);
+        let equal = wanted == Ordering::Equal;
+        if row.compare(other) != wanted || row.cmp(other) != wanted || (row == other) != equal {
+            return false;
+        }
+    }
+    true
+}
+
+// Whether exactly the first so many rows are below the place.
+fn parts_rows(rows: &[RowBytes], bound: &Bound, below: usize) -> bool {
+    for (place, row) in rows.iter().enumerate() {
+        let wanted = below.cmp(&place).then(Ordering::Less);
+        if bound.against(row) != wanted {
+            return false;
+        }
+    }
+    true
+}
+
+#[test]
+fn rows_have_the_bytes_that_their_key_and_id_ask_for(rt: HostRuntime) -> Result<(), Fail> {
+    let alloc = rt.alloc();
+    let mut scratch = Vec::new(alloc);
+    for written in ROWS {
+        let row = row_of(alloc, written)?.again()?;
+        assert!(rt; is_written(alloc, &row, written)?, "of {}", written.0);
+        let row = row_with(alloc, &mut scratch, written)?;
+        assert!(rt; is_written(alloc, &row, written)?, "of_with {}", written.0);
+    }
+    Ok(())
+}
+
+#[test]
+fn rows_are_in_the_order_of_json_types(rt: HostRuntime) -> Result<(), Fail> {
+    let rows = all_rows(rt.alloc())?;
+    for (place, row) in rows.iter().enumerate() {
+        assert!(rt; is_in_place(&rows, row, place), "row {place}");
+    }
+    Ok(())
+}
+
+#[test]
+fn a_place_is_between_rows_and_never_on_one(rt: HostRuntime) -> Result<(), Fail> {
+    let alloc = rt.alloc();
+    let rows = all_rows(alloc)?;
+    for (values, edge, below) in PLACES {
+        let key = values_of(alloc, values)?;
+        let bound = Bound::at(alloc, &key, *edge)?;
+        assert!(rt; parts_rows(&rows, &bound, *below), "{values}, {below} rows");
+    }
+    Ok(())
+}
