@@ -198,17 +198,7 @@ pub(crate) fn commands_of(
     Ok(commands)
 }
 
-// Whether a command was refused memory.
-fn has_refusal(replies: &[Reply]) -> bool {
-    for reply in replies {
-        if reply.status() == 503 {
-            return true;
-        }
-    }
-    false
-}
-
-// The last reply of a plain run of the commits and then of the command. It is an error if one of them was refused memory.
+// The last reply of a plain run of the commits and then of the command.
 pub(crate) fn plain_reply<R: Threads + Sync>(
     rt: &R,
     alloc: Global,
@@ -218,9 +208,6 @@ pub(crate) fn plain_reply<R: Threads + Sync>(
     let commands = commands_of(alloc, commits, command)?;
     let mut engine = Engine::new(alloc, "db", Md5Placement, 1)?;
     let mut replies = engine.run(rt, alloc, &commands, 1)?;
-    if has_refusal(&replies) {
-        return Err("out of memory".into());
-    }
     Ok(replies.pop())
 }
 

@@ -1,4 +1,4 @@
-//! A list of commands that is run while memory is refused. tests/refused_calls.py refuses it; where none is, all is answered.
+//! A list of commands, which `rt try --test --fail-alloc N` runs while memory is refused; where none is, all is answered.
 use crate::live_tests::{commands_of, plain_reply};
 use mg_engine::{Command, Engine, Reply};
 use mg_shard::Md5Placement;
