@@ -16,13 +16,10 @@ use std::collections::BTreeMap;
 // How deep arrays and objects nest at most, as `serde_json` reads them.
 const MAX_DEPTH: usize = 127;
 
-// The value, where the bytes are a text all of whose numbers are held as an `i64`.
-pub(crate) fn read_whole(alloc: Global, bytes: &[u8]) -> Option<Json>
-    ensures { IfSome result (λ v. Reads bytes.now (view v)) }
+// The value, where it is a text all of whose numbers are held as an `i64`.
+pub(crate) fn read_whole(alloc: Global, text: &str) -> Option<Json>
+    ensures { IfSome result (λ v. Reads text.now (view v)) }
 {
-    let Ok(text) = simdutf8::compat::from_utf8(bytes) else {
-        return None;
-    };
     let mut scratch = Scratch::new(alloc);
     let Ok(mut reader) = Reader::new(text, &mut scratch) else {
         return None;

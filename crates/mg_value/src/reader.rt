@@ -1,4 +1,4 @@
-ghost use Rattle.std.specs.Prelude.{◌≡◌, None, Some, Err, IfOk, option_map};
+ghost use Rattle.std.specs.Prelude.{◌≡◌, ◌<◌, length, None, Some, Err, IfOk, IsUtf8, option_map};
 ghost use Rattle.serde_json.specs.Data.{Data};
 ghost use Rattle.serde_json.specs.View.{view as data_view, items_view as data_items_view, members_view as data_members_view};
 ghost use Rattle.mg_value.specs.Text.{Reads, IsText, whole_of, whole_items, whole_members};
@@ -18,29 +18,46 @@ use std::collections::BTreeMap;
 ///
 /// Errors: `NotJson` where the bytes are no such text, or a number is too large for a 64-bit float;
 /// `NotWhole` where they are one and some number of the value is not held as an `i64`, as `1.5`,
-/// `1.0`, `1e2`, `-0` or `9223372036854775808`; `NoMemory` where a growth was refused.
+/// `1.0`, `1e2`, `-0` or `9223372036854775808`; `NoMemory` where a growth was refused. Bytes that are
+/// not UTF-8, and the empty text, are refused as such before memory is taken.
 /// Cost: the length of the text, and for each object its members times the logarithm of their count.
 pub fn read(alloc: Global, bytes: &[u8]) -> Result<Json, ReadError>
     ensures ok { IfOk result (λ v. Reads bytes.now (view v)) }
     ensures not_json { result ≡ Err ReadError.NotJson → (d : Data) → ¬ IsText bytes.now d }
     ensures not_whole { result ≡ Err ReadError.NotWhole
         → (d : Data) × IsText bytes.now d × (whole_of d ≡ None) }
+    ensures no_memory { result ≡ Err ReadError.NoMemory
+        → IsUtf8 bytes.now × (0 < length bytes.now) }
 {
-    match read_whole(alloc, bytes) {
+    match simdutf8::compat::from_utf8(bytes) {
+        Ok(text) => read_text(alloc, text),
+        Err(_) => Err(ReadError::NotJson),
+    }
+}
+
+fn read_text(alloc: Global, text: &str) -> Result<Json, ReadError>
+    ensures ok { IfOk result (λ v. Reads text.now (view v)) }
+    ensures not_json { result ≡ Err ReadError.NotJson → (d : Data) → ¬ IsText text.now d }
+    ensures not_whole { result ≡ Err ReadError.NotWhole
+        → (d : Data) × IsText text.now d × (whole_of d ≡ None) }
+    ensures no_memory { result ≡ Err ReadError.NoMemory → 0 < length text.now }
+{
+    match read_whole(alloc, text) {
         Some(value) => Ok(value),
-        None => read_again(alloc, bytes),
+        None => read_again(alloc, text),
     }
 }
 
 // The same over a tree that has each number's value. It says why a text was refused, and reads those
 // in which a later member of the same name stands for one whose number is not whole.
-fn read_again(alloc: Global, bytes: &[u8]) -> Result<Json, ReadError>
-    ensures ok { IfOk result (λ v. Reads bytes.now (view v)) }
-    ensures not_json { result ≡ Err ReadError.NotJson → (d : Data) → ¬ IsText bytes.now d }
+fn read_again(alloc: Global, text: &str) -> Result<Json, ReadError>
+    ensures ok { IfOk result (λ v. Reads text.now (view v)) }
+    ensures not_json { result ≡ Err ReadError.NotJson → (d : Data) → ¬ IsText text.now d }
     ensures not_whole { result ≡ Err ReadError.NotWhole
-        → (d : Data) × IsText bytes.now d × (whole_of d ≡ None) }
+        → (d : Data) × IsText text.now d × (whole_of d ≡ None) }
+    ensures no_memory { result ≡ Err ReadError.NoMemory → 0 < length text.now }
 {
-    match Value::from_slice(alloc, bytes) {
+    match Value::from_str(alloc, text) {
         Ok(value) => whole(alloc, value),
         Err(error) => if error.is_memory() {
             Err(ReadError::NoMemory)
