@@ -1,4 +1,3 @@
-// The first fault of a value that is no selector, found without memory.
 ghost use Rattle.std.specs.Prelude.{◌≡◌};
 ghost use Rattle.std.specs.Result.{result_err};
 ghost use Rattle.mg_value.specs.View.{view, items_view, members_view};
@@ -13,8 +12,9 @@ use mg_path::is_path;
 use mg_value::Json;
 use std::collections::BTreeMap;
 
-// The first fault of the value, if it has one.
-pub(crate) fn fault_of(value: &Json) -> Option<SelError>
+/// The first fault of a value as a selector, as `Sel::read` names it, if it has one. Takes no memory, so that a fault is found where memory
+/// was refused. Cost: the size of the value.
+pub fn fault_of(value: &Json) -> Option<SelError>
     ensures { result ≡ result_err (reading (view value.now)) }
 {
     match value {
