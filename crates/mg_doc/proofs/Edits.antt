@@ -148,7 +148,7 @@ module _ (h : History) (e : Edit) (run : List Revision) (is : e.change ≡ Repli
   refuses_run (Some refused) k = ap newest_accepted (accepted_run ∙ misfits h run k.1) ∙ ap Err (sym k.0)
 
   pub looks_for : (r : Result (Option Revision) EditError) → StandsFor t h → LooksFor h run r → Foreseen h e r t
-  looks_for (Ok None) s k = rw is (rw k refl)
+  looks_for (Ok None) s k = (rw is (rw k.0 refl), rw is k.1)
   looks_for (Err x) s k = refuses_run (refusal_told x) k
   looks_for (Ok (Some r)) s k =
       let f : fits h run ≡ true = whole_fits (all_links h) _ k.1 in

@@ -18,8 +18,8 @@ abbrev pub Misfits : History → List Revision → Option Refused → Type 0
 Misfits h run (Some refused) = (refused ≡ BadHistory) × (fits h run ≡ false)
 Misfits h run None = fits h run ≡ true
 
--- a path that is known whole, one that fits, or one that does not
+-- a path that is known whole, another that fits, or one that does not
 abbrev pub LooksFor : History → List Revision → Result (Option Revision) EditError → Type 0
 LooksFor h run (Ok (Some r)) = (newest_of run ≡ Some r) × (is_whole h run ≡ true)
-LooksFor h run (Ok None) = fits h run ≡ true
+LooksFor h run (Ok None) = (fits h run ≡ true) × (is_whole h run ≡ false)
 LooksFor h run (Err x) = Misfits h run (refusal_told x)

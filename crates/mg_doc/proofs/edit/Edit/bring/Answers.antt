@@ -34,7 +34,7 @@ returns-in-New-clause-applied c = λ h stands.
     let Q : Edit → Type 0 = λ x. first_refusal h x.change ≡ None in
     let R : Edit → Type 0 = λ x. Applied h x c.extend.result c.extend.new.tree in
     let S : Result Accepted Refused → Type 0 = λ x. Brings h e.deleted e.body x c.extend.result c.extend.new.tree in
-    let first : first_refusal h e.change ≡ None = subst Q (sym c.self.view_is) (subst P c.in_default.is (c.in_ok-rev.ensures h stands)) in
+    let first : first_refusal h e.change ≡ None = subst Q (sym c.self.view_is) (subst P c.in_default.is (c.in_ok-rev.ensures h stands)).0 in
     let said : accepted_by h e ≡ extended h e.deleted e.body (option_copied c.as_ref.result) = ap (accepted_of h e.deleted e.body) c.in-New.is ∙ ap (extended h e.deleted e.body) (sym c.as_ref.ensures.value) in
     subst R c.self.view_is (applied h e c.extend.result c.extend.new.tree first (subst S (sym said) (c.extend.ensures.brings h stands)))
 
@@ -45,7 +45,7 @@ returns-clause-applied c = λ h stands.
     let Q : Edit → Type 0 = λ x. first_refusal h x.change ≡ None in
     let R : Edit → Type 0 = λ x. Applied h x c.merge.result c.merge.new.tree in
     let S : Result Accepted Refused → Type 0 = λ x. Brings h e.deleted e.body x c.merge.result c.merge.new.tree in
-    let first : first_refusal h e.change ≡ None = subst Q (sym c.self.view_is) (subst P c.in_default.is (c.in_ok-rev.ensures h stands)) in
+    let first : first_refusal h e.change ≡ None = subst Q (sym c.self.view_is) (subst P c.in_default.is (c.in_ok-rev.ensures h stands)).0 in
     let said : accepted_by h e ≡ replicated h c.in-Replica.path = ap (accepted_of h e.deleted e.body) c.in-Replica.is in
     subst R c.self.view_is (applied h e c.merge.result c.merge.new.tree first (subst S (sym said) (c.merge.ensures.brings h stands)))
 
