@@ -1,4 +1,5 @@
 mod Edits
 mod Entries
+mod Forms
 mod Readings
 mod Shown

@@ -1,10 +1,12 @@
 -- What applying an edit to a tree gives, for each history that the tree stands for.
-use Rattle.std.specs.Prelude.{◌≡◌, Option, Some, None, Result, Ok, Err}
+use Rattle.std.specs.Prelude.{◌≡◌, Bool, false, Option, Some, None, Result, Ok, Err}
 use Rattle.mg_revtree.specs.Revision.{Revision}
-use Rattle.mg_revtree.specs.History.{History}
+use Rattle.mg_revtree.specs.History.{History, is_whole}
 use Rattle.mg_revtree.specs.Tree.{Tree, StandsFor}
 use Rattle.mg_doc.specs.Document.{Edit}
 use Rattle.mg_doc.specs.Edit.{edited, first_refusal, outcome_of}
+use Rattle.mg_doc.specs.declared.change.Change.{Change}
+use Rattle.mg_doc.specs.declared.change.Change.TheVariants.{New, Replica}
 use Rattle.mg_doc.specs.declared.error.EditError.{EditError}
 use Rattle.mg_doc.specs.declared.error.EditError.TheVariants.{Conflict as conflict, BadHistory as bad_history, NoMemory as no_memory}
 use Rattle.mg_doc.specs.declared.error.Refused.{Refused}
@@ -31,9 +33,14 @@ abbrev pub Applied : History → Edit → Result Revision EditError → Tree →
 Applied h e (Ok r) t = (outcome_of h e ≡ Ok r) × StandsFor t (edited h e)
 Applied h e (Err x) t = Refuses h e (refusal_told x)
 
+-- whether a change is a replica's path that is known whole, which brings nothing
+abbrev pub is_known : History → Change → Bool
+is_known h (New named) = false
+is_known h (Replica run) = is_whole h run
+
 -- what is seen of an edit before it is applied: a path that is known whole, after which the tree stands for the edited
--- history as it is; or that the edit is not refused so far; or its error
+-- history as it is; or that the edit is no such path, and is not refused so far; or its error
 abbrev pub Foreseen : History → Edit → Result (Option Revision) EditError → Tree → Type 0
 Foreseen h e (Ok (Some r)) t = (outcome_of h e ≡ Ok r) × StandsFor t (edited h e)
-Foreseen h e (Ok None) t = first_refusal h e.change ≡ None
+Foreseen h e (Ok None) t = (first_refusal h e.change ≡ None) × (is_known h e.change ≡ false)
 Foreseen h e (Err x) t = Refuses h e (refusal_told x)

@@ -9,3 +9,4 @@ pub mod Conversions
 pub mod Base
 pub mod Conflicts
 pub mod Ahead
+pub mod Form

@@ -9,6 +9,7 @@ use crate::apply::{check_base, extend, extend_by_copy, look_for, merge, merge_by
 use crate::change::Change;
 use crate::digest::id_ahead;
 use crate::error::{DocError, EditError};
+use crate::fault::gives_change;
 use crate::members::{checked_mark, keep_own, take_id};
 use crate::path::take_change;
 use mg_revtree::{Rev, RevTree};
@@ -62,17 +63,14 @@ impl Edit {
     ///
     /// Errors, the first fault in this order: `BadMember` for another member that begins with an
     /// underscore or for a bad `_deleted`, `BadId` for a bad `_id`, `BadRev` for a bad `_rev` or
-    /// `_revisions`, or for neither of them from a replica; `NoMemory` where a growth is refused, never in the place
-    /// of `BadMember` or `BadId`.
+    /// `_revisions`, or for neither of them from a replica; `NoMemory` where a growth is refused, and never where the
+    /// document has a fault.
     /// Cost: the number of the members and the length of the path, and of a new edit the length of its body's text, since the id of its
     /// revision is made here, before a tree is asked. Source: CouchDB's `_bulk_docs`.
     pub fn read(alloc: Global, document: Json, new_edit: bool) -> Result<Edit, DocError>
         requires { is_object (view document) ≡ true }
         ensures edit { Gives (edit_of new_edit (view document)) result }
-
-        // These two are found before memory is taken.
-        ensures bad_member { edit_of new_edit (view document) ≡ Err DocError.BadMember → result ≡ Err DocError.BadMember }
-        ensures bad_id { edit_of new_edit (view document) ≡ Err DocError.BadId → result ≡ Err DocError.BadId }
+        ensures refused { (e : DocError) → edit_of new_edit (view document) ≡ Err e → result ≡ Err e }
     {
         match document {
             Json::Object(members) => edit_in(alloc, members, new_edit),
@@ -206,13 +204,15 @@ fn edit_in(
     new_edit: bool,
 ) -> Result<Edit, DocError>
     ensures edit { Gives (members_read new_edit (members_view members.entries)) result }
-    ensures bad_member { members_read new_edit (members_view members.entries) ≡ Err DocError.BadMember → result ≡ Err DocError.BadMember }
-    ensures bad_id { members_read new_edit (members_view members.entries) ≡ Err DocError.BadId → result ≡ Err DocError.BadId }
+    ensures refused { (e : DocError) → members_read new_edit (members_view members.entries) ≡ Err e → result ≡ Err e }
 {
     let deleted = checked_mark(&members)?;
     let Some(id) = take_id(&mut members) else {
         return Err(DocError::BadId);
     };
+    if !gives_change(alloc, &members, new_edit) {
+        return Err(DocError::BadRev);
+    }
     let change = take_change(alloc, &mut members, new_edit)?;
     keep_own(&mut members);
     let body = Json::Object(members);

@@ -8,6 +8,7 @@ mod digest;
 mod document;
 mod edit;
 mod error;
+mod fault;
 mod members;
 mod path;
 

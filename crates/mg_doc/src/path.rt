@@ -106,7 +106,7 @@ fn path_in(alloc: Global, mut members: BTreeMap<String, Json>) -> Result<History
 }
 
 // The position that `start` gives, if it is a whole number that is one.
-fn position(member: Option<&Json>) -> Option<u32>
+pub(crate) fn position(member: Option<&Json>) -> Option<u32>
     ensures { MatchOption result
         ((ids : Option Value) → run_at (option_map (λ v. view v.now) member.entry) ids ≡ None)
         (λ n. option_map (λ v. view v.now) member.entry ≡ Some (whole (pos n))) }

@@ -17,4 +17,4 @@ pub returns-then-not-fits : goal.returns-then-not-fits
 returns-then-not-fits c = λ h stands. (refl, sym (c.fits.ensures h stands) ∙ c.if-not-fits.true)
 
 pub returns : goal.returns
-returns c = λ h stands. sym (c.fits.ensures h stands) ∙ c.if-not-fits.false
+returns c = λ h stands. (sym (c.fits.ensures h stands) ∙ c.if-not-fits.false, sym (c.holds.ensures h stands) ∙ c.if-holds.false)
