@@ -161,7 +161,7 @@ pub refuses_new : (h : History) (e : Edit) (named : Option Revision) (x : EditEr
 refuses_new h e named x refused is k to =
     let P : Option Refused → Type 0 = Refuses h e in
     let made : extended h e.deleted e.body named ≡ Err refused =
-        sym (extended_is h e.deleted e.body named) ∙ unplaced_found h e.deleted e.body (base_found h named) refused (first_is h named ∙ k) in
+    sym (extended_is h e.deleted e.body named) ∙ unplaced_found h e.deleted e.body (base_found h named) refused (first_is h named ∙ k) in
     let said : accepted_by h e ≡ Err refused = rw is made in
     subst P (sym (ap refusal_told to ∙ told_error refused)) (ap newest_accepted said)
 

@@ -38,7 +38,7 @@ returns-in-New-clause-applied c = λ h stands.
     let first : first_refusal h e.change ≡ None = subst Q (sym c.self.view_is) (subst P c.in_default.is (c.in_ok-rev.ensures h stands)).0 in
     let named = option_copied c.as_ref.result in
     let said : accepted_by h e ≡ extended_by h e.deleted e.body named =
-        ap (accepted_of h e.deleted e.body) c.in-New.is ∙ ap (extended h e.deleted e.body) (sym c.as_ref.ensures.value) ∙ sym (extended_is h e.deleted e.body named) in
+    ap (accepted_of h e.deleted e.body) c.in-New.is ∙ ap (extended h e.deleted e.body) (sym c.as_ref.ensures.value) ∙ sym (extended_is h e.deleted e.body named) in
     subst R c.self.view_is (applied h e c.extend.result c.extend.new.tree first (subst S (sym said) (c.extend.ensures.brings h stands)))
 
 pub returns-clause-applied : goal.returns-clause-applied
