@@ -1,10 +1,11 @@
 -- What an edit brings to a history, by the change that its tree takes.
-use Rattle.std.proofs.Common.{◌≡◌, ℕ, ◌+◌, List, [], ◌∷◌, Bool, true, false, ◌==◌, inl, inr, Option, Some, None, Result, Ok, Err, refl, sym, ap, ◌∙◌, subst}
-use Rattle.std.specs.Result.{IsErrAnd}
+use Rattle.std.proofs.Common.{◌≡◌, ℕ, ◌+◌, List, [], ◌∷◌, Bool, true, false, ◌==◌, inl, inr, Option, Some, None, option_map, Result, Ok, Err, refl, sym, ap, ◌∙◌, subst}
+use Rattle.std.specs.Option.{option_to_list}
+use Rattle.std.specs.Result.{IsErrAnd, result_err}
 use Rattle.mg_value.specs.Value.{Value}
 use Rattle.mg_revtree.specs.Revision.{Revision}
 use Rattle.mg_revtree.specs.History.{History, newest_of, fits, all_links}
-use Rattle.mg_revtree.specs.Changes.{Decides, extension, may_extend, next_position, path_of, position_below, refusal_at, refusal_of, run_over, with_path}
+use Rattle.mg_revtree.specs.Changes.{Decides, extension, may_extend, next_position, next_revision, path_of, position_below, refusal_of, run_over, with_path}
 use Rattle.mg_revtree.specs.Tree.{Tree, StandsFor}
 use Rattle.mg_revtree.specs.declared.error.MergeError.{MergeError}
 use Rattle.mg_revtree.specs.declared.error.MergeError.TheVariants.{BadHistory as misfit, NoMemory as merge_refused}
@@ -12,13 +13,14 @@ use Rattle.mg_revtree.specs.declared.error.Refusal.{Refusal}
 use Rattle.mg_revtree.specs.declared.error.Refusal.TheVariants.{NotLeaf, Full, Known}
 use Rattle.mg_revtree.specs.declared.error.TreeError.{TreeError}
 use Rattle.mg_revtree.specs.declared.error.TreeError.TheVariants.{NotLeaf as not_leaf, Full as full, Known as known, NoMemory as tree_refused}
+use Rattle.mg_revtree.proofs.Extend.{refused_position}
 use Rattle.mg_revtree.proofs.Replicas.{whole_fits, whole_stands}
 use Rattle.mg_doc.specs.Applied.{Applied, Foreseen, Refuses, error_of, refusal_told}
 use Rattle.mg_doc.specs.Brought.{Brings, Missing}
-use Rattle.mg_doc.specs.Base.{LooksFor, Misfits}
+use Rattle.mg_doc.specs.Base.{LooksFor, Misfits, base_found, extended_by, made_found, made_on, unplaced}
 use Rattle.mg_doc.specs.Digest.{digest_of}
 use Rattle.mg_doc.specs.Document.{Edit}
-use Rattle.mg_doc.specs.Edit.{Accepted, accepted_by, base_of, extended, first_refusal, made, made_over, newest_accepted, history_after, older_of, over_base, refused_by, replicated, unbased, unless, unplaced}
+use Rattle.mg_doc.specs.Edit.{Accepted, accepted_by, extended, first_refusal, history_after, is_unnamed, made_over, newest_accepted, refused_by, replicated, unless}
 use Rattle.mg_doc.specs.Conversions.{error_of_merge, error_of_tree}
 use Rattle.mg_doc.specs.declared.change.Change.TheVariants.{New, Replica}
 use Rattle.mg_doc.specs.declared.error.EditError.{EditError}
@@ -61,7 +63,7 @@ not_merged h run merge_refused f = tt
 
 -- ---- a new edit
 
-pub not_made : (o : Option Refusal) (x : TreeError) (a : Accepted) → Decides o (Err x) → Missing (unless o a) (refusal_told (error_of_tree x))
+pub not_made : (o : Option Refusal) (x : TreeError) (a : Accepted) → Decides o (Err x) → Missing (unless (option_map refused_by o) a) (refusal_told (error_of_tree x))
 not_made None not_leaf a d = absurd (let e : not_leaf ≡ tree_refused = d in cc)
 not_made None full a d = absurd (let e : full ≡ tree_refused = d in cc)
 not_made None known a d = absurd (let e : known ≡ tree_refused = d in cc)
@@ -93,48 +95,74 @@ has_position h base id e = elim (two (may_extend h base)) [
   ]
 ]
 
-run_over-older : (r : Revision) (base : Option Revision) → run_over r base ≡ r ∷ older_of base
+run_over-older : (r : Revision) (base : Option Revision) → run_over r base ≡ r ∷ option_to_list base
 run_over-older r None = refl
 run_over-older r (Some q) = refl
 
 made_now : (h : History) (d : Bool) (b : Value) (base : Option Revision) (n : ℕ) (t : Tree) → refusal_of h base (digest_of d base b) ≡ None
     → ((position_below base == 4294967295) ≡ false → n ≡ position_below base + 1) → StandsFor t (with_path h (extension base (digest_of d base b) d b))
-    → Brings h d b (made_over h d b base) (Ok (n, digest_of d base b)) t
+    → Brings h d b (made_on h d b base) (Ok (n, digest_of d base b)) t
 made_now h d b base n t r p s =
     let at : n ≡ position_below base + 1 = p (has_position h base (digest_of d base b) r) in
     let P : List Revision → Type 0 = λ run. StandsFor t (with_path h (path_of run d b)) in
-    let Q : ℕ → Type 0 = λ m. Brings h d b (made_over h d b base) (Ok (m, digest_of d base b)) t in
-    subst Q (sym at) (older_of base, ap (λ o. unless o (made d b base, older_of base)) r, subst P (run_over-older (made d b base) base) s)
+    let Q : ℕ → Type 0 = λ m. Brings h d b (made_on h d b base) (Ok (m, digest_of d base b)) t in
+    subst Q (sym at) (option_to_list base, ap (λ o. unless (option_map refused_by o) (made_over base (digest_of d base b))) r, subst P (run_over-older (next_revision base (digest_of d base b)) base) s)
 
 pub made_over_base : (h : History) (d : Bool) (b : Value) (base : Option Revision) (id copy : List ℕ) (n : ℕ) (t : Tree) → id ≡ digest_of d base b → copy ≡ id → refusal_of h base id ≡ None
     → ((position_below base == 4294967295) ≡ false → n ≡ position_below base + 1) → StandsFor t (with_path h (extension base id d b))
-    → Brings h d b (made_over h d b base) (Ok (n, copy)) t
+    → Brings h d b (made_on h d b base) (Ok (n, copy)) t
 made_over_base h d b base id copy n t e f r p s =
     let R : List ℕ → Type 0 = λ i. refusal_of h base i ≡ None in
     let S : List ℕ → Type 0 = λ i. StandsFor t (with_path h (extension base i d b)) in
-    let Q : List ℕ → Type 0 = λ i. Brings h d b (made_over h d b base) (Ok (n, i)) t in
+    let Q : List ℕ → Type 0 = λ i. Brings h d b (made_on h d b base) (Ok (n, i)) t in
     subst Q (sym (f ∙ e)) (made_now h d b base n t (subst R e r) p (subst S e s))
 
 -- where there is nothing to extend
-pub no_base : (h : History) (d : Bool) (b : Value) (named : Option Revision) (o : Option Refused) → Missing (base_of h named) o → Missing (extended h d b named) o
+pub no_base : (h : History) (d : Bool) (b : Value) (named : Option Revision) (o : Option Refused) → Missing (base_found h named) o → Missing (extended_by h d b named) o
 no_base h d b named None k = tt
-no_base h d b named (Some refused) k = ap (over_base h d b) k
+no_base h d b named (Some refused) k = ap (made_found h d b) k
+
+-- where there is a base
+pub found_made : (h : History) (d : Bool) (b : Value) (named base : Option Revision) (r : Result Revision EditError) (t : Tree) → base_found h named ≡ Ok base
+    → Brings h d b (made_on h d b base) r t → Brings h d b (extended_by h d b named) r t
+found_made h d b named base r t e k = let P : Result Accepted Refused → Type 0 = λ s. Brings h d b s r t in subst P (sym (ap (made_found h d b) e)) k
+
+-- the steps of the code make what an edit makes
+pub extended_is : (h : History) (d : Bool) (b : Value) (named : Option Revision) → extended_by h d b named ≡ extended h d b named
+extended_is h d b named = elim (two (is_unnamed h named)) [ inl t ↦ rw t refl | inr f ↦ rw f refl ]
+
+pub first_is : (h : History) (named : Option Revision) → unplaced h (base_found h named) ≡ first_refusal h (New named)
+first_is h named = elim (two (is_unnamed h named)) [ inl t ↦ rw t refl | inr f ↦ rw f refl ]
+
+-- why nothing is made over a base, as far as it shows before the revision is made
+pub base_refused : (h : History) (named : Option Revision) (refused : Refused) → base_found h named ≡ Err refused → first_refusal h (New named) ≡ Some refused
+base_refused h named refused e = sym (first_is h named) ∙ ap (unplaced h) e
+
+pub place_refused : (h : History) (named base : Option Revision) (refusal : Refusal) → base_found h named ≡ Ok base → Err refusal ≡ next_position h base → first_refusal h (New named) ≡ Some (refused_by refusal)
+place_refused h named base refusal e k = sym (first_is h named) ∙ ap (unplaced h) e ∙ ap (λ o. option_map refused_by (result_err o)) (sym k)
+
+pub not_refused_yet : (h : History) (named base : Option Revision) (n : ℕ) → base_found h named ≡ Ok base → Ok n ≡ next_position h base → first_refusal h (New named) ≡ None
+not_refused_yet h named base n e k = sym (first_is h named) ∙ ap (unplaced h) e ∙ ap (λ o. option_map refused_by (result_err o)) (sym k)
 
 -- what is refused before a revision is made is refused
-unplaced_made : (h : History) (d : Bool) (b : Value) (base : Option Revision) (o : Result ℕ Refusal) (refused : Refused) → next_position h base ≡ o → unplaced o ≡ Some refused → made_over h d b base ≡ Err refused
-unplaced_made h d b base (Ok n) refused e k = absurd cc
-unplaced_made h d b base (Err refusal) refused e k =
+unplaced_over : (h : History) (d : Bool) (b : Value) (base : Option Revision) (o : Result ℕ Refusal) (refused : Refused) → next_position h base ≡ o → option_map refused_by (result_err o) ≡ Some refused → made_on h d b base ≡ Err refused
+unplaced_over h d b base (Ok n) refused e k = absurd cc
+unplaced_over h d b base (Err refusal) refused e k =
+    let id = digest_of d base b in
     let same : refused_by refusal ≡ refused = cc in
-    ap (λ o. unless (refusal_at o (digest_of d base b) (all_links h)) (made d b base, older_of base)) e ∙ ap Err same
+    let is : refusal_of h base id ≡ Some refusal = sym (refused_position h base id refusal (sym e)) in
+    ap (λ o. unless (option_map refused_by o) (made_over base id)) is ∙ ap Err same
 
-unbased_over : (h : History) (d : Bool) (b : Value) (base : Result (Option Revision) Refused) (refused : Refused) → unbased h base ≡ Some refused → over_base h d b base ≡ Err refused
-unbased_over h d b (Err x) refused k = let e : x ≡ refused = cc in ap Err e
-unbased_over h d b (Ok base) refused k = unplaced_made h d b base (next_position h base) refused refl k
+unplaced_found : (h : History) (d : Bool) (b : Value) (base : Result (Option Revision) Refused) (refused : Refused) → unplaced h base ≡ Some refused → made_found h d b base ≡ Err refused
+unplaced_found h d b (Err x) refused k = let e : x ≡ refused = cc in ap Err e
+unplaced_found h d b (Ok base) refused k = unplaced_over h d b base (next_position h base) refused refl k
 
-pub refuses_new : (h : History) (e : Edit) (named : Option Revision) (x : EditError) (refused : Refused) → e.change ≡ New named → unbased h (base_of h named) ≡ Some refused → x ≡ error_of refused → Refuses h e (refusal_told x)
+pub refuses_new : (h : History) (e : Edit) (named : Option Revision) (x : EditError) (refused : Refused) → e.change ≡ New named → first_refusal h (New named) ≡ Some refused → x ≡ error_of refused → Refuses h e (refusal_told x)
 refuses_new h e named x refused is k to =
     let P : Option Refused → Type 0 = Refuses h e in
-    let said : accepted_by h e ≡ Err refused = rw is (unbased_over h e.deleted e.body (base_of h named) refused k) in
+    let made : extended h e.deleted e.body named ≡ Err refused =
+    sym (extended_is h e.deleted e.body named) ∙ unplaced_found h e.deleted e.body (base_found h named) refused (first_is h named ∙ k) in
+    let said : accepted_by h e ≡ Err refused = rw is made in
     subst P (sym (ap refusal_told to ∙ told_error refused)) (ap newest_accepted said)
 
 -- ---- what is seen of a replica's path

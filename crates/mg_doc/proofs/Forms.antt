@@ -1,5 +1,5 @@
 -- The form of `_rev` and `_revisions`, and the change that they give.
-use Rattle.std.proofs.Common.{◌≡◌, ℕ, List, [], ◌∷◌, Bool, true, false, ◌&&◌, ◌||◌, cond, map, length, nat_lt, nat_le, Option, Some, None, is_some, option_map, option_and_then, refl, ap, sym, ◌∙◌, suc}
+use Rattle.std.proofs.Common.{◌≡◌, ℕ, List, [], ◌∷◌, Bool, true, false, ◌&&◌, cond, map, length, nat_lt, nat_le, Option, Some, None, is_some, option_map, option_and_then, refl, ap, ◌∙◌, suc}
 use Rattle.std.specs.List.{list_all}
 use Rattle.std.specs.Option.{option_map_or}
 use Rattle.mg_value.specs.Value.{Value, Items, no_items, item, text, null, flag, whole, list, object}

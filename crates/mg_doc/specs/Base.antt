@@ -1,12 +1,40 @@
 -- What the steps of an edit give: the base that is extended, and what is seen of a replica's path. They serve the code's parts.
-use Rattle.std.specs.Prelude.{◌≡◌, true, false, List, Option, Some, None, Result, Ok, Err}
+use Rattle.std.specs.Prelude.{◌≡◌, true, false, Bool, List, Option, Some, None, option_map, Result, Ok, Err, if◌then◌else◌}
+use Rattle.std.specs.Result.{result_err}
+use Rattle.mg_value.specs.Value.{Value}
 use Rattle.mg_revtree.specs.Revision.{Revision}
 use Rattle.mg_revtree.specs.History.{History, fits, is_whole, newest_of}
+use Rattle.mg_revtree.specs.Changes.{next_position, refusal_of}
 use Rattle.mg_doc.specs.Applied.{refusal_told}
 use Rattle.mg_doc.specs.Brought.{Missing}
+use Rattle.mg_doc.specs.Digest.{digest_of}
+use Rattle.mg_doc.specs.Edit.{Accepted, base_of, is_unnamed, made_over, refused_by, unless}
 use Rattle.mg_doc.specs.declared.error.EditError.{EditError}
 use Rattle.mg_doc.specs.declared.error.Refused.{Refused}
-use Rattle.mg_doc.specs.declared.error.Refused.TheVariants.{BadHistory}
+use Rattle.mg_doc.specs.declared.error.Refused.TheVariants.{BadHistory, Conflict}
+
+-- the base that is extended, or why none is
+abbrev pub base_found : History → Option Revision → Result (Option Revision) Refused
+base_found h named = if is_unnamed h named then Err Conflict else Ok (base_of h named)
+
+-- what is made over a base
+abbrev pub made_on : History → Bool → Value → Option Revision → Result Accepted Refused
+made_on h deleted body base =
+    unless (option_map refused_by (refusal_of h base (digest_of deleted base body))) (made_over base (digest_of deleted base body))
+
+-- what is made over the base that is found
+abbrev pub made_found : History → Bool → Value → Result (Option Revision) Refused → Result Accepted Refused
+made_found h deleted body (Ok base) = made_on h deleted body base
+made_found h deleted body (Err refused) = Err refused
+
+-- a new edit, by the steps of the code
+abbrev pub extended_by : History → Bool → Value → Option Revision → Result Accepted Refused
+extended_by h deleted body named = made_found h deleted body (base_found h named)
+
+-- why nothing is made over the base that is found, as far as it shows before the revision is made
+abbrev pub unplaced : History → Result (Option Revision) Refused → Option Refused
+unplaced h (Ok base) = option_map refused_by (result_err (next_position h base))
+unplaced h (Err refused) = Some refused
 
 -- a base that is copied, or why there is none
 abbrev pub CopyIs : Result (Option Revision) Refused → Result (Option Revision) EditError → Type 0

@@ -1,5 +1,7 @@
 -- What an edit does to a document's history, after CouchDB's `_bulk_docs` with `new_edits` true and false.
-use Rattle.std.specs.Prelude.{ℕ, List, [], ◌∷◌, Bool, Option, Some, None, Result, Ok, Err, if◌then◌else◌}
+use Rattle.std.specs.Prelude.{ℕ, List, [], ◌∷◌, Bool, false, not, ◌&&◌, Option, Some, None, is_none, option_map, Result, Ok, Err, if◌then◌else◌}
+use Rattle.std.specs.Option.{option_to_list}
+use Rattle.std.specs.Result.{result_err}
 use Rattle.mg_value.specs.Value.{Value}
 use Rattle.mg_revtree.specs.Revision.{Revision}
 use Rattle.mg_revtree.specs.History.{History, Leaf, winner_of, fits}
@@ -19,48 +21,45 @@ Accepted = Revision × List Revision
 
 -- ---- a new edit
 
--- the revision that is made over a base, or the first of a document
-abbrev pub made : Bool → Value → Option Revision → Revision
-made deleted body base = next_revision base (digest_of deleted base body)
+-- whether a leaf is there that is not deleted
+abbrev pub is_alive : Option Leaf → Bool
+is_alive None = false
+is_alive (Some l) = not l.deleted
 
--- the revisions after the made one in its path
-abbrev pub older_of : Option Revision → List Revision
-older_of None = []
-older_of (Some r) = r ∷ []
+-- it names no revision, though its document is there
+abbrev pub is_unnamed : History → Option Revision → Bool
+is_unnamed h named = is_none named && is_alive (winner_of h)
 
--- the refusal of an edit whose revision is not made
+-- its base: the revision that it names, or else the winner's, if there is a winner
+abbrev pub base_of : History → Option Revision → Option Revision
+base_of h None = option_map (λ l. l.rev) (winner_of h)
+base_of h (Some r) = Some r
+
+-- how an edit is refused whose revision is not made
 abbrev pub refused_by : Refusal → Refused
 refused_by NotLeaf = Conflict
 refused_by Full = BadHistory
 refused_by Known = Conflict
 
+-- why it is refused, if it is: it names no revision, though its document is there; or no revision of this id is made over its base
+abbrev pub refusal_over : History → Option Revision → List ℕ → Option Refused
+refusal_over h named id = if is_unnamed h named then Some Conflict else option_map refused_by (refusal_of h (base_of h named) id)
+
+-- the path that it brings: the revision of this id over a base, or the first of a document, and behind it the base
+abbrev pub made_over : Option Revision → List ℕ → Accepted
+made_over base id = (next_revision base id, option_to_list base)
+
 -- what is accepted, if it is not refused
-abbrev pub unless : Option Refusal → Accepted → Result Accepted Refused
-unless None a = Ok a
-unless (Some refusal) a = Err (refused_by refusal)
+abbrev pub unless : Option Refused → Accepted → Result Accepted Refused
+unless None accepted = Ok accepted
+unless (Some refused) accepted = Err refused
 
--- over a base, or the first of a document where there is none
-abbrev pub made_over : History → Bool → Value → Option Revision → Result Accepted Refused
-made_over h deleted body base = unless (refusal_of h base (digest_of deleted base body)) (made deleted body base, older_of base)
-
--- where none is named: a document that is not there is begun, and one whose winner is deleted is extended
-abbrev pub base_unnamed : Option Leaf → Result (Option Revision) Refused
-base_unnamed None = Ok None
-base_unnamed (Some l) = if l.deleted then Ok (Some l.rev) else Err Conflict
-
--- what is extended, if anything: a named revision, or the base where none is named
-abbrev pub base_of : History → Option Revision → Result (Option Revision) Refused
-base_of h None = base_unnamed (winner_of h)
-base_of h (Some r) = Ok (Some r)
-
--- what is made over the base, if there is one
-abbrev pub over_base : History → Bool → Value → Result (Option Revision) Refused → Result Accepted Refused
-over_base h deleted body (Ok base) = made_over h deleted body base
-over_base h deleted body (Err refused) = Err refused
-
--- a new edit of a named revision, or of none
+-- the path that it brings by the id that its base and its body give, or why it is refused
 abbrev pub extended : History → Bool → Value → Option Revision → Result Accepted Refused
-extended h deleted body named = over_base h deleted body (base_of h named)
+extended h deleted body named =
+    let base = base_of h named in
+    let id = digest_of deleted base body in
+    unless (refusal_over h named id) (made_over base id)
 
 -- ---- an edit that a replica made
 
@@ -99,17 +98,7 @@ outcome_of h e = newest_accepted (accepted_by h e)
 
 -- ---- what is refused before a revision is made
 
--- where a new revision has no position
-abbrev pub unplaced : Result ℕ Refusal → Option Refused
-unplaced (Ok n) = None
-unplaced (Err refusal) = Some (refused_by refusal)
-
--- where there is nothing to extend
-abbrev pub unbased : History → Result (Option Revision) Refused → Option Refused
-unbased h (Ok base) = unplaced (next_position h base)
-unbased h (Err refused) = Some refused
-
 -- every refusal but that of a made revision that is known
 abbrev pub first_refusal : History → Change → Option Refused
-first_refusal h (New named) = unbased h (base_of h named)
+first_refusal h (New named) = if is_unnamed h named then Some Conflict else option_map refused_by (result_err (next_position h (base_of h named)))
 first_refusal h (Replica run) = if fits h run then None else Some BadHistory

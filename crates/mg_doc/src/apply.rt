@@ -5,9 +5,10 @@ ghost use Rattle.mg_value.specs.View.{view};
 ghost use Rattle.mg_revtree.specs.History.{History as Paths};
 ghost use Rattle.mg_revtree.specs.Tree.{StandsFor};
 ghost use Rattle.mg_doc.specs.Brought.{Brings};
-ghost use Rattle.mg_doc.specs.Base.{CopyIs, LooksFor};
+ghost use Rattle.mg_doc.specs.Base.{CopyIs, LooksFor, base_found, extended_by, made_on};
 ghost use Rattle.mg_doc.specs.Digest.{digest_of};
-ghost use Rattle.mg_doc.specs.Edit.{base_of, extended, made_over, replicated, unbased};
+ghost use Rattle.mg_doc.specs.Edit.{first_refusal, replicated};
+ghost use Rattle.mg_doc.specs.declared.change.Change.TheVariants.{New};
 
 use crate::digest::id_over;
 use crate::error::{EditError, Refused};
@@ -60,8 +61,8 @@ pub(crate) fn merge_by_copy(
 
 // Whether a revision may be made over a named one, or where none is named.
 pub(crate) fn check_base(tree: &RevTree, named: Option<&Rev>) -> Result<(), Refused>
-    ensures ok { OnOk result ((h : Paths) → StandsFor tree.now h → unbased h (base_of h (option_copied named.entry)) ≡ None) }
-    ensures err { IfErr result (λ e. (h : Paths) → StandsFor tree.now h → unbased h (base_of h (option_copied named.entry)) ≡ Some e) }
+    ensures ok { OnOk result ((h : Paths) → StandsFor tree.now h → first_refusal h (New (option_copied named.entry)) ≡ None) }
+    ensures err { IfErr result (λ e. (h : Paths) → StandsFor tree.now h → first_refusal h (New (option_copied named.entry)) ≡ Some e) }
 {
     let base = base_over(tree, named)?;
     tree.next_position(base)?;
@@ -70,7 +71,7 @@ pub(crate) fn check_base(tree: &RevTree, named: Option<&Rev>) -> Result<(), Refu
 
 // What is extended: the named revision, or where none is named a deleted winner, or nothing.
 fn base_over<'a>(tree: &'a RevTree, named: Option<&'a Rev>) -> Result<Option<&'a Rev>, Refused>
-    ensures { (h : Paths) → StandsFor tree.now h → base_of h (option_copied named.entry) ≡ result_map_both option_copied (λ e. e) result }
+    ensures { (h : Paths) → StandsFor tree.now h → base_found h (option_copied named.entry) ≡ result_map_both option_copied (λ e. e) result }
 {
     match named {
         Some(rev) => Ok(Some(rev)),
@@ -80,7 +81,7 @@ fn base_over<'a>(tree: &'a RevTree, named: Option<&'a Rev>) -> Result<Option<&'a
 
 // What is extended where no revision is named.
 fn base_unnamed(tree: &RevTree) -> Result<Option<&Rev>, Refused>
-    ensures { (h : Paths) → StandsFor tree.now h → base_of h None ≡ result_map_both option_copied (λ e. e) result }
+    ensures { (h : Paths) → StandsFor tree.now h → base_found h None ≡ result_map_both option_copied (λ e. e) result }
 {
     match tree.winner() {
         None => Ok(None),
@@ -94,7 +95,7 @@ fn base_unnamed(tree: &RevTree) -> Result<Option<&Rev>, Refused>
 
 // The same, copied.
 fn copied_base(alloc: Global, tree: &RevTree) -> Result<Option<Rev>, EditError>
-    ensures { (h : Paths) → StandsFor tree.now h → CopyIs (base_of h None) result }
+    ensures { (h : Paths) → StandsFor tree.now h → CopyIs (base_found h None) result }
 {
     match base_unnamed(tree)? {
         None => Ok(None),
@@ -113,7 +114,7 @@ pub(crate) fn extend(
 ) -> Result<Rev, EditError>
     requires { IfSome ahead (λ id. string_bytes id ≡ digest_of deleted (option_copied named) (view body)) }
     ensures brings { (h : Paths) → StandsFor tree.old h → Brings h deleted (view body)
-        (extended h deleted (view body) (option_copied named.entry)) result tree.new }
+        (extended_by h deleted (view body) (option_copied named.entry)) result tree.new }
     ensures unchanged { OnErr result (tree.new ≡ tree.old) }
 {
     match named {
@@ -145,7 +146,7 @@ pub(crate) fn extend_by_copy(
     body: &Json,
 ) -> Result<Rev, EditError>
     ensures brings { (h : Paths) → StandsFor tree.old h → Brings h deleted (view body.now)
-        (extended h deleted (view body.now) (option_copied named.entry)) result tree.new }
+        (extended_by h deleted (view body.now) (option_copied named.entry)) result tree.new }
     ensures unchanged { OnErr result (tree.new ≡ tree.old) }
 {
     let body = body.copy(alloc)?;
@@ -163,7 +164,7 @@ fn extend_over(
 ) -> Result<Rev, EditError>
     requires { IfSome ahead (λ id. string_bytes id ≡ digest_of deleted (option_copied base) (view body)) }
     ensures brings { (h : Paths) → StandsFor tree.old h → Brings h deleted (view body)
-        (made_over h deleted (view body) (option_copied base.entry)) result tree.new }
+        (made_on h deleted (view body) (option_copied base.entry)) result tree.new }
     ensures unchanged { OnErr result (tree.new ≡ tree.old) }
 {
     let id = id_over(alloc, ahead, deleted, base, &body)?;

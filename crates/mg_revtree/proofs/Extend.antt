@@ -1,5 +1,5 @@
 -- What an extension needs.
-use Rattle.std.proofs.Common.{◌≡◌, ℕ, ◌<◌, ◌^◌, ◌==◌, Result, Ok, Err, IsOkUnless, ok_or, IfOk, ◌∙◌, true, false, ◌+◌, ◌-◌, Option, Some, None, is_some, is_none, List, [], ◌∷◌, refl, ap, sym, subst, arith}
+use Rattle.std.proofs.Common.{◌≡◌, ℕ, ◌<◌, ◌^◌, ◌==◌, Result, Ok, Err, IsOkUnless, ok_or, IfOk, ◌∙◌, if◌then◌else◌, inl, inr, true, false, ◌+◌, ◌-◌, Option, Some, None, is_some, is_none, List, [], ◌∷◌, refl, ap, sym, subst, arith}
 use Rattle.std.specs.Option.{SomeIff}
 use Rattle.std.specs.Result.{IsErrAnd}
 use Rattle.std.proofs.lemmas.Bool.Decides.{nat_tests}
@@ -8,10 +8,11 @@ use Rattle.mg_revtree.specs.declared.error.TreeError.TheVariants.{NoMemory as no
 use Rattle.mg_revtree.specs.declared.error.Refusal.{Refusal}
 use Rattle.mg_revtree.specs.declared.error.Refusal.TheVariants.{NotLeaf, Full, Known}
 use Rattle.mg_revtree.specs.Revision.{Revision, run_from}
-use Rattle.mg_revtree.specs.History.{History, all_links, Leaf, is_known}
+use Rattle.mg_revtree.specs.History.{History, Link, all_links, Leaf, is_known}
 use Rattle.mg_revtree.specs.Tree.{AreLeaves}
-use Rattle.mg_revtree.specs.Changes.{Decides, error_of, may_extend, next_position, next_revision, position_below, refusal_at, refusal_of, run_over}
+use Rattle.mg_revtree.specs.Changes.{Decides, error_of, may_extend, next_position, next_revision, position_below, refusal_of, run_over}
 use Rattle.mg_revtree.specs.Steps.{base_in, ids_over}
+use Rattle.mg_revtree.proofs.Same.{two}
 use Rattle.mg_revtree.proofs.Winners.{no_winner, first_wins}
 
 -- a new revision over its parent, as a run
@@ -48,14 +49,25 @@ position_ok base n (Some k) (Err e) is some to = tt
 
 -- ---- why a new revision is not made
 
+-- why a revision is not made at its position, if it has one
+abbrev pub refusal_at : Result ℕ Refusal → List ℕ → List Link → Option Refusal
+refusal_at (Err refusal) id ls = Some refusal
+refusal_at (Ok n) id ls = if is_known (n, id) ls then Some Known else None
+
+pub refusal_is : (h : History) (base : Option Revision) (id : List ℕ) → refusal_at (next_position h base) id (all_links h) ≡ refusal_of h base id
+refusal_is h base id = elim (two (may_extend h base)) [
+  | inl t ↦ elim (two (position_below base == 4294967295)) [ inl u ↦ rw (t, u) refl | inr u ↦ rw (t, u) refl ]
+  | inr f ↦ rw f refl
+]
+
 pub refused_position : (h : History) (base : Option Revision) (id : List ℕ) (refusal : Refusal) → Err refusal ≡ next_position h base → Some refusal ≡ refusal_of h base id
-refused_position h base id refusal e = ap (λ p. refusal_at p id (all_links h)) e
+refused_position h base id refusal e = ap (λ p. refusal_at p id (all_links h)) e ∙ refusal_is h base id
 
 pub refused_known : (h : History) (base : Option Revision) (id : List ℕ) (n : ℕ) → Ok n ≡ next_position h base → is_known (n, id) (all_links h) ≡ true → Some Known ≡ refusal_of h base id
-refused_known h base id n e k = (let t : Some Known ≡ refusal_at (Ok n) id (all_links h) = rw k refl in t) ∙ ap (λ p. refusal_at p id (all_links h)) e
+refused_known h base id n e k = (let t : Some Known ≡ refusal_at (Ok n) id (all_links h) = rw k refl in t) ∙ ap (λ p. refusal_at p id (all_links h)) e ∙ refusal_is h base id
 
 pub not_refused : (h : History) (base : Option Revision) (id : List ℕ) (n : ℕ) → Ok n ≡ next_position h base → is_known (n, id) (all_links h) ≡ false → None ≡ refusal_of h base id
-not_refused h base id n e k = (let t : None ≡ refusal_at (Ok n) id (all_links h) = rw k refl in t) ∙ ap (λ p. refusal_at p id (all_links h)) e
+not_refused h base id n e k = (let t : None ≡ refusal_at (Ok n) id (all_links h) = rw k refl in t) ∙ ap (λ p. refusal_at p id (all_links h)) e ∙ refusal_is h base id
 
 -- ---- what is answered
 

@@ -11,7 +11,7 @@ use Rattle.mg_revtree.specs.Laws.{Falls, AllFall, NoWinnerNothingKnown, PathsFal
 use Rattle.mg_revtree.proofs.Same.{two, same_is, same_refl}
 use Rattle.mg_revtree.proofs.Joins.{known-append, has_child-append}
 use Rattle.mg_revtree.proofs.Leaves.{leaf_marked}
-use Rattle.mg_revtree.proofs.Best.{no_winner_leaf}
+use Rattle.mg_revtree.proofs.Winners.{no_winner_leaf}
 
 -- a known revision one position above r
 abbrev IsAbove : Revision → List Link → Type 0

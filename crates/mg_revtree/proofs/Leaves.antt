@@ -1,12 +1,13 @@
 -- What leaves are left, and what a history says of its leaves.
 use Rattle.std.proofs.Common.{◌≡◌, ap, Option, option_and_then, subst, Bool, true, false, not, ◌||◌, if◌then◌else◌, Some, None, is_some, List, [], ◌∷◌, filter, inl, inr, refl, sym, ◌∙◌, arith}
-use Rattle.std.specs.Ordering.{is_lt}
+use Rattle.std.specs.declared.cmp.Ordering.{Ordering}
+use Rattle.std.specs.declared.cmp.Ordering.TheVariants.{Less, Equal, Greater}
 use Rattle.mg_value.specs.Value.{Value}
 use Rattle.mg_revtree.specs.Revision.{Revision, same_revision}
-use Rattle.mg_revtree.specs.History.{Link, Leaf, History, is_known, has_child, is_at, newest_of, links, all_links, marked, leaf_order}
+use Rattle.mg_revtree.specs.History.{Link, Leaf, History, is_known, has_child, is_at, newest_of, links, all_links, marked, leaf_order, ranked_with}
 use Rattle.mg_revtree.specs.Tree.{leaf_in, AreApart}
-use Rattle.mg_revtree.specs.Steps.{ranked}
 use Rattle.mg_revtree.proofs.Same.{two, same_is, same_refl, apart}
+use Rattle.mg_revtree.proofs.Ranks.{tied_same}
 use Rattle.mg_revtree.proofs.Joins.{known-append, has_child-append}
 
 -- the leaves that are no parents
@@ -26,18 +27,24 @@ leaf_in-filter r ks (l ∷ ls) = elim (two (same_revision r l.rev)) [
 ]
 
 -- one more leaf, whose revision was no leaf
-pub leaf_in-ranked : (l : Leaf) (ls : List Leaf) → leaf_in l.rev ls ≡ None → (r : Revision) → leaf_in r (ranked l ls) ≡ (if same_revision r l.rev then Some (l.deleted, l.body) else leaf_in r ls)
-leaf_in-ranked l [] none r = refl
-leaf_in-ranked l (y ∷ ls) none r =
+untied : (l m : Leaf) → same_revision l.rev m.rev ≡ false → leaf_order l m ≡ Equal → ⊥
+untied l m p e = let t : true ≡ false = sym (tied_same l m e) ∙ p in cc
+
+pub leaf_in-with : (l : Leaf) (ls : List Leaf) → leaf_in l.rev ls ≡ None → (r : Revision) → leaf_in r (ranked_with l ls) ≡ (if same_revision r l.rev then Some (l.deleted, l.body) else leaf_in r ls)
+leaf_in-with l [] none r = refl
+leaf_in-with l (y ∷ ls) none r =
     let p : same_revision l.rev y.rev ≡ false = grind arith in
     let n : leaf_in l.rev ls ≡ None = rw p at none in
-    elim (two (is_lt (leaf_order y l))) [
-      | inl b ↦ rw b refl
-      | inr b ↦ rw b (elim (two (same_revision r y.rev)) [
-        | inl t ↦ rw (t, apart r l.rev y.rev p t) refl
-        | inr f ↦ rw f (leaf_in-ranked l ls n r)
-      ])
-    ]
+    go (leaf_order l y) refl p (leaf_in-with l ls n r)
+  where
+    go : (o : Ordering) → leaf_order l y ≡ o → same_revision l.rev y.rev ≡ false → leaf_in r (ranked_with l ls) ≡ (if same_revision r l.rev then Some (l.deleted, l.body) else leaf_in r ls)
+        → leaf_in r (ranked_with l (y ∷ ls)) ≡ (if same_revision r l.rev then Some (l.deleted, l.body) else leaf_in r (y ∷ ls))
+    go Less e p rest = rw e (elim (two (same_revision r y.rev)) [
+      | inl t ↦ rw (t, apart r l.rev y.rev p t) refl
+      | inr f ↦ rw f rest
+    ])
+    go Equal e p rest = absurd (untied l y p e)
+    go Greater e p rest = rw e refl
 
 -- ---- leaves of different revisions
 
@@ -64,15 +71,17 @@ apart_back r q f = elim (two (same_revision q r)) [
   | inr t ↦ t
 ]
 
-pub apart-ranked : (l : Leaf) (ls : List Leaf) → AreApart ls → leaf_in l.rev ls ≡ None → AreApart (ranked l ls)
-apart-ranked l [] h none = (refl, tt)
-apart-ranked l (m ∷ ls) h none =
+pub apart-with : (l : Leaf) (ls : List Leaf) → AreApart ls → leaf_in l.rev ls ≡ None → AreApart (ranked_with l ls)
+apart-with l [] h none = (refl, tt)
+apart-with l (m ∷ ls) h none =
     let f : same_revision l.rev m.rev ≡ false = grind arith in
     let n : leaf_in l.rev ls ≡ None = rw f at none in
-    elim (two (is_lt (leaf_order m l))) [
-      | inl t ↦ rw t (none, (h.0, h.1))
-      | inr t ↦ rw t (leaf_in-ranked l ls n m.rev ∙ rw (apart_back l.rev m.rev f) (h.0), apart-ranked l ls h.1 n)
-    ]
+    go (leaf_order l m) refl f (leaf_in-with l ls n m.rev ∙ rw (apart_back l.rev m.rev f) (h.0)) (apart-with l ls h.1 n)
+  where
+    go : (o : Ordering) → leaf_order l m ≡ o → same_revision l.rev m.rev ≡ false → leaf_in m.rev (ranked_with l ls) ≡ None → AreApart (ranked_with l ls) → AreApart (ranked_with l (m ∷ ls))
+    go Less e f first rest = rw e (first, rest)
+    go Equal e f first rest = absurd (untied l m f e)
+    go Greater e f first rest = rw e (none, h)
 
 -- of leaves of different revisions those that are left
 pub leaf_in-kept : (p : Leaf → Bool) (r : Revision) (ls : List Leaf) → AreApart ls → leaf_in r (filter p ls) ≡ option_and_then (λ m. if p (record { rev = r; deleted = m.0; body = m.1 }) then Some m else None) (leaf_in r ls)

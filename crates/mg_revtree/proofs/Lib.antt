@@ -10,12 +10,12 @@ pub mod Folds
 pub mod Leaves
 pub mod Ranks
 pub mod Places
+pub mod Tips
+pub mod Lists
 pub mod Winners
 pub mod Losers
 pub mod Step
 pub mod Extend
 pub mod Fits
-pub mod Best
-pub mod Lists
 pub mod Replicas
 pub mod Leafless

@@ -1,20 +1,14 @@
--- The lists of the leaves and of the losers: what a history says of each revision decides them.
-use Rattle.std.proofs.Common.{◌≡◌, ◌<◌, ◌-◌, ℕ, zero, suc, length, take, get_or, arith, Bool, true, false, not, Option, Some, None, is_some, List, [], ◌∷◌, filter, drop, filter_map, inl, inr, refl, ap, sym, ◌∙◌, subst}
-use Rattle.std.proofs.lemmas.Grind.{common_steps}
-use Rattle.std.specs.Ordering.{ordering_reverse}
+-- The list of the leaves: what a history says of each revision decides it.
+use Rattle.std.proofs.Common.{◌≡◌, ◌<◌, ℕ, zero, suc, length, get_or, arith, Bool, true, false, Option, Some, None, is_some, List, [], ◌∷◌, filter, filter_map, inl, inr, refl, ap, sym, ◌∙◌, subst}
 use Rattle.std.specs.declared.cmp.Ordering.{Ordering}
 use Rattle.std.specs.declared.cmp.Ordering.TheVariants.{Less, Equal, Greater}
 use Rattle.mg_value.specs.Value.{Value}
 use Rattle.mg_revtree.specs.Revision.{Revision, same_revision}
-use Rattle.mg_revtree.specs.History.{Leaf, History, leaf_at, leaf_order, tip_of, IsLeaf}
-use Rattle.mg_revtree.specs.Tree.{leaf_in, AreApart, AreLeaves, AreLosers, AreRanked, BeforeAll}
-use Rattle.mg_revtree.specs.Losers.{but_first, leaves_of, losers_of, ranked, ranked_with}
-use Rattle.mg_revtree.specs.Laws.{LeavesAreListed}
+use Rattle.mg_revtree.specs.History.{Leaf, History, leaf_at, leaf_order, leaves_of, ranked, ranked_with, tip_of, IsLeaf}
+use Rattle.mg_revtree.specs.Tree.{leaf_in, AreApart, AreLeaves, AreRanked, BeforeAll}
 use Rattle.mg_revtree.proofs.Same.{two, same_is, same_refl}
-use Rattle.mg_revtree.proofs.Ranks.{leaf_total, before_all_less, tied_same, irreflexive}
-use Rattle.mg_revtree.proofs.Winners.{Has, same_leaf}
-use Rattle.mg_revtree.proofs.Best.{AreLeavesOf, tips_are_leaves, tip_has}
-use Rattle.mg_revtree.proofs.Losers.{losers_are}
+use Rattle.mg_revtree.proofs.Ranks.{leaf_total, are_ranked, tied_same, irreflexive}
+use Rattle.mg_revtree.proofs.Tips.{AreLeavesOf, Has, same_leaf, tips_are_leaves, tip_has}
 
 -- ---- a list and the leaves in it
 
@@ -68,36 +62,10 @@ same_list (x ∷ xs) (y ∷ ys) h k there back =
     ap (λ z. z ∷ xs) e ∙ ap (λ zs. y ∷ zs) rest
 
 -- what lists say of each revision decides them
-decided : (xs ys : List Leaf) → AreApart xs → AreApart ys → AreRanked xs → AreRanked ys → ((r : Revision) → leaf_in r xs ≡ leaf_in r ys) → xs ≡ ys
+pub decided : (xs ys : List Leaf) → AreApart xs → AreApart ys → AreRanked xs → AreRanked ys → ((r : Revision) → leaf_in r xs ≡ leaf_in r ys) → xs ≡ ys
 decided xs ys a b h k same = same_list xs ys h k
     (λ l i. is_in l ys (sym (same l.rev) ∙ of_apart l xs a i))
     (λ l i. is_in l xs (same l.rev ∙ of_apart l ys b i))
-
--- ---- leaves best first, each once
-
-before_all-with : (m l : Leaf) (ls : List Leaf) → leaf_order l m ≡ Less → BeforeAll m ls → BeforeAll m (ranked_with l ls)
-before_all-with m l [] lt h = (lt, tt)
-before_all-with m l (x ∷ xs) lt h = go (leaf_order l x) refl (before_all-with m l xs lt h.1)
-  where
-    go : (o : Ordering) → leaf_order l x ≡ o → BeforeAll m (ranked_with l xs) → BeforeAll m (ranked_with l (x ∷ xs))
-    go Less e rest = rw e (h.0, rest)
-    go Equal e rest = rw e h
-    go Greater e rest = rw e (lt, h)
-
-are_ranked-with : (l : Leaf) (ls : List Leaf) → AreRanked ls → AreRanked (ranked_with l ls)
-are_ranked-with l [] h = (tt, tt)
-are_ranked-with l (m ∷ ms) h = go (leaf_order l m) refl (are_ranked-with l ms h.1)
-  where
-    go : (o : Ordering) → leaf_order l m ≡ o → AreRanked (ranked_with l ms) → AreRanked (ranked_with l (m ∷ ms))
-    go Less e rest = rw e (before_all-with m l ms e h.0, rest)
-    go Equal e rest = rw e h
-    go Greater e rest =
-        let lt : leaf_order m l ≡ Less = leaf_total.antisymm m l ∙ ap ordering_reverse e in
-        rw e ((lt, before_all_less l m ms lt h.0), h)
-
-are_ranked : (ls : List Leaf) → AreRanked (ranked ls)
-are_ranked [] = tt
-are_ranked (l ∷ ls) = are_ranked-with l (ranked ls) (are_ranked ls)
 
 -- leaves of a history that tie are one leaf
 tie : (h : History) (l m : Leaf) → IsLeaf h l → IsLeaf h m → leaf_order l m ≡ Equal → m ≡ l
@@ -166,7 +134,7 @@ ranked_apart h (l ∷ ls) all k = (go (leaf_in l.rev ls) refl, ranked_apart h ls
     go None e = e
     go (Some m) e = absurd (irreflexive l (has_less l l ls k.0 (is_in l ls (e ∙ sym (leaf_in_is h l.rev ls m all.1 e) ∙ all.0))))
 
-are_leaves : (h : History) → AreLeaves h (leaves_of h)
+pub are_leaves : (h : History) → AreLeaves h (leaves_of h)
 are_leaves h =
     let tips = filter_map (tip_of h) h in
     let all = leaves-ranked h tips (tips_are_leaves h h) in
@@ -176,24 +144,8 @@ are_leaves h =
       ranked = are_ranked tips;
     }
 
-but_first_is : (ls : List Leaf) → but_first ls ≡ drop 1 ls
-but_first_is [] = refl
-but_first_is (l ∷ ls) = refl
-
-pub are_losers : (h : History) → AreLosers h (losers_of h)
-are_losers h = subst (λ (ls : List Leaf). AreLosers h (filter (λ l. not l.deleted) ls)) (sym (but_first_is (leaves_of h))) (losers_are h (leaves_of h) (are_leaves h))
-
 pub leaves_list : (h : History) (ls : List Leaf) → AreLeaves h ls → ls ≡ leaves_of h
 leaves_list h ls is = let has = are_leaves h in decided ls (leaves_of h) is.apart has.apart is.ranked has.ranked (λ r. is.same r ∙ sym (has.same r))
-
-pub losers_list : (h : History) (ls : List Leaf) → AreLosers h ls → ls ≡ losers_of h
-losers_list h ls is = let has = are_losers h in decided ls (losers_of h) is.apart has.apart is.ranked has.ranked (λ r. is.same r ∙ sym (has.same r))
-
--- the losers are those that are not deleted of all leaves but the first
-pub losers_rest : (h : History) (ls v : List Leaf) → AreLeaves h ls → v ≡ ls → filter (λ l. not l.deleted) (take (length v - 1) (drop 1 v)) ≡ losers_of h
-losers_rest h ls v leaves e =
-    let rest : take (length v - 1) (drop 1 v) ≡ drop 1 v = grind (arith, common_steps) in
-    ap (filter (λ l. not l.deleted)) (rest ∙ ap (drop 1) e) ∙ losers_list h (filter (λ l. not l.deleted) (drop 1 ls)) (losers_are h ls leaves)
 
 -- a leaf that is kept stands among those that are kept
 pub kept_somewhere : (keep : Leaf → Bool) (ls : List Leaf) (i : ℕ) (l : Leaf) → i < length ls → keep l ≡ true → l ≡ get_or ls i l → filter keep ls ≡ [] → ⊥
@@ -203,6 +155,3 @@ kept_somewhere keep (m ∷ ms) (suc i) l lt holds is none = elim (two (keep m)) 
   | inl t ↦ let f : m ∷ filter keep ms ≡ [] = rw t at none in cc
   | inr n ↦ let f : filter keep ms ≡ [] = rw n at none in kept_somewhere keep ms i l (omega (arith, lt)) holds is f
 ]
-
-pub leaves_are_listed : LeavesAreListed
-leaves_are_listed = record { leaves = are_leaves; losers = are_losers; leaves_decided = leaves_list; losers_decided = losers_list }

@@ -2,16 +2,16 @@
 use Rattle.std.proofs.Common.{◌≡◌, ◌∙◌, ℕ, zero, suc, ◌+◌, ◌-◌, ◌<◌, ◌≤◌, Bool, true, false, not, is_some, List, [], ◌∷◌, Option, Some, None, Result, Ok, Err, IfOk, IfErr, IfSome, IfNone, length, length-drop, get_or, map, drop, filter, inl, inr, refl, ap, sym, subst, arith, nat_lt}
 use Rattle.std.specs.List.{HoldsAt, insert, remove}
 use Rattle.std.specs.List.Sorted.{IsBinarySearchResult, IsNonDecreasingBy, IsPartitionPoint, IsSearchInRange}
-use Rattle.std.specs.Ordering.{is_lt, ordering_index, ordering_reverse}
+use Rattle.std.specs.Ordering.{ordering_index, ordering_reverse}
 use Rattle.std.specs.declared.cmp.Ordering.{Ordering}
 use Rattle.std.specs.declared.cmp.Ordering.TheVariants.{Less, Equal, Greater}
 use Rattle.std.proofs.lemmas.Bool.Decides.{nat_tests}
 use Rattle.std.proofs.lemmas.List.{drop_more}
 use Rattle.mg_value.specs.Value.{Value}
 use Rattle.mg_revtree.specs.Revision.{Revision, run_from, same_revision}
-use Rattle.mg_revtree.specs.History.{Leaf, has_child, leaf_order, links}
+use Rattle.mg_revtree.specs.History.{Leaf, has_child, leaf_order, links, ranked_with}
 use Rattle.mg_revtree.specs.Tree.{AreApart, AreRanked, BeforeAll, leaf_in}
-use Rattle.mg_revtree.specs.Steps.{IsBetween, IsLeafAt, IsTied, marked_as, ranked}
+use Rattle.mg_revtree.specs.Steps.{IsBetween, IsLeafAt, IsTied, marked_as}
 use Rattle.mg_revtree.proofs.Same.{two, same_is, same_refl}
 use Rattle.mg_revtree.proofs.Ranks.{leaf_total, tied_same}
 
@@ -183,13 +183,11 @@ parents_done f n i xs ls some past = no_parents n (map f (drop (i - 1) xs)) ls (
 pub not_tied_at : (l : Leaf) (ls : List Leaf) (i : ℕ) → leaf_in l.rev ls ≡ None → IsTied l ls i → ⊥
 not_tied_at l ls i none h = let some = at_some l.rev ls i (tied_at l ls i h) in let f : is_some (leaf_in l.rev ls) ≡ false = ap is_some none in cc
 
-pub put_between : (l : Leaf) (ls : List Leaf) (i : ℕ) → IsBetween l ls i → insert ls i l ≡ ranked l ls
+pub put_between : (l : Leaf) (ls : List Leaf) (i : ℕ) → IsBetween l ls i → insert ls i l ≡ ranked_with l ls
 put_between l [] zero h = refl
-put_between l (m ∷ ls) zero h = let t : is_lt (leaf_order m l) ≡ true = ap is_lt h.0 in rw t refl
+put_between l (m ∷ ls) zero h = let g : leaf_order l m ≡ Greater = leaf_total.antisymm l m ∙ ap ordering_reverse h.0 in rw g refl
 put_between l [] (suc i) h = absurd h
-put_between l (m ∷ ls) (suc i) h =
-    let f : is_lt (leaf_order m l) ≡ false = ap is_lt (leaf_total.antisymm m l ∙ ap ordering_reverse h.0) in
-    rw f (ap (λ xs. m ∷ xs) (put_between l ls i h.1))
+put_between l (m ∷ ls) (suc i) h = rw h.0 (ap (λ xs. m ∷ xs) (put_between l ls i h.1))
 
 -- an option that tells where the leaf of a revision is
 pub leaf_told : (r : Revision) (ls : List Leaf) (o : Option ℕ) → IfSome o (λ i. (i < length ls) × IsLeafAt r ls i) → IfNone o (AreRanked ls → leaf_in r ls ≡ None) → AreRanked ls → is_some o ≡ is_some (leaf_in r ls)

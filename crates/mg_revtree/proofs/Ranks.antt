@@ -1,24 +1,18 @@
 -- Leaves in their order.
-use Rattle.std.proofs.Common.{◌≡◌, Bool, true, false, not, Option, Some, None, List, [], ◌∷◌, filter, inl, inr, refl, ap, sym, ◌∙◌, arith}
+use Rattle.std.proofs.Common.{◌≡◌, Bool, true, false, not, Option, Some, None, List, [], ◌∷◌, filter, inl, inr, refl, ap, sym, ◌∙◌}
 use Rattle.std.specs.declared.cmp.Ordering.{Ordering}
 use Rattle.std.specs.declared.cmp.Ordering.TheVariants.{Less, Equal, Greater}
-use Rattle.std.specs.Ordering.{is_lt, is_eq, bool_cmp, ordering_reverse, ordering_then}
+use Rattle.std.specs.Ordering.{is_eq, bool_cmp, ordering_reverse, ordering_then}
 use Rattle.std.specs.Cmp.{IsTotalOrder, then_total, bool_cmp_total}
 use Rattle.std.proofs.lemmas.Cmp.{on_total}
 use Rattle.mg_value.specs.Value.{Value}
 use Rattle.mg_revtree.specs.Revision.{same_revision, revision_order}
-use Rattle.mg_revtree.specs.History.{Leaf, leaf_order}
+use Rattle.mg_revtree.specs.History.{Leaf, leaf_order, ranked, ranked_with}
 use Rattle.mg_revtree.specs.Tree.{leaf_in, BeforeAll, AreRanked}
-use Rattle.mg_revtree.specs.Steps.{ranked}
 use Rattle.mg_revtree.proofs.Same.{two, same_is, revision_total}
 
 pub leaf_total : IsTotalOrder leaf_order
 leaf_total = then_total (on_total (λ (l : Leaf). not l.deleted) bool_cmp_total) (on_total (λ (l : Leaf). l.rev) revision_total)
-
-is_lt_is : (o : Ordering) → is_lt o ≡ true → o ≡ Less
-is_lt_is Less h = refl
-is_lt_is Equal h = cc
-is_lt_is Greater h = cc
 
 then_eq : (o p : Ordering) → ordering_then o p ≡ Equal → p ≡ Equal
 then_eq Less p h = cc
@@ -28,32 +22,33 @@ then_eq Greater p h = cc
 pub tied_same : (l m : Leaf) → leaf_order l m ≡ Equal → same_revision l.rev m.rev ≡ true
 tied_same l m h = ap is_eq (then_eq (bool_cmp (not l.deleted) (not m.deleted)) (revision_order l.rev m.rev) h)
 
--- leaves of other revisions that are not less are greater
-other : (l m : Leaf) → same_revision l.rev m.rev ≡ false → (o : Ordering) → leaf_order m l ≡ o → is_lt o ≡ false → leaf_order l m ≡ Less
-other l m f Less e h = cc
-other l m f Equal e h = absurd (let t : leaf_order l m ≡ Equal = leaf_total.antisymm l m ∙ ap ordering_reverse e in let g : true ≡ false = sym (tied_same l m t) ∙ f in cc)
-other l m f Greater e h = leaf_total.antisymm l m ∙ ap ordering_reverse e
-
 pub before_all_less : (l m : Leaf) (ls : List Leaf) → leaf_order m l ≡ Less → BeforeAll m ls → BeforeAll l ls
 before_all_less l m [] lt h = tt
 before_all_less l m (x ∷ ls) lt h = (leaf_total.trans x m l h.0 lt, before_all_less l m ls lt h.1)
 
-before_all-ranked : (m l : Leaf) (ls : List Leaf) → leaf_order l m ≡ Less → BeforeAll m ls → BeforeAll m (ranked l ls)
-before_all-ranked m l [] lt h = (lt, tt)
-before_all-ranked m l (x ∷ ls) lt h = elim (two (is_lt (leaf_order x l))) [
-  | inl b ↦ rw b (lt, (h.0, h.1))
-  | inr b ↦ rw b (h.0, before_all-ranked m l ls lt h.1)
-]
+before_all-with : (m l : Leaf) (ls : List Leaf) → leaf_order l m ≡ Less → BeforeAll m ls → BeforeAll m (ranked_with l ls)
+before_all-with m l [] lt h = (lt, tt)
+before_all-with m l (x ∷ xs) lt h = go (leaf_order l x) refl (before_all-with m l xs lt h.1)
+  where
+    go : (o : Ordering) → leaf_order l x ≡ o → BeforeAll m (ranked_with l xs) → BeforeAll m (ranked_with l (x ∷ xs))
+    go Less e rest = rw e (h.0, rest)
+    go Equal e rest = rw e h
+    go Greater e rest = rw e (lt, h)
 
-pub are_ranked-ranked : (l : Leaf) (ls : List Leaf) → AreRanked ls → leaf_in l.rev ls ≡ None → AreRanked (ranked l ls)
-are_ranked-ranked l [] h none = (tt, tt)
-are_ranked-ranked l (m ∷ ls) h none =
-    let p : same_revision l.rev m.rev ≡ false = grind arith in
-    let n : leaf_in l.rev ls ≡ None = rw p at none in
-    elim (two (is_lt (leaf_order m l))) [
-      | inl b ↦ let lt : leaf_order m l ≡ Less = is_lt_is (leaf_order m l) b in rw b ((lt, before_all_less l m ls lt h.0), (h.0, h.1))
-      | inr b ↦ rw b (before_all-ranked m l ls (other l m p (leaf_order m l) refl b) h.0, are_ranked-ranked l ls h.1 n)
-    ]
+pub are_ranked-with : (l : Leaf) (ls : List Leaf) → AreRanked ls → AreRanked (ranked_with l ls)
+are_ranked-with l [] h = (tt, tt)
+are_ranked-with l (m ∷ ms) h = go (leaf_order l m) refl (are_ranked-with l ms h.1)
+  where
+    go : (o : Ordering) → leaf_order l m ≡ o → AreRanked (ranked_with l ms) → AreRanked (ranked_with l (m ∷ ms))
+    go Less e rest = rw e (before_all-with m l ms e h.0, rest)
+    go Equal e rest = rw e h
+    go Greater e rest =
+        let lt : leaf_order m l ≡ Less = leaf_total.antisymm m l ∙ ap ordering_reverse e in
+        rw e ((lt, before_all_less l m ms lt h.0), h)
+
+pub are_ranked : (ls : List Leaf) → AreRanked (ranked ls)
+are_ranked [] = tt
+are_ranked (l ∷ ls) = are_ranked-with l (ranked ls) (are_ranked ls)
 
 before_all-filter : (p : Leaf → Bool) (m : Leaf) (ls : List Leaf) → BeforeAll m ls → BeforeAll m (filter p ls)
 before_all-filter p m [] h = tt

@@ -14,7 +14,7 @@ use Rattle.mg_revtree.proofs.Joins.{known-append, parent-append, has_child-appen
 use Rattle.mg_revtree.proofs.Leaves.{leaf_marked, head_known}
 use Rattle.mg_revtree.proofs.Step.{all_links-one, leaf_at-append, mark_of}
 use Rattle.mg_revtree.proofs.Fits.{among_left, among_right, parent_among}
-use Rattle.mg_revtree.proofs.Best.{same_winner}
+use Rattle.mg_revtree.proofs.Winners.{same_winner}
 
 or_left : (a b : Bool) → a ≡ true → a || b ≡ true
 or_left a b h = rw h refl

@@ -3,15 +3,14 @@ use Rattle.std.proofs.Common.{◌≡◌, Bool, true, false, not, ◌||◌, if◌
 use Rattle.mg_value.specs.Value.{Value}
 use Rattle.mg_revtree.specs.Revision.{Revision, same_revision}
 use Rattle.std.specs.Option.{option_or}
-use Rattle.mg_revtree.specs.History.{Link, Leaf, Path, History, is_known, has_child, is_at, newest_of, links, all_links, marked, leaf_at}
+use Rattle.mg_revtree.specs.History.{Link, Leaf, Path, History, is_known, has_child, is_at, newest_of, links, all_links, marked, leaf_at, ranked_with}
 use Rattle.mg_revtree.specs.Tree.{StandsFor, AreNodes, node, find, leaf_in}
 use Rattle.mg_revtree.specs.Changes.{path_of, with_path}
-use Rattle.mg_revtree.specs.Steps.{ranked}
 use Rattle.mg_revtree.proofs.Same.{two, same_is}
 use Rattle.mg_revtree.proofs.Runs.{IsRun}
 use Rattle.mg_revtree.proofs.Joins.{has_child-append, all_links-append}
-use Rattle.mg_revtree.proofs.Ranks.{are_ranked-filter, are_ranked-ranked}
-use Rattle.mg_revtree.proofs.Leaves.{apart-filter, apart-ranked, leaf_in-filter, leaf_in-ranked, child_known, unknown_unmarked, leaf_marked}
+use Rattle.mg_revtree.proofs.Ranks.{are_ranked-filter, are_ranked-with}
+use Rattle.mg_revtree.proofs.Leaves.{apart-filter, apart-with, leaf_in-filter, leaf_in-with, child_known, unknown_unmarked, leaf_marked}
 
 -- what the newest path says, if no other does
 abbrev pub mark_of : Revision → Path → Option (Bool × Value)
@@ -109,7 +108,7 @@ module _ (h : History) (rs : List Revision) (d : Bool) (b : Value) (q : Revision
     };
   }
 
-  pub stands_new : is_some (find q kept) ≡ false → IsRun rs → (more : List Leaf) → more ≡ ranked (record { rev = q; deleted = d; body = b }) left → StandsFor (record { links = nodes; leaves = more }) (with_path h (path_of rs d b))
+  pub stands_new : is_some (find q kept) ≡ false → IsRun rs → (more : List Leaf) → more ≡ ranked_with (record { rev = q; deleted = d; body = b }) left → StandsFor (record { links = nodes; leaves = more }) (with_path h (path_of rs d b))
   stands_new k run more is_more =
       let l : Leaf = record { rev = q; deleted = d; body = b } in
       let u : is_known q (all_links h) ≡ false = sym (found_known q (all_links h) kept (stands.nodes.same q)) ∙ k in
@@ -117,8 +116,8 @@ module _ (h : History) (rs : List Revision) (d : Bool) (b : Value) (q : Revision
       record {
         nodes = nodes_next;
         leaves = record {
-          same = λ r. rw is_more (leaf_in-ranked l left none r ∙ rw unleafed (leaves-new h (path_of rs d b) q newest leaves stands.leaves.same run u r));
-          apart = rw is_more (apart-ranked l left (rw unleafed (apart-filter (λ x. not (has_child x.rev (links rs))) leaves stands.leaves.apart)) none);
-          ranked = rw is_more (are_ranked-ranked l left (rw unleafed (are_ranked-filter (λ x. not (has_child x.rev (links rs))) leaves stands.leaves.ranked)) none);
+          same = λ r. rw is_more (leaf_in-with l left none r ∙ rw unleafed (leaves-new h (path_of rs d b) q newest leaves stands.leaves.same run u r));
+          apart = rw is_more (apart-with l left (rw unleafed (apart-filter (λ x. not (has_child x.rev (links rs))) leaves stands.leaves.apart)) none);
+          ranked = rw is_more (are_ranked-with l left (rw unleafed (are_ranked-filter (λ x. not (has_child x.rev (links rs))) leaves stands.leaves.ranked)));
         };
       }

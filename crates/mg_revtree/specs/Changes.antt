@@ -2,7 +2,7 @@
 use Rattle.std.specs.Prelude.{◌≡◌, ◌==◌, Result, Ok, Err, IsOkUnless, ℕ, ◌+◌, List, [], ◌∷◌, ◌++◌, Bool, false, not, is_none, is_some, if◌then◌else◌, Option, Some, None}
 use Rattle.mg_value.specs.Value.{Value}
 use Rattle.mg_revtree.specs.Revision.{Revision}
-use Rattle.mg_revtree.specs.History.{Path, History, Link, all_links, is_known, leaf_at, newest_of, winner_of}
+use Rattle.mg_revtree.specs.History.{Path, History, all_links, is_known, leaf_at, newest_of, winner_of}
 use Rattle.mg_revtree.specs.declared.error.Merged.{Merged}
 use Rattle.mg_revtree.specs.declared.error.Merged.TheVariants.{New, Known as Known_already}
 use Rattle.mg_revtree.specs.declared.error.Refusal.{Refusal}
@@ -60,14 +60,12 @@ next_position h base =
     if not (may_extend h base) then Err NotLeaf
     else (if position_below base == 4294967295 then Err Full else Ok (position_below base + 1))
 
--- why a revision is not made at its position, if it has one
-abbrev pub refusal_at : Result ℕ Refusal → List ℕ → List Link → Option Refusal
-refusal_at (Err refusal) id ls = Some refusal
-refusal_at (Ok n) id ls = if is_known (n, id) ls then Some Known else None
-
--- why a new revision is not made, in the order in which that is asked
+-- why a new revision is not made, if it is not: there is no such leaf, its parent's position is the last, or it is known
 abbrev pub refusal_of : History → Option Revision → List ℕ → Option Refusal
-refusal_of h base id = refusal_at (next_position h base) id (all_links h)
+refusal_of h base id =
+    if not (may_extend h base) then Some NotLeaf
+    else (if position_below base == 4294967295 then Some Full
+    else (if is_known (next_revision base id) (all_links h) then Some Known else None))
 
 -- the error that tells a refusal
 abbrev pub error_of : Refusal → TreeError

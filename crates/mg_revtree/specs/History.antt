@@ -2,7 +2,7 @@
 use Rattle.std.specs.Prelude.{◌≡◌, List, [], ◌∷◌, Bool, true, false, not, ◌&&◌, if◌then◌else◌, Option, Some, None, option_and_then, option_map}
 use Rattle.std.specs.List.{filter_map, flat_map, list_all, list_any}
 use Rattle.std.specs.Option.{option_or}
-use Rattle.std.specs.Ordering.{on, then_cmp, bool_cmp, is_lt}
+use Rattle.std.specs.Ordering.{on, then_cmp, bool_cmp, match_ordering}
 use Rattle.std.specs.declared.cmp.Ordering.{Ordering}
 use Rattle.mg_value.specs.Value.{Value}
 use Rattle.mg_revtree.specs.Revision.{Revision, revision_order, same_revision}
@@ -85,27 +85,32 @@ IsLeaf h l = leaf_at l.rev h ≡ Some (l.deleted, l.body)
 abbrev pub leaf_order : Leaf → Leaf → Ordering
 leaf_order = then_cmp (on (λ l. not l.deleted) bool_cmp) (on (λ l. l.rev) revision_order)
 
--- the better of two leaves, and the first where they tie
-abbrev pub better_of : Leaf → Leaf → Leaf
-better_of l m = if is_lt (leaf_order l m) then m else l
-
--- the best of a leaf and those after it
-abbrev pub best_from : Leaf → List Leaf → Leaf
-best_from l [] = l
-best_from l (m ∷ ms) = best_from (better_of l m) ms
-
--- the best of some leaves
-abbrev pub best_of : List Leaf → Option Leaf
-best_of [] = None
-best_of (l ∷ ls) = Some (best_from l ls)
-
 -- the leaf that a path ends in, if its newest revision is one
 abbrev pub tip_of : History → Path → Option Leaf
 tip_of h p = option_and_then (leaf_of h) (newest_of p.revs)
 
--- the winner is the best leaf
+-- leaves, best first, with one more: one that ties with it is the same leaf
+abbrev pub ranked_with : Leaf → List Leaf → List Leaf
+ranked_with l [] = l ∷ []
+ranked_with l (m ∷ ms) = match_ordering (leaf_order l m) (m ∷ ranked_with l ms) (m ∷ ms) (l ∷ m ∷ ms)
+
+-- leaves best first, each once
+abbrev pub ranked : List Leaf → List Leaf
+ranked [] = []
+ranked (l ∷ ls) = ranked_with l (ranked ls)
+
+-- the leaves of a history, best first: those that its paths end in
+abbrev pub leaves_of : History → List Leaf
+leaves_of h = ranked (filter_map (tip_of h) h)
+
+-- the first of some leaves
+abbrev pub first_of : List Leaf → Option Leaf
+first_of [] = None
+first_of (l ∷ ls) = Some l
+
+-- the winner is the first of the leaves
 abbrev pub winner_of : History → Option Leaf
-winner_of h = best_of (filter_map (tip_of h) h)
+winner_of h = first_of (leaves_of h)
 
 -- ---- when a path is accepted
 

@@ -2,10 +2,10 @@
 use Rattle.std.specs.Prelude.{◌≡◌, ℕ, ◌+◌, Bool, Option, None, List, [], ◌∷◌, ◌++◌, ◌⊎◌, true, false, Some}
 use Rattle.mg_value.specs.Value.{Value}
 use Rattle.mg_revtree.specs.Revision.{Revision, run_of}
-use Rattle.mg_revtree.specs.History.{Path, History, Link, Leaf, newest_of, is_at, all_links, is_known, parent_of, leaf_at, leaf_order, winner_of, fits, is_whole, IsLeaf}
+use Rattle.mg_revtree.specs.History.{Path, History, Link, Leaf, newest_of, is_at, all_links, is_known, parent_of, leaf_at, leaf_order, leaves_of, winner_of, fits, is_whole, IsLeaf}
 use Rattle.mg_revtree.specs.Changes.{with_path, extension}
 use Rattle.mg_revtree.specs.Tree.{AreLeaves, AreLosers}
-use Rattle.mg_revtree.specs.Losers.{leaves_of, losers_of}
+use Rattle.mg_revtree.specs.Losers.{losers_of}
 use Rattle.std.specs.declared.cmp.Ordering.TheVariants.{Less}
 
 -- ---- replicas agree

@@ -1,6 +1,5 @@
 -- What a tree changes when it takes in one link or one leaf.
 use Rattle.std.specs.Prelude.{◌≡◌, ℕ, zero, suc, List, [], ◌∷◌, Bool, true, false, is_some, if◌then◌else◌, Option, Some, None}
-use Rattle.std.specs.Ordering.{is_lt}
 use Rattle.std.specs.declared.cmp.Ordering.TheVariants.{Less, Equal}
 use Rattle.mg_value.specs.Value.{null}
 use Rattle.mg_revtree.specs.Revision.{Revision, revision_order, same_revision}
@@ -38,11 +37,6 @@ agrees_found (Some p) q = agrees p q
 abbrev pub held_found : Option (Option Revision) → Option Revision → Bool
 held_found None q = false
 held_found (Some p) q = gives p q
-
--- a leaf put before the first that is worse
-abbrev pub ranked : Leaf → List Leaf → List Leaf
-ranked l [] = l ∷ []
-ranked l (m ∷ ms) = if is_lt (leaf_order m l) then l ∷ m ∷ ms else m ∷ ranked l ms
 
 -- a leaf of this mark and revision, whatever its body
 abbrev pub marked_as : Bool → Revision → Leaf

@@ -1,9 +1,9 @@
 ghost use Rattle.std.specs.Prelude.{◌≡◌, ◌<◌, ◌≤◌, [], IfErr, IfNone, IfOk, IfSome, IsOk, None, filter, is_some, length, map, not, string_bytes, vec_capacity, vec_len};
 ghost use Rattle.std.specs.List.{insert};
 ghost use Rattle.mg_revtree.specs.Revision.{run_from, same_revision};
-ghost use Rattle.mg_revtree.specs.History.{has_child, links};
+ghost use Rattle.mg_revtree.specs.History.{has_child, links, ranked_with};
 ghost use Rattle.mg_revtree.specs.Tree.{AreApart, AreRanked, leaf_in};
-ghost use Rattle.mg_revtree.specs.Steps.{IsBetween, IsLeafAt, IsTied, marked_as, ranked};
+ghost use Rattle.mg_revtree.specs.Steps.{IsBetween, IsLeafAt, IsTied, marked_as};
 
 use crate::leaf::{Leaf, Shared};
 use crate::revision::Rev;
@@ -75,7 +75,7 @@ fn place_for(leaves: &[Shared], leaf: &Leaf) -> Result<usize, usize>
 // Before which leaf a leaf goes, whose revision is none of theirs.
 fn rank(leaves: &[Shared], leaf: &Leaf) -> usize
     ensures within { result ≤ length leaves.now }
-    ensures ranked { AreRanked leaves.now → leaf_in leaf.now.rev leaves.now ≡ None → insert leaves.now result leaf.now ≡ ranked leaf.now leaves.now }
+    ensures ranked { AreRanked leaves.now → leaf_in leaf.now.rev leaves.now ≡ None → insert leaves.now result leaf.now ≡ ranked_with leaf.now leaves.now }
 {
     match place_for(leaves, leaf) {
         Ok(at) => at,
@@ -87,7 +87,7 @@ fn rank(leaves: &[Shared], leaf: &Leaf) -> usize
 /// of a word for each that is worse.
 pub fn add_leaf(leaves: &mut Vec<Shared>, leaf: Shared)
     requires { vec_len leaves.old < vec_capacity leaves.old }
-    ensures { AreRanked leaves.old.items → leaf_in leaf.rev leaves.old.items ≡ None → leaves.new.items ≡ ranked leaf leaves.old.items }
+    ensures { AreRanked leaves.old.items → leaf_in leaf.rev leaves.old.items ≡ None → leaves.new.items ≡ ranked_with leaf leaves.old.items }
 {
     let at = rank(leaves, leaf.leaf());
     drop(leaves.insert(at, leaf));

@@ -1,9 +1,9 @@
 ghost use Rattle.std.specs.Prelude.{◌≡◌, ◌+◌, ◌<◌, ◌≤◌, [], Err, IfOk, IfSome, IsOk, IsOkUnless, Ok, OnErr, OnOk, false, is_some, length, map, option_copied, string_bytes, true};
 ghost use Rattle.mg_value.specs.View.{view};
 ghost use Rattle.mg_revtree.specs.Revision.{run_from};
-ghost use Rattle.mg_revtree.specs.History.{History as Paths, fits, is_whole, winner_of};
+ghost use Rattle.mg_revtree.specs.History.{History as Paths, fits, is_whole, leaves_of, winner_of};
 ghost use Rattle.mg_revtree.specs.Tree.{AreLeaves, AreLosers, AreRanked, StandsFor};
-ghost use Rattle.mg_revtree.specs.Losers.{leaves_of, losers_of};
+ghost use Rattle.mg_revtree.specs.Losers.{losers_of};
 ghost use Rattle.mg_revtree.specs.Changes.{Decides, extension, found_of, next_position, path_of, position_below, refusal_of, with_path};
 ghost use Rattle.mg_revtree.specs.Steps.{base_in, ids_over};
 

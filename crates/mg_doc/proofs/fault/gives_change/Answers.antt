@@ -1,4 +1,4 @@
-use Rattle.std.proofs.Common.{◌≡◌, codes, Bool, is_some, option_map, sym, ap, ◌∙◌}
+use Rattle.std.proofs.Common.{◌≡◌, codes, is_some, option_map, sym, ap, ◌∙◌}
 use Rattle.mg_value.specs.Value.{get_member}
 use Rattle.mg_value.specs.View.{members_view}
 use Rattle.mg_doc.specs.Document.{rev_of, revisions_of}

@@ -1,4 +1,4 @@
-use Rattle.mg_revtree.proofs.Lists as proved
+use Rattle.mg_revtree.proofs.Losers as proved
 use Rattle.mg_revtree.proofs.laws.leaves_are_listed.Goals as goal
 
 pub returns : goal.returns

@@ -7,11 +7,12 @@ use Rattle.mg_doc.specs.Applied.{Applied, Foreseen}
 use Rattle.mg_doc.specs.Brought.{Brings}
 use Rattle.mg_doc.specs.Digest.{digest_of}
 use Rattle.mg_doc.specs.Document.{Edit}
+use Rattle.mg_doc.specs.Base.{extended_by}
 use Rattle.mg_doc.specs.Edit.{Accepted, accepted_by, accepted_of, extended, first_refusal, replicated}
 use Rattle.mg_doc.specs.contracts.edit.Edit.{the_view}
 use Rattle.mg_doc.specs.declared.error.EditError.{EditError}
 use Rattle.mg_doc.specs.declared.error.Refused.{Refused}
-use Rattle.mg_doc.proofs.Edits.{applied}
+use Rattle.mg_doc.proofs.Edits.{applied, extended_is}
 use Rattle.mg_doc.proofs.edit.Edit.bring.Goals as goal
 
 pub returns-in_err-rev-clause-applied : goal.returns-in_err-rev-clause-applied
@@ -35,7 +36,9 @@ returns-in-New-clause-applied c = λ h stands.
     let R : Edit → Type 0 = λ x. Applied h x c.extend.result c.extend.new.tree in
     let S : Result Accepted Refused → Type 0 = λ x. Brings h e.deleted e.body x c.extend.result c.extend.new.tree in
     let first : first_refusal h e.change ≡ None = subst Q (sym c.self.view_is) (subst P c.in_default.is (c.in_ok-rev.ensures h stands)).0 in
-    let said : accepted_by h e ≡ extended h e.deleted e.body (option_copied c.as_ref.result) = ap (accepted_of h e.deleted e.body) c.in-New.is ∙ ap (extended h e.deleted e.body) (sym c.as_ref.ensures.value) in
+    let named = option_copied c.as_ref.result in
+    let said : accepted_by h e ≡ extended_by h e.deleted e.body named =
+    ap (accepted_of h e.deleted e.body) c.in-New.is ∙ ap (extended h e.deleted e.body) (sym c.as_ref.ensures.value) ∙ sym (extended_is h e.deleted e.body named) in
     subst R c.self.view_is (applied h e c.extend.result c.extend.new.tree first (subst S (sym said) (c.extend.ensures.brings h stands)))
 
 pub returns-clause-applied : goal.returns-clause-applied

@@ -1,9 +1,8 @@
 use Rattle.std.proofs.Common.{◌≡◌, ◌∙◌, true, false, not, filter, Some, None, is_some, map, string_bytes, sym, ap, subst, List, ℕ, arith}
 use Rattle.mg_value.specs.View.{view}
 use Rattle.mg_revtree.specs.Revision.{Revision, run_from}
-use Rattle.mg_revtree.specs.History.{Leaf, all_links, is_known, has_child, links, newest_of}
+use Rattle.mg_revtree.specs.History.{Leaf, all_links, is_known, has_child, links, newest_of, ranked_with}
 use Rattle.mg_revtree.specs.Tree.{AreApart, AreRanked, Tree, StandsFor, find, leaf_in}
-use Rattle.mg_revtree.specs.Steps.{ranked}
 use Rattle.mg_revtree.proofs.Runs.{newest_is, run_is, length-map}
 use Rattle.mg_revtree.proofs.Step.{found_known, stands_known, stands_new, unknown_no_leaf}
 use Rattle.mg_revtree.proofs.Ranks.{are_ranked-filter}
@@ -39,5 +38,5 @@ returns-clause-accepted c = λ h stands.
     let made : c.in_ok-leaf.leaf ≡ leaf = c.in_ok-leaf.ensures ∙ ap (λ (t : List ℕ). (let l : Leaf = record { rev = (c.args.start, t); deleted = c.args.deleted; body = view c.args.body } in l)) c.in_ok-clone.ensures.cases in
     let ordered : AreRanked left = subst AreRanked (sym unleafed) (are_ranked-filter (λ l. not (has_child l.rev (links rs))) leaves s.leaves.ranked) in
     let none : leaf_in q left ≡ None = rw unleafed (unknown_no_leaf h (path_of rs c.args.deleted (view c.args.body)) q newest leaves s.leaves.same u) in
-    let more : c.add_leaf.new.leaves.items ≡ ranked leaf left = c.add_leaf.ensures ordered (subst (λ (l : Leaf). leaf_in l.rev left ≡ None) (sym made) none) ∙ ap (λ (l : Leaf). ranked l left) made in
+    let more : c.add_leaf.new.leaves.items ≡ ranked_with leaf left = c.add_leaf.ensures ordered (subst (λ (l : Leaf). leaf_in l.rev left ≡ None) (sym made) none) ∙ ap (λ (l : Leaf). ranked_with l left) made in
     stands_new h rs c.args.deleted (view c.args.body) q kept c.join.new.self leaves left newest s (c.in_ok-join.ensures.nodes (all_links h) s.nodes) unleafed k (run_is c.args.start (map string_bytes c.args.ids.now) (omega (arith, length-map string_bytes c.args.ids.now, c.requires.run))) c.add_leaf.new.leaves.items more

@@ -1,8 +1,7 @@
 use Rattle.std.proofs.Common.{◌≡◌, ◌∙◌, [], map, sym, ap, subst, arith}
 use Rattle.std.proofs.lemmas.Grind.{common_steps}
 use Rattle.mg_revtree.specs.Tree.{Tree, StandsFor, AreLeaves, AreLosers}
-use Rattle.mg_revtree.proofs.Losers.{losers_are}
-use Rattle.mg_revtree.proofs.Lists.{are_losers, losers_list, losers_rest}
+use Rattle.mg_revtree.proofs.Losers.{are_losers, losers_are, losers_list, losers_rest}
 use Rattle.mg_revtree.proofs.tree.RevTree.losers.Goals as goal
 
 pub returns-then-is_empty-clause-list : goal.returns-then-is_empty-clause-list
