@@ -4,3 +4,4 @@ pub mod Together
 pub mod Bounded
 pub mod Complete
 pub mod Deciding
+pub mod Leading

@@ -1,6 +1,6 @@
 -- Which atoms a range decides: those whose bounds it is made of, so that of a document with a key they need not be asked.
-use Rattle.std.specs.Prelude.{List, [], ◌∷◌, Bool, false, not, ◌&&◌, ◌||◌, is_some}
-use Rattle.std.specs.List.{filter, list_all}
+use Rattle.std.specs.Prelude.{List, [], ◌∷◌, Bool, false, not, ◌&&◌, ◌||◌, is_some, if◌then◌else◌}
+use Rattle.std.specs.List.{filter, list_all, list_any}
 use Rattle.mg_normal.specs.Atoms.{Atom}
 use Rattle.mg_index.specs.Bound.{bound_on, is_fixed}
 use Rattle.mg_index.specs.Definition.{Steps}
@@ -17,3 +17,14 @@ undecided atoms columns = filter (λ a. not (is_decided atoms columns a)) atoms
 -- the range decides each of the atoms
 abbrev pub decides_of : List Atom → List Steps → Bool
 decides_of atoms columns = list_all (is_decided atoms columns) atoms
+
+-- ---- for private clauses: the bounded columns on their own
+
+-- the leading columns whose value is fixed, and the next one
+abbrev pub bounded_columns : List Atom → List Steps → List Steps
+bounded_columns atoms [] = []
+bounded_columns atoms (c ∷ cs) = c ∷ (if is_fixed atoms c then bounded_columns atoms cs else [])
+
+-- the atom bounds one of the columns
+abbrev pub bounds_one : List Steps → Atom → Bool
+bounds_one columns a = list_any (λ c. is_some (bound_on c a)) columns

@@ -2,7 +2,7 @@
 ghost use Rattle.std.specs.Prelude.{◌≡◌};
 ghost use Rattle.mg_normal.specs.View.{atom_view, atoms_view};
 ghost use Rattle.mg_index.specs.Bound.{is_fixed as has_one_value};
-ghost use Rattle.mg_range.specs.Decided.{decides_of, is_decided as is_decided_by};
+ghost use Rattle.mg_range.specs.Decided.{bounded_columns, bounds_one as is_bound_on_one, decides_of, is_decided as is_decided_by};
 
 use crate::edge::fixed_value;
 use mg_index::Bound;
@@ -15,15 +15,19 @@ use mg_path::Path;
 pub fn is_decided(columns: &[Path], atoms: &[Atom], atom: &Atom) -> bool
     ensures { result ≡ is_decided_by (atoms_view atoms.now) columns.now (atom_view atom.now) }
 {
-    for column in columns {
-        if Bound::on(column, atom).is_some() {
-            return true;
-        }
+    bounds_one(bounded(columns, atoms), atom)
+}
+
+// The columns that the range bounds: the leading ones whose value the atoms fix, and the next one.
+fn bounded<'a>(columns: &'a [Path], atoms: &[Atom]) -> &'a [Path]
+    ensures { result.now ≡ bounded_columns (atoms_view atoms.now) columns.now }
+{
+    for (place, column) in columns.iter().enumerate() {
         if !is_fixed(column, atoms) {
-            return false;
+            return &columns[..place + 1];
         }
     }
-    false
+    columns
 }
 
 // Whether the atoms fix the value of the column.
@@ -34,13 +38,26 @@ fn is_fixed(column: &Path, atoms: &[Atom]) -> bool
     fixed_value(column, atoms).is_some()
 }
 
+// Whether the atom bounds one of the columns.
+fn bounds_one(columns: &[Path], atom: &Atom) -> bool
+    ensures { result ≡ is_bound_on_one columns.now (atom_view atom.now) }
+{
+    for column in columns {
+        if Bound::on(column, atom).is_some() {
+            return true;
+        }
+    }
+    false
+}
+
 /// Whether the range of these columns for the atoms decides each of them, so that the key of a document tells whether they hold.
-/// Takes no memory. Cost: the columns times the atoms, and that for each atom.
+/// Takes no memory. Cost: the columns times the atoms: once to find the columns that are bounded, and for each atom a look at these.
 pub fn decides(columns: &[Path], atoms: &[Atom]) -> bool
     ensures { result ≡ decides_of (atoms_view atoms.now) columns.now }
 {
+    let bounded = bounded(columns, atoms);
     for atom in atoms {
-        if !is_decided(columns, atoms, atom) {
+        if !bounds_one(bounded, atom) {
             return false;
         }
     }

@@ -14,3 +14,4 @@ pub mod Begun
 pub mod Decided
 pub mod Leads
 pub mod AddedUp
+pub mod Alone

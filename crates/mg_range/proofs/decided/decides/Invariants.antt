@@ -1,9 +1,9 @@
 use Rattle.std.proofs.Common.{◌≡◌, drop}
 use Rattle.std.specs.List.{list_all}
 use Rattle.mg_normal.specs.View.{atoms_view}
-use Rattle.mg_range.specs.Decided.{decides_of, is_decided}
+use Rattle.mg_range.specs.Decided.{bounds_one, decides_of}
 use Rattle.mg_range.proofs.decided.decides.Given as goal
 
 -- the atoms that are left decide
 abbrev pub invariant-loop-atom : goal.invariant-loop-atom
-invariant-loop-atom l = decides_of (atoms_view l.atoms) l.columns ≡ list_all (is_decided (atoms_view l.atoms) l.columns) (atoms_view (drop l.atom-index l.atoms))
+invariant-loop-atom l = decides_of (atoms_view l.atoms) l.columns ≡ list_all (bounds_one l.bounded) (atoms_view (drop l.atom-index l.atoms))

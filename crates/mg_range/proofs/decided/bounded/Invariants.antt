@@ -1,0 +1,10 @@
+use Rattle.std.proofs.Common.{◌≡◌, ◌++◌, drop, take}
+use Rattle.mg_normal.specs.View.{atoms_view}
+use Rattle.mg_range.specs.Decided.{bounded_columns}
+use Rattle.mg_range.proofs.decided.bounded.Given as goal
+
+-- the columns so far are bounded, and then those that are left decide
+abbrev pub invariant-loop-place : goal.invariant-loop-place
+invariant-loop-place l =
+    let atoms = atoms_view l.atoms in
+    bounded_columns atoms l.columns ≡ take l.place l.columns ++ bounded_columns atoms (drop l.place l.columns)
