@@ -12,7 +12,8 @@ use Rattle.mg_value.specs.Text.{Reads, compact, compact_items}
 use Rattle.mg_value.proofs.Compact.{reads_compact}
 use Rattle.mg_collate.specs.declared.direction.Direction.{Direction}
 use Rattle.mg_collate.specs.declared.direction.Direction.TheVariants.{Asc, Desc}
-use Rattle.mg_bookmark.specs.Bookmark.{CanBeSpelled, Place, bookmark_read, ddoc_value, direction_text, place_read, place_value, spelled}
+use Rattle.mg_bookmark.specs.Bookmark.{CanBeSpelled, Place, Spells, ddoc_value, direction_text, place_value, spelled}
+use Rattle.mg_bookmark.specs.Reading.{bookmark_read, place_read}
 use Rattle.mg_bookmark.proofs.Readings.{bookmark_of_place, read_of_spelled}
 
 -- ---- the array of a place
@@ -60,10 +61,10 @@ no_place : place_read (codes "nil") ≡ None
 unfolding base64_on_literals
 no_place = refl
 
-not_nil : (p : Place) → place_read (spelled p) ≡ Some p → spelled p ≡ codes "nil" → ⊥
-not_nil p some e = let none = ap place_read e ∙ no_place in cc
+not_nil : (p : Place) → Spells (spelled p) p → spelled p ≡ codes "nil" → ⊥
+not_nil p s e = let some = read_of_spelled (spelled p) p s in let none = ap place_read e ∙ no_place in cc
 
 pub read_back : (p : Place) → CanBeSpelled p → bookmark_read (spelled p) ≡ Some (Some p)
 read_back p h =
-    let some = read_of_spelled (spelled p) p (refl, array_of_place p h) in
-    bookmark_of_place (spelled p) (Some p) (not_nil p some) some
+    let s : Spells (spelled p) p = (refl, array_of_place p h) in
+    bookmark_of_place (spelled p) (Some p) (not_nil p s) (read_of_spelled (spelled p) p s)

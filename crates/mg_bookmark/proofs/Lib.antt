@@ -1,3 +1,4 @@
 mod Spellings
 mod Readings
+mod Unspelled
 mod Carried

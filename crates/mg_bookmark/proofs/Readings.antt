@@ -1,5 +1,5 @@
--- The reading of a spelling as a function gives what is spelled.
-use Rattle.std.proofs.Common.{◌≡◌, ℕ, List, Bool, true, false, cond, Option, Some, None, option_map, if◌then◌else◌, refl, sym, ap, ◌∙◌, subst, codes}
+-- A text is read as a place exactly where it is that place's spelling.
+use Rattle.std.proofs.Common.{◌≡◌, ◌≢◌, ◌↔◌, ℕ, List, Bool, true, false, ◌&&◌, cond, Option, Some, None, option_map, if◌then◌else◌, refl, sym, ap, ◌∙◌, subst, codes}
 use Rattle.std.specs.Option.{option_and_then}
 use Rattle.std.specs.Str.{IsUtf8, bytes_eq, is_utf8}
 use Rattle.std.proofs.lemmas.Option.{option_and_then_some}
@@ -14,8 +14,8 @@ use Rattle.mg_collate.specs.declared.direction.Direction.{Direction}
 use Rattle.mg_collate.specs.declared.direction.Direction.TheVariants.{Asc, Desc}
 use Rattle.mg_value.specs.Text.{Reads, compact, whole_of}
 use Rattle.mg_value.specs.Value.{Value, null, text, list, item, no_items}
-use Rattle.mg_bookmark.specs.Bookmark.{Place, Spells, ddoc_in, ddoc_value, direction_in, direction_text, place_in, place_value, spelled, value_in, if_spelled, place_read, bookmark_read}
-use Rattle.mg_bookmark.specs.Decoding.{IsDecoded}
+use Rattle.mg_bookmark.specs.Bookmark.{IsReadAs, Place, Spells, ddoc_value, direction_text, place_value, spelled}
+use Rattle.mg_bookmark.specs.Reading.{bookmark_read, ddoc_in, direction_in, if_spelled, place_in, place_read, value_in}
 use Rattle.mg_bookmark.proofs.Spellings.{utf8-bytes}
 
 -- ---- what is spelled is read
@@ -40,8 +40,8 @@ direction_again Desc = refl
 place_again : (p : Place) → place_in (place_value p) ≡ Some p
 place_again p = rw (ddoc_again p.ddoc) (rw (direction_again p.direction) refl)
 
-if_same : (t : List ℕ) (p : Place) → t ≡ spelled p → if_spelled t p ≡ Some p
-if_same t p e = rw ((bytes_eq-Decides t (spelled p)).1 e) refl
+if_same : (t : List ℕ) (p : Place) → t ≡ spelled p → IsUtf8 (compact (place_value p)) → if_spelled t p ≡ Some p
+if_same t p e utf8 = rw ((bytes_eq-Decides t (spelled p)).1 e) (rw (is_utf8-from_IsUtf8 (compact (place_value p)) utf8) refl)
 
 pub read_of_spelled : (t : List ℕ) (p : Place) → Spells t p → place_read t ≡ Some p
 read_of_spelled t p s =
@@ -50,14 +50,9 @@ read_of_spelled t p s =
     ap (λ o. option_and_then (if_spelled t) (option_and_then place_in (option_and_then value_in o))) decoded
     ∙ ap (λ o. option_and_then (if_spelled t) (option_and_then place_in o)) (value_in_text bytes (place_value p) s.1)
     ∙ ap (option_and_then (if_spelled t)) (place_again p)
-    ∙ if_same t p s.0
+    ∙ if_same t p s.0 s.1.1.0
 
 -- ---- what is read is spelled
-
--- an option that gives nothing is none
-pub none_of : {A : Type 0} (o : Option A) → ((x : A) → o ≡ Some x → ⊥) → o ≡ None
-none_of None h = refl
-none_of (Some x) h = absurd (h x refl)
 
 -- the value that bytes are found to be
 text_of_value : (bytes : List ℕ) (v : Value) → value_in bytes ≡ Some v → Reads bytes v
@@ -66,10 +61,6 @@ text_of_value bytes v = of_test (is_utf8 bytes) refl
     of_test : (b : Bool) → is_utf8 bytes ≡ b → cond b (option_and_then whole_of (read bytes)) None ≡ Some v → Reads bytes v
     of_test true utf8 e = option_and_then_some whole_of (read bytes) v e (λ d r w. (d, (IsUtf8-from_is_utf8 bytes utf8, r), w))
     of_test false utf8 e = absurd cc
-
--- bytes that are no text of a value
-pub no_value : (bytes : List ℕ) → ((v : Value) → Reads bytes v → ⊥) → value_in bytes ≡ None
-no_value bytes none = none_of (value_in bytes) (λ v e. none v (text_of_value bytes v e))
 
 ddoc_found : (v : Value) (d : Option (List ℕ)) → ddoc_in v ≡ Some d → v ≡ ddoc_value d
 ddoc_found null d e = let f : d ≡ None = cc in rw f refl
@@ -100,59 +91,13 @@ place_found (list (item d (item (text name) (item (text word) (item (list key) (
     subst (λ q. list (item d (item (text name) (item (text word) (item (list key) (item (text id) no_items))))) ≡ place_value q) made (rw (ddoc_found d ddoc de) (rw (direction_found word direction we) refl))))
 place_found v p e = absurd cc
 
--- ---- where the reading stops
-
-decoded : (t bytes : List ℕ) → IsDecoded t bytes → decoded_of url_safe_no_pad t ≡ Some bytes
-decoded t bytes d = ap (decoded_of url_safe_no_pad) d.encoded ∙ decoded_again bytes d.low
-
--- at bytes that are no value's text
-pub unread_bytes : (t bytes : List ℕ) → IsDecoded t bytes → value_in bytes ≡ None → place_read t ≡ None
-unread_bytes t bytes d none =
-    ap (λ o. option_and_then (if_spelled t) (option_and_then place_in (option_and_then value_in o))) (decoded t bytes d) ∙ ap (λ o. option_and_then (if_spelled t) (option_and_then place_in o)) none
-
-value_read : (t bytes : List ℕ) (v : Value) → IsDecoded t bytes → Reads bytes v → place_read t ≡ option_and_then (if_spelled t) (place_in v)
-value_read t bytes v d r =
-    ap (λ o. option_and_then (if_spelled t) (option_and_then place_in (option_and_then value_in o))) (decoded t bytes d)
-    ∙ ap (λ o. option_and_then (if_spelled t) (option_and_then place_in o)) (value_in_text bytes v r)
-
--- at a value that is no place's array
-pub unread_value : (t bytes : List ℕ) (v : Value) → IsDecoded t bytes → Reads bytes v → ((p : Place) → v ≡ place_value p → ⊥) → place_read t ≡ None
-unread_value t bytes v d r none = value_read t bytes v d r ∙ ap (option_and_then (if_spelled t)) (none_of (place_in v) (λ p e. none p (place_found v p e)))
-
-if_other : (t : List ℕ) (p : Place) → (t ≡ spelled p → ⊥) → if_spelled t p ≡ None
-if_other t p other = of_test (bytes_eq t (spelled p)) refl
+if_spelled_is : (t : List ℕ) (q p : Place) → if_spelled t q ≡ Some p → (q ≡ p) × (t ≡ spelled q) × IsUtf8 (compact (place_value q))
+if_spelled_is t q p = of_test (bytes_eq t (spelled q)) (is_utf8 (compact (place_value q))) refl refl
   where
-    of_test : (b : Bool) → bytes_eq t (spelled p) ≡ b → cond b (Some p) None ≡ None
-    of_test true same = absurd (other ((bytes_eq-Decides t (spelled p)).0 same))
-    of_test false same = refl
-
--- at another spelling of the array
-pub unread_spelling : (t bytes : List ℕ) (v : Value) (p : Place) → IsDecoded t bytes → Reads bytes v → v ≡ place_value p → IsBytes (compact (place_value p)) → (bytes ≡ compact (place_value p) → ⊥)
-    → place_read t ≡ None
-unread_spelling t bytes v p d r e low other =
-    value_read t bytes v d r ∙ ap (λ w. option_and_then (if_spelled t) (place_in w)) e ∙ ap (option_and_then (if_spelled t)) (place_again p)
-    ∙ if_other t p (λ same. other (sym (d.only (compact (place_value p)) low same)))
-
--- ---- what a client gives back
-
-pub bookmark_of_place : (t : List ℕ) (r : Option Place) → (t ≡ codes "nil" → ⊥) → place_read t ≡ r → bookmark_read t ≡ option_map Some r
-bookmark_of_place t r other e = of_test (bytes_eq t (codes "nil")) refl
-  where
-    of_test : (b : Bool) → bytes_eq t (codes "nil") ≡ b → cond b (Some None) (option_map Some (place_read t)) ≡ option_map Some r
-    of_test true same = absurd (other ((bytes_eq-Decides t (codes "nil")).0 same))
-    of_test false same = ap (option_map Some) e
-
-pub unread_spells_none : (t : List ℕ) (p : Place) → place_read t ≡ None → Spells t p → ⊥
-unread_spells_none t p none s = let some = read_of_spelled t p s in cc
-
--- ---- what is read is spelled
-
-if_spelled_is : (t : List ℕ) (q p : Place) → if_spelled t q ≡ Some p → (q ≡ p) × (t ≡ spelled q)
-if_spelled_is t q p = of_test (bytes_eq t (spelled q)) refl
-  where
-    of_test : (b : Bool) → bytes_eq t (spelled q) ≡ b → cond b (Some q) None ≡ Some p → (q ≡ p) × (t ≡ spelled q)
-    of_test true same e = (cc, (bytes_eq-Decides t (spelled q)).0 same)
-    of_test false same e = absurd cc
+    of_test : (b u : Bool) → bytes_eq t (spelled q) ≡ b → is_utf8 (compact (place_value q)) ≡ u → cond (b && u) (Some q) None ≡ Some p → (q ≡ p) × (t ≡ spelled q) × IsUtf8 (compact (place_value q))
+    of_test true true same utf8 e = (cc, (bytes_eq-Decides t (spelled q)).0 same, IsUtf8-from_is_utf8 (compact (place_value q)) utf8)
+    of_test true false same utf8 e = absurd cc
+    of_test false u same utf8 e = absurd cc
 
 reads_again : (t bytes : List ℕ) (v : Value) (p : Place) → decoded_of url_safe_no_pad t ≡ Some bytes → Reads bytes v → v ≡ place_value p → t ≡ spelled p → IsUtf8 (compact (place_value p)) → Spells t p
 reads_again t bytes v p d r e s utf8 =
@@ -161,10 +106,55 @@ reads_again t bytes v p d r e s utf8 =
     let same : bytes ≡ text = cc in
     (s, subst (λ w. Reads text w) e (subst (λ b. Reads b v) same r))
 
-pub spelled_of_read : (t : List ℕ) (p : Place) → place_read t ≡ Some p → IsUtf8 (compact (place_value p)) → Spells t p
-spelled_of_read t p e utf8 =
+pub spelled_of_read : (t : List ℕ) (p : Place) → place_read t ≡ Some p → Spells t p
+spelled_of_read t p e =
     option_and_then_some (if_spelled t) (option_and_then place_in (option_and_then value_in (decoded_of url_safe_no_pad t))) p e (λ q qe is.
     option_and_then_some place_in (option_and_then value_in (decoded_of url_safe_no_pad t)) q qe (λ v ve found.
     option_and_then_some value_in (decoded_of url_safe_no_pad t) v ve (λ bytes de read.
-    let both = if_spelled_is t q p is in
-    subst (λ r. IsUtf8 (compact (place_value r)) → Spells t r) both.0 (reads_again t bytes v q de (text_of_value bytes v read) (place_found v q found) both.1) utf8)))
+    let all = if_spelled_is t q p is in
+    subst (Spells t) all.0 (reads_again t bytes v q de (text_of_value bytes v read) (place_found v q found) all.1 all.2))))
+
+pub none_read : (t : List ℕ) → ((p : Place) → Spells t p → ⊥) → place_read t ≡ None
+none_read t h = of (place_read t) refl
+  where
+    of : (r : Option Place) → place_read t ≡ r → r ≡ None
+    of None e = refl
+    of (Some p) e = absurd (h p (spelled_of_read t p e))
+
+none_spelled : (t : List ℕ) → place_read t ≡ None → (p : Place) → Spells t p → ⊥
+none_spelled t none p s = let some = read_of_spelled t p s in cc
+
+-- a text is the spelling of one place at most
+one_place : (t : List ℕ) (p q : Place) → Spells t p → Spells t q → p ≡ q
+one_place t p q a b = let first = read_of_spelled t p a in let second = read_of_spelled t q b in cc
+
+-- ---- what a client gives back
+
+pub bookmark_of_place : (t : List ℕ) (r : Option Place) → t ≢ codes "nil" → place_read t ≡ r → bookmark_read t ≡ option_map Some r
+bookmark_of_place t r other e = of_test (bytes_eq t (codes "nil")) refl
+  where
+    of_test : (b : Bool) → bytes_eq t (codes "nil") ≡ b → cond b (Some None) (option_map Some (place_read t)) ≡ option_map Some r
+    of_test true same = absurd (other ((bytes_eq-Decides t (codes "nil")).0 same))
+    of_test false same = ap (option_map Some) e
+
+pub is_read_as : (t : List ℕ) → IsReadAs t (bookmark_read t)
+is_read_as t = of_test (bytes_eq t (codes "nil")) (bytes_eq-Decides t (codes "nil"))
+  where
+    of_place : t ≢ codes "nil" → (r : Option Place) → place_read t ≡ r → IsReadAs t (option_map Some r)
+    of_place other None e = (other, none_spelled t e)
+    of_place other (Some p) e = (other, spelled_of_read t p e)
+
+    of_test : (b : Bool) → ◌↔◌ (b ≡ true) (t ≡ codes "nil") → IsReadAs t (cond b (Some None) (option_map Some (place_read t)))
+    of_test true same = same.0 refl
+    of_test false same = of_place (λ e. let yes = same.1 e in cc) (place_read t) refl
+
+pub one_reading : (t : List ℕ) (r s : Option (Option Place)) → IsReadAs t r → IsReadAs t s → r ≡ s
+one_reading t None None a b = refl
+one_reading t None (Some None) a b = absurd (a.0 b)
+one_reading t None (Some (Some q)) a b = absurd (a.1 q b.1)
+one_reading t (Some None) None a b = absurd (b.0 a)
+one_reading t (Some None) (Some None) a b = refl
+one_reading t (Some None) (Some (Some q)) a b = absurd (b.0 a)
+one_reading t (Some (Some p)) None a b = absurd (b.1 p a.1)
+one_reading t (Some (Some p)) (Some None) a b = absurd (a.0 b)
+one_reading t (Some (Some p)) (Some (Some q)) a b = ap (λ x. Some (Some x)) (one_place t p q a.1 b.1)

@@ -1,13 +1,12 @@
 -- Bookmarks of a page, as in CouchDB's `_find`: a JSON array of what a page ended with, spelled in the URL-safe base64 of
 -- RFC 4648, which is not padded here. Which array that is, is this project's own choice.
-use Rattle.std.specs.Prelude.{◌≡◌, ℕ, ◌≤◌, List, [], codes, Option, Some, None, option_map, option_and_then, unwrap_or, if◌then◌else◌}
-use Rattle.std.specs.Str.{IsUtf8, bytes_eq, is_utf8}
-use Rattle.base64.specs.GeneralPurpose.{decoded_of, encode_of}
+use Rattle.std.specs.Prelude.{◌≡◌, ◌≢◌, ℕ, ◌≤◌, List, [], codes, Option, Some, None, unwrap_or}
+use Rattle.std.specs.Str.{IsUtf8}
+use Rattle.base64.specs.GeneralPurpose.{encode_of}
 use Rattle.base64.specs.Engines.{url_safe_no_pad}
-use Rattle.serde_json.specs.Read.{read}
 use Rattle.mg_value.specs.Value.{Value, null, text, list, Items, item, no_items, items_depth}
 use Rattle.mg_value.specs.Held.{ItemsAreHeld}
-use Rattle.mg_value.specs.Text.{Reads, compact, whole_of}
+use Rattle.mg_value.specs.Text.{Reads, compact}
 use Rattle.mg_collate.specs.declared.direction.Direction.{Direction}
 use Rattle.mg_collate.specs.declared.direction.Direction.TheVariants.{Asc, Desc}
 
@@ -52,36 +51,11 @@ pub record CanBeSpelled (p : Place) : Type 0 where
   pub name : IsUtf8 p.name
   pub id : IsUtf8 p.id
 
--- ---- reading a spelling
+-- ---- reading a text
 
--- the design document that a value names: a text, or none where it is null
-abbrev pub ddoc_in : Value → Option (Option (List ℕ))
-ddoc_in null = Some None
-ddoc_in (text s) = Some (Some s)
-ddoc_in v = None
-
--- the direction that a word names
-abbrev pub direction_in : List ℕ → Option Direction
-direction_in word = if bytes_eq word (codes "asc") then Some Asc else if bytes_eq word (codes "desc") then Some Desc else None
-
--- the place whose five parts an array has
-abbrev pub place_in : Value → Option Place
-place_in (list (item d (item (text name) (item (text word) (item (list key) (item (text id) no_items)))))) =
-    option_and_then (λ ddoc. option_map (λ direction. record { ddoc = ddoc; name = name; direction = direction; key = key; id = id }) (direction_in word)) (ddoc_in d)
-place_in v = None
-
--- the value that UTF-8 bytes are a JSON text of
-abbrev pub value_in : List ℕ → Option Value
-value_in bytes = if is_utf8 bytes then option_and_then whole_of (read bytes) else None
-
--- the place, where the text is its spelling
-abbrev pub if_spelled : List ℕ → Place → Option Place
-if_spelled t p = if bytes_eq t (spelled p) then Some p else None
-
--- the place that a text spells, if it spells one
-abbrev pub place_read : List ℕ → Option Place
-place_read t = option_and_then (if_spelled t) (option_and_then place_in (option_and_then value_in (decoded_of url_safe_no_pad t)))
-
--- what a client gives back: nothing more than the beginning for `nil`, the place that the text spells, or none where it is no bookmark
-abbrev pub bookmark_read : List ℕ → Option (Option Place)
-bookmark_read t = if bytes_eq t (codes "nil") then Some None else option_map Some (place_read t)
+-- what a text is read as that a client gives back: nothing more than the beginning for `nil`, the place whose spelling it is, or none where
+-- it is no bookmark. That there is one such reading of each text, is a law
+abbrev pub IsReadAs : List ℕ → Option (Option Place) → Type 0
+IsReadAs t (Some None) = t ≡ codes "nil"
+IsReadAs t (Some (Some p)) = (t ≢ codes "nil") × Spells t p
+IsReadAs t None = (t ≢ codes "nil") × ((p : Place) → ¬ Spells t p)

@@ -1,3 +1,4 @@
 pub mod Bookmark
+pub mod Reading
 pub mod Seen
 pub mod Decoding

@@ -23,7 +23,8 @@ pub struct Bookmark {
 }
 
 impl Bookmark {
-    ghost use Rattle.mg_bookmark.specs.Bookmark.{Place, Spells, bookmark_read, spelled};
+    ghost use Rattle.mg_bookmark.specs.Bookmark.{Place, Spells, spelled};
+    ghost use Rattle.mg_bookmark.specs.Reading.{bookmark_read};
     ghost use Rattle.mg_bookmark.specs.Seen.{place_at, bookmark_place};
 
     /// The text that a client gets: the five parts as a JSON array, written compactly, in the

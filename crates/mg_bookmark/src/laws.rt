@@ -1,13 +1,17 @@
 //! What the reading of a bookmark's text comes to.
-ghost use Rattle.std.specs.Prelude.{◌≡◌, ◌↔◌, ℕ, List, Some, IsUtf8};
-ghost use Rattle.mg_value.specs.Text.{compact};
-ghost use Rattle.mg_bookmark.specs.Bookmark.{CanBeSpelled, Place, Spells, bookmark_read, place_read, place_value, spelled};
+ghost use Rattle.std.specs.Prelude.{◌≡◌, ◌↔◌, ℕ, List, Option, Some};
+ghost use Rattle.mg_bookmark.specs.Bookmark.{CanBeSpelled, IsReadAs, Place, Spells, spelled};
+ghost use Rattle.mg_bookmark.specs.Reading.{bookmark_read, place_read};
 
-/// A text spells a place exactly where its reading gives that place and the place's array is written
-/// in UTF-8, as that of every `Bookmark` is. So a text spells one place at most.
+/// Each text has one reading. So it is the spelling of one place at most.
+pub fn each_text_has_one_reading()
+    ensures some { (t : List ℕ) → IsReadAs t (bookmark_read t) }
+    ensures one { (t : List ℕ) (r s : Option (Option Place)) → IsReadAs t r → IsReadAs t s → r ≡ s }
+{}
+
+/// A text is read as a place exactly where it is that place's spelling.
 pub fn reading_gives_what_is_spelled()
-    ensures { (t : List ℕ) (p : Place) → Spells t p
-        ↔ ((place_read t ≡ Some p) × IsUtf8 (compact (place_value p))) }
+    ensures { (t : List ℕ) (p : Place) → Spells t p ↔ (place_read t ≡ Some p) }
 {}
 
 /// A place whose key nests at most 125 deep, and whose parts are what JSON text can carry, is read back

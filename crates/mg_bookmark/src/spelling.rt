@@ -1,10 +1,11 @@
 //! What a text spells: from base64 to bytes, from the bytes to a value, and from the value to a bookmark.
-ghost use Rattle.std.specs.Prelude.{◌≡◌, ◌↔◌, None, Some, Err, IfOk, IsTrue};
-ghost use Rattle.base64.specs.GeneralPurpose.{IsBytes, decoded_of};
+ghost use Rattle.std.specs.Prelude.{◌≡◌, ◌↔◌, None, Err, IfOk, IsTrue};
+ghost use Rattle.base64.specs.GeneralPurpose.{decoded_of};
 ghost use Rattle.base64.specs.Engines.{url_safe_no_pad};
 ghost use Rattle.mg_value.specs.Text.{Reads, compact};
+ghost use Rattle.mg_value.specs.Value.{Value};
 ghost use Rattle.mg_value.specs.View.{view};
-ghost use Rattle.mg_bookmark.specs.Bookmark.{Spells, place_read, place_value, value_in};
+ghost use Rattle.mg_bookmark.specs.Bookmark.{Place, Spells, place_value};
 ghost use Rattle.mg_bookmark.specs.Seen.{bookmark_place};
 ghost use Rattle.mg_bookmark.specs.Decoding.{IsDecoded};
 
@@ -19,7 +20,7 @@ use std::alloc::Global;
 // The bookmark that the text spells.
 pub(crate) fn spelled_by(alloc: Global, text: &str) -> Result<Bookmark, BookmarkError>
     ensures ok { IfOk result (λ b. Spells text.now (bookmark_place b)) }
-    ensures unread { result ≡ Err BookmarkError.Invalid → place_read text.now ≡ None }
+    ensures invalid { result ≡ Err BookmarkError.Invalid → (p : Place) → ¬ Spells text.now p }
 {
     let bytes = from_base64(alloc, text)?;
     let value = from_json(alloc, &bytes)?;
@@ -46,7 +47,7 @@ fn from_base64(alloc: Global, text: &str) -> Result<Vec<u8>, BookmarkError>
 
 fn from_json(alloc: Global, bytes: &[u8]) -> Result<Json, BookmarkError>
     ensures ok { IfOk result (λ value. Reads bytes.now (view value)) }
-    ensures invalid { result ≡ Err BookmarkError.Invalid → value_in bytes.now ≡ None }
+    ensures invalid { result ≡ Err BookmarkError.Invalid → (v : Value) → ¬ Reads bytes.now v }
 {
     match read(alloc, bytes) {
         Ok(value) => Ok(value),
@@ -58,17 +59,9 @@ fn from_json(alloc: Global, bytes: &[u8]) -> Result<Json, BookmarkError>
 
 // Whether the bytes are the compact text of the bookmark's array.
 fn is_array_of(alloc: Global, bytes: &[u8], bookmark: &Bookmark) -> Result<bool, NoMemory>
-    ensures same { IfOk result
+    ensures { IfOk result
         (λ same. IsTrue same ↔ (bytes.now ≡ compact (place_value (bookmark_place bookmark.now)))) }
-    ensures low { IfOk result (λ _. IsBytes (compact (place_value (bookmark_place bookmark.now)))) }
 {
     let text = bookmark.lent().array_text(alloc)?;
-    Ok(is_same(bytes, &text))
-}
-
-fn is_same(bytes: &[u8], text: &[u8]) -> bool
-    ensures same { IsTrue result ↔ (bytes.now ≡ text.now) }
-    ensures low { IsBytes text.now }
-{
-    bytes == text
+    Ok(bytes == text.as_slice())
 }

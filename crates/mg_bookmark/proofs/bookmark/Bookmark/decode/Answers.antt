@@ -1,7 +1,7 @@
 use Rattle.std.proofs.Common.{◌≡◌, Err}
 use Rattle.std.proofs.lemmas.Result.{err_from_is_err_and}
 use Rattle.mg_bookmark.specs.declared.error.BookmarkError.TheVariants.{Invalid}
-use Rattle.mg_bookmark.proofs.Readings.{read_of_spelled, bookmark_of_place, unread_spells_none}
+use Rattle.mg_bookmark.proofs.Readings.{bookmark_of_place, none_read, read_of_spelled}
 use Rattle.mg_bookmark.proofs.bookmark.Bookmark.decode.Goals as goal
 
 pub returns-in_ok-spelled_by-in_default-clause-read : goal.returns-in_ok-spelled_by-in_default-clause-read
@@ -11,10 +11,10 @@ pub returns-in_err-spelled_by-in_default-clause-invalid : goal.returns-in_err-sp
 returns-in_err-spelled_by-in_default-clause-invalid c = λ h.
     let r = err_from_is_err_and c.from_residual.result c.from_residual.ensures.1 in
     let refused : c.spelled_by.result ≡ Err Invalid = cc (h, r.1, r.2, c.in_err-spelled_by-in_default.was) in
-    (c.in_default.not-nil, λ p s. unread_spells_none c.args.text.now p (c.spelled_by.ensures.unread refused) s)
+    (c.in_default.not-nil, c.spelled_by.ensures.invalid refused)
 
 pub returns-in_err-spelled_by-in_default-clause-unread : goal.returns-in_err-spelled_by-in_default-clause-unread
 returns-in_err-spelled_by-in_default-clause-unread c = λ h.
     let r = err_from_is_err_and c.from_residual.result c.from_residual.ensures.1 in
     let refused : c.spelled_by.result ≡ Err Invalid = cc (h, r.1, r.2, c.in_err-spelled_by-in_default.was) in
-    bookmark_of_place c.args.text.now _ c.in_default.not-nil (c.spelled_by.ensures.unread refused)
+    bookmark_of_place c.args.text.now _ c.in_default.not-nil (none_read c.args.text.now (c.spelled_by.ensures.invalid refused))

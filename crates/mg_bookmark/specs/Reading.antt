@@ -1,0 +1,43 @@
+-- The reading of a text as a function, by undoing the steps of the writing. That it gives what the text is read as, is a law.
+use Rattle.std.specs.Prelude.{ℕ, List, codes, ◌&&◌, Option, Some, None, option_map, option_and_then, if◌then◌else◌}
+use Rattle.std.specs.Str.{bytes_eq, is_utf8}
+use Rattle.base64.specs.GeneralPurpose.{decoded_of}
+use Rattle.base64.specs.Engines.{url_safe_no_pad}
+use Rattle.serde_json.specs.Read.{read}
+use Rattle.mg_value.specs.Value.{Value, null, text, list, item, no_items}
+use Rattle.mg_value.specs.Text.{compact, whole_of}
+use Rattle.mg_collate.specs.declared.direction.Direction.{Direction}
+use Rattle.mg_collate.specs.declared.direction.Direction.TheVariants.{Asc, Desc}
+use Rattle.mg_bookmark.specs.Bookmark.{Place, place_value, spelled}
+
+-- the design document that a value names: a text, or none where it is null
+abbrev pub ddoc_in : Value → Option (Option (List ℕ))
+ddoc_in null = Some None
+ddoc_in (text s) = Some (Some s)
+ddoc_in v = None
+
+-- the direction that a word names
+abbrev pub direction_in : List ℕ → Option Direction
+direction_in word = if bytes_eq word (codes "asc") then Some Asc else if bytes_eq word (codes "desc") then Some Desc else None
+
+-- the place whose five parts an array has
+abbrev pub place_in : Value → Option Place
+place_in (list (item d (item (text name) (item (text word) (item (list key) (item (text id) no_items)))))) =
+    option_and_then (λ ddoc. option_map (λ direction. record { ddoc = ddoc; name = name; direction = direction; key = key; id = id }) (direction_in word)) (ddoc_in d)
+place_in v = None
+
+-- the value that UTF-8 bytes are a JSON text of
+abbrev pub value_in : List ℕ → Option Value
+value_in bytes = if is_utf8 bytes then option_and_then whole_of (read bytes) else None
+
+-- the place, where the text is its spelling, and its array is UTF-8
+abbrev pub if_spelled : List ℕ → Place → Option Place
+if_spelled t p = if bytes_eq t (spelled p) && is_utf8 (compact (place_value p)) then Some p else None
+
+-- the place whose spelling a text is, if there is one
+abbrev pub place_read : List ℕ → Option Place
+place_read t = option_and_then (if_spelled t) (option_and_then place_in (option_and_then value_in (decoded_of url_safe_no_pad t)))
+
+-- what a text is read as
+abbrev pub bookmark_read : List ℕ → Option (Option Place)
+bookmark_read t = if bytes_eq t (codes "nil") then Some None else option_map Some (place_read t)
