@@ -14,6 +14,9 @@ from common.tally import Tally
 
 SECONDS = 60
 QUERY = b'POST /%s/_find HTTP/1.1\r\nContent-Length: 15\r\n\r\n{"selector":{}}'
+CLOSING_QUERY = b'POST /db/_find HTTP/1.1\r\nConnection: close\r\nContent-Length: 15\r\n\r\n{"selector":{}}'
+OLD_QUERY = b'POST /db/_find HTTP/1.0\r\nContent-Length: 15\r\n\r\n{"selector":{}}'
+STAYING_QUERY = b'POST /db/_find HTTP/1.1\r\nConnection: keep-alive\r\nContent-Length: 15\r\n\r\n{"selector":{}}'
 BAD_HEAD = (b'HTTP/1.1 400 Bad Request\r\nContent-Type: application/json\r\nContent-Length: 50\r\n\r\n'
             b'{"error":"bad_head","reason":"Bad request head."}\n')
 PAGE = b'HTTP/1.1 200 OK\r\nContent-Type: application/json\r\nContent-Length: 29\r\n\r\n{"bookmark":"nil","docs":[]}\n'
@@ -35,6 +38,10 @@ WRONG = [
 SESSIONS = [
     ("an input that ends", b"", b"", 0, b""),
     ("a head that is none", b"X\r\n", BAD_HEAD, 1, b"mangod: refused\n"),
+    ("a message that asks to close, and another", CLOSING_QUERY + QUERY % b"db", PAGE, 0, b""),
+    ("a message of version 1.0, and another", OLD_QUERY + QUERY % b"db", PAGE, 0, b""),
+    ("a message that asks to stay, and another", STAYING_QUERY + QUERY % b"db", PAGE + PAGE, 0, b""),
+    ("an unfinished message", QUERY % b"db" + CLOSING_QUERY[:-1], PAGE, 0, b""),
 ]
 
 

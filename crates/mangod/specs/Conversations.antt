@@ -14,7 +14,9 @@ pub record Conversation : Type 0 where
 -- sessions took a service from the first state to the last: each began where the one before left it
 abbrev pub InTurn : {S : Type 0} → (S → Asked → Option Answer → S → Type 0) → List ℕ → S → List Conversation → S → Type 0
 InTurn answers db old [] new = new ≡ old
-InTurn {S} answers db old (c ∷ cs) new = (mid : S) × Converses answers db old c.bytes c.written mid c.end × InTurn answers db mid cs new
+InTurn {S} answers db old (c ∷ cs) new =
+    (mid : S) × Converses answers db c.end (record { old = old; bytes = c.bytes; text = c.written; new = mid })
+    × InTurn answers db mid cs new
 
 -- sessions of the database of this name took a seat from the first state to the last, one after another
 abbrev pub IsServed : List ℕ → Sitting → Sitting → Type 0

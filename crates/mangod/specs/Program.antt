@@ -11,7 +11,7 @@ use Rattle.mangod.specs.Ends.{Ending, cannot_listen, ending_of, no_memory, stopp
 pub record HoldsSession (db : List ℕ) (read wrote : List ℕ → Type 0) (ending : Ending) : Type 0 where
   pub left : World
   pub end : SessionEnd
-  pub held : HoldsAt db read wrote (empty_world db) left end
+  pub held : HoldsAt db (record { read = read; wrote = wrote; old = empty_world db; new = left; end = end })
   pub ends : ending ≡ ending_of end
 
 -- the program ended at once, with nothing read and nothing written

@@ -15,6 +15,7 @@ use Rattle.mg_http.specs.Session.{Handles, HandlesBody, asked_by}
 use Rattle.mg_http.specs.Talk.{AtWorld}
 use Rattle.mg_http.specs.Target.{Request, body, asks, refuses}
 use Rattle.mg_http.specs.Transcript.{Stops, Speaks}
+use Rattle.mg_http.proofs.Forms.{passage, step}
 use Rattle.mg_http.proofs.MessageLemmas.{in_window, one_head, HasHead-append, Begins-append, two_messages, never_framed, framed_request, no_head_more, never_none, window_more, window_full}
 
 module _ (db : List ℕ) where
@@ -89,7 +90,7 @@ some_some : {X : Type 0} (x y : X) → Some x ≡ Some y → x ≡ y
 some_some x y e = cc
 
 one_body : (w : World) (endpoint : Endpoint) (bytes : List ℕ) (a b : Answer) (u v : World)
-    → HandlesBody AtWorld w endpoint bytes (Some a) u → HandlesBody AtWorld w endpoint bytes (Some b) v → (a ≡ b) × (u ≡ v)
+    → HandlesBody AtWorld endpoint bytes (step w (Some a) u) → HandlesBody AtWorld endpoint bytes (step w (Some b) v) → (a ≡ b) × (u ≡ v)
 one_body w endpoint bytes a b u v (inl x) (inl y) =
     let same = one_value bytes x.0 y.0 x.1 y.1 in
     (x.2.0 ∙ ap (λ (t : Value). reply_of w (asked_by endpoint t)) same ∙ sym y.2.0, sym x.2.1 ∙ ap (λ (t : Value). next w (asked_by endpoint t)) same ∙ y.2.1)
@@ -101,7 +102,7 @@ one_body w endpoint bytes a b u v (inl x) (inr (inr y)) = absurd (some_none b y.
 one_body w endpoint bytes a b u v (inr (inl x)) (inr (inr y)) = absurd (some_none b y.0)
 
 pub one_reply : (w : World) (request : Request) (bytes : List ℕ) (a b : Answer) (u v : World)
-    → Handles AtWorld w request bytes (Some a) u → Handles AtWorld w request bytes (Some b) v → (a ≡ b) × (u ≡ v)
+    → Handles AtWorld request bytes (step w (Some a) u) → Handles AtWorld request bytes (step w (Some b) v) → (a ≡ b) × (u ≡ v)
 one_reply w (body endpoint) bytes a b u v x y = one_body w endpoint bytes a b u v x y
 one_reply w (asks command) bytes a b u v x y = (x.0 ∙ sym y.0, sym x.1 ∙ y.1)
 one_reply w (refuses refusal) bytes a b u v x y = (some_some a b (x.0 ∙ sym y.0), x.1 ∙ sym y.1)
@@ -110,7 +111,7 @@ one_reply w (refuses refusal) bytes a b u v x y = (some_some a b (x.0 ∙ sym y.
 
 module _ (db : List ℕ) where
   -- where nothing more is answered in what came first
-  pub after_stop : (w : World) (bytes more text : List ℕ) (ns : List Message) (longer : List ℕ) → Stops db bytes text → Speaks AtWorld db w (bytes ++ more) ns longer → IsPrefix text longer
+  pub after_stop : (w : World) (bytes more text : List ℕ) (ns : List Message) (longer : List ℕ) → Stops db bytes text → Speaks AtWorld db ns (passage w (bytes ++ more) longer) → IsPrefix text longer
   after_stop w bytes more text ns longer (inl x) k = (longer, rw x.1 refl)
   after_stop w bytes more text [] longer (inr x) (inl y) = absurd (waiting_not_refused db (bytes ++ more) x.0 x.1 y.0 (refused_more db bytes more x.0 x.1 x.2))
   after_stop w bytes more text [] longer (inr x) (inr y) =
@@ -120,7 +121,7 @@ module _ (db : List ℕ) where
       absurd (message_not_refused db (bytes ++ more) n k.after x.0 x.1 k.begins (refused_more db bytes more x.0 x.1 x.2))
 
   pub begins : (w : World) (bytes more : List ℕ) (ms : List Message) (text : List ℕ) (ns : List Message) (longer : List ℕ)
-      → Speaks AtWorld db w bytes ms text → Speaks AtWorld db w (bytes ++ more) ns longer → IsPrefix text longer
+      → Speaks AtWorld db ms (passage w bytes text) → Speaks AtWorld db ns (passage w (bytes ++ more) longer) → IsPrefix text longer
   begins w bytes more [] text ns longer h k = after_stop w bytes more text ns longer h k
   begins w bytes more (m ∷ ms) text [] longer h k = absurd (no_stop db (bytes ++ more) m (h.after ++ more) longer (Begins-append db bytes m h.after more h.begins) k)
   begins w bytes more (m ∷ ms) text (n ∷ ns) longer h k =

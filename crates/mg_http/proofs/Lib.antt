@@ -1,6 +1,7 @@
 pub mod CutLemmas
 pub mod DeviceLemmas
 pub mod FaultLemmas
+pub mod Forms
 pub mod HeadLemmas
 pub mod ListLemmas
 pub mod MessageLemmas

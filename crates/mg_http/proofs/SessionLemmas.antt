@@ -20,6 +20,7 @@ use Rattle.mg_http.specs.Reply.{reply_text}
 use Rattle.mg_http.specs.Session.{Call, IsHandled, Handles, call_text, Serves, LacksMemory, Refuses, Ends, Converses}
 use Rattle.mg_http.specs.Transcript.{IsAtLimit}
 use Rattle.mg_http.specs.Turns.{request_in, message_of, IsFramed, Turns, Progress, Counts, StopsWith}
+use Rattle.mg_http.proofs.Forms.{exchange, step}
 use Rattle.mg_http.proofs.HeadLemmas.{head_long}
 use Rattle.mg_http.proofs.MessageLemmas.{HasHead-append, Begins-append}
 
@@ -113,14 +114,14 @@ at_limit WriteFault bytes came held requests reads few often k = tt
 
 module _ {S : Type 0} (answers : S → Asked → Option Answer → S → Type 0) (db : List ℕ) where
   -- a session that ends with the first thing it does
-  pub ends_at : (old : S) (bytes last : List ℕ) (new : S) (end : SessionEnd) → Ends answers db end old bytes last new
-      → Converses answers db old bytes last new end
+  pub ends_at : (old : S) (bytes last : List ℕ) (new : S) (end : SessionEnd) → Ends answers db end (exchange old bytes last new)
+      → Converses answers db end (exchange old bytes last new)
   ends_at old bytes last new end h =
       record { calls = []; text = []; rest = bytes; mid = old; served = (refl, refl, refl); last = last; ended = h; written_is = refl }
 
   -- what comes later stands behind what was left
   pub Serves-append : (old : S) (bytes : List ℕ) (calls : List Call) (text rest : List ℕ) (new : S) (more : List ℕ)
-      → Serves answers db old bytes calls text rest new → Serves answers db old (bytes ++ more) calls text (rest ++ more) new
+      → Serves answers db calls rest (exchange old bytes text new) → Serves answers db calls (rest ++ more) (exchange old (bytes ++ more) text new)
   Serves-append old bytes [] text rest new more h = (ap (λ (t : List ℕ). t ++ more) h.0, h.1, h.2)
   Serves-append old bytes (call ∷ calls) text rest new more h = record {
     after = h.after ++ more;
@@ -135,8 +136,8 @@ module _ {S : Type 0} (answers : S → Asked → Option Answer → S → Type 0)
 
   -- one run of calls after another
   pub Serves-then : (old : S) (bytes : List ℕ) (calls : List Call) (text mid : List ℕ) (between : S) (others : List Call) (later rest : List ℕ) (new : S)
-      → Serves answers db old bytes calls text mid between → Serves answers db between mid others later rest new
-      → Serves answers db old bytes (calls ++ others) (text ++ later) rest new
+      → Serves answers db calls mid (exchange old bytes text between) → Serves answers db others rest (exchange between mid later new)
+      → Serves answers db (calls ++ others) rest (exchange old bytes (text ++ later) new)
   Serves-then old bytes [] text mid between others later rest new h k = rw (h.0, h.1, ← h.2) k
   Serves-then old bytes (call ∷ calls) text mid between others later rest new h k = record {
     after = h.after;
@@ -151,8 +152,8 @@ module _ {S : Type 0} (answers : S → Asked → Option Answer → S → Type 0)
 
   -- a run of calls, and then a session that ends
   pub Converses-then : (old : S) (bytes : List ℕ) (calls : List Call) (text mid : List ℕ) (between : S) (written : List ℕ) (new : S) (end : SessionEnd)
-      → Serves answers db old bytes calls text mid between → Converses answers db between mid written new end
-      → Converses answers db old bytes (text ++ written) new end
+      → Serves answers db calls mid (exchange old bytes text between) → Converses answers db end (exchange between mid written new)
+      → Converses answers db end (exchange old bytes (text ++ written) new)
   Converses-then old bytes calls text mid between written new end h k = record {
     calls = calls ++ k.calls;
     text = text ++ k.text;
@@ -167,23 +168,23 @@ module _ {S : Type 0} (answers : S → Asked → Option Answer → S → Type 0)
   -- the first turn of a session ends it
   abbrev pub Promises : Option (List ℕ) → Option (List ℕ) → Option (List ℕ) → Option (List ℕ) → S → List ℕ → S → SessionEnd → Type 0
   Promises r r' w w' old held new end =
-      (came : List ℕ) × (written : List ℕ) × Consumes r r' came × Appends w w' written × Converses answers db old (held ++ came) written new end
+      (came : List ℕ) × (written : List ℕ) × Consumes r r' came × Appends w w' written × Converses answers db end (exchange old (held ++ came) written new)
 
   -- a run of calls, with what was read and written
   abbrev pub Runs : Option (List ℕ) → Option (List ℕ) → Option (List ℕ) → Option (List ℕ) → S → List ℕ → List ℕ → S → Type 0
   Runs r r' w w' old before held new =
       (came : List ℕ) × (written : List ℕ) × Consumes r r' came × Appends w w' written
-      × ((calls : List Call) × Serves answers db old (before ++ came) calls written held new)
+      × ((calls : List Call) × Serves answers db calls held (exchange old (before ++ came) written new))
 
   -- a message at the front was handled, and its reply written, or a front of it
   pub handled_one : {A : Type 0} (w w' : Option (List ℕ)) (old : S) (bytes rest : List ℕ) (new : S) (call : Call) (written : Result A Fault) (closes : Bool)
       → call.message.closes ≡ closes → Begins db bytes call.message rest → IsHandled answers old call new → Writes w w' (call_text call) written
       → (text : List ℕ) × Appends w w' text
-      × Turns answers db old bytes text rest new (cond (is_ok written) (cond closes (Err Closed) (Ok tt)) (Err WriteFault))
+      × Turns answers db (exchange old bytes text new) rest (cond (is_ok written) (cond closes (Err Closed) (Ok tt)) (Err WriteFault))
   handled_one w w' old bytes rest new call (Ok a) true c h k t =
       (call_text call, t, ends_at old bytes (call_text call) new Closed (call, c, record { after = rest; begins = h; handled = k; text_is = refl }))
   handled_one w w' old bytes rest new call (Ok a) false c h k t =
-      let one : Serves answers db old bytes (call ∷ []) (call_text call) rest new = record { after = rest; later = []; mid = new; begins = h; stays = c; handled = k; text_is = sym (append-nil (call_text call)); others_follow = (refl, refl, refl) } in
+      let one : Serves answers db (call ∷ []) rest (exchange old bytes (call_text call) new) = record { after = rest; later = []; mid = new; begins = h; stays = c; handled = k; text_is = sym (append-nil (call_text call)); others_follow = (refl, refl, refl) } in
       (call_text call, t, (call ∷ [], one))
   handled_one w w' old bytes rest new call (Err f) closes c h k t =
       (t.0, t.2, ends_at old bytes t.0 new WriteFault (call_text call, t.1, inl (call, record { after = rest; begins = h; handled = k; text_is = refl })))
@@ -193,21 +194,21 @@ module _ {S : Type 0} (answers : S → Asked → Option Answer → S → Type 0)
       (written : Result A Fault) (result : Result ⊤ SessionEnd)
       → HasHead held h (drop f.len held) → IsFramed db h f → f.len ≤ length held → Consumes r r' came → bytes ≡ held ++ came → f.len + f.body ≤ length bytes
       → left ≡ drop (f.len + f.body) bytes
-      → Handles answers old (request_in f.target) (slice_range bytes f.len (f.len + f.body)) reply new → Writes w w' (reply_text f.silent reply) written
+      → Handles answers (request_in f.target) (slice_range bytes f.len (f.len + f.body)) (step old reply new) → Writes w w' (reply_text f.silent reply) written
       → result ≡ cond (is_ok written) (cond f.closes (Err Closed) (Ok tt)) (Err WriteFault)
-      → (came : List ℕ) × (text : List ℕ) × Consumes r r' came × Appends w w' text × Turns answers db old (held ++ came) text left new result
+      → (came : List ℕ) × (text : List ℕ) × Consumes r r' came × Appends w w' text × Turns answers db (exchange old (held ++ came) text new) left result
   answered r r' w w' old held came bytes left h f new reply written result has is within read joined there rest handled wrote e =
       let now : HasHead bytes h (drop f.len bytes) = subst (λ (t : List ℕ). HasHead t h (drop f.len t)) (sym joined) (head_with db h f held has is came within) in
       let message = whole_message db h f bytes now is there in
       let call : Call = record { message = message_of f (slice_range bytes f.len (f.len + f.body)); reply = reply } in
       let one = handled_one w w' old bytes (drop (f.len + f.body) bytes) new call written f.closes refl message handled wrote in
-      let last : Turns answers db old bytes one.0 left new result =
-      subst (λ (t : List ℕ). Turns answers db old bytes one.0 t new result) (sym rest) (subst (Turns answers db old bytes one.0 (drop (f.len + f.body) bytes) new) (sym e) one.2) in
-      (came, one.0, read, one.1, subst (λ (t : List ℕ). Turns answers db old t one.0 left new result) joined last)
+      let last : Turns answers db (exchange old bytes one.0 new) left result =
+      subst (λ (t : List ℕ). Turns answers db (exchange old bytes one.0 new) t result) (sym rest) (subst (Turns answers db (exchange old bytes one.0 new) (drop (f.len + f.body) bytes)) (sym e) one.2) in
+      (came, one.0, read, one.1, subst (λ (t : List ℕ). Turns answers db (exchange old t one.0 new) left result) joined last)
 
   -- the session stopped reading within a message or between two
   pub stopped : (w w' : Option (List ℕ)) (old : S) (bytes : List ℕ) (silent : Bool) (s : Stop) (end : SessionEnd) → IsWaiting db bytes → LacksMemory bytes silent
-      → StopsWith w w' silent s end → (text : List ℕ) × Appends w w' text × Converses answers db old bytes text old end
+      → StopsWith w w' silent s end → (text : List ℕ) × Appends w w' text × Converses answers db end (exchange old bytes text old)
   stopped w w' old bytes silent stop.End end waiting lacks h = ([], rw h.1 (Appends-nil w), rw h.0 (ends_at old bytes [] old Eof (waiting, refl, refl)))
   stopped w w' old bytes silent stop.Failed end waiting lacks h = ([], rw h.1 (Appends-nil w), rw h.0 (ends_at old bytes [] old ReadFault (waiting, refl, refl)))
   stopped w w' old bytes silent stop.Limit end waiting lacks h = ([], rw h.1 (Appends-nil w), rw h.0 (ends_at old bytes [] old Limit (refl, refl)))
@@ -228,7 +229,7 @@ module _ {S : Type 0} (answers : S → Asked → Option Answer → S → Type 0)
       let now : HasHead bytes h (drop f.len bytes) = subst (λ (t : List ℕ). HasHead t h (drop f.len t)) (sym joined) (head_with db h f held has is came within) in
       let inside : f.len ≤ length bytes = omega (arith, within, ap length joined, length-append held came) in
       let one = stopped w w' old bytes f.silent s end (part_message db h f bytes now is inside short) (lacks_memory db h f bytes now is) stops in
-      (came, one.0, read, one.1, subst (λ (t : List ℕ). Converses answers db old t one.0 old end) joined one.2)
+      (came, one.0, read, one.1, subst (λ (t : List ℕ). Converses answers db end (exchange old t one.0 old)) joined one.2)
 
   -- between two messages or in a head
   abbrev pub stopped_in_head : (r r' w w' : Option (List ℕ)) (old : S) (held came bytes : List ℕ) (s : Stop) (end : SessionEnd)
@@ -236,7 +237,7 @@ module _ {S : Type 0} (answers : S → Asked → Option Answer → S → Type 0)
       → StopsWith w w' false s end → Promises r r' w w' old held old end
   stopped_in_head r r' w w' old held came bytes s end waiting lacks read joined none stops =
       let one = stopped w w' old held false s end waiting lacks stops in
-      (came, one.0, read, one.1, subst (λ (t : List ℕ). Converses answers db old t one.0 old end) (sym none ∙ joined) one.2)
+      (came, one.0, read, one.1, subst (λ (t : List ℕ). Converses answers db end (exchange old t one.0 old)) (sym none ∙ joined) one.2)
 
   -- a limit, with nothing written
   abbrev pub limited : (r r' w : Option (List ℕ)) (old : S) (held came : List ℕ) → Consumes r r' came → Promises r r' w w old held old Limit
@@ -256,9 +257,9 @@ module _ {S : Type 0} (answers : S → Asked → Option Answer → S → Type 0)
   reads_on r r' w old held came left c e = (came, [], c, Appends-nil w, ([], (sym e, refl, refl)))
 
   module _ (r0 r1 r2 w0 w1 w2 : Option (List ℕ)) (s0 s1 s2 : S) (held : List ℕ)
-      (run : (bytes : List ℕ) × (written : List ℕ) × Consumes r0 r1 bytes × Appends w0 w1 written × ((calls : List Call) × Serves answers db s0 bytes calls written held s1)) where
+      (run : (bytes : List ℕ) × (written : List ℕ) × Consumes r0 r1 bytes × Appends w0 w1 written × ((calls : List Call) × Serves answers db calls held (exchange s0 bytes written s1))) where
     abbrev pub run_ends : (end : SessionEnd) → Promises r1 r2 w1 w2 s1 held s2 end
-        → (bytes : List ℕ) × (written : List ℕ) × Consumes r0 r2 bytes × Appends w0 w2 written × Converses answers db s0 bytes written s2 end
+        → (bytes : List ℕ) × (written : List ℕ) × Consumes r0 r2 bytes × Appends w0 w2 written × Converses answers db end (exchange s0 bytes written s2)
     run_ends end k = (
       run.0 ++ k.0,
       run.1 ++ k.1,
@@ -268,7 +269,7 @@ module _ {S : Type 0} (answers : S → Asked → Option Answer → S → Type 0)
     )
 
     abbrev pub run_goes_on : (left : List ℕ) → Runs r1 r2 w1 w2 s1 held left s2
-        → (bytes : List ℕ) × (written : List ℕ) × Consumes r0 r2 bytes × Appends w0 w2 written × ((calls : List Call) × Serves answers db s0 bytes calls written left s2)
+        → (bytes : List ℕ) × (written : List ℕ) × Consumes r0 r2 bytes × Appends w0 w2 written × ((calls : List Call) × Serves answers db calls left (exchange s0 bytes written s2))
     run_goes_on left k = (
       run.0 ++ k.0,
       run.1 ++ k.1,

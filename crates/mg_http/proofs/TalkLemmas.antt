@@ -9,6 +9,7 @@ use Rattle.mg_http.specs.declared.sessions.SessionEnd.TheVariants.{Eof, Closed, 
 use Rattle.mg_http.specs.Session.{Call, HandlesBody, Handles, Serves, Answered, Ends, Converses}
 use Rattle.mg_http.specs.Talk.{AtWorld}
 use Rattle.mg_http.specs.Target.{Request, body, asks, refuses}
+use Rattle.mg_http.proofs.Forms.{exchange, step}
 
 -- a command that is answered at a world leaves one for which the service stands
 pub at_world : (ends : World → Type 0) (w : World) (c : Asked) (r : Option Answer) → Answers w c r ends → (u : World) × AtWorld w c r u × ends u
@@ -20,22 +21,22 @@ module _ {S T : Type 0} (answers : S → Asked → Option Answer → S → Type 
   same : (old new : S) (w : T) → new ≡ old → stands old w → stands new w
   same old new w e h = subst (λ (s : S). stands s w) (sym e) h
 
-  body_handled : (old : S) (endpoint : Endpoint) (bytes : List ℕ) (reply : Option Answer) (new : S) (w : T) → HandlesBody answers old endpoint bytes reply new → stands old w
-      → (u : T) × HandlesBody shown w endpoint bytes reply u × stands new u
+  body_handled : (old : S) (endpoint : Endpoint) (bytes : List ℕ) (reply : Option Answer) (new : S) (w : T) → HandlesBody answers endpoint bytes (step old reply new) → stands old w
+      → (u : T) × HandlesBody shown endpoint bytes (step w reply u) × stands new u
   body_handled old endpoint bytes reply new w (inl asked) h =
       let s = steps old _ reply new w asked.2 h in
       (s.0, inl (asked.0, asked.1, s.1), s.2)
   body_handled old endpoint bytes reply new w (inr (inl none)) h = (w, inr (inl (none.0, none.1, refl)), same old new w none.2 h)
   body_handled old endpoint bytes reply new w (inr (inr refused)) h = (w, inr (inr (refused.0, refl)), same old new w refused.1 h)
 
-  handled : (old : S) (request : Request) (bytes : List ℕ) (reply : Option Answer) (new : S) (w : T) → Handles answers old request bytes reply new → stands old w
-      → (u : T) × Handles shown w request bytes reply u × stands new u
+  handled : (old : S) (request : Request) (bytes : List ℕ) (reply : Option Answer) (new : S) (w : T) → Handles answers request bytes (step old reply new) → stands old w
+      → (u : T) × Handles shown request bytes (step w reply u) × stands new u
   handled old (body endpoint) bytes reply new w k h = body_handled old endpoint bytes reply new w k h
   handled old (asks command) bytes reply new w k h = steps old command reply new w k h
   handled old (refuses refusal) bytes reply new w k h = (w, (k.0, refl), same old new w k.1 h)
 
-  served : (old : S) (bytes : List ℕ) (calls : List Call) (text rest : List ℕ) (new : S) (w : T) → Serves answers db old bytes calls text rest new → stands old w
-      → (u : T) × Serves shown db w bytes calls text rest u × stands new u
+  served : (old : S) (bytes : List ℕ) (calls : List Call) (text rest : List ℕ) (new : S) (w : T) → Serves answers db calls rest (exchange old bytes text new) → stands old w
+      → (u : T) × Serves shown db calls rest (exchange w bytes text u) × stands new u
   served old bytes [] text rest new w h st = (w, (h.0, h.1, refl), same old new w h.2 st)
   served old bytes (call ∷ calls) text rest new w h st =
       let one = handled old call.message.request call.message.body call.reply h.mid w h.handled st in
@@ -54,25 +55,25 @@ module _ {S T : Type 0} (answers : S → Asked → Option Answer → S → Type 
         more.2,
       )
 
-  ended : (end : SessionEnd) (old : S) (rest last : List ℕ) (new : S) (w : T) → Ends answers db end old rest last new → stands old w
-      → (u : T) × Ends shown db end w rest last u × stands new u
+  ended : (end : SessionEnd) (old : S) (rest last : List ℕ) (new : S) (w : T) → Ends answers db end (exchange old rest last new) → stands old w
+      → (u : T) × Ends shown db end (exchange w rest last u) × stands new u
   ended Eof old rest last new w h st = (w, (h.0, h.1, refl), same old new w h.2 st)
   ended ReadFault old rest last new w h st = (w, (h.0, h.1, refl), same old new w h.2 st)
   ended Limit old rest last new w h st = (w, (h.0, refl), same old new w h.1 st)
   ended Closed old rest last new w (call, closes, answered) st =
       let one = handled old call.message.request call.message.body call.reply new w answered.handled st in
-      let again : Answered shown db w rest call last one.0 = record { after = answered.after; begins = answered.begins; handled = one.1; text_is = answered.text_is } in
+      let again : Answered shown db call (exchange w rest last one.0) = record { after = answered.after; begins = answered.begins; handled = one.1; text_is = answered.text_is } in
       (one.0, (call, closes, again), one.2)
   ended Refused old rest last new w h st = (w, (h.0, refl), same old new w h.1 st)
   ended WriteFault old rest last new w (whole, prefix, inl (call, answered)) st =
       let one = handled old call.message.request call.message.body call.reply new w answered.handled st in
-      let again : Answered shown db w rest call whole one.0 = record { after = answered.after; begins = answered.begins; handled = one.1; text_is = answered.text_is } in
+      let again : Answered shown db call (exchange w rest whole one.0) = record { after = answered.after; begins = answered.begins; handled = one.1; text_is = answered.text_is } in
       (one.0, (whole, prefix, inl (call, again)), one.2)
   ended WriteFault old rest last new w (whole, prefix, inr refused) st =
       (w, (whole, prefix, inr (refused.0, refl)), same old new w refused.1 st)
 
-  pub talks : (old : S) (bytes written : List ℕ) (new : S) (end : SessionEnd) (w : T) → Converses answers db old bytes written new end → stands old w
-      → (u : T) × Converses shown db w bytes written u end × stands new u
+  pub talks : (old : S) (bytes written : List ℕ) (new : S) (end : SessionEnd) (w : T) → Converses answers db end (exchange old bytes written new) → stands old w
+      → (u : T) × Converses shown db end (exchange w bytes written u) × stands new u
   talks old bytes written new end w h st =
       let first = served old bytes h.calls h.text h.rest h.mid w h.served st in
       let last = ended end h.mid h.rest h.last new first.0 h.ended first.2 in (

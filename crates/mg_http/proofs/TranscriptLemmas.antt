@@ -18,6 +18,7 @@ use Rattle.mg_http.specs.Session.{Call, Handles, call_text, Serves, Answered, En
 use Rattle.mg_http.specs.Talk.{AtWorld, Talks, IsTalk, HoldsAt}
 use Rattle.mg_http.specs.Target.{Request, body, asks, refuses}
 use Rattle.mg_http.specs.Transcript.{Stops, Speaks, IsTranscript, IsAnswered, EndsAmply, IsAmple, IsAtLimit, WroteAll, Holds}
+use Rattle.mg_http.proofs.Forms.{course, exchange, passage, step}
 use Rattle.mg_http.proofs.MessageLemmas.{has_head, two_messages, Begins-append}
 use Rattle.mg_http.proofs.HeadLemmas.{head_long}
 use Rattle.mg_http.proofs.CutLemmas.{no_stop, one_reply, after_stop}
@@ -36,14 +37,14 @@ front_of_front xs ys zs a b =
 module _ {S : Type 0} (answers : S → Asked → Option Answer → S → Type 0) (db : List ℕ) where
   -- a call whose reply is known
   known : (w : S) (call : Call) (u : S) (has : IsAnswered call)
-      → Handles answers w call.message.request call.message.body call.reply u
-      → Handles answers w call.message.request call.message.body (Some has.0) u
-  known w call u has h = subst (λ (r : Option Answer). Handles answers w call.message.request call.message.body r u) has.1 h
+      → Handles answers call.message.request call.message.body (step w call.reply u)
+      → Handles answers call.message.request call.message.body (step w (Some has.0) u)
+  known w call u has h = subst (λ (r : Option Answer). Handles answers call.message.request call.message.body (step w r u)) has.1 h
 
   -- what the calls wrote, and then a transcript of what they left
   speaks : (w : S) (bytes : List ℕ) (calls : List Call) (text rest : List ℕ) (u : S) (ms : List Message) (later : List ℕ)
-      → Serves answers db w bytes calls text rest u → All IsAnswered calls → Speaks answers db u rest ms later
-      → Speaks answers db w bytes (messages_in calls ++ ms) (text ++ later)
+      → Serves answers db calls rest (exchange w bytes text u) → All IsAnswered calls → Speaks answers db ms (passage u rest later)
+      → Speaks answers db (messages_in calls ++ ms) (passage w bytes (text ++ later))
   speaks w bytes [] text rest u ms later h all k = rw (h.0, h.1, ← h.2) k
   speaks w bytes (call ∷ calls) text rest u ms later h all k =
       let has = All-head IsAnswered call calls all in record {
@@ -59,8 +60,8 @@ module _ {S : Type 0} (answers : S → Asked → Option Answer → S → Type 0)
       }
 
   -- the last text is a transcript of the bytes that were left
-  last_speaks : (end : SessionEnd) (w : S) (rest last : List ℕ) (u : S) (e : Ends answers db end w rest last u)
-      → EndsAmply answers db end w rest last u e → WroteAll end → IsTranscript answers db w rest last
+  last_speaks : (end : SessionEnd) (w : S) (rest last : List ℕ) (u : S) (e : Ends answers db end (exchange w rest last u))
+      → EndsAmply answers db end (exchange w rest last u) e → WroteAll end → IsTranscript answers db (passage w rest last)
   last_speaks Eof w rest last u e ample all = ([], inl (e.0, e.1))
   last_speaks ReadFault w rest last u e ample all = ([], inl (e.0, e.1))
   last_speaks Closed w rest last u (call, closes, answered) ample all = (
@@ -81,16 +82,16 @@ module _ {S : Type 0} (answers : S → Asked → Option Answer → S → Type 0)
   last_speaks WriteFault w rest last u e ample all = absurd all
   last_speaks Limit w rest last u e ample all = absurd all
 
-  pub whole_transcript : (w : S) (bytes written : List ℕ) (u : S) (end : SessionEnd) (t : Converses answers db w bytes written u end)
-      → IsAmple answers db w bytes written u end t → WroteAll end → IsTranscript answers db w bytes written
+  pub whole_transcript : (w : S) (bytes written : List ℕ) (u : S) (end : SessionEnd) (t : Converses answers db end (exchange w bytes written u))
+      → IsAmple answers db end (exchange w bytes written u) t → WroteAll end → IsTranscript answers db (passage w bytes written)
   whole_transcript w bytes written u end t ample all =
       let last = last_speaks end t.mid t.rest t.last u t.ended ample.last all in
       let ms : List Message = messages_in t.calls ++ last.0 in
-      (ms, subst (λ (x : List ℕ). Speaks answers db w bytes ms x) (sym t.written_is) (speaks w bytes t.calls t.text t.rest t.mid last.0 t.last t.served ample.calls last.1))
+      (ms, subst (λ (x : List ℕ). Speaks answers db ms (passage w bytes x)) (sym t.written_is) (speaks w bytes t.calls t.text t.rest t.mid last.0 t.last t.served ample.calls last.1))
 
   pub holds : (read wrote : List ℕ → Type 0) (old new : S) (end : SessionEnd) (bytes written : List ℕ)
-      → read bytes → wrote written → Converses answers db old bytes written new end → IsAtLimit end bytes
-      → Holds answers db read wrote old new end
+      → read bytes → wrote written → Converses answers db end (exchange old bytes written new) → IsAtLimit end bytes
+      → Holds answers db (course read wrote old new end)
   holds read wrote old new end bytes written input output talk limit = record {
     bytes = bytes;
     written = written;
@@ -104,23 +105,23 @@ module _ {S : Type 0} (answers : S → Asked → Option Answer → S → Type 0)
 module _ (db : List ℕ) where
   -- a transcript goes on as the calls do
   follows : (w : World) (bytes : List ℕ) (calls : List Call) (text rest : List ℕ) (u : World) (ns : List Message) (longer : List ℕ)
-      → Serves AtWorld db w bytes calls text rest u → All IsAnswered calls → Speaks AtWorld db w bytes ns longer
-      → (ms : List Message) × (later : List ℕ) × (longer ≡ text ++ later) × Speaks AtWorld db u rest ms later
+      → Serves AtWorld db calls rest (exchange w bytes text u) → All IsAnswered calls → Speaks AtWorld db ns (passage w bytes longer)
+      → (ms : List Message) × (later : List ℕ) × (longer ≡ text ++ later) × Speaks AtWorld db ms (passage u rest later)
   follows w bytes [] text rest u ns longer h all k = (ns, longer, rw h.1 refl, rw (h.2, ← h.0) k)
   follows w bytes (call ∷ calls) text rest u [] longer h all k = absurd (no_stop db bytes call.message h.after longer h.begins k)
   follows w bytes (call ∷ calls) text rest u (n ∷ ns) longer h all k =
       let has = All-head IsAnswered call calls all in
       let one = two_messages db bytes call.message n h.after k.after h.begins k.begins in
-      let mine : Handles AtWorld w n.request n.body (Some has.0) h.mid =
-      subst (λ (m : Message). Handles AtWorld w m.request m.body (Some has.0) h.mid) one.0 (known AtWorld db w call h.mid has h.handled) in
+      let mine : Handles AtWorld n.request n.body (step w (Some has.0) h.mid) =
+      subst (λ (m : Message). Handles AtWorld m.request m.body (step w (Some has.0) h.mid)) one.0 (known AtWorld db w call h.mid has h.handled) in
       let reply = one_reply w n.request n.body has.0 k.answer h.mid k.mid mine k.handled in
       let first : call_text call ≡ text_of n.silent k.answer =
       ap (λ (r : Option Answer). reply_text call.message.silent r) has.1 ∙ ap (λ (m : Message). text_of m.silent has.0) one.0 ∙ ap (text_of n.silent) reply.0 in
       elim k.others_follow [
         | inl d ↦ absurd (let e : true ≡ false = sym d.0 ∙ sym (ap (λ (m : Message). m.closes) one.0) ∙ h.stays in cc)
         | inr d ↦
-            let same : Speaks AtWorld db h.mid h.after ns k.later =
-            subst (λ (v : World). Speaks AtWorld db v h.after ns k.later) (sym reply.1) (subst (λ (b : List ℕ). Speaks AtWorld db k.mid b ns k.later) (sym one.1) d.1) in
+            let same : Speaks AtWorld db ns (passage h.mid h.after k.later) =
+            subst (λ (v : World). Speaks AtWorld db ns (passage v h.after k.later)) (sym reply.1) (subst (λ (b : List ℕ). Speaks AtWorld db ns (passage k.mid b k.later)) (sym one.1) d.1) in
             let more = follows h.mid h.after calls h.later rest u ns k.later h.others_follow (All-tail IsAnswered call calls all) same in (
               more.0,
               more.1,
@@ -132,13 +133,13 @@ module _ (db : List ℕ) where
 
   -- the reply to the message at the front begins a transcript, whatever follows
   call_begins : (w : World) (rest more : List ℕ) (call : Call) (whole : List ℕ) (u : World) (ms : List Message) (later : List ℕ)
-      → Answered AtWorld db w rest call whole u → IsAnswered call → Speaks AtWorld db w (rest ++ more) ms later → IsPrefix whole later
+      → Answered AtWorld db call (exchange w rest whole u) → IsAnswered call → Speaks AtWorld db ms (passage w (rest ++ more) later) → IsPrefix whole later
   call_begins w rest more call whole u [] later a has k =
       absurd (no_stop db (rest ++ more) call.message (a.after ++ more) later (Begins-append db rest call.message a.after more a.begins) k)
   call_begins w rest more call whole u (n ∷ ns) later a has k =
       let one = two_messages db (rest ++ more) call.message n (a.after ++ more) k.after (Begins-append db rest call.message a.after more a.begins) k.begins in
-      let mine : Handles AtWorld w n.request n.body (Some has.0) u =
-      subst (λ (m : Message). Handles AtWorld w m.request m.body (Some has.0) u) one.0 (known AtWorld db w call u has a.handled) in
+      let mine : Handles AtWorld n.request n.body (step w (Some has.0) u) =
+      subst (λ (m : Message). Handles AtWorld m.request m.body (step w (Some has.0) u)) one.0 (known AtWorld db w call u has a.handled) in
       let reply = one_reply w n.request n.body has.0 k.answer u k.mid mine k.handled in
       let first : whole ≡ text_of n.silent k.answer =
       a.text_is ∙ ap (λ (r : Option Answer). reply_text call.message.silent r) has.1 ∙ ap (λ (m : Message). text_of m.silent has.0) one.0 ∙ ap (text_of n.silent) reply.0 in
@@ -147,15 +148,15 @@ module _ (db : List ℕ) where
   -- what refuses the bytes begins a transcript of them, whatever follows
   refusal_begins : (w : World) (rest more whole : List ℕ) (ms : List Message) (later : List ℕ)
       → ((refusal : Refusal) × (silent : Bool) × IsRefused db rest refusal silent × (whole ≡ text_of silent (refused refusal)))
-      → Speaks AtWorld db w (rest ++ more) ms later → IsPrefix whole later
+      → Speaks AtWorld db ms (passage w (rest ++ more) later) → IsPrefix whole later
   refusal_begins w rest more whole ms later r k = after_stop db w rest more whole ms later (inr r) k
 
   nothing_begins : (last later : List ℕ) → last ≡ [] → IsPrefix last later
   nothing_begins last later e = (later, rw e refl)
 
   -- the last text begins each transcript of the bytes that were left, whatever follows
-  last_begins : (end : SessionEnd) (w : World) (rest last : List ℕ) (u : World) (e : Ends AtWorld db end w rest last u)
-      → EndsAmply AtWorld db end w rest last u e → (more : List ℕ) (ms : List Message) (later : List ℕ) → Speaks AtWorld db w (rest ++ more) ms later → IsPrefix last later
+  last_begins : (end : SessionEnd) (w : World) (rest last : List ℕ) (u : World) (e : Ends AtWorld db end (exchange w rest last u))
+      → EndsAmply AtWorld db end (exchange w rest last u) e → (more : List ℕ) (ms : List Message) (later : List ℕ) → Speaks AtWorld db ms (passage w (rest ++ more) later) → IsPrefix last later
   last_begins Eof w rest last u e ample more ms later k = nothing_begins last later e.1
   last_begins ReadFault w rest last u e ample more ms later k = nothing_begins last later e.1
   last_begins Limit w rest last u e ample more ms later k = nothing_begins last later e.0
@@ -168,8 +169,8 @@ module _ (db : List ℕ) where
       front_of_front last whole later front (refusal_begins w rest more whole ms later r k)
   last_begins WriteFault w rest last u (whole, front, inr (inr r, same)) ample more ms later k = absurd ample
 
-  pub front_of_transcript : (w : World) (bytes written : List ℕ) (u : World) (end : SessionEnd) (t : Talks db w bytes written u end)
-      → IsAmple AtWorld db w bytes written u end t → (more text : List ℕ) → IsTalk db w (bytes ++ more) text → IsPrefix written text
+  pub front_of_transcript : (w : World) (bytes written : List ℕ) (u : World) (end : SessionEnd) (t : Talks db end (exchange w bytes written u))
+      → IsAmple AtWorld db end (exchange w bytes written u) t → (more text : List ℕ) → IsTalk db w (bytes ++ more) text → IsPrefix written text
   front_of_transcript w bytes written u end t ample more text k =
       let served = Serves-append AtWorld db w bytes t.calls t.text t.rest t.mid more t.served in
       let left = follows w (bytes ++ more) t.calls t.text (t.rest ++ more) t.mid k.0 text served ample.calls k.1 in
@@ -177,7 +178,7 @@ module _ (db : List ℕ) where
       (last.0, ap (λ (x : List ℕ). x ++ last.0) t.written_is ∙ append_assoc t.text t.last last.0 ∙ ap (λ (x : List ℕ). t.text ++ x) last.1 ∙ sym left.2)
 
   pub holds_at : (read wrote : List ℕ → Type 0) (w u : World) (end : SessionEnd) (bytes written : List ℕ)
-      → read bytes → wrote written → Talks db w bytes written u end → IsAtLimit end bytes → HoldsAt db read wrote w u end
+      → read bytes → wrote written → Talks db end (exchange w bytes written u) → IsAtLimit end bytes → HoldsAt db (course read wrote w u end)
   unfolding holds
   holds_at read wrote w u end bytes written input output talk limit = record {
     session = holds AtWorld db read wrote w u end bytes written input output talk limit;
@@ -188,7 +189,7 @@ module _ (db : List ℕ) where
 
   -- a request has some reply
   some_reply : (w : World) (request : Request) (bytes : List ℕ)
-      → ((answer : Answer) (u : World) → ¬ (Handles AtWorld w request bytes (Some answer) u)) → ⊥
+      → ((answer : Answer) (u : World) → ¬ (Handles AtWorld request bytes (step w (Some answer) u))) → ⊥
   some_reply w (refuses refusal) bytes lacking = lacking (refused refusal) w (refl, refl)
   some_reply w (asks command) bytes lacking = lacking (reply_of w command) (next w command) (refl, refl)
   some_reply w (body endpoint) bytes lacking =
@@ -229,10 +230,10 @@ module _ (db : List ℕ) where
                     framed = record { asks = rw size e; silent = refl; closes = refl };
                     joined = sym (take-append-drop n after);
                   } in
-                  let one : (text later : List ℕ) (answer : Answer) (u : World) (ms : List Message) → Handles AtWorld w request (take n after) (Some answer) u
+                  let one : (text later : List ℕ) (answer : Answer) (u : World) (ms : List Message) → Handles AtWorld request (take n after) (step w (Some answer) u)
                   → text ≡ text_of (is_silent h) answer ++ later
-                  → ((closes_after h ≡ true) × (ms ≡ []) × (later ≡ [])) ⊎ ((closes_after h ≡ false) × Speaks AtWorld db u (drop n after) ms later)
-                  → Speaks AtWorld db w bytes (m ∷ ms) text =
+                  → ((closes_after h ≡ true) × (ms ≡ []) × (later ≡ [])) ⊎ ((closes_after h ≡ false) × Speaks AtWorld db ms (passage u (drop n after) later))
+                  → Speaks AtWorld db (m ∷ ms) (passage w bytes text) =
                   λ text later answer u ms handled is others. record {
                     after = drop n after;
                     later = later;

@@ -25,21 +25,25 @@ asked_by Explain v = explain v
 asked_by CreateIndex v = create_index v
 asked_by Reshard v = reshard v
 
+-- a step of a service: its state before, the reply (none for want of memory), and the state that it leaves
+pub record Step (S : Type 0) : Type 0 where
+  pub old : S
+  pub reply : Option Answer
+  pub new : S
+
 -- The reply to a body: that of the service to the value that the body is, or that the body is none, or that memory was
 -- refused before the service was asked.
-abbrev pub HandlesBody
-    : {S : Type 0} → (S → Asked → Option Answer → S → Type 0) → S → Endpoint → List ℕ → Option Answer → S → Type 0
-HandlesBody answers old endpoint bytes reply new =
-    ((value : Value) × Reads bytes value × answers old (asked_by endpoint value) reply new)
-    ⊎ ((((value : Value) → ¬ (Reads bytes value)) × (reply ≡ Some (refused InvalidJson)) × (new ≡ old))
-    ⊎ ((reply ≡ None) × (new ≡ old)))
+abbrev pub HandlesBody : {S : Type 0} → (S → Asked → Option Answer → S → Type 0) → Endpoint → List ℕ → Step S → Type 0
+HandlesBody answers endpoint bytes step =
+    ((value : Value) × Reads bytes value × answers step.old (asked_by endpoint value) step.reply step.new)
+    ⊎ ((((value : Value) → ¬ (Reads bytes value)) × (step.reply ≡ Some (refused InvalidJson)) × (step.new ≡ step.old))
+    ⊎ ((step.reply ≡ None) × (step.new ≡ step.old)))
 
 -- the reply to a request with this body, which only an endpoint looks at
-abbrev pub Handles
-    : {S : Type 0} → (S → Asked → Option Answer → S → Type 0) → S → Request → List ℕ → Option Answer → S → Type 0
-Handles answers old (body endpoint) bytes reply new = HandlesBody answers old endpoint bytes reply new
-Handles answers old (asks command) bytes reply new = answers old command reply new
-Handles answers old (refuses refusal) bytes reply new = (reply ≡ Some (refused refusal)) × (new ≡ old)
+abbrev pub Handles : {S : Type 0} → (S → Asked → Option Answer → S → Type 0) → Request → List ℕ → Step S → Type 0
+Handles answers (body endpoint) bytes step = HandlesBody answers endpoint bytes step
+Handles answers (asks command) bytes step = answers step.old command step.reply step.new
+Handles answers (refuses refusal) bytes step = (step.reply ≡ Some (refused refusal)) × (step.new ≡ step.old)
 
 -- a message, and its reply
 pub record Call : Type 0 where
@@ -48,43 +52,48 @@ pub record Call : Type 0 where
 
 -- the call's message was handled
 abbrev pub IsHandled : {S : Type 0} → (S → Asked → Option Answer → S → Type 0) → S → Call → S → Type 0
-IsHandled answers old call new = Handles answers old call.message.request call.message.body call.reply new
+IsHandled answers old call new =
+    Handles answers call.message.request call.message.body (record { old = old; reply = call.reply; new = new })
 
 -- the text of the reply to the call's message
 abbrev pub call_text : Call → List ℕ
 call_text call = reply_text call.message.silent call.reply
 
--- The bytes begin with the message of the call, which does not end the session, and the text with its reply. `others` says of the bytes
--- behind the message, the text behind its reply and the state between what the other calls do.
+-- what goes in and out between two states of a service: the bytes that come, and the text that is written
+pub record Exchange (S : Type 0) : Type 0 where
+  pub old : S
+  pub bytes : List ℕ
+  pub text : List ℕ
+  pub new : S
+
+-- The bytes begin with the message of the call, which does not end the session, and the text with its reply. `others` says of what
+-- goes in and out behind them, from the state that the call leaves, what the other calls do.
 pub record ServesFirst
-    {S : Type 0} (answers : S → Asked → Option Answer → S → Type 0) (db : List ℕ) (old : S) (bytes : List ℕ) (call : Call)
-    (text : List ℕ) (others : List ℕ → List ℕ → S → Type 0) : Type 0 where
+    {S : Type 0} (answers : S → Asked → Option Answer → S → Type 0) (db : List ℕ) (call : Call) (all : Exchange S)
+    (others : Exchange S → Type 0) : Type 0 where
   pub after : List ℕ
   pub later : List ℕ
   pub mid : S
-  pub begins : Begins db bytes call.message after
+  pub begins : Begins db all.bytes call.message after
   pub stays : call.message.closes ≡ false
-  pub handled : IsHandled answers old call mid
-  pub text_is : text ≡ call_text call ++ later
-  pub others_follow : others after later mid
+  pub handled : IsHandled answers all.old call mid
+  pub text_is : all.text ≡ call_text call ++ later
+  pub others_follow : others (record { old = mid; bytes = after; text = later; new = all.new })
 
 -- The bytes are the messages of the calls and then rest, the text is the replies to them in order, and the service
--- went from old to new. None of them ends the session.
+-- went from the old state to the new one. None of them ends the session.
 abbrev pub Serves
-    : {S : Type 0} → (S → Asked → Option Answer → S → Type 0)
-    → List ℕ → S → List ℕ → List Call → List ℕ → List ℕ → S → Type 0
-Serves answers db old bytes [] text rest new = (bytes ≡ rest) × (text ≡ []) × (new ≡ old)
-Serves answers db old bytes (call ∷ calls) text rest new =
-    ServesFirst answers db old bytes call text (λ after later mid. Serves answers db mid after calls later rest new)
+    : {S : Type 0} → (S → Asked → Option Answer → S → Type 0) → List ℕ → List Call → List ℕ → Exchange S → Type 0
+Serves answers db [] rest all = (all.bytes ≡ rest) × (all.text ≡ []) × (all.new ≡ all.old)
+Serves answers db (call ∷ calls) rest all = ServesFirst answers db call all (Serves answers db calls rest)
 
--- the message at the front was handled, and this text is its reply
+-- the message at the front was handled, and the text is its reply
 pub record Answered
-    {S : Type 0} (answers : S → Asked → Option Answer → S → Type 0) (db : List ℕ) (old : S) (bytes : List ℕ) (call : Call)
-    (text : List ℕ) (new : S) : Type 0 where
+    {S : Type 0} (answers : S → Asked → Option Answer → S → Type 0) (db : List ℕ) (call : Call) (all : Exchange S) : Type 0 where
   pub after : List ℕ
-  pub begins : Begins db bytes call.message after
-  pub handled : IsHandled answers old call new
-  pub text_is : text ≡ call_text call
+  pub begins : Begins db all.bytes call.message after
+  pub handled : IsHandled answers all.old call all.new
+  pub text_is : all.text ≡ call_text call
 
 -- There was no memory for the message: for its first byte, or its head, or what a whole head asks for and its body.
 -- Where the head is whole, it says whether the reply is without its body.
@@ -100,28 +109,26 @@ Refuses db bytes text =
     ((refusal : Refusal) × (silent : Bool) × IsRefused db bytes refusal silent × (text ≡ text_of silent (refused refusal)))
     ⊎ ((silent : Bool) × LacksMemory bytes silent × (text ≡ reply_text silent None))
 
--- How a session ends that answered all but rest, with the text that came last.
-abbrev pub Ends
-    : {S : Type 0} → (S → Asked → Option Answer → S → Type 0) → List ℕ → SessionEnd → S → List ℕ → List ℕ → S → Type 0
-Ends answers db Eof old rest last new = IsWaiting db rest × (last ≡ []) × (new ≡ old)
-Ends answers db ReadFault old rest last new = IsWaiting db rest × (last ≡ []) × (new ≡ old)
-Ends answers db Limit old rest last new = (last ≡ []) × (new ≡ old)
-Ends answers db Closed old rest last new =
-    (call : Call) × (call.message.closes ≡ true) × Answered answers db old rest call last new
-Ends answers db Refused old rest last new = Refuses db rest last × (new ≡ old)
-Ends answers db WriteFault old rest last new =
-    (whole : List ℕ) × IsPrefix last whole
-    × (((call : Call) × Answered answers db old rest call whole new) ⊎ (Refuses db rest whole × (new ≡ old)))
+-- How a session ends, by the last of what goes in and out: the bytes that are unanswered by then, and the text that comes last.
+abbrev pub Ends : {S : Type 0} → (S → Asked → Option Answer → S → Type 0) → List ℕ → SessionEnd → Exchange S → Type 0
+Ends answers db Eof last = IsWaiting db last.bytes × (last.text ≡ []) × (last.new ≡ last.old)
+Ends answers db ReadFault last = IsWaiting db last.bytes × (last.text ≡ []) × (last.new ≡ last.old)
+Ends answers db Limit last = (last.text ≡ []) × (last.new ≡ last.old)
+Ends answers db Closed last = (call : Call) × (call.message.closes ≡ true) × Answered answers db call last
+Ends answers db Refused last = Refuses db last.bytes last.text × (last.new ≡ last.old)
+Ends answers db WriteFault last =
+    (whole : List ℕ) × IsPrefix last.text whole
+    × (((call : Call) × Answered answers db call (record last { text = whole }))
+    ⊎ (Refuses db last.bytes whole × (last.new ≡ last.old)))
 
--- a session that read these bytes, wrote these, and took the service from old to new
+-- a session that ended so: it read these bytes, wrote this text, and took the service from the old state to the new one
 pub record Converses
-    {S : Type 0} (answers : S → Asked → Option Answer → S → Type 0) (db : List ℕ)
-    (old : S) (bytes written : List ℕ) (new : S) (end : SessionEnd) : Type 0 where
+    {S : Type 0} (answers : S → Asked → Option Answer → S → Type 0) (db : List ℕ) (end : SessionEnd) (all : Exchange S) : Type 0 where
   pub calls : List Call
   pub text : List ℕ
   pub rest : List ℕ
   pub mid : S
-  pub served : Serves answers db old bytes calls text rest mid
+  pub served : Serves answers db calls rest (record { old = all.old; bytes = all.bytes; text = text; new = mid })
   pub last : List ℕ
-  pub ended : Ends answers db end mid rest last new
-  pub written_is : written ≡ text ++ last
+  pub ended : Ends answers db end (record { old = mid; bytes = rest; text = last; new = all.new })
+  pub written_is : all.text ≡ text ++ last

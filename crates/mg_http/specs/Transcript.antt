@@ -8,7 +8,7 @@ use Rattle.mg_http.specs.declared.sessions.SessionEnd.{SessionEnd}
 use Rattle.mg_http.specs.declared.sessions.SessionEnd.TheVariants.{Eof, Closed, Refused, ReadFault, WriteFault, Limit}
 use Rattle.mg_http.specs.Message.{Message, Begins, IsRefused, IsWaiting}
 use Rattle.mg_http.specs.Reply.{text_of}
-use Rattle.mg_http.specs.Session.{Call, Handles, Ends, Converses}
+use Rattle.mg_http.specs.Session.{Call, Exchange, Handles, Ends, Converses}
 
 -- no message at the front can be answered: what is there is not whole, or it is refused by this text
 abbrev pub Stops : List ℕ → List ℕ → List ℕ → Type 0
@@ -16,32 +16,37 @@ Stops db bytes text =
     (IsWaiting db bytes × (text ≡ []))
     ⊎ ((refusal : Refusal) × (silent : Bool) × IsRefused db bytes refusal silent × (text ≡ text_of silent (refused refusal)))
 
+-- a text for some bytes, from a state of a service
+pub record Passage (S : Type 0) : Type 0 where
+  pub from : S
+  pub bytes : List ℕ
+  pub text : List ℕ
+
 -- The bytes begin with the message, and the text with its reply, which is not for want of memory. `others` says of the bytes behind the
 -- message, the text behind its reply and the state between what follows.
 pub record SpeaksFirst
-    {S : Type 0} (answers : S → Asked → Option Answer → S → Type 0) (db : List ℕ) (s : S) (bytes : List ℕ) (m : Message)
-    (text : List ℕ) (others : List ℕ → List ℕ → S → Type 0) : Type 0 where
+    {S : Type 0} (answers : S → Asked → Option Answer → S → Type 0) (db : List ℕ) (m : Message) (all : Passage S)
+    (others : Passage S → Type 0) : Type 0 where
   pub after : List ℕ
   pub later : List ℕ
   pub answer : Answer
   pub mid : S
-  pub begins : Begins db bytes m after
-  pub handled : Handles answers s m.request m.body (Some answer) mid
-  pub text_is : text ≡ text_of m.silent answer ++ later
-  pub others_follow : others after later mid
+  pub begins : Begins db all.bytes m after
+  pub handled : Handles answers m.request m.body (record { old = all.from; reply = Some answer; new = mid })
+  pub text_is : all.text ≡ text_of m.silent answer ++ later
+  pub others_follow : others (record { from = mid; bytes = after; text = later })
 
--- From the state s, these are the messages of the bytes that are answered, and the text is their replies: what follows a message is
--- answered in the state that it leaves, unless it ends the session.
-abbrev pub Speaks
-    : {S : Type 0} → (S → Asked → Option Answer → S → Type 0) → List ℕ → S → List ℕ → List Message → List ℕ → Type 0
-Speaks answers db s bytes [] text = Stops db bytes text
-Speaks answers db s bytes (m ∷ ms) text =
-    SpeaksFirst answers db s bytes m text (λ after later mid.
-    ((m.closes ≡ true) × (ms ≡ []) × (later ≡ [])) ⊎ ((m.closes ≡ false) × Speaks answers db mid after ms later))
+-- These are the messages of the bytes that are answered, and the text is their replies: what follows a message is answered in the state
+-- that it leaves, unless it ends the session.
+abbrev pub Speaks : {S : Type 0} → (S → Asked → Option Answer → S → Type 0) → List ℕ → List Message → Passage S → Type 0
+Speaks answers db [] all = Stops db all.bytes all.text
+Speaks answers db (m ∷ ms) all =
+    SpeaksFirst answers db m all (λ others.
+    ((m.closes ≡ true) × (ms ≡ []) × (others.text ≡ [])) ⊎ ((m.closes ≡ false) × Speaks answers db ms others))
 
--- the text is a transcript of the bytes, from the state s
-abbrev pub IsTranscript : {S : Type 0} → (S → Asked → Option Answer → S → Type 0) → List ℕ → S → List ℕ → List ℕ → Type 0
-IsTranscript answers db s bytes text = (messages : List Message) × Speaks answers db s bytes messages text
+-- the text is a transcript of the bytes, from the state
+abbrev pub IsTranscript : {S : Type 0} → (S → Asked → Option Answer → S → Type 0) → List ℕ → Passage S → Type 0
+IsTranscript answers db all = (messages : List Message) × Speaks answers db messages all
 
 -- the call has a reply that is not for want of memory
 abbrev pub IsAnswered : Call → Type 0
@@ -49,24 +54,24 @@ IsAnswered call = (answer : Answer) × (call.reply ≡ Some answer)
 
 -- the text that came last is not for want of memory
 abbrev pub EndsAmply
-    : {S : Type 0} (answers : S → Asked → Option Answer → S → Type 0) (db : List ℕ) (end : SessionEnd)
-    (old : S) (rest last : List ℕ) (new : S) → Ends answers db end old rest last new → Type 0
-EndsAmply answers db Eof old rest last new ended = ⊤
-EndsAmply answers db ReadFault old rest last new ended = ⊤
-EndsAmply answers db Limit old rest last new ended = ⊤
-EndsAmply answers db Closed old rest last new ended = IsAnswered ended.0
-EndsAmply answers db Refused old rest last new (inl refused, same) = ⊤
-EndsAmply answers db Refused old rest last new (inr lacking, same) = ⊥
-EndsAmply answers db WriteFault old rest last new (whole, front, inl answered) = IsAnswered answered.0
-EndsAmply answers db WriteFault old rest last new (whole, front, inr (inl refused, same)) = ⊤
-EndsAmply answers db WriteFault old rest last new (whole, front, inr (inr lacking, same)) = ⊥
+    : {S : Type 0} (answers : S → Asked → Option Answer → S → Type 0) (db : List ℕ) (end : SessionEnd) (last : Exchange S)
+    → Ends answers db end last → Type 0
+EndsAmply answers db Eof last ended = ⊤
+EndsAmply answers db ReadFault last ended = ⊤
+EndsAmply answers db Limit last ended = ⊤
+EndsAmply answers db Closed last ended = IsAnswered ended.0
+EndsAmply answers db Refused last (inl refused, same) = ⊤
+EndsAmply answers db Refused last (inr lacking, same) = ⊥
+EndsAmply answers db WriteFault last (whole, front, inl answered) = IsAnswered answered.0
+EndsAmply answers db WriteFault last (whole, front, inr (inl refused, same)) = ⊤
+EndsAmply answers db WriteFault last (whole, front, inr (inr lacking, same)) = ⊥
 
 -- memory sufficed for a session: each of its replies is one that is not for want of memory
 pub record IsAmple
-    {S : Type 0} (answers : S → Asked → Option Answer → S → Type 0) (db : List ℕ) (old : S) (bytes written : List ℕ) (new : S)
-    (end : SessionEnd) (talk : Converses answers db old bytes written new end) : Type 0 where
+    {S : Type 0} (answers : S → Asked → Option Answer → S → Type 0) (db : List ℕ) (end : SessionEnd) (all : Exchange S)
+    (talk : Converses answers db end all) : Type 0 where
   pub calls : All IsAnswered talk.calls
-  pub last : EndsAmply answers db end talk.mid talk.rest talk.last new talk.ended
+  pub last : EndsAmply answers db end (record { old = talk.mid; bytes = talk.rest; text = talk.last; new = all.new }) talk.ended
 
 -- the session wrote all that it had to write: it ended neither at a write fault nor at its limit
 abbrev pub WroteAll : SessionEnd → Type 0
@@ -87,15 +92,23 @@ IsAtLimit Refused bytes = ⊤
 IsAtLimit ReadFault bytes = ⊤
 IsAtLimit WriteFault bytes = ⊤
 
--- A session over an input and an output; `read` and `wrote` say which bytes were read and written. Where memory sufficed for it, and
--- it wrote all that it had to write, it wrote a transcript of what it read.
+-- A session over an input and an output: which bytes were read, which were written, from which state of the service to which, and how
+-- it ended.
+pub record Course (S : Type 0) : Type 1 where
+  pub read : List ℕ → Type 0
+  pub wrote : List ℕ → Type 0
+  pub old : S
+  pub new : S
+  pub end : SessionEnd
+
+-- What the session did. Where memory sufficed for it, and it wrote all that it had to write, it wrote a transcript of what it read.
 pub record Holds
-    {S : Type 0} (answers : S → Asked → Option Answer → S → Type 0) (db : List ℕ) (read wrote : List ℕ → Type 0)
-    (old new : S) (end : SessionEnd) : Type 0 where
+    {S : Type 0} (answers : S → Asked → Option Answer → S → Type 0) (db : List ℕ) (course : Course S) : Type 0 where
   pub bytes : List ℕ
   pub written : List ℕ
-  pub input : read bytes
-  pub output : wrote written
-  pub talk : Converses answers db old bytes written new end
-  pub transcript : IsAmple answers db old bytes written new end talk → WroteAll end → IsTranscript answers db old bytes written
-  pub limit : IsAtLimit end bytes
+  pub input : course.read bytes
+  pub output : course.wrote written
+  pub talk : Converses answers db course.end (record { old = course.old; bytes = bytes; text = written; new = course.new })
+  pub transcript : IsAmple answers db course.end (record { old = course.old; bytes = bytes; text = written; new = course.new }) talk
+      → WroteAll course.end → IsTranscript answers db (record { from = course.old; bytes = bytes; text = written })
+  pub limit : IsAtLimit course.end bytes

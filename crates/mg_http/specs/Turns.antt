@@ -23,7 +23,7 @@ use Rattle.mg_http.specs.Inbox.{unanswered}
 use Rattle.mg_http.specs.Reply.{reply_text}
 use Rattle.mg_http.specs.Head.{Asks, framed, unframed, asks_of, is_silent, closes_after}
 use Rattle.mg_http.specs.Message.{Message, HasHead, IsNoHead, CanGoOn, IsPartHead, IsRefused}
-use Rattle.mg_http.specs.Session.{Call, Serves, Converses}
+use Rattle.mg_http.specs.Session.{Call, Exchange, Serves, Converses}
 use Rattle.mg_http.specs.Target.{Request, body, asks, refuses}
 
 -- what a target that was read asks for
@@ -69,13 +69,10 @@ IsFront db bytes (front.Refused refusal silent) = IsRefused db bytes refusal sil
 IsFront db bytes (front.NoMemory silent) =
     (h : RequestHead) × (after : List ℕ) × HasHead bytes h after × (silent ≡ is_silent h)
 
--- Where so many bytes were held and these came, the session went on holding left, or it ended.
-abbrev pub Turns
-    : {S : Type 0} → (S → Asked → Option Answer → S → Type 0)
-    → List ℕ → S → List ℕ → List ℕ → List ℕ → S → Result ⊤ SessionEnd → Type 0
-Turns answers db old bytes written left new (Ok a) =
-    (calls : List Call) × Serves answers db old bytes calls written left new
-Turns answers db old bytes written left new (Err end) = Converses answers db old bytes written new end
+-- The session goes on holding what is left, or it ended.
+abbrev pub Turns : {S : Type 0} → (S → Asked → Option Answer → S → Type 0) → List ℕ → Exchange S → List ℕ → Result ⊤ SessionEnd → Type 0
+Turns answers db all left (Ok a) = (calls : List Call) × Serves answers db calls left all
+Turns answers db all left (Err end) = Converses answers db end all
 
 -- what a session has done so far: how many messages it answered, how often it called its reader, and how many bytes it holds unanswered
 pub record Progress : Type 0 where

@@ -46,7 +46,8 @@ fn answer_body<H: Wait + Threads + Sync, S: Service, W: Write>(
     endpoint: Endpoint,
     body: &[u8],
 ) -> Result<(), Fault>
-    ensures bytes { (reply : Option Answer) × HandlesBody S.answers service.old endpoint body.now reply service.new
+    ensures bytes { (reply : Option Answer)
+        × HandlesBody S.answers endpoint body.now (record { old = service.old; reply = reply; new = service.new })
         × Writes (W.contents (inner_of writer.old)) (W.contents (inner_of writer.new)) (reply_text silent reply) result }
     ensures failed { has_failed writer.new ≡ (if is_ok result then has_failed writer.old else true) }
 {
@@ -72,7 +73,8 @@ pub(crate) fn answer<H: Wait + Threads + Sync, S: Service, W: Write>(
     target: &Target,
     body: &[u8],
 ) -> Result<(), Fault>
-    ensures bytes { (reply : Option Answer) × Handles S.answers service.old (request_in target.now) body.now reply service.new
+    ensures bytes { (reply : Option Answer)
+        × Handles S.answers (request_in target.now) body.now (record { old = service.old; reply = reply; new = service.new })
         × Writes (W.contents (inner_of writer.old)) (W.contents (inner_of writer.new)) (reply_text silent reply) result }
     ensures failed { has_failed writer.new ≡ (if is_ok result then has_failed writer.old else true) }
 {

@@ -3,6 +3,7 @@ ghost use Rattle.std.specs.Prelude.{◌≡◌, ℕ, List, ◌++◌};
 ghost use Rattle.mg_engine.specs.World.{World};
 ghost use Rattle.mg_http.specs.Device.{IsPrefix};
 ghost use Rattle.mg_http.specs.Message.{Message, Begins};
+ghost use Rattle.mg_http.specs.Session.{Exchange};
 ghost use Rattle.mg_http.specs.Talk.{AtWorld, IsTalk, Talks};
 ghost use Rattle.mg_http.specs.Transcript.{IsAmple, WroteAll};
 ghost use Rattle.mg_http.specs.declared.sessions.SessionEnd.{SessionEnd};
@@ -22,12 +23,11 @@ pub fn any_cut()
 /// A session for which memory sufficed writes the transcript of the bytes that it read, unless it ended at a write fault or at its
 /// limit. However it ended, what it wrote begins each transcript of those bytes and of whatever would have come then.
 pub fn sessions_write_transcripts()
-    ensures whole { (db : List ℕ) (w : World) (bytes written : List ℕ) (u : World) (end : SessionEnd)
-        → (talk : Talks db w bytes written u end) → IsAmple AtWorld db w bytes written u end talk → WroteAll end
-        → IsTalk db w bytes written }
-    ensures front { (db : List ℕ) (w : World) (bytes written : List ℕ) (u : World) (end : SessionEnd)
-        → (talk : Talks db w bytes written u end) → IsAmple AtWorld db w bytes written u end talk
-        → (more text : List ℕ) → IsTalk db w (bytes ++ more) text → IsPrefix written text }
+    ensures whole { (db : List ℕ) (end : SessionEnd) (all : Exchange World) (talk : Talks db end all)
+        → IsAmple AtWorld db end all talk → WroteAll end → IsTalk db all.old all.bytes all.text }
+    ensures front { (db : List ℕ) (end : SessionEnd) (all : Exchange World) (talk : Talks db end all)
+        → IsAmple AtWorld db end all talk
+        → (more text : List ℕ) → IsTalk db all.old (all.bytes ++ more) text → IsPrefix all.text text }
 {}
 
 /// No world and no input are without a transcript. This is said by a double negation, since the definition of a head gives no way to

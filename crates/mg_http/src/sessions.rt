@@ -98,7 +98,9 @@ fn message<H: Wait + Threads + Sync, S: Service, R: Read, W: Write>(
         → IsFramed db h framed.now → (came : List ℕ) × (written : List ℕ)
         × Consumes (R.remaining (inner_of reader.old)) (R.remaining (inner_of reader.new)) came
         × Appends (W.contents (inner_of writer.old)) (W.contents (inner_of writer.new)) written
-        × Turns S.answers db service.old (unanswered inbox.old ++ came) written (unanswered inbox.new) service.new result
+        × Turns S.answers db
+        (record { old = service.old; bytes = unanswered inbox.old ++ came; text = written; new = service.new })
+        (unanswered inbox.new) result
         × Counts (progress_of inbox.old) (progress_of inbox.new) came result }
     ensures end { IsErrOf result SessionEnd.Eof → IsAtEnd (R.remaining (inner_of reader.new)) }
     ensures read_fault { IsTrue (has_failed reader.new) ↔ IsErrOf result SessionEnd.ReadFault }
@@ -143,7 +145,9 @@ fn turn<H: Wait + Threads + Sync, S: Service, R: Read, W: Write>(
     ensures bytes { (came : List ℕ) × (written : List ℕ)
         × Consumes (R.remaining (inner_of reader.old)) (R.remaining (inner_of reader.new)) came
         × Appends (W.contents (inner_of writer.old)) (W.contents (inner_of writer.new)) written
-        × Turns S.answers db.now service.old (unanswered inbox.old ++ came) written (unanswered inbox.new) service.new result
+        × Turns S.answers db.now
+        (record { old = service.old; bytes = unanswered inbox.old ++ came; text = written; new = service.new })
+        (unanswered inbox.new) result
         × Counts (progress_of inbox.old) (progress_of inbox.new) came result }
     ensures end { IsErrOf result SessionEnd.Eof → IsAtEnd (R.remaining (inner_of reader.new)) }
     ensures read_fault { IsTrue (has_failed reader.new) ↔ IsErrOf result SessionEnd.ReadFault }
@@ -184,10 +188,13 @@ pub fn session<H: Wait + Threads + Sync, S: Service, R: Read, W: Write>(
     requires writing { has_failed writer.old ≡ false }
 
     // What was read and what was written, and how they belong together.
-    ensures talk { Holds S.answers db.now
-        (Consumes (R.remaining (inner_of reader.old)) (R.remaining (inner_of reader.new)))
-        (Appends (W.contents (inner_of writer.old)) (W.contents (inner_of writer.new)))
-        service.old service.new result }
+    ensures talk { Holds S.answers db.now (record {
+      read = Consumes (R.remaining (inner_of reader.old)) (R.remaining (inner_of reader.new));
+      wrote = Appends (W.contents (inner_of writer.old)) (W.contents (inner_of writer.new));
+      old = service.old;
+      new = service.new;
+      end = result;
+    }) }
     ensures eof { result ≡ SessionEnd.Eof → IsAtEnd (R.remaining (inner_of reader.new)) }
     ensures read_fault { IsTrue (has_failed reader.new) ↔ (result ≡ SessionEnd.ReadFault) }
     ensures write_fault { IsTrue (has_failed writer.new) ↔ (result ≡ SessionEnd.WriteFault) }

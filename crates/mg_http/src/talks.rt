@@ -31,9 +31,13 @@ impl<P: Placement + Drop> Solo<P> {
         requires reading { has_failed reader.old ≡ false }
         requires writing { has_failed writer.old ≡ false }
         ensures talk { (w : World) → Stands P.place self.old.engine w
-            → (u : World) × HoldsAt db.now
-            (Consumes (R.remaining (inner_of reader.old)) (R.remaining (inner_of reader.new)))
-            (Appends (W.contents (inner_of writer.old)) (W.contents (inner_of writer.new))) w u result
+            → (u : World) × HoldsAt db.now (record {
+              read = Consumes (R.remaining (inner_of reader.old)) (R.remaining (inner_of reader.new));
+              wrote = Appends (W.contents (inner_of writer.old)) (W.contents (inner_of writer.new));
+              old = w;
+              new = u;
+              end = result;
+            })
             × Stands P.place self.new.engine u }
         ensures eof { result ≡ SessionEnd.Eof → IsAtEnd (R.remaining (inner_of reader.new)) }
         ensures read_fault { IsTrue (has_failed reader.new) ↔ (result ≡ SessionEnd.ReadFault) }
