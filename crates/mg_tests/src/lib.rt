@@ -1,20 +1,13 @@
-//! Tests of the libraries: what only Rust can say. A reader or a writer that fails in mid-stream, states that share their pages,
-//! shards that threads begin side by side, and each public call by itself that the program does not make. Whole conversations
-//! are data, in the folder tests/ at the top.
+//! Tests of the libraries up to the engine: what only Rust can say. States that share their pages, shards that threads begin side by
+//! side, and each public call by itself that the program does not make. Whole conversations are data, in the folder tests/ at the top,
+//! and seats are in mg_seat_tests. A test ends the process where it fails, so no function has an exit for each call that may be
+//! refused memory: that keeps the proofs of the tests small.
 #![tactic(auto)]
 
 #[cfg(test)]
-mod bookmark_tests;
-#[cfg(test)]
-mod commit_tests;
-#[cfg(test)]
 mod engine_tests;
 #[cfg(test)]
-mod gate_tests;
-#[cfg(test)]
-mod http_tests;
-#[cfg(test)]
-mod live_tests;
+mod given;
 #[cfg(test)]
 mod merge_tests;
 #[cfg(test)]
@@ -30,11 +23,7 @@ mod revtree_tests;
 #[cfg(test)]
 mod rows_tests;
 #[cfg(test)]
-mod run_tests;
-#[cfg(test)]
 mod scan_tests;
-#[cfg(test)]
-mod seat_tests;
 #[cfg(test)]
 mod selector_tests;
 #[cfg(test)]
