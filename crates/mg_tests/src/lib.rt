@@ -1,13 +1,13 @@
-//! Tests of the libraries up to the engine: what only Rust can say. States that share their pages, shards that threads begin side by
-//! side, and each public call by itself that the program does not make. Whole conversations are data, in the folder tests/ at the top,
-//! and seats are in mg_seat_tests. A test ends the process where it fails, so no function has an exit for each call that may be
-//! refused memory: that keeps the proofs of the tests small.
+//! Tests of the libraries: what only Rust can say and needs no thread. States that share their pages, a placement of documents of the
+//! test's own, lists of events, runs that are refused memory, and each public call by itself that the program does not make. Whole
+//! conversations are data, in the folder tests/ at the top; threads are in mg_thread_tests. A test ends the process where it fails, so
+//! no function has an exit for each call that may be refused memory: that keeps the proofs of the tests small.
 #![tactic(auto)]
 
 #[cfg(test)]
-mod engine_tests;
-#[cfg(test)]
 mod given;
+#[cfg(test)]
+mod machine_tests;
 #[cfg(test)]
 mod merge_tests;
 #[cfg(test)]
@@ -23,7 +23,7 @@ mod revtree_tests;
 #[cfg(test)]
 mod rows_tests;
 #[cfg(test)]
-mod scan_tests;
+mod run_tests;
 #[cfg(test)]
 mod selector_tests;
 #[cfg(test)]

@@ -4,7 +4,7 @@ use mg_selector::Sel;
 use std::alloc::Global;
 use std::process::Abort;
 
-pub(crate) fn selector_of<R: Abort>(rt: &R, alloc: Global, text: &str) -> Sel {
+fn selector_of<R: Abort>(rt: &R, alloc: Global, text: &str) -> Sel {
     let value = json(rt, alloc, text);
     let Ok(selector) = Sel::read(alloc, &value) else {
         rt.panic("no selector")

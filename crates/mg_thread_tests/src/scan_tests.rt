@@ -1,13 +1,13 @@
 //! Searches and builds over two shards, each of which a thread of its own has to begin before the other is done.
 use crate::engine_tests::two_shards;
 use crate::given::json;
-use crate::selector_tests::selector_of;
 use mg_collate::{Direction, Row};
 use mg_index::IndexDef;
 use mg_normal::Normal;
 use mg_path::Path;
 use mg_range::KeyRange;
 use mg_scan::{Gate, Place, Target, build, scan};
+use mg_selector::Sel;
 use mg_shard::Shard;
 use std::alloc::Global;
 use std::process::Abort;
@@ -86,7 +86,10 @@ impl Gate for BothBegin {
 
 // The query for what has an n above 1.
 fn above_one<R: Abort>(rt: &R, alloc: Global) -> Normal {
-    let selector = selector_of(rt, alloc, r#"{"n":{"$gt":1}}"#);
+    let text = json(rt, alloc, r#"{"n":{"$gt":1}}"#);
+    let Ok(selector) = Sel::read(alloc, &text) else {
+        rt.panic("no selector")
+    };
     Normal::of(alloc, &selector).expect(rt, "memory")
 }
 

@@ -9,12 +9,12 @@ use std::process::Abort;
 use std::thread::Threads;
 
 // By their MD5, a and b stand on the first of two shards, d1 and d2 on the second.
-const DOCUMENTS: &str =
+pub(crate) const DOCUMENTS: &str =
     r#"{"docs":[{"_id":"d2","_rev":"1-a","n":4},{"_id":"b","_rev":"1-a","n":2},{"_id":"d1","_rev":"1-a","n":3},{"_id":"a","_rev":"1-a","n":1}],"new_edits":false}"#;
 
-const IDS: &str = r#"{"selector":{},"fields":["_id"]}"#;
+pub(crate) const IDS: &str = r#"{"selector":{},"fields":["_id"]}"#;
 
-const PAGE: &str =
+pub(crate) const PAGE: &str =
     "{\"bookmark\":\"W251bGwsIl9hbGxfZG9jcyIsImFzYyIsWyJkMiJdLCJkMiJd\",\"docs\":[{\"_id\":\"a\"},{\"_id\":\"b\"},{\"_id\":\"d1\"},{\"_id\":\"d2\"}]}\n";
 
 // The two shards.

@@ -2,7 +2,7 @@
 //! those of plain runs.
 use crate::given::{check, json, string};
 use mg_engine::{Command, Engine, Reply};
-use mg_live::interleave::{Event, are_at, replay};
+use mg_machine::interleave::{Event, are_at, replay};
 use mg_shard::Md5Placement;
 use std::alloc::Global;
 use std::process::Abort;
@@ -305,6 +305,10 @@ fn drawn_events_are_answered_as_plain_runs(rt: HostRuntime) {
     for seed in 1..11 {
         let draws = drawn(&rt, rt.alloc(), seed);
         let replies = replies_to(&rt, rt.alloc(), &draws);
-        assert!(rt; are_plain(&rt, rt.alloc(), &draws, &replies), "seed {seed}");
+        check(
+            &rt,
+            are_plain(&rt, rt.alloc(), &draws, &replies),
+            "drawn events",
+        );
     }
 }

@@ -1,5 +1,5 @@
 //! A list of commands, which tests/refused_calls.py runs while memory is refused; where none is, all is answered.
-use crate::live_tests::{commands_of, plain_reply};
+use crate::machine_tests::{commands_of, plain_reply};
 use mg_engine::{Command, Engine, Reply};
 use mg_shard::Md5Placement;
 use std::alloc::Global;

@@ -1,25 +1,17 @@
 //! A query of a seat over two shards, each of which a thread of its own has to begin before the other is done.
 ghost use Rattle.std.specs.Prelude.{◌≡◌, string_bytes};
 
+use crate::engine_tests::{DOCUMENTS, IDS, PAGE};
 use crate::given::{json, string};
+use crate::scan_tests::BothBegin;
 use mg_live::{Database, Ends, History, Live, Seat, Waiting};
-use mg_scan::{Gate, Place};
 use mg_shard::Placement;
 use std::alloc::Global;
 use std::marker::Brand;
 use std::process::Abort;
 use std::sync::Wait;
-use std::sync::atomic::{AtomicU64, Ordering};
 use std::sync::ledger::Blank;
 use std::thread::Threads;
-
-const DOCUMENTS: &str =
-    r#"{"docs":[{"_id":"d2","_rev":"1-a"},{"_id":"d1","_rev":"1-a"}],"new_edits":false}"#;
-
-const IDS: &str = r#"{"selector":{},"fields":["_id"]}"#;
-
-const PAGE: &str =
-    "{\"bookmark\":\"W251bGwsIl9hbGxfZG9jcyIsImFzYyIsWyJkMiJdLCJkMiJd\",\"docs\":[{\"_id\":\"d1\"},{\"_id\":\"d2\"}]}\n";
 
 // A placement of its own: all documents on the first shard.
 #[derive(Clone, Copy, Drop)]
@@ -30,44 +22,6 @@ impl Placement for OnFirst {
 
     fn shard_of(&self, _id: &str, _shards: usize) -> usize {
         0
-    }
-}
-
-// Holds each shard where it begins until the other one has begun, and counts those that gave up.
-#[derive(Drop)]
-struct Both {
-    begun: AtomicU64,
-    faults: AtomicU64,
-}
-
-impl Both {
-    fn new() -> Both {
-        Both {
-            begun: AtomicU64::new(0),
-            faults: AtomicU64::new(0),
-        }
-    }
-
-    fn is_passed(&self) -> bool {
-        self.begun.load(Ordering::SeqCst) == 2 && self.faults.load(Ordering::SeqCst) == 0
-    }
-
-    fn wait(&self) {
-        for _ in 0..100_000_000u64 {
-            if self.begun.load(Ordering::SeqCst) >= 2 {
-                return;
-            }
-        }
-        self.faults.fetch_add(1, Ordering::SeqCst);
-    }
-}
-
-impl Gate for Both {
-    fn at(&self, place: Place) {
-        if let Place::ShardBegun(_) = place {
-            self.begun.fetch_add(1, Ordering::SeqCst);
-            self.wait();
-        }
     }
 }
 
@@ -86,7 +40,7 @@ fn is_found<D: Database, C: Ends, R: Threads + Sync + Abort>(
     rt: &R,
     alloc: Global,
     seat: &mut Seat<D, C, OnFirst>,
-    gate: &Both,
+    gate: &BothBegin,
 ) -> bool {
     let query = json(rt, alloc, IDS);
     seat.find_with(rt, &query, 2, gate).body() == PAGE.as_bytes()
@@ -118,7 +72,7 @@ fn begun<D: Database + Send + Sync, R: Threads + Wait + Abort + Sync + Send + Dr
     ).expect(&rt, "memory");
     let mut seat = seats.pop().expect(&rt, "a seat");
     assert!(rt; is_written(&rt, alloc, &mut seat));
-    let gate = Both::new();
+    let gate = BothBegin::new();
     assert!(rt; is_found(&rt, alloc, &mut seat, &gate));
     assert!(rt; gate.is_passed());
 }
