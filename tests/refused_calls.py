@@ -1,14 +1,14 @@
 #!/usr/bin/env python3
 """Refuses requests for memory to tests of the libraries, one at a time: what was refused has changed nothing.
 
-usage: refused_calls.py --program PATH [--tests FOLDER] [--full]
+usage: refused_calls.py --program PATH [--tests FOLDER]
 
 The tests are functions that look by themselves what became of a call that was refused: `Engine::run`, which then has run nothing, and each
 call of two seats, by a database's number of commits when it is closed. The shim refuse/refuse.c refuses the nth request for memory of
-such a test, for each n until a run meets no refusal (without --full not each). A run is right where the test passes, where it says at its
-end that a call was refused and all that it looked at is as it has to be, or where what the test needs by itself was refused, which it says
-by the word `memory`. Each of these has to come, and no assertion may fail. The built tests are those that the gate leaves in
-CRATE/out of the folder. The shim needs a C compiler, `cc`. The last line is 'N passed, M failed'.
+such a test, for each n until a run meets no refusal. A run is right where the test passes, where it says at its end that a call was
+refused and all that it looked at is as it has to be, or where what the test needs by itself was refused, which it says by the word
+`memory`. Each of these has to come, and no assertion may fail. The built tests are those that the gate leaves in CRATE/out of the
+folder. The shim needs a C compiler, `cc`. The last line is 'N passed, M failed'.
 """
 import itertools
 import resource
@@ -41,14 +41,14 @@ def outcome(refusal, tests, name, request):
         return PASSED
     if status != -signal.SIGABRT:
         return f"{status} {said!r}"
-    return OWN if line.startswith("memory: ") else line
+    return OWN if line.startswith(f"{OWN}: ") else line
 
 
-def outcomes(refusal, tests, name, step):
+def outcomes(refusal, tests, name):
     """Each outcome, and the requests that gave it."""
     found = {outcome(refusal, tests, name, 0): [0]}
     count = refusal.calls("memory")
-    for request in itertools.count(1, step):
+    for request in itertools.count(1):
         said = outcome(refusal, tests, name, request)
         if not refusal.refused("memory"):
             return found, count
@@ -57,7 +57,7 @@ def outcomes(refusal, tests, name, step):
 
 def check(refusal, tests, name, says, tally):
     """One test, each of whose outcomes has to come."""
-    found, count = outcomes(refusal, tests, name, 1)
+    found, count = outcomes(refusal, tests, name)
     print(f"{name}, {count} requests: {', '.join(f'{len(found[said])} {said}' for said in sorted(found))}")
     tally.expect(f"{name} with nothing refused", 0 in found.get(PASSED, ()), True)
     strange = {said: requests[:3] for said, requests in found.items() if said not in says | {PASSED, OWN}}

@@ -43,7 +43,7 @@ fn hundred<D: Database + Send + Sync, R: Threads + Wait + Abort + Sync + Send + 
     requires parts { blank.parts ≡ 4 }
     requires opened { 3 ≡ D.shards }
 {
-    let (live, seats) = Live::<D, Waiting<R>>::open(
+    let Ok((live, seats)) = Live::<D, Waiting<R>>::open(
         Waiting(rt),
         alloc,
         blank,
@@ -52,8 +52,9 @@ fn hundred<D: Database + Send + Sync, R: Threads + Wait + Abort + Sync + Send + 
         Md5Placement,
         3,
         4,
-    )
-    .expect(&rt, "memory");
+    ) else {
+        rt.panic("memory")
+    };
     let seats = thread::map_vec(&rt, seats, &|seat| work(&rt, alloc, seat)).expect(&rt, "memory");
     let Ok(closed) = live.close(&rt, seats) else {
         rt.panic("it is not closed")
@@ -305,7 +306,7 @@ fn two<D: Database + Send + Sync, R: Threads + Wait + Abort + Sync + Send + Drop
     requires parts { blank.parts ≡ 2 }
     requires opened { 1 ≡ D.shards }
 {
-    let (live, mut seats) = Live::<D, Waiting<R>>::open(
+    let Ok((live, mut seats)) = Live::<D, Waiting<R>>::open(
         Waiting(rt),
         alloc,
         blank,
@@ -314,8 +315,9 @@ fn two<D: Database + Send + Sync, R: Threads + Wait + Abort + Sync + Send + Drop
         Md5Placement,
         1,
         2,
-    )
-    .expect(&rt, "memory");
+    ) else {
+        rt.panic("memory")
+    };
     let mut b = seats.pop().expect(&rt, "a seat");
     let mut a = seats.pop().expect(&rt, "a seat");
     let mut refused = 0;
