@@ -6,6 +6,8 @@ usage: cut_input.py --program PATH [--full]
 Three conversations of tests/conversations: a bulk and a query, pages by an index over their bookmarks, and an index that goes. The
 replies are the model's (the folder model/), which has to give those of the files. Through the shim refuse/refuse.c
 - reads and writes move one byte, or a few: the same bytes go out;
+- reads move one byte, a few, or all: each reply is one write, and no read is made beside those that the bytes need;
+- a message that ends its session is answered, and no read follows it;
 - the kth read fails: what went out is the replies that were due for the bytes before, and the end is a read fault;
 - the kth write fails, or takes no byte: what went out is what the writes before it took, and the end is a write fault.
 And without it: the input is cut at each byte, over standard input and over TCP; the output is a pipe that nobody reads, or reads
@@ -25,10 +27,16 @@ from common.wire import Wire
 from conversations import conversations_in
 from model.talk import Database
 from refused_memory import FOLDER, Talk
+from sessions import reply_of
 from tcp import reset
 
 NAMES = ["first-write-and-query", "ties-across-shards", "choice-of-index"]
 LIST = b"GET /db/_index HTTP/1.1\r\n\r\n"
+# messages after which a session ends: the reply, and how the program ends
+LAST = [
+    ("version 1.0", b"GET /db/x HTTP/1.0\r\n\r\n", reply_of(404, '{"error":"not_found","reason":"missing"}'), ENDS["Eof"]),
+    ("no length", b"POST /db/_find HTTP/1.1\r\n\r\n", reply_of(411, '{"error":"length_required","reason":"Content-Length required."}'), ENDS["Refused"]),
+]
 
 
 class Line:
@@ -64,6 +72,25 @@ def short(refusal, words, line, name, tally):
         tally.expect(f"{name}, {piece} bytes a call", refusal.run(words, line.given), (line.text, ENDS["Eof"]))
         tally.expect(f"{name}, {piece} bytes a call: reads", refusal.calls("reads") > len(line.given) // piece, True)
         tally.expect(f"{name}, {piece} bytes a call: writes", refusal.calls("writes") >= len(line.text) // piece, True)
+
+
+def counted(refusal, words, line, tally):
+    """Each reply is one write however its message came, and messages that come at once cost no read each; the last read is that of the end."""
+    for piece in (0, 7, 1):
+        refusal.reset(piece=piece, whole_writes=True)
+        found = refusal.run(words, line.given)
+        counts = refusal.calls("reads"), refusal.calls("writes")
+        reads = -(-len(line.given) // piece) if piece else 1
+        tally.expect(f"reads of {piece or 'all'} bytes: reads and writes", (found, *counts), ((line.text, ENDS["Eof"]), reads + 1, len(line.talk.exchanges)))
+
+
+def last_messages(refusal, words, tally):
+    """A session that ends by its message reads no more, and would fail if it did."""
+    for name, given, text, end in LAST:
+        refusal.reset()
+        refusal.refuse("reads", 2, ONWARD)
+        found = refusal.run(words, given)
+        tally.expect(f"{name}: the end, and the reads", (found, refusal.calls("reads")), ((text, end), 1))
 
 
 def failing_reads(refusal, words, line, name, piece, tally):
@@ -212,6 +239,8 @@ def failing(refusal, words, lines, tally):
             failing_reads(refusal, command, line, name, piece, tally)
             failing_writes(refusal, command, line, name, piece, False, tally)
             failing_writes(refusal, command, line, name, piece, True, tally)
+    counted(refusal, command, first, tally)
+    last_messages(refusal, command, tally)
     failing_sockets(refusal, words, first, tally)
 
 

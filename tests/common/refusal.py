@@ -11,7 +11,7 @@ from pathlib import Path
 SOURCE = Path(__file__).resolve().parent.parent / "refuse" / "refuse.c"
 KINDS = {"memory": 0, "threads": 4, "reads": 8, "writes": 12}
 CALLS, FIRST, LAST, REFUSED = range(4)
-PIECE, TAKES_NONE, WORDS = 16, 17, 18
+PIECE, TAKES_NONE, WHOLE_WRITES, WORDS = 16, 17, 18, 19
 ONWARD = 2**62
 SECONDS = 120
 ENDS = {"Eof": (0, b""), "Refused": (1, b"mangod: refused\n"), "ReadFault": (1, b"mangod: read fault\n"),
@@ -43,12 +43,13 @@ class Refusal:
     def word(self, word):
         return struct.unpack_from("<q", self.words, 8 * word)[0]
 
-    def reset(self, piece=0, takes_none=False):
-        """Nothing was called, and nothing is refused."""
+    def reset(self, piece=0, takes_none=False, whole_writes=False):
+        """Nothing was called, and nothing is refused. Reads move at most so many bytes where a number is given, and so do writes that are not whole."""
         for word in range(PIECE):
             self.put(word, 0)
         self.put(PIECE, piece)
         self.put(TAKES_NONE, int(takes_none))
+        self.put(WHOLE_WRITES, int(whole_writes))
 
     def refuse(self, kind, first, last):
         """Refuses the calls of a kind from the first to the last, counted from the last reset. A first of 0 refuses none."""

@@ -2,8 +2,8 @@
  *
  * REFUSE names a file of words of 64 bits, which is shared with the test, so the test can look at it and change it while the
  * program runs. Each of the four kinds has four words: how many calls were made, the first and the last one that is
- * refused (from 1; a first of 0: none), and how many were refused. Two words follow: the most bytes that a read or a write moves (0: as many as are
- * asked for), and what a refused write answers: 0 an error, 1 that it took no byte. */
+ * refused (from 1; a first of 0: none), and how many were refused. Three words follow: the most bytes that a read or a write moves (0: as many as
+ * are asked for), what a refused write answers: 0 an error, 1 that it took no byte, and whether writes move all bytes all the same: 1. */
 #include <errno.h>
 #include <fcntl.h>
 #include <pthread.h>
@@ -21,7 +21,7 @@ struct kind {
 
 struct words {
     struct kind memory, threads, reads, writes;
-    _Atomic int64_t piece, takes_none;
+    _Atomic int64_t piece, takes_none, whole_writes;
 };
 
 static struct words *words;
@@ -78,6 +78,10 @@ static size_t piece_of(size_t size) {
     return most && size > (size_t)most ? (size_t)most : size;
 }
 
+static size_t written_of(size_t size) {
+    return words && atomic_load(&words->whole_writes) ? size : piece_of(size);
+}
+
 static ssize_t no_read(void) {
     errno = EIO;
     return -1;
@@ -101,10 +105,10 @@ ssize_t recv(int file, void *at, size_t size, int how) {
 
 ssize_t write(int file, const void *at, size_t size) {
     if (file == 1 && words && is_refused(&words->writes)) return no_write();
-    return syscall(SYS_write, file, at, file == 1 ? piece_of(size) : size);
+    return syscall(SYS_write, file, at, file == 1 ? written_of(size) : size);
 }
 
 ssize_t send(int file, const void *at, size_t size, int how) {
     if (words && is_refused(&words->writes)) return no_write();
-    return syscall(SYS_sendto, file, at, piece_of(size), how, NULL, 0);
+    return syscall(SYS_sendto, file, at, written_of(size), how, NULL, 0);
 }

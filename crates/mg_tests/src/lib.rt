@@ -1,20 +1,13 @@
-//! Tests of the libraries: what only Rust can say. A reader or a writer that fails in mid-stream, states that share their pages,
-//! shards that threads begin side by side, and each public call by itself that the program does not make. Whole conversations
-//! are data, in the folder tests/ at the top.
+//! Tests of the libraries: what only Rust can say and needs no thread. States that share their pages, a placement of documents of the
+//! test's own, lists of events, runs that are refused memory, and each public call by itself that the program does not make. Whole
+//! conversations are data, in the folder tests/ at the top; threads are in mg_thread_tests. A test ends the process where it fails, so
+//! no function has an exit for each call that may be refused memory: that keeps the proofs of the tests small.
 #![tactic(auto)]
 
 #[cfg(test)]
-mod bookmark_tests;
+mod given;
 #[cfg(test)]
-mod commit_tests;
-#[cfg(test)]
-mod engine_tests;
-#[cfg(test)]
-mod gate_tests;
-#[cfg(test)]
-mod http_tests;
-#[cfg(test)]
-mod live_tests;
+mod machine_tests;
 #[cfg(test)]
 mod merge_tests;
 #[cfg(test)]
@@ -32,14 +25,8 @@ mod rows_tests;
 #[cfg(test)]
 mod run_tests;
 #[cfg(test)]
-mod scan_tests;
-#[cfg(test)]
-mod seat_tests;
-#[cfg(test)]
 mod selector_tests;
 #[cfg(test)]
 mod shard_tests;
 #[cfg(test)]
 mod value_tests;
-#[cfg(test)]
-mod workers_tests;

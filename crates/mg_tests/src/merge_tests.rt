@@ -1,14 +1,16 @@
+use crate::given::{check, string};
 use mg_collate::{Direction, Row};
 use mg_merge::{are_in_order, merge};
-use mg_value::{Json, NoMemory};
+use mg_value::Json;
 use std::alloc::Global;
-use std::test::Fail;
+use std::process::Abort;
 
 type Given = &'static [(i64, &'static str)];
 
 // Lists of keys and ids, and the rows of their merge.
 #[derive(Clone, Copy, Drop)]
 struct Merge {
+    name: &'static str,
     lists: &'static [Given],
     direction: Direction,
     take: usize,
@@ -26,6 +28,7 @@ const TIES: &[Given] = &[
 
 const MERGES: &[Merge] = &[
     Merge {
+        name: "nothing is taken",
         lists: TIES,
         direction: Direction::Asc,
         take: 0,
@@ -33,6 +36,7 @@ const MERGES: &[Merge] = &[
         handed: &[1, 2, 0, 2],
     },
     Merge {
+        name: "ties",
         lists: TIES,
         direction: Direction::Asc,
         take: 3,
@@ -40,6 +44,7 @@ const MERGES: &[Merge] = &[
         handed: &[1, 2, 0, 2],
     },
     Merge {
+        name: "all of them",
         lists: TIES,
         direction: Direction::Asc,
         take: 9,
@@ -48,6 +53,7 @@ const MERGES: &[Merge] = &[
     },
     // Keys and ids descend together.
     Merge {
+        name: "keys and ids descend",
         lists: &[&[(10, "a"), (2, "c")], &[(10, "b"), (2, "b"), (-1, "z")]],
         direction: Direction::Desc,
         take: 4,
@@ -56,6 +62,7 @@ const MERGES: &[Merge] = &[
     },
     // Two of five that descend; no list, and no row is taken; a row that stands in two lists.
     Merge {
+        name: "two of five that descend",
         lists: &[
             &[(7, "d4")],
             &[(7, "d5"), (7, "d1")],
@@ -68,6 +75,7 @@ const MERGES: &[Merge] = &[
         handed: &[1, 2, 1, 1],
     },
     Merge {
+        name: "no list",
         lists: &[],
         direction: Direction::Asc,
         take: 5,
@@ -75,6 +83,7 @@ const MERGES: &[Merge] = &[
         handed: &[],
     },
     Merge {
+        name: "a row of two lists",
         lists: &[&[(7, "d1")], &[(7, "d1")]],
         direction: Direction::Asc,
         take: 5,
@@ -84,6 +93,7 @@ const MERGES: &[Merge] = &[
     // Five documents with one key, dealt to four shards by their numbers: a page of two after one that is passed over, and a
     // page of two after `d2`.
     Merge {
+        name: "a page after a skip",
         lists: &[
             &[(7, "d4")],
             &[(7, "d1"), (7, "d5")],
@@ -96,6 +106,7 @@ const MERGES: &[Merge] = &[
         handed: &[1, 2, 1, 1],
     },
     Merge {
+        name: "a page after a row",
         lists: &[&[(7, "d4")], &[(7, "d5")], &[], &[(7, "d3")]],
         direction: Direction::Asc,
         take: 2,
@@ -104,59 +115,54 @@ const MERGES: &[Merge] = &[
     },
 ];
 
-fn row(alloc: Global, number: i64, id: &str) -> Result<Row, NoMemory> {
+fn row<R: Abort>(rt: &R, alloc: Global, number: i64, id: &str) -> Row {
     let mut key = Vec::new(alloc);
-    key.push(Json::Whole(number))?;
-    let id = String::from_str(alloc, id)?;
-    Ok(Row { key, id })
+    key.push(Json::Whole(number)).expect(rt, "memory");
+    let id = string(rt, alloc, id);
+    Row { key, id }
 }
 
-fn rows(alloc: Global, given: &[(i64, &str)]) -> Result<Vec<Row>, NoMemory> {
+fn rows<R: Abort>(rt: &R, alloc: Global, given: &[(i64, &str)]) -> Vec<Row> {
     let mut rows = Vec::new(alloc);
     for (number, id) in given {
-        rows.push(row(alloc, *number, id)?)?;
+        rows.push(row(rt, alloc, *number, id)).expect(rt, "memory");
     }
-    Ok(rows)
+    rows
 }
 
-fn lists(alloc: Global, given: &[Given]) -> Result<Vec<Vec<Row>>, NoMemory> {
+fn lists<R: Abort>(rt: &R, alloc: Global, given: &[Given]) -> Vec<Vec<Row>> {
     let mut lists = Vec::new(alloc);
     for list in given {
-        lists.push(rows(alloc, list)?)?;
+        lists.push(rows(rt, alloc, list)).expect(rt, "memory");
     }
-    Ok(lists)
+    lists
 }
 
 // Whether the merge of the lists, which have to be in order, is the rows that are wanted.
-fn merges(alloc: Global, case: &Merge) -> Result<bool, NoMemory> {
-    let lists = lists(alloc, case.lists)?;
-    if !are_in_order(&lists, case.direction) {
-        return Ok(false);
-    }
-    let (found, work) = merge(alloc, &lists, case.direction, case.take)?;
-    let wanted = rows(alloc, case.wanted)?;
-    Ok(found == wanted && work.handed() == case.handed && work.taken() == wanted.len() as u64)
+fn merges<R: Abort>(rt: &R, alloc: Global, case: &Merge) -> bool {
+    let lists = lists(rt, alloc, case.lists);
+    assert!(rt; are_in_order(&lists, case.direction));
+    let (found, work) = merge(alloc, &lists, case.direction, case.take).expect(rt, "memory");
+    let wanted = rows(rt, alloc, case.wanted);
+    found == wanted && work.handed() == case.handed && work.taken() == wanted.len() as u64
 }
 
 #[test]
-fn ties_over_lists(rt: HostRuntime) -> Result<(), Fail> {
+fn ties_over_lists(rt: HostRuntime) {
     for case in MERGES {
-        assert!(rt; merges(rt.alloc(), case)?, "take {}", case.take);
+        check(&rt, merges(&rt, rt.alloc(), case), case.name);
     }
-    Ok(())
 }
 
 #[test]
-fn lists_out_of_order(rt: HostRuntime) -> Result<(), Fail> {
-    let lists = lists(rt.alloc(), TIES)?;
+fn lists_out_of_order(rt: HostRuntime) {
+    let lists = lists(&rt, rt.alloc(), TIES);
     assert!(rt; !are_in_order(&lists, Direction::Desc));
-    Ok(())
 }
 
 #[test]
-fn rows_by_key_then_id(rt: HostRuntime) -> Result<(), Fail> {
-    let first = row(rt.alloc(), 7, "d2")?;
-    assert!(rt; first < row(rt.alloc(), 7, "d3")?);
-    assert!(rt; first > row(rt.alloc(), 5, "d3")?);
-    Ok(())
+fn rows_by_key_then_id(rt: HostRuntime) {
+    let first = row(&rt, rt.alloc(), 7, "d2");
+    assert!(rt; first < row(&rt, rt.alloc(), 7, "d3"));
+    assert!(rt; first > row(&rt, rt.alloc(), 5, "d3"));
 }

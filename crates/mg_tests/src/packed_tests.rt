@@ -1,10 +1,10 @@
 //! A value in one block, whose parts were worked out by hand: it has an empty array, an empty object, a text with an escape and one
 //! beyond ASCII, a negative number, and names one of which is a front of the other.
+use crate::given::{check, json};
 use mg_packed::{Array, Kind, Object, Packed, Part};
 use mg_path::Path;
-use mg_value::read;
 use std::alloc::Global;
-use std::test::Fail;
+use std::process::Abort;
 
 const GIVEN: &str =
     r#" { "n" : {"":0}, "list": [-7,"q\"",null,true,[false,"\u00e9"]], "ab":{}, "a":[] } "#;
@@ -40,27 +40,37 @@ const PARTS: &[(&str, Option<&str>)] = &[
     ("n.a", None),
 ];
 
-pub(crate) fn given(alloc: Global) -> Result<Packed, Fail> {
-    let value = read(alloc, GIVEN.as_bytes())?;
-    Ok(Packed::of(alloc, &value)?)
+pub(crate) fn given<R: Abort>(rt: &R, alloc: Global) -> Packed {
+    let value = json(rt, alloc, GIVEN);
+    Packed::of(alloc, &value).expect(rt, "memory")
 }
 
 // Whether the part is there and has this text, or is missing where there is no text.
-pub(crate) fn is_part(
+pub(crate) fn is_part<R: Abort>(
+    rt: &R,
     alloc: Global,
     part: Option<Part<'_>>,
     text: Option<&str>,
-) -> Result<bool, Fail> {
+) -> bool {
     match (part, text) {
-        (Some(part), Some(text)) => Ok(part.text(alloc)?.as_slice() == text.as_bytes()),
-        (None, None) => Ok(true),
-        _ => Ok(false),
+        (Some(part), Some(text)) => {
+            let found = part.text(alloc).expect(rt, "memory");
+            found.as_slice() == text.as_bytes()
+        }
+        (None, None) => true,
+        _ => false,
     }
 }
 
-fn is_at(alloc: Global, whole: &Part<'_>, path: &str, text: Option<&str>) -> Result<bool, Fail> {
-    let path = Path::parse(alloc, path)?;
-    is_part(alloc, whole.get(&path), text)
+fn is_at<R: Abort>(
+    rt: &R,
+    alloc: Global,
+    whole: &Part<'_>,
+    path: &str,
+    text: Option<&str>,
+) -> bool {
+    let path = Path::parse(alloc, path).expect(rt, "memory");
+    is_part(rt, alloc, whole.get(&path), text)
 }
 
 // The item at a place, by the call that asks for a place that is there.
@@ -110,35 +120,34 @@ fn member_at<'a>(members: &Object<'a>, place: usize) -> Option<(&'a str, Part<'a
 }
 
 // Whether the member is found by its place and by its name, in the object and in the part.
-fn is_member(alloc: Global, whole: &Part<'_>, place: usize) -> Result<bool, Fail> {
+fn is_member<R: Abort>(rt: &R, alloc: Global, whole: &Part<'_>, place: usize) -> bool {
     let Kind::Object(members) = whole.lend().kind() else {
-        return Ok(false);
+        return false;
     };
     let Some((name, text)) = MEMBERS.get(place) else {
-        return Ok(false);
+        return false;
     };
     let by_place = match member_at(&members, place) {
-        Some((found, value)) => found == *name && is_part(alloc, Some(value), *text)?,
+        Some((found, value)) => found == *name && is_part(rt, alloc, Some(value), *text),
         None => text.is_none(),
     };
-    let by_name = is_part(alloc, members.get(*name), *text)?;
-    let in_part = is_part(alloc, whole.member(*name), *text)?;
-    Ok(by_place && by_name && in_part)
+    by_place
+        && is_part(rt, alloc, members.get(*name), *text)
+        && is_part(rt, alloc, whole.member(*name), *text)
 }
 
 #[test]
-fn parts_are_found_by_names_places_and_paths(rt: HostRuntime) -> Result<(), Fail> {
-    let packed = given(rt.alloc())?;
+fn parts_are_found_by_names_places_and_paths(rt: HostRuntime) {
+    let packed = given(&rt, rt.alloc());
     let whole = packed.part();
     for place in 0..MEMBERS.len() {
-        assert!(rt; is_member(rt.alloc(), &whole, place)?, "member {place}");
+        check(&rt, is_member(&rt, rt.alloc(), &whole, place), "a member");
     }
     for (path, text) in PARTS {
-        assert!(rt; is_at(rt.alloc(), &whole, path, *text)?, "at {path}");
+        check(&rt, is_at(&rt, rt.alloc(), &whole, path, *text), path);
     }
     match whole.member("list") {
-        Some(list) => assert!(rt; has_items(&list)),
-        None => assert!(rt; false, "no list"),
+        Some(list) => check(&rt, has_items(&list), "the items"),
+        None => check(&rt, false, "the list"),
     }
-    Ok(())
 }

@@ -1,9 +1,8 @@
 use mg_pages::{Keyed, Pages, Probe, text_hint};
-use mg_value::NoMemory;
 use std::alloc::Global;
 use std::cmp::Ordering;
+use std::process::Abort;
 use std::sync::Arc;
-use std::test::Fail;
 
 // A note: an id, and which version of the note it is.
 #[derive(Drop)]
@@ -46,37 +45,41 @@ impl<'a> Probe<Note> for &'a str {
     }
 }
 
-fn id_of(alloc: Global, number: u64) -> Result<String, NoMemory> {
-    Ok(format!(in alloc; "n{number:05}")?)
+fn id_of<R: Abort>(rt: &R, alloc: Global, number: u64) -> String {
+    format!(in alloc; "n{number:05}").expect(rt, "memory")
 }
 
-fn note_of(alloc: Global, number: u64, version: u64) -> Result<Arc<Note>, NoMemory> {
-    let id = id_of(alloc, number)?;
-    Ok(Arc::new(alloc, Note { id, version })?)
+fn put<R: Abort>(rt: &R, alloc: Global, notes: &mut Pages<Note>, number: u64, version: u64) {
+    let id = id_of(rt, alloc, number);
+    let note = Arc::new(alloc, Note { id, version }).expect(rt, "memory");
+    let _ = notes.insert(alloc, note).expect(rt, "memory");
+}
+
+fn take_out<R: Abort>(rt: &R, alloc: Global, notes: &mut Pages<Note>, number: u64) {
+    let id = id_of(rt, alloc, number);
+    let _ = notes.remove(alloc, &id.as_str()).expect(rt, "memory");
 }
 
 // Notes with every second number below a limit, put in from the middle outwards.
-fn even_notes(alloc: Global, limit: u64) -> Result<Pages<Note>, NoMemory> {
+fn even_notes<R: Abort>(rt: &R, alloc: Global, limit: u64) -> Pages<Note> {
     let mut notes = Pages::new(alloc);
     for k in 0..limit {
         let number = k.wrapping_mul(7919) % limit.max(1);
         if number % 2 == 0 {
-            notes.insert(alloc, note_of(alloc, number, 1)?)?;
+            put(rt, alloc, &mut notes, number, 1);
         }
     }
-    Ok(notes)
+    notes
 }
 
 // Puts in each note, the odd ones too, and takes every fourth out.
-fn change_all(alloc: Global, notes: &mut Pages<Note>, limit: u64) -> Result<(), NoMemory> {
+fn change_all<R: Abort>(rt: &R, alloc: Global, notes: &mut Pages<Note>, limit: u64) {
     for number in 0..limit {
-        notes.insert(alloc, note_of(alloc, number, 2)?)?;
+        put(rt, alloc, notes, number, 2);
         if number % 4 == 0 {
-            let id = id_of(alloc, number)?;
-            notes.remove(alloc, &id.as_str())?;
+            take_out(rt, alloc, notes, number);
         }
     }
-    Ok(())
 }
 
 // Whether the notes are so many, all of one version.
@@ -98,43 +101,41 @@ fn last_id<'a>(notes: &'a Pages<Note>, id: &str) -> &'a str {
 }
 
 // Whether the notes are those of every second number below a limit, in order, of the first version.
-fn are_as_they_were(alloc: Global, notes: &Pages<Note>, limit: u64) -> Result<bool, NoMemory> {
+fn are_as_they_were<R: Abort>(rt: &R, alloc: Global, notes: &Pages<Note>, limit: u64) -> bool {
     let mut number = 0u64;
     for one in notes.iter() {
-        if one.id.as_str() != id_of(alloc, number)?.as_str() {
-            return Ok(false);
+        if one.id.as_str() != id_of(rt, alloc, number).as_str() {
+            return false;
         }
         number = number.wrapping_add(2);
     }
-    Ok(number == limit && are_all(notes, 3000, 1) && last_id(notes, "n05999") == "n05998")
+    number == limit && are_all(notes, 3000, 1) && last_id(notes, "n05999") == "n05998"
 }
 
 // A state that shares its pages with these notes, and in which all is changed.
-fn changed(alloc: Global, notes: &Pages<Note>) -> Result<Pages<Note>, NoMemory> {
-    let mut other = notes.share(alloc)?;
-    change_all(alloc, &mut other, 6000)?;
-    Ok(other)
+fn changed<R: Abort>(rt: &R, alloc: Global, notes: &Pages<Note>) -> Pages<Note> {
+    let mut other = notes.share(alloc).expect(rt, "memory");
+    change_all(rt, alloc, &mut other, 6000);
+    other
 }
 
-// A state that shares its pages with one that is gone; where it is as that was, all is changed in it.
-fn left_over(alloc: Global, gone: Pages<Note>) -> Result<Pages<Note>, NoMemory> {
-    let mut left = gone.share(alloc)?;
+// A state that shares its pages with one that is gone; it is as that was, and then all is changed in it.
+fn left_over<R: Abort>(rt: &R, alloc: Global, gone: Pages<Note>) -> Pages<Note> {
+    let mut left = gone.share(alloc).expect(rt, "memory");
     drop(gone);
-    if are_as_they_were(alloc, &left, 6000)? {
-        change_all(alloc, &mut left, 6000)?;
-    }
-    Ok(left)
+    assert!(rt; are_as_they_were(rt, alloc, &left, 6000));
+    change_all(rt, alloc, &mut left, 6000);
+    left
 }
 
 // Three states that share their pages: what is done to one does not show in the others.
 #[test]
-fn a_shared_state_stays_as_it_was(rt: HostRuntime) -> Result<(), Fail> {
+fn a_shared_state_stays_as_it_was(rt: HostRuntime) {
     let alloc = rt.alloc();
-    let first = even_notes(alloc, 6000)?;
-    let second = changed(alloc, &first)?;
-    assert!(rt; are_as_they_were(alloc, &first, 6000)?);
-    let third = left_over(alloc, first)?;
+    let first = even_notes(&rt, alloc, 6000);
+    let second = changed(&rt, alloc, &first);
+    assert!(rt; are_as_they_were(&rt, alloc, &first, 6000));
+    let third = left_over(&rt, alloc, first);
     assert!(rt; are_all(&second, 4500, 2));
     assert!(rt; are_all(&third, 4500, 2));
-    Ok(())
 }

@@ -3,17 +3,18 @@
 ghost use Rattle.std.specs.Prelude.{◌≡◌};
 ghost use Rattle.mg_tests.specs.ByNumber.{number_of, number_place};
 
+use crate::given::{check, json};
 use mg_engine::{Command, Engine};
 use mg_query::{Page, Query, page};
 use mg_scan::NoGate;
 use mg_shard::Placement;
-use mg_value::{Json, NoMemory, read, write};
+use mg_value::{Json, write};
 use std::alloc::Global;
-use std::test::Fail;
+use std::process::Abort;
 use std::thread::Threads;
 
 #[derive(Clone, Copy, Drop)]
-pub(crate) struct ByNumber;
+struct ByNumber;
 
 // The digit after an id's first character.
 fn number_of(id: &str) -> usize
@@ -157,64 +158,50 @@ const RESHARDING: &[Step] = &[
     TOO_MANY,
 ];
 
-fn command_of(alloc: Global, step: &Step) -> Result<Command, Fail> {
-    let body = read(alloc, step.1.as_bytes())?;
-    Ok(match step.0 {
+fn command_of<R: Abort>(rt: &R, alloc: Global, step: &Step) -> Command {
+    let body = json(rt, alloc, step.1);
+    match step.0 {
         Ask::Bulk => Command::Bulk(body),
         Ask::CreateIndex => Command::CreateIndex(body),
         Ask::Find => Command::Find(body),
         Ask::Reshard => Command::Reshard(body),
-    })
+    }
 }
 
-fn is_answered<R: Threads + Sync>(
+fn answers<R: Threads + Sync + Abort>(
     rt: &R,
     alloc: Global,
     engine: &mut Engine<ByNumber>,
     step: &Step,
-) -> Result<bool, Fail> {
-    let command = command_of(alloc, step)?;
+) {
+    let command = command_of(rt, alloc, step);
     let reply = engine.step(rt, alloc, &command, 2);
-    Ok(reply.status() == step.2 && reply.body() == step.3.as_bytes())
+    let holds = reply.status() == step.2 && reply.body() == step.3.as_bytes();
+    check(rt, holds, step.1);
 }
 
-// Whether an engine is answered at each of these steps.
-fn are_answered<R: Threads + Sync>(
-    rt: &R,
-    alloc: Global,
-    engine: &mut Engine<ByNumber>,
-    steps: &[Step],
-) -> Result<bool, Fail> {
+// A new engine of four shards, after it answered each of these steps.
+fn after<R: Threads + Sync + Abort>(rt: &R, alloc: Global, steps: &[Step]) -> Engine<ByNumber> {
+    let mut engine = Engine::new(alloc, "db", ByNumber, 4).expect(rt, "memory");
     for step in steps {
-        if !is_answered(rt, alloc, engine, step)? {
-            return Ok(false);
-        }
+        answers(rt, alloc, &mut engine, step);
     }
-    Ok(true)
-}
-
-// The same of a new engine of four shards.
-fn holds<R: Threads + Sync>(rt: &R, alloc: Global, steps: &[Step]) -> Result<bool, Fail> {
-    let mut engine = Engine::new(alloc, "db", ByNumber, 4)?;
-    are_answered(rt, alloc, &mut engine, steps)
+    engine
 }
 
 #[test]
-fn ties_across_shards(rt: HostRuntime) -> Result<(), Fail> {
-    assert!(rt; holds(&rt, rt.alloc(), TIES)?);
-    Ok(())
+fn ties_across_shards(rt: HostRuntime) {
+    let _ = after(&rt, rt.alloc(), TIES);
 }
 
 #[test]
-fn descending_pages(rt: HostRuntime) -> Result<(), Fail> {
-    assert!(rt; holds(&rt, rt.alloc(), DESCENDING)?);
-    Ok(())
+fn descending_pages(rt: HostRuntime) {
+    let _ = after(&rt, rt.alloc(), DESCENDING);
 }
 
 #[test]
-fn resharding(rt: HostRuntime) -> Result<(), Fail> {
-    assert!(rt; holds(&rt, rt.alloc(), RESHARDING)?);
-    Ok(())
+fn resharding(rt: HostRuntime) {
+    let _ = after(&rt, rt.alloc(), RESHARDING);
 }
 
 // The body of a query; then what its page shows, how many rows each shard handed over for it, and how many were taken.
@@ -255,63 +242,49 @@ const OVER_SEVEN: &[Paged] = &[Paged(
     5,
 )];
 
-fn shows(alloc: Global, page: Page, text: &str) -> Result<bool, NoMemory> {
+fn shows<R: Abort>(rt: &R, alloc: Global, page: Page, text: &str) -> bool {
     let Page { docs, .. } = page;
-    let shown = write(alloc, &Json::List(docs))?;
-    Ok(shown.as_slice() == text.as_bytes())
+    let shown = write(alloc, &Json::List(docs)).expect(rt, "memory");
+    shown.as_slice() == text.as_bytes()
 }
 
-fn has_page<R: Threads + Sync>(
+fn has_page<R: Threads + Sync + Abort>(
     rt: &R,
     alloc: Global,
     engine: &Engine<ByNumber>,
     query: &Query<'_>,
     paged: &Paged,
-) -> Result<bool, Fail> {
+) -> bool {
     let catalog = engine.catalog();
     let shards = engine.shards();
-    match page(rt, alloc, query, catalog, shards, 2, &NoGate) {
-        Ok((page, work)) => Ok(
-            work.handed() == paged.2 && work.taken() == paged.3 && shows(alloc, page, paged.1)?,
-        ),
-        Err(_) => Ok(false),
-    }
+    let Ok((page, work)) = page(rt, alloc, query, catalog, shards, 2, &NoGate) else {
+        return false;
+    };
+    work.handed() == paged.2 && work.taken() == paged.3 && shows(rt, alloc, page, paged.1)
 }
 
-fn is_paged<R: Threads + Sync>(
+fn is_paged<R: Threads + Sync + Abort>(
     rt: &R,
     alloc: Global,
     engine: &Engine<ByNumber>,
     paged: &Paged,
-) -> Result<bool, Fail> {
-    let body = read(alloc, paged.0.as_bytes())?;
+) -> bool {
+    let body = json(rt, alloc, paged.0);
     match Query::read(alloc, &body) {
         Ok(query) => has_page(rt, alloc, engine, &query, paged),
-        Err(_) => Ok(false),
+        Err(_) => false,
     }
 }
 
-fn are_paged<R: Threads + Sync>(
-    rt: &R,
-    alloc: Global,
-    engine: &Engine<ByNumber>,
-    all: &[Paged],
-) -> Result<bool, Fail> {
+fn are_paged<R: Threads + Sync + Abort>(rt: &R, alloc: Global, steps: &[Step], all: &[Paged]) {
+    let engine = after(rt, alloc, steps);
     for paged in all {
-        if !is_paged(rt, alloc, engine, paged)? {
-            return Ok(false);
-        }
+        check(rt, is_paged(rt, alloc, &engine, paged), paged.0);
     }
-    Ok(true)
 }
 
 #[test]
-fn rows_handed_over_by_each_shard(rt: HostRuntime) -> Result<(), Fail> {
-    let alloc = rt.alloc();
-    let mut engine = Engine::new(alloc, "db", ByNumber, 4)?;
-    assert!(rt; are_answered(&rt, alloc, &mut engine, &[PUTS, INDEX])?);
-    assert!(rt; are_paged(&rt, alloc, &engine, OVER_FOUR)?);
-    assert!(rt; are_answered(&rt, alloc, &mut engine, &[SEVEN])?);
-    assert!(rt; are_paged(&rt, alloc, &engine, OVER_SEVEN)?);
-    Ok(())
+fn rows_handed_over_by_each_shard(rt: HostRuntime) {
+    are_paged(&rt, rt.alloc(), &[PUTS, INDEX], OVER_FOUR);
+    are_paged(&rt, rt.alloc(), &[PUTS, INDEX, SEVEN], OVER_SEVEN);
 }

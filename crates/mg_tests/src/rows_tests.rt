@@ -1,9 +1,10 @@
 //! Rows of an index as bytes. The bytes and their order were worked out by hand from what `RowBytes` and `Bound` say.
+use crate::given::{check, json};
 use mg_rows::{Bound, Edge, RowBytes};
-use mg_value::{Json, read};
+use mg_value::Json;
 use std::alloc::Global;
 use std::cmp::Ordering;
-use std::test::Fail;
+use std::process::Abort;
 
 // The text of a key, the id, and the bytes of the row.
 #[derive(Clone, Copy, Drop)]
@@ -59,37 +60,37 @@ const PLACES: &[(&str, Edge, usize)] = &[
     ("[{}]", Edge::Before, 16),
 ];
 
-fn values_of(alloc: Global, text: &str) -> Result<Vec<Json>, Fail> {
-    match read(alloc, text.as_bytes())? {
-        Json::List(values) => Ok(values),
-        _ => Err(Fail::from("no array")),
+fn values_of<R: Abort>(rt: &R, alloc: Global, text: &str) -> Vec<Json> {
+    match json(rt, alloc, text) {
+        Json::List(values) => values,
+        _ => rt.panic("no array"),
     }
 }
 
-fn row_of(alloc: Global, written: &Written) -> Result<RowBytes, Fail> {
-    let key = values_of(alloc, written.0)?;
-    Ok(RowBytes::of(alloc, &key, written.1)?)
+fn row_of<R: Abort>(rt: &R, alloc: Global, written: &Written) -> RowBytes {
+    let key = values_of(rt, alloc, written.0);
+    RowBytes::of(alloc, &key, written.1).expect(rt, "memory")
 }
 
 // The same row, by way of a buffer that earlier rows were written into.
-fn row_with(alloc: Global, scratch: &mut Vec<u8>, written: &Written) -> Result<RowBytes, Fail> {
-    let key = values_of(alloc, written.0)?;
-    Ok(RowBytes::of_with(alloc, scratch, &key, written.1)?)
+fn row_with<R: Abort>(rt: &R, alloc: Global, scratch: &mut Vec<u8>, written: &Written) -> RowBytes {
+    let key = values_of(rt, alloc, written.0);
+    RowBytes::of_with(alloc, scratch, &key, written.1).expect(rt, "memory")
 }
 
 // Whether the row has the bytes, the id and the key.
-fn is_written(alloc: Global, row: &RowBytes, written: &Written) -> Result<bool, Fail> {
-    let key = values_of(alloc, written.0)?;
-    let same_key = row.key(alloc)? == key;
-    Ok(same_key && row.id() == written.1 && row.as_bytes() == written.2)
+fn is_written<R: Abort>(rt: &R, alloc: Global, row: &RowBytes, written: &Written) -> bool {
+    let key = values_of(rt, alloc, written.0);
+    let found = row.key(alloc).expect(rt, "memory");
+    found == key && row.id() == written.1 && row.as_bytes() == written.2
 }
 
-fn all_rows(alloc: Global) -> Result<Vec<RowBytes>, Fail> {
+fn all_rows<R: Abort>(rt: &R, alloc: Global) -> Vec<RowBytes> {
     let mut rows = Vec::new(alloc);
     for written in ROWS {
-        rows.push(row_of(alloc, written)?)?;
+        rows.push(row_of(rt, alloc, written)).expect(rt, "memory");
     }
-    Ok(rows)
+    rows
 }
 
 // Whether the row stands in that place of the rows.
@@ -116,35 +117,33 @@ fn parts_rows(rows: &[RowBytes], bound: &Bound, below: usize) -> bool {
 }
 
 #[test]
-fn rows_have_the_bytes_that_their_key_and_id_ask_for(rt: HostRuntime) -> Result<(), Fail> {
+fn rows_have_the_bytes_that_their_key_and_id_ask_for(rt: HostRuntime) {
     let alloc = rt.alloc();
     let mut scratch = Vec::new(alloc);
     for written in ROWS {
-        let row = row_of(alloc, written)?.again()?;
-        assert!(rt; is_written(alloc, &row, written)?, "of {}", written.0);
-        let row = row_with(alloc, &mut scratch, written)?;
-        assert!(rt; is_written(alloc, &row, written)?, "of_with {}", written.0);
+        let row = row_of(&rt, alloc, written);
+        let again = row.again().expect(&rt, "memory");
+        check(&rt, is_written(&rt, alloc, &again, written), written.0);
+        let row = row_with(&rt, alloc, &mut scratch, written);
+        check(&rt, is_written(&rt, alloc, &row, written), written.0);
     }
-    Ok(())
 }
 
 #[test]
-fn rows_are_in_the_order_of_json_types(rt: HostRuntime) -> Result<(), Fail> {
-    let rows = all_rows(rt.alloc())?;
+fn rows_are_in_the_order_of_json_types(rt: HostRuntime) {
+    let rows = all_rows(&rt, rt.alloc());
     for (place, row) in rows.iter().enumerate() {
-        assert!(rt; is_in_place(&rows, row, place), "row {place}");
+        check(&rt, is_in_place(&rows, row, place), "a row");
     }
-    Ok(())
 }
 
 #[test]
-fn a_place_is_between_rows_and_never_on_one(rt: HostRuntime) -> Result<(), Fail> {
+fn a_place_is_between_rows_and_never_on_one(rt: HostRuntime) {
     let alloc = rt.alloc();
-    let rows = all_rows(alloc)?;
+    let rows = all_rows(&rt, alloc);
     for (values, edge, below) in PLACES {
-        let key = values_of(alloc, values)?;
-        let bound = Bound::at(alloc, &key, *edge)?;
-        assert!(rt; parts_rows(&rows, &bound, *below), "{values}, {below} rows");
+        let key = values_of(&rt, alloc, values);
+        let bound = Bound::at(alloc, &key, *edge).expect(&rt, "memory");
+        check(&rt, parts_rows(&rows, &bound, *below), values);
     }
-    Ok(())
 }

@@ -1,34 +1,28 @@
 // The selector itself, of which the program asks its normal form alone. Selectors are in tests/conversations/selectors.txt.
+use crate::given::json;
 use mg_selector::Sel;
-use mg_value::read;
 use std::alloc::Global;
-use std::test::Fail;
+use std::process::Abort;
 
-pub(crate) fn selector_of(alloc: Global, text: &str) -> Result<Sel, Fail> {
-    let value = read(alloc, text.as_bytes())?;
-    match Sel::read(alloc, &value) {
-        Ok(selector) => Ok(selector),
-        Err(_) => Err(Fail::from("no selector")),
-    }
+fn selector_of<R: Abort>(rt: &R, alloc: Global, text: &str) -> Sel {
+    let value = json(rt, alloc, text);
+    let Ok(selector) = Sel::read(alloc, &value) else {
+        rt.panic("no selector")
+    };
+    selector
 }
 
 // Whether a copy of the selector holds of the document.
-fn holds(alloc: Global, selector: &Sel, document: &str) -> Result<bool, Fail> {
-    let document = read(alloc, document.as_bytes())?;
-    let copy = selector.copy(alloc)?;
-    Ok(copy.holds(&document))
-}
-
-fn tells_apart(alloc: Global, text: &str, one: &str, other: &str) -> Result<bool, Fail> {
-    let selector = selector_of(alloc, text)?;
-    let holds_of_one = holds(alloc, &selector, one)?;
-    let holds_of_other = holds(alloc, &selector, other)?;
-    Ok(holds_of_one && !holds_of_other)
+fn holds<R: Abort>(rt: &R, alloc: Global, selector: &Sel, document: &str) -> bool {
+    let document = json(rt, alloc, document);
+    let copy = selector.copy(alloc).expect(rt, "memory");
+    copy.holds(&document)
 }
 
 #[test]
-fn selections(rt: HostRuntime) -> Result<(), Fail> {
-    let text = r#"{"$not":{"a.b":{"$lt":5}}}"#;
-    assert!(rt; tells_apart(rt.alloc(), text, r#"{"a":{"b":5}}"#, r#"{"a":{}}"#)?);
-    Ok(())
+fn selections(rt: HostRuntime) {
+    let alloc = rt.alloc();
+    let selector = selector_of(&rt, alloc, r#"{"$not":{"a.b":{"$lt":5}}}"#);
+    assert!(rt; holds(&rt, alloc, &selector, r#"{"a":{"b":5}}"#));
+    assert!(rt; !holds(&rt, alloc, &selector, r#"{"a":{}}"#));
 }

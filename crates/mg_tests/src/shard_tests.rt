@@ -1,5 +1,5 @@
+use crate::given::check;
 use mg_shard::{Md5Placement, Placement};
-use std::test::Fail;
 
 // The expected shards are those of another implementation of MD5, for 1, 2, 7 and 64 shards.
 const PLACES: &[(&str, [usize; 4])] = &[
@@ -23,9 +23,8 @@ fn places(id: &str) -> [usize; 4] {
 }
 
 #[test]
-fn md5_placement(rt: HostRuntime) -> Result<(), Fail> {
+fn md5_placement(rt: HostRuntime) {
     for (id, wanted) in PLACES {
-        assert!(rt; places(id) == *wanted, "at {id}");
+        check(&rt, places(id) == *wanted, id);
     }
-    Ok(())
 }

@@ -1,11 +1,11 @@
 //! Queries over two shards, each of which a thread of its own has to begin before the other is done.
+use crate::given::json;
 use crate::scan_tests::BothBegin;
 use mg_engine::{Command, Engine};
 use mg_query::{Query, page};
 use mg_shard::Md5Placement;
-use mg_value::read;
 use std::alloc::Global;
-use std::test::Fail;
+use std::process::Abort;
 use std::thread::Threads;
 
 // By their MD5, a and b stand on the first of two shards, d1 and d2 on the second.
@@ -18,29 +18,23 @@ pub(crate) const PAGE: &str =
     "{\"bookmark\":\"W251bGwsIl9hbGxfZG9jcyIsImFzYyIsWyJkMiJdLCJkMiJd\",\"docs\":[{\"_id\":\"a\"},{\"_id\":\"b\"},{\"_id\":\"d1\"},{\"_id\":\"d2\"}]}\n";
 
 // The two shards.
-pub(crate) fn two_shards<R: Threads + Sync>(
-    rt: &R,
-    alloc: Global,
-) -> Result<Engine<Md5Placement>, Fail> {
-    let bulk = Command::Bulk(read(alloc, DOCUMENTS.as_bytes())?);
-    let mut engine = Engine::new(alloc, "db", Md5Placement, 2)?;
-    if engine.step(rt, alloc, &bulk, 1).status() == 201 {
-        Ok(engine)
-    } else {
-        Err(Fail::from("the bulk was not accepted"))
-    }
+pub(crate) fn two_shards<R: Threads + Sync + Abort>(rt: &R, alloc: Global) -> Engine<Md5Placement> {
+    let bulk = Command::Bulk(json(rt, alloc, DOCUMENTS));
+    let mut engine = Engine::new(alloc, "db", Md5Placement, 2).expect(rt, "memory");
+    assert!(rt; engine.step(rt, alloc, &bulk, 1).status() == 201);
+    engine
 }
 
 // Whether the query for all ids is answered so.
-fn is_answered<R: Threads + Sync>(
+fn is_answered<R: Threads + Sync + Abort>(
     rt: &R,
     alloc: Global,
     engine: &Engine<Md5Placement>,
-) -> Result<bool, Fail> {
+) -> bool {
     let gate = BothBegin::new();
-    let find = Command::Find(read(alloc, IDS.as_bytes())?);
+    let find = Command::Find(json(rt, alloc, IDS));
     let reply = engine.answer(rt, alloc, &find, 2, &gate);
-    Ok(reply.body() == PAGE.as_bytes() && gate.is_passed())
+    reply.body() == PAGE.as_bytes() && gate.is_passed()
 }
 
 // Whether the page of two documents after one that is passed over is made of so many rows.
@@ -53,32 +47,31 @@ fn has_page<R: Threads + Sync>(
     let gate = BothBegin::new();
     let catalog = engine.catalog();
     let shards = engine.shards();
-    match page(rt, alloc, query, catalog, shards, 2, &gate) {
-        Ok((found, work)) => found.docs.len() == 2
-            && work.handed() == [2, 2].as_slice()
-            && work.taken() == 3
-            && gate.is_passed(),
-        Err(_) => false,
-    }
+    let Ok((found, work)) = page(rt, alloc, query, catalog, shards, 2, &gate) else {
+        return false;
+    };
+    found.docs.len() == 2
+        && work.handed() == [2, 2].as_slice()
+        && work.taken() == 3
+        && gate.is_passed()
 }
 
 // The same of the query by its text.
-fn is_paged<R: Threads + Sync>(
+fn is_paged<R: Threads + Sync + Abort>(
     rt: &R,
     alloc: Global,
     engine: &Engine<Md5Placement>,
-) -> Result<bool, Fail> {
-    let body = read(alloc, br#"{"selector":{},"limit":2,"skip":1}"#)?;
+) -> bool {
+    let body = json(rt, alloc, r#"{"selector":{},"limit":2,"skip":1}"#);
     let Ok(query) = Query::read(alloc, &body) else {
-        return Ok(false);
+        return false;
     };
-    Ok(has_page(rt, alloc, engine, &query))
+    has_page(rt, alloc, engine, &query)
 }
 
 #[test]
-fn two_shards_begun_by_an_answer_and_by_a_page(rt: HostRuntime) -> Result<(), Fail> {
-    let engine = two_shards(&rt, rt.alloc())?;
-    assert!(rt; is_answered(&rt, rt.alloc(), &engine)?);
-    assert!(rt; is_paged(&rt, rt.alloc(), &engine)?);
-    Ok(())
+fn two_shards_begun_by_an_answer_and_by_a_page(rt: HostRuntime) {
+    let engine = two_shards(&rt, rt.alloc());
+    assert!(rt; is_answered(&rt, rt.alloc(), &engine));
+    assert!(rt; is_paged(&rt, rt.alloc(), &engine));
 }

@@ -2,16 +2,16 @@
 ghost use Rattle.std.specs.Prelude.{◌<◌, ◌≤◌};
 
 use crate::engine_tests::DOCUMENTS;
+use crate::given::json;
 use crate::scan_tests::{above_one, ids_of};
 use mg_collate::Direction;
 use mg_engine::{Command, Engine};
 use mg_scan::{Gate, Place, Target, scan};
 use mg_shard::{Md5Placement, Shard};
-use mg_value::read;
 use std::alloc::Global;
+use std::process::Abort;
 use std::sync::Arc;
 use std::sync::atomic::{AtomicU64, Ordering};
-use std::test::Fail;
 use std::thread::Threads;
 
 // Counts the shards that are being read, and holds each that begins until as many have begun as there are workers. A fault is a shard that
@@ -98,44 +98,54 @@ impl Gate for AtOnce {
 }
 
 // Four shards, on which four documents stand.
-fn four_shards<R: Threads + Sync>(rt: &R, alloc: Global) -> Result<Engine<Md5Placement>, Fail> {
-    let bulk = Command::Bulk(read(alloc, DOCUMENTS.as_bytes())?);
-    let mut engine = Engine::new(alloc, "db", Md5Placement, 4)?;
-    if engine.step(rt, alloc, &bulk, 1).status() == 201 {
-        Ok(engine)
-    } else {
-        Err(Fail::from("the bulk was not accepted"))
-    }
+fn four_shards<R: Threads + Sync + Abort>(rt: &R, alloc: Global) -> Engine<Md5Placement> {
+    let bulk = Command::Bulk(json(rt, alloc, DOCUMENTS));
+    let mut engine = Engine::new(alloc, "db", Md5Placement, 4).expect(rt, "memory");
+    assert!(rt; engine.step(rt, alloc, &bulk, 1).status() == 201);
+    engine
 }
 
-// Whether a scan by so many workers reads each of the shards once, as many at one time, and finds the three documents with an n above 1.
-fn is_scanned<R: Threads + Sync>(
+// How many documents a scan by so many workers finds.
+fn found<R: Threads + Sync + Abort>(
     rt: &R,
     alloc: Global,
     shards: &[Arc<Shard>],
     workers: usize,
-) -> Result<bool, Fail>
+    gate: &AtOnce,
+) -> usize
     requires { (0 < workers) × (workers ≤ 32) }
 {
-    let normal = above_one(alloc)?;
-    let range = ids_of(alloc, &normal)?;
-    let gate = AtOnce::new(workers as u64);
+    let normal = above_one(rt, alloc);
+    let range = ids_of(rt, alloc, &normal);
     let all = Target::AllDocs;
     let up = Direction::Asc;
     let lists = scan(
-        rt, alloc, shards, all, &normal, &range, None, 25, up, workers, &gate,
-    )?;
-    let mut found = 0u64;
+        rt, alloc, shards, all, &normal, &range, None, 25, up, workers, gate,
+    )
+    .expect(rt, "memory");
+    let mut found = 0usize;
     for list in &lists {
-        found = found.wrapping_add(list.len() as u64);
+        found = found.wrapping_add(list.len());
     }
-    Ok(lists.len() == 4 && found == 3 && gate.is_passed())
+    found
+}
+
+// Whether a scan by so many workers reads each of the shards once, as many at one time, and finds the three documents with an n above 1.
+fn is_scanned<R: Threads + Sync + Abort>(
+    rt: &R,
+    alloc: Global,
+    shards: &[Arc<Shard>],
+    workers: usize,
+) -> bool
+    requires { (0 < workers) × (workers ≤ 32) }
+{
+    let gate = AtOnce::new(workers as u64);
+    found(rt, alloc, shards, workers, &gate) == 3 && gate.is_passed()
 }
 
 #[test]
-fn four_shards_read_by_one_worker_and_by_two(rt: HostRuntime) -> Result<(), Fail> {
-    let engine = four_shards(&rt, rt.alloc())?;
-    assert!(rt; is_scanned(&rt, rt.alloc(), engine.shards(), 1)?);
-    assert!(rt; is_scanned(&rt, rt.alloc(), engine.shards(), 2)?);
-    Ok(())
+fn four_shards_read_by_one_worker_and_by_two(rt: HostRuntime) {
+    let engine = four_shards(&rt, rt.alloc());
+    assert!(rt; is_scanned(&rt, rt.alloc(), engine.shards(), 1));
+    assert!(rt; is_scanned(&rt, rt.alloc(), engine.shards(), 2));
 }

@@ -1,5 +1,5 @@
 use Rattle.std.proofs.Common.{string_bytes}
-use Rattle.mg_tests.proofs.commit_tests.two_seats_tell_each_other_and_close.Given as goal
+use Rattle.mg_thread_tests.proofs.commit_tests.two_seats_tell_each_other_and_close.Given as goal
 
 abbrev pub ghosts-two-D-Database : goal.ghosts-two-D-Database
 ghosts-two-D-Database g a = record { history = a.history; db = string_bytes a.db; shards = 1 }

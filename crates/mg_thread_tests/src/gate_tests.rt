@@ -1,6 +1,7 @@
 //! A write while a query is held at its snapshot, by seats on two threads. Each wait gives up after 100,000,000 looks, and the test fails.
 ghost use Rattle.std.specs.Prelude.{◌≡◌, string_bytes};
 
+use crate::given::string;
 use mg_live::{Database, Ends, History, Live, Seat, Waiting};
 use mg_scan::{Gate, Place};
 use mg_shard::Md5Placement;
@@ -11,7 +12,6 @@ use std::process::Abort;
 use std::sync::Wait;
 use std::sync::atomic::{AtomicU64, Ordering};
 use std::sync::ledger::Blank;
-use std::test::Fail;
 use std::thread;
 use std::thread::Threads;
 
@@ -165,14 +165,7 @@ fn act<D: Database, C: Ends, R: Wait + Threads + Sync>(
 fn write_during_query<
     D: Database + Send + Sync,
     R: Threads + Wait + Abort + Sync + Send + Drop + Copy,
->(
-    rt: R,
-    alloc: Global,
-    blank: Blank,
-    history: History,
-    db: String,
-    during: During,
-) -> Result<(), Fail>
+>(rt: R, alloc: Global, blank: Blank, history: History, db: String, during: During)
     requires name { string_bytes db ≡ D.db }
     requires history { history ≡ D.history }
     requires ledger { (blank.name ≡ D.name) × (blank.parts ≡ D.parts) }
@@ -189,28 +182,29 @@ fn write_during_query<
         Md5Placement,
         1,
         2,
-    )?;
+    ).expect(&rt, "memory");
     let gate = Held::new();
-    let _seats = thread::map_vec(&rt, seats, &|seat| act(&rt, alloc, seat, &gate, during))?;
-    assert_eq!(rt; gate.faults.load(Ordering::SeqCst), 0);
-    assert_eq!(rt; gate.status.load(Ordering::SeqCst), during.status());
-    assert_eq!(rt; gate.same.load(Ordering::SeqCst), 1);
-    Ok(())
+    let _seats = thread::map_vec(&rt, seats, &|seat| act(&rt, alloc, seat, &gate, during)).expect(
+        &rt, "memory",
+    );
+    assert!(rt; gate.faults.load(Ordering::SeqCst) == 0);
+    assert!(rt; gate.status.load(Ordering::SeqCst) == during.status());
+    assert!(rt; gate.same.load(Ordering::SeqCst) == 1);
 }
 
 // A bulk is answered while a query is held at its snapshot, which then finds no document.
 #[test]
-fn a_bulk_is_answered_during_a_query(rt: HostRuntime) -> Result<(), Fail> {
+fn a_bulk_is_answered_during_a_query(rt: HostRuntime) {
     let alloc = rt.alloc();
-    let db = String::from_str(alloc, "db")?;
+    let db = string(&rt, alloc, "db");
     write_during_query::<Brand, _>(rt, alloc, Blank::new(2), History::new(), db, During::Bulk)
 }
 
 // So is a reshard, and the query's reply is the one that it gives without it.
 #[test]
-fn a_reshard_is_answered_during_a_query(rt: HostRuntime) -> Result<(), Fail> {
+fn a_reshard_is_answered_during_a_query(rt: HostRuntime) {
     let alloc = rt.alloc();
-    let db = String::from_str(alloc, "db")?;
+    let db = string(&rt, alloc, "db");
     write_during_query::<Brand, _>(
         rt,
         alloc,

@@ -1,5 +1,5 @@
 use Rattle.std.proofs.Common.{string_bytes}
-use Rattle.mg_tests.proofs.gate_tests.a_bulk_is_answered_during_a_query.Given as goal
+use Rattle.mg_thread_tests.proofs.gate_tests.a_reshard_is_answered_during_a_query.Given as goal
 
 abbrev pub ghosts-write_during_query-D-Database : goal.ghosts-write_during_query-D-Database
 ghosts-write_during_query-D-Database g a = record { history = a.history; db = string_bytes a.db; shards = 1 }

@@ -1,11 +1,11 @@
 //! Lists of events over seats: a fixed one, whose replies are written out, and lists that are drawn by a seed, whose replies are
 //! those of plain runs.
+use crate::given::{check, json, string};
 use mg_engine::{Command, Engine, Reply};
-use mg_live::interleave::{Event, are_at, replay};
+use mg_machine::interleave::{Event, are_at, replay};
 use mg_shard::Md5Placement;
-use mg_value::read;
 use std::alloc::Global;
-use std::test::Fail;
+use std::process::Abort;
 use std::thread::Threads;
 
 // The commands: first the bodies of 5 bulks, of 2 indexes, of 2 queries and of an explanation.
@@ -22,35 +22,35 @@ const BODIES: [&str; 10] = [
     r#"{"selector":{"n":1}}"#,
 ];
 
-fn body_command(alloc: Global, number: usize, text: &str) -> Result<Command, Fail> {
-    let body = read(alloc, text.as_bytes())?;
-    Ok(match number {
+fn body_command<R: Abort>(rt: &R, alloc: Global, number: usize, text: &str) -> Command {
+    let body = json(rt, alloc, text);
+    match number {
         0..=4 => Command::Bulk(body),
         5 | 6 => Command::CreateIndex(body),
         7 | 8 => Command::Find(body),
         _ => Command::Explain(body),
-    })
+    }
 }
 
-fn plain_command(alloc: Global, number: usize) -> Result<Command, Fail> {
-    Ok(match number {
+fn plain_command<R: Abort>(rt: &R, alloc: Global, number: usize) -> Command {
+    match number {
         10 | 13 => Command::Get {
-            id: String::from_str(alloc, if number == 10 { "a" } else { "b" })?,
+            id: string(rt, alloc, if number == 10 { "a" } else { "b" }),
             conflicts: true,
         },
         11 => Command::DropIndex {
-            ddoc: String::from_str(alloc, "d")?,
-            name: String::from_str(alloc, "by-n")?,
+            ddoc: string(rt, alloc, "d"),
+            name: string(rt, alloc, "by-n"),
         },
         _ => Command::ListIndexes,
-    })
+    }
 }
 
 // The command of a number, 0 to 13.
-fn command_of(alloc: Global, number: usize) -> Result<Command, Fail> {
+fn command_of<R: Abort>(rt: &R, alloc: Global, number: usize) -> Command {
     match BODIES.get(number) {
-        Some(text) => body_command(alloc, number, text),
-        None => plain_command(alloc, number),
+        Some(text) => body_command(rt, alloc, number, text),
+        None => plain_command(rt, alloc, number),
     }
 }
 
@@ -63,41 +63,39 @@ struct Draw {
 }
 
 // The event: publishing and answering twice as often as looking and telling.
-fn event_of(alloc: Global, draw: &Draw) -> Result<Event, Fail> {
+fn event_of<R: Abort>(rt: &R, alloc: Global, draw: &Draw) -> Event {
     let Draw { kind, seat, by } = *draw;
-    Ok(match kind {
+    match kind {
         0 | 1 => Event::Publish {
             seat,
-            command: command_of(alloc, by)?,
+            command: command_of(rt, alloc, by),
         },
         2 | 3 => Event::Answer {
             seat,
-            command: command_of(alloc, by)?,
+            command: command_of(rt, alloc, by),
         },
         4 => Event::Enter { seat },
         _ => Event::Told { seat, by: by % 3 },
-    })
+    }
 }
 
-fn events_of(alloc: Global, draws: &[Draw]) -> Result<Vec<Event>, Fail> {
+fn events_of<R: Abort>(rt: &R, alloc: Global, draws: &[Draw]) -> Vec<Event> {
     let mut events = Vec::new(alloc);
     for draw in draws {
-        events.push(event_of(alloc, draw)?)?;
+        events.push(event_of(rt, alloc, draw)).expect(rt, "memory");
     }
-    Ok(events)
+    events
 }
 
 // The replies to the events, at three seats.
-fn replies_to<R: Threads + Sync>(
+fn replies_to<R: Threads + Sync + Abort>(
     rt: &R,
     alloc: Global,
     draws: &[Draw],
-) -> Result<Vec<Option<Reply>>, Fail> {
-    let events = events_of(alloc, draws)?;
-    if !are_at(3, &events) {
-        return Err(Fail::from("an event is at no seat"));
-    }
-    Ok(replay(rt, alloc, "db", 3, &events)?)
+) -> Vec<Option<Reply>> {
+    let events = events_of(rt, alloc, draws);
+    assert!(rt; are_at(3, &events));
+    replay(rt, alloc, "db", 3, &events).expect(rt, "memory")
 }
 
 const MISSING: &str = "{\"error\":\"not_found\",\"reason\":\"missing\"}\n";
@@ -169,13 +167,12 @@ fn is_told(reply: Option<&Option<Reply>>, status: u16, text: &str) -> bool {
 }
 
 #[test]
-fn seats_see_what_they_looked_at_or_were_told(rt: HostRuntime) -> Result<(), Fail> {
-    let replies = replies_to(&rt, rt.alloc(), &TELLING)?;
+fn seats_see_what_they_looked_at_or_were_told(rt: HostRuntime) {
+    let replies = replies_to(&rt, rt.alloc(), &TELLING);
     for (event, status, text) in TOLD {
         let reply = replies.get(*event);
-        assert!(rt; is_told(reply, *status, text), "event {event}");
+        check(&rt, is_told(reply, *status, text), text);
     }
-    Ok(())
 }
 
 // The commits, by the numbers of their commands, and how many of them each seat has seen.
@@ -185,68 +182,79 @@ struct Plain {
     seen: [usize; 3],
 }
 
-pub(crate) fn commands_of(
+pub(crate) fn commands_of<R: Abort>(
+    rt: &R,
     alloc: Global,
     numbers: &[usize],
     last: usize,
-) -> Result<Vec<Command>, Fail> {
+) -> Vec<Command> {
     let mut commands = Vec::new(alloc);
     for number in numbers {
-        commands.push(command_of(alloc, *number)?)?;
+        let command = command_of(rt, alloc, *number);
+        commands.push(command).expect(rt, "memory");
     }
-    commands.push(command_of(alloc, last)?)?;
-    Ok(commands)
+    let command = command_of(rt, alloc, last);
+    commands.push(command).expect(rt, "memory");
+    commands
+}
+
+// Ends the test where one of the replies is a want of memory.
+fn answered<R: Abort>(rt: &R, replies: &[Reply]) {
+    for reply in replies {
+        check(rt, reply.status() != 503, "memory");
+    }
 }
 
 // The last reply of a plain run of the commits and then of the command.
-pub(crate) fn plain_reply<R: Threads + Sync>(
+pub(crate) fn plain_reply<R: Threads + Sync + Abort>(
     rt: &R,
     alloc: Global,
     commits: &[usize],
     command: usize,
-) -> Result<Option<Reply>, Fail> {
-    let commands = commands_of(alloc, commits, command)?;
-    let mut engine = Engine::new(alloc, "db", Md5Placement, 1)?;
-    let mut replies = engine.run(rt, alloc, &commands, 1)?;
-    Ok(replies.pop())
+) -> Option<Reply> {
+    let commands = commands_of(rt, alloc, commits, command);
+    let mut engine = Engine::new(alloc, "db", Md5Placement, 1).expect(rt, "memory");
+    let mut replies = engine.run(rt, alloc, &commands, 1).expect(rt, "memory");
+    answered(rt, &replies);
+    replies.pop()
 }
 
 impl Plain {
     // The reply to a command that is published or answered: by what its seat has seen, which is all where it publishes or writes.
-    fn command<R: Threads + Sync>(
+    fn command<R: Threads + Sync + Abort>(
         &mut self,
         rt: &R,
         alloc: Global,
         draw: &Draw,
-    ) -> Result<Option<Reply>, Fail> {
+    ) -> Option<Reply> {
         let all = self.commits.len();
         let writes = draw.by < 7 || draw.by == 11;
         if writes || draw.kind < 2 {
             self.seen[draw.seat % 3] = all;
         }
         let seen = self.seen[draw.seat % 3].min(all);
-        let reply = plain_reply(rt, alloc, &self.commits[..seen], draw.by)?;
+        let reply = plain_reply(rt, alloc, &self.commits[..seen], draw.by);
         if writes && told(Some(&reply)).0 < 300 {
-            self.commits.push(draw.by)?;
+            self.commits.push(draw.by).expect(rt, "memory");
             self.seen[draw.seat % 3] = self.commits.len();
         }
-        Ok(reply)
+        reply
     }
 
     // The reply to an event, if it has one.
-    fn happens<R: Threads + Sync>(
+    fn happens<R: Threads + Sync + Abort>(
         &mut self,
         rt: &R,
         alloc: Global,
         draw: &Draw,
-    ) -> Result<Option<Reply>, Fail> {
+    ) -> Option<Reply> {
         let seen = match draw.kind {
             0 | 1 | 2 | 3 => return self.command(rt, alloc, draw),
             4 => self.commits.len(),
             _ => self.seen[draw.by % 3],
         };
         self.seen[draw.seat % 3] = self.seen[draw.seat % 3].max(seen);
-        Ok(None)
+        None
     }
 }
 
@@ -258,48 +266,49 @@ fn below(state: &mut u64, limit: u64) -> u64 {
     (*state >> 33) % limit.max(1)
 }
 
-fn drawn(alloc: Global, seed: u64) -> Result<Vec<Draw>, Fail> {
+fn drawn<R: Abort>(rt: &R, alloc: Global, seed: u64) -> Vec<Draw> {
     let mut state = seed;
     let mut draws = Vec::new(alloc);
     for _event in 0..60 {
-        draws.push(Draw {
+        let draw = Draw {
             kind: below(&mut state, 6),
             seat: below(&mut state, 3) as usize,
             by: below(&mut state, 14) as usize,
-        })?;
+        };
+        draws.push(draw).expect(rt, "memory");
     }
-    Ok(draws)
+    draws
 }
 
 // Whether the events are answered as plain runs of their commits are, of which there were more than 5.
-fn are_plain<R: Threads + Sync>(
+fn are_plain<R: Threads + Sync + Abort>(
     rt: &R,
     alloc: Global,
     draws: &[Draw],
     replies: &[Option<Reply>],
-) -> Result<bool, Fail> {
+) -> bool {
     let mut plain = Plain {
         commits: Vec::new(alloc),
         seen: [0; 3],
     };
     for (draw, reply) in draws.iter().zip(replies) {
-        let wanted = plain.happens(rt, alloc, draw)?;
+        let wanted = plain.happens(rt, alloc, draw);
         if told(Some(reply)) != told(Some(&wanted)) {
-            return Ok(false);
+            return false;
         }
     }
-    Ok(replies.len() == draws.len() && plain.commits.len() > 5)
+    replies.len() == draws.len() && plain.commits.len() > 5
 }
 
 #[test]
-fn drawn_events_are_answered_as_plain_runs(rt: HostRuntime) -> Result<(), Fail> {
+fn drawn_events_are_answered_as_plain_runs(rt: HostRuntime) {
     for seed in 1..11 {
-        let draws = drawn(rt.alloc(), seed)?;
-        let replies = replies_to(&rt, rt.alloc(), &draws)?;
-        assert!(rt;
-            are_plain(&rt, rt.alloc(), &draws, &replies)?,
-            "seed {seed}"
+        let draws = drawn(&rt, rt.alloc(), seed);
+        let replies = replies_to(&rt, rt.alloc(), &draws);
+        check(
+            &rt,
+            are_plain(&rt, rt.alloc(), &draws, &replies),
+            "drawn events",
         );
     }
-    Ok(())
 }

@@ -1,5 +1,5 @@
 use Rattle.std.proofs.Common.{string_bytes}
-use Rattle.mg_tests.proofs.commit_tests.four_seats_make_a_hundred_commits.Given as goal
+use Rattle.mg_thread_tests.proofs.commit_tests.four_seats_make_a_hundred_commits.Given as goal
 
 abbrev pub ghosts-hundred-D-Database : goal.ghosts-hundred-D-Database
 ghosts-hundred-D-Database g a = record { history = a.history; db = string_bytes a.db; shards = 3 }

@@ -1,5 +1,5 @@
 use Rattle.std.proofs.Common.{string_bytes}
-use Rattle.mg_tests.proofs.commit_tests.a_reshard_is_one_commit_and_changes_no_page.Given as goal
+use Rattle.mg_thread_tests.proofs.commit_tests.a_reshard_is_one_commit_and_changes_no_page.Given as goal
 
 abbrev pub ghosts-two-D-Database : goal.ghosts-two-D-Database
 ghosts-two-D-Database g a = record { history = a.history; db = string_bytes a.db; shards = 1 }

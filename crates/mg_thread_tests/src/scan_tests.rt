@@ -1,18 +1,18 @@
 //! Searches and builds over two shards, each of which a thread of its own has to begin before the other is done.
 use crate::engine_tests::two_shards;
-use crate::selector_tests::selector_of;
+use crate::given::json;
 use mg_collate::{Direction, Row};
 use mg_index::IndexDef;
 use mg_normal::Normal;
 use mg_path::Path;
 use mg_range::KeyRange;
 use mg_scan::{Gate, Place, Target, build, scan};
+use mg_selector::Sel;
 use mg_shard::Shard;
-use mg_value::{NoMemory, read};
 use std::alloc::Global;
+use std::process::Abort;
 use std::sync::Arc;
 use std::sync::atomic::{AtomicU64, Ordering};
-use std::test::Fail;
 use std::thread::Threads;
 
 // Holds the first shard that begins until the second is seen, and counts what comes out of turn: a shard that begins twice, that is done
@@ -85,16 +85,20 @@ impl Gate for BothBegin {
 }
 
 // The query for what has an n above 1.
-pub(crate) fn above_one(alloc: Global) -> Result<Normal, Fail> {
-    let selector = selector_of(alloc, r#"{"n":{"$gt":1}}"#)?;
-    Ok(Normal::of(alloc, &selector)?)
+pub(crate) fn above_one<R: Abort>(rt: &R, alloc: Global) -> Normal {
+    let text = json(rt, alloc, r#"{"n":{"$gt":1}}"#);
+    let Ok(selector) = Sel::read(alloc, &text) else {
+        rt.panic("no selector")
+    };
+    Normal::of(alloc, &selector).expect(rt, "memory")
 }
 
 // Its range of ids.
-pub(crate) fn ids_of(alloc: Global, normal: &Normal) -> Result<KeyRange, Fail> {
+pub(crate) fn ids_of<R: Abort>(rt: &R, alloc: Global, normal: &Normal) -> KeyRange {
+    let path = Path::parse(alloc, "_id").expect(rt, "a path");
     let mut columns = Vec::new(alloc);
-    columns.push(Path::parse(alloc, "_id")?)?;
-    Ok(KeyRange::of(alloc, &columns, normal)?)
+    columns.push(path).expect(rt, "memory");
+    KeyRange::of(alloc, &columns, normal).expect(rt, "memory")
 }
 
 // The id of a row of a shard's list.
@@ -103,30 +107,21 @@ fn id_at(lists: &[Vec<Row>], shard: usize, place: usize) -> Option<&str> {
     Some(row.id.as_str())
 }
 
-// The rows of a search of all documents in the shards.
-fn searched<R: Threads + Sync>(
+// The rows of what has an n above 1, of a search of all documents in the shards.
+fn found<R: Threads + Sync + Abort>(
     rt: &R,
     alloc: Global,
     shards: &[Arc<Shard>],
-    normal: &Normal,
-    range: &KeyRange,
     gate: &BothBegin,
-) -> Result<Vec<Vec<Row>>, NoMemory> {
+) -> Vec<Vec<Row>> {
+    let normal = above_one(rt, alloc);
+    let range = ids_of(rt, alloc, &normal);
     let all = Target::AllDocs;
     let up = Direction::Asc;
-    scan(rt, alloc, shards, all, normal, range, None, 25, up, 2, gate)
-}
-
-// The rows of what has an n above 1.
-fn found<R: Threads + Sync>(
-    rt: &R,
-    alloc: Global,
-    shards: &[Arc<Shard>],
-    gate: &BothBegin,
-) -> Result<Vec<Vec<Row>>, Fail> {
-    let normal = above_one(alloc)?;
-    let range = ids_of(alloc, &normal)?;
-    Ok(searched(rt, alloc, shards, &normal, &range, gate)?)
+    scan(
+        rt, alloc, shards, all, &normal, &range, None, 25, up, 2, gate,
+    )
+    .expect(rt, "memory")
 }
 
 // Which row of which shard has which id.
@@ -138,37 +133,33 @@ const FOUND: &[(usize, usize, Option<&str>)] = &[
     (1, 2, None),
 ];
 
-fn is_scanned<R: Threads + Sync>(
-    rt: &R,
-    alloc: Global,
-    shards: &[Arc<Shard>],
-) -> Result<bool, Fail> {
+fn is_scanned<R: Threads + Sync + Abort>(rt: &R, alloc: Global, shards: &[Arc<Shard>]) -> bool {
     let gate = BothBegin::new();
-    let lists = found(rt, alloc, shards, &gate)?;
+    let lists = found(rt, alloc, shards, &gate);
     for (shard, place, id) in FOUND {
         if id_at(&lists, *shard, *place) != *id {
-            return Ok(false);
+            return false;
         }
     }
-    Ok(gate.is_passed())
+    gate.is_passed()
 }
 
 // Whether an index on n is built.
-fn is_built<R: Threads + Sync>(rt: &R, alloc: Global, shards: &[Arc<Shard>]) -> Result<bool, Fail> {
+fn is_built<R: Threads + Sync + Abort>(rt: &R, alloc: Global, shards: &[Arc<Shard>]) -> bool {
     let gate = BothBegin::new();
-    let body = read(
+    let body = json(
+        rt,
         alloc,
-        br#"{"ddoc":"d","name":"n","index":{"fields":["n"]}}"#,
-    )?;
-    let definition = IndexDef::read(alloc, &body)?;
-    let built = build(rt, alloc, shards, &definition, 2, &gate)?;
-    Ok(built.len() == 2 && gate.is_passed())
+        r#"{"ddoc":"d","name":"n","index":{"fields":["n"]}}"#,
+    );
+    let definition = IndexDef::read(alloc, &body).expect(rt, "a definition");
+    let built = build(rt, alloc, shards, &definition, 2, &gate).expect(rt, "memory");
+    built.len() == 2 && gate.is_passed()
 }
 
 #[test]
-fn two_shards_begun_by_a_scan_and_by_a_build(rt: HostRuntime) -> Result<(), Fail> {
-    let engine = two_shards(&rt, rt.alloc())?;
-    assert!(rt; is_scanned(&rt, rt.alloc(), engine.shards())?);
-    assert!(rt; is_built(&rt, rt.alloc(), engine.shards())?);
-    Ok(())
+fn two_shards_begun_by_a_scan_and_by_a_build(rt: HostRuntime) {
+    let engine = two_shards(&rt, rt.alloc());
+    assert!(rt; is_scanned(&rt, rt.alloc(), engine.shards()));
+    assert!(rt; is_built(&rt, rt.alloc(), engine.shards()));
 }

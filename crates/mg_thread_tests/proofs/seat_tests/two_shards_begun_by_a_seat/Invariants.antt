@@ -1,5 +1,5 @@
 use Rattle.std.proofs.Common.{string_bytes}
-use Rattle.mg_tests.proofs.seat_tests.two_shards_begun_by_a_seat.Given as goal
+use Rattle.mg_thread_tests.proofs.seat_tests.two_shards_begun_by_a_seat.Given as goal
 
 abbrev pub ghosts-begun-D-Database : goal.ghosts-begun-D-Database
 ghosts-begun-D-Database g a = record { history = a.history; db = string_bytes a.db; shards = 2 }

@@ -1,6 +1,7 @@
 //! Seats that read and write side by side, and how many commits a database has when it is closed.
 ghost use Rattle.std.specs.Prelude.{◌≡◌, string_bytes};
 
+use crate::given::{check, string};
 use mg_engine::Reply;
 use mg_live::{CloseError, Database, Ends, History, Live, Seat, Waiting};
 use mg_shard::Md5Placement;
@@ -10,7 +11,6 @@ use std::marker::Brand;
 use std::process::Abort;
 use std::sync::Wait;
 use std::sync::ledger::Blank;
-use std::test::Fail;
 use std::thread;
 use std::thread::Threads;
 
@@ -36,14 +36,14 @@ fn hundred<D: Database + Send + Sync, R: Threads + Wait + Abort + Sync + Send + 
     blank: Blank,
     history: History,
     db: String,
-) -> Result<(), Fail>
+)
     requires name { string_bytes db ≡ D.db }
     requires history { history ≡ D.history }
     requires ledger { (blank.name ≡ D.name) × (blank.parts ≡ D.parts) }
     requires parts { blank.parts ≡ 4 }
     requires opened { 3 ≡ D.shards }
 {
-    let (live, seats) = Live::<D, Waiting<R>>::open(
+    let Ok((live, seats)) = Live::<D, Waiting<R>>::open(
         Waiting(rt),
         alloc,
         blank,
@@ -52,19 +52,20 @@ fn hundred<D: Database + Send + Sync, R: Threads + Wait + Abort + Sync + Send + 
         Md5Placement,
         3,
         4,
-    )?;
-    let seats = thread::map_vec(&rt, seats, &|seat| work(&rt, alloc, seat))?;
-    match live.close(&rt, seats) {
-        Ok(closed) => assert_eq!(rt; closed.commits(), 100),
-        Err(_) => return Err("it is closed".into()),
-    }
-    Ok(())
+    ) else {
+        rt.panic("memory")
+    };
+    let seats = thread::map_vec(&rt, seats, &|seat| work(&rt, alloc, seat)).expect(&rt, "memory");
+    let Ok(closed) = live.close(&rt, seats) else {
+        rt.panic("it is not closed")
+    };
+    assert!(rt; closed.commits() == 100);
 }
 
 #[test]
-fn four_seats_make_a_hundred_commits(rt: HostRuntime) -> Result<(), Fail> {
+fn four_seats_make_a_hundred_commits(rt: HostRuntime) {
     let alloc = rt.alloc();
-    let db = String::from_str(alloc, "db")?;
+    let db = string(&rt, alloc, "db");
     hundred::<Brand, _>(rt, alloc, Blank::new(4), History::new(), db)
 }
 
@@ -270,24 +271,22 @@ fn are_told<D: Database, C: Ends, R: Wait + Threads + Sync>(
 }
 
 // The number of commits of a database that is closed, first without a seat, which is refused.
-fn closed<D: Database, C: Ends, R: Wait>(
+fn closed<D: Database, C: Ends, R: Wait + Abort>(
     rt: &R,
     live: Live<D, C>,
     seats: Vec<Seat<D, C>>,
     last: Seat<D, C>,
-) -> Result<u64, Fail>
+) -> u64
     requires { live ≡ D.parts }
 {
-    let (live, mut seats) = match live.close(rt, seats) {
-        Err((live, seats, CloseError::Missing)) => (live, seats),
-        _ => return Err("a seat is absent".into()),
+    let Err((live, mut seats, CloseError::Missing)) = live.close(rt, seats) else {
+        rt.panic("a seat is absent")
     };
-    seats.push(last)?;
-    let commits = match live.close(rt, seats) {
-        Ok(closed) => closed.commits(),
-        Err(_) => return Err("it is closed".into()),
+    seats.push(last).expect(rt, "memory");
+    let Ok(closed) = live.close(rt, seats) else {
+        rt.panic("it is not closed")
     };
-    Ok(commits)
+    closed.commits()
 }
 
 // Two seats make these calls too, and then have made so many commits. Where a call was refused memory all has to be the same, and
@@ -300,14 +299,14 @@ fn two<D: Database + Send + Sync, R: Threads + Wait + Abort + Sync + Send + Drop
     db: String,
     calls: &[Call],
     commits: u64,
-) -> Result<(), Fail>
+)
     requires name { string_bytes db ≡ D.db }
     requires history { history ≡ D.history }
     requires ledger { (blank.name ≡ D.name) × (blank.parts ≡ D.parts) }
     requires parts { blank.parts ≡ 2 }
     requires opened { 1 ≡ D.shards }
 {
-    let (live, mut seats) = Live::<D, Waiting<R>>::open(
+    let Ok((live, mut seats)) = Live::<D, Waiting<R>>::open(
         Waiting(rt),
         alloc,
         blank,
@@ -316,29 +315,28 @@ fn two<D: Database + Send + Sync, R: Threads + Wait + Abort + Sync + Send + Drop
         Md5Placement,
         1,
         2,
-    )?;
-    let mut b = seats.pop().ok_or("a seat")?;
-    let mut a = seats.pop().ok_or("a seat")?;
+    ) else {
+        rt.panic("memory")
+    };
+    let mut b = seats.pop().expect(&rt, "a seat");
+    let mut a = seats.pop().expect(&rt, "a seat");
     let mut refused = 0;
     assert!(rt; are_told(&rt, alloc, &mut a, &mut b, calls, &mut refused));
-    seats.push(a)?;
-    assert_eq!(rt; closed(&rt, live, seats, b)?, commits);
-    if refused > 0 {
-        return Err("a call was refused memory".into());
-    }
-    Ok(())
+    seats.push(a).expect(&rt, "memory");
+    assert!(rt; closed(&rt, live, seats, b) == commits);
+    check(&rt, refused == 0, "a call was refused memory");
 }
 
 #[test]
-fn two_seats_tell_each_other_and_close(rt: HostRuntime) -> Result<(), Fail> {
+fn two_seats_tell_each_other_and_close(rt: HostRuntime) {
     let alloc = rt.alloc();
-    let db = String::from_str(alloc, "db")?;
+    let db = string(&rt, alloc, "db");
     two::<Brand, _>(rt, alloc, Blank::new(2), History::new(), db, &[], 4)
 }
 
 #[test]
-fn a_reshard_is_one_commit_and_changes_no_page(rt: HostRuntime) -> Result<(), Fail> {
+fn a_reshard_is_one_commit_and_changes_no_page(rt: HostRuntime) {
     let alloc = rt.alloc();
-    let db = String::from_str(alloc, "db")?;
+    let db = string(&rt, alloc, "db");
     two::<Brand, _>(rt, alloc, Blank::new(2), History::new(), db, RESHARDED, 6)
 }

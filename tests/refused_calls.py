@@ -1,0 +1,82 @@
+#!/usr/bin/env python3
+"""Refuses requests for memory to tests of the libraries, one at a time: what was refused has changed nothing.
+
+usage: refused_calls.py --program PATH [--tests FOLDER]
+
+The tests are functions that look by themselves what became of a call that was refused: `Engine::run`, which then has run nothing, and each
+call of two seats, by a database's number of commits when it is closed. The shim refuse/refuse.c refuses the nth request for memory of
+such a test, for each n until a run meets no refusal. A run is right where the test passes, where it says at its end that a call was
+refused and all that it looked at is as it has to be, or where what the test needs by itself was refused, which it says by the word
+`memory`. Each of these has to come, and no assertion may fail. The built tests are those that the gate leaves in CRATE/out of the
+folder. The shim needs a C compiler, `cc`. The last line is 'N passed, M failed'.
+"""
+import itertools
+import resource
+import signal
+import sys
+from pathlib import Path
+
+from common.arguments import arguments
+from common.refusal import refusals
+from common.tally import Tally
+
+CRATES = Path(__file__).resolve().parent.parent / "crates"
+RUN, COMMAND, CALL = "the run was refused memory", "a command was refused memory", "a call was refused memory"
+# the crate of each test, its name, and what it says of a call that was refused
+SAYS = [
+    ("mg_tests", "run_tests::a_refused_run_has_run_nothing", {RUN, COMMAND}),
+    ("mg_thread_tests", "commit_tests::two_seats_tell_each_other_and_close", {CALL}),
+    ("mg_thread_tests", "commit_tests::a_reshard_is_one_commit_and_changes_no_page", {CALL}),
+]
+PASSED, OWN = "ok", "memory"
+
+
+def outcome(refusal, tests, name, request):
+    """What a test said at its end where a request was refused, `ok` where it passed, and else all that it wrote."""
+    refusal.reset()
+    refusal.refuse("memory", request, request)
+    _, (status, said) = refusal.run([str(tests), name], b"")
+    line = said.decode("utf-8", "replace").split("\n")[0]
+    if status == 0:
+        return PASSED
+    if status != -signal.SIGABRT:
+        return f"{status} {said!r}"
+    return OWN if line.startswith(f"{OWN}: ") else line
+
+
+def outcomes(refusal, tests, name):
+    """Each outcome, and the requests that gave it."""
+    found = {outcome(refusal, tests, name, 0): [0]}
+    count = refusal.calls("memory")
+    for request in itertools.count(1):
+        said = outcome(refusal, tests, name, request)
+        if not refusal.refused("memory"):
+            return found, count
+        found.setdefault(said, []).append(request)
+
+
+def check(refusal, tests, name, says, tally):
+    """One test, each of whose outcomes has to come."""
+    found, count = outcomes(refusal, tests, name)
+    print(f"{name}, {count} requests: {', '.join(f'{len(found[said])} {said}' for said in sorted(found))}")
+    tally.expect(f"{name} with nothing refused", 0 in found.get(PASSED, ()), True)
+    strange = {said: requests[:3] for said, requests in found.items() if said not in says | {PASSED, OWN}}
+    tally.expect(f"{name}: other ends, with the requests that were refused", strange, {})
+    tally.expect(f"{name}: what was refused", {said for said in says if found.get(said)}, says)
+
+
+def main():
+    words, tally = arguments(__doc__, tests=CRATES), Tally()
+    resource.setrlimit(resource.RLIMIT_CORE, (0, 0))
+    if tally.needs("cc"):
+        with refusals() as refusal:
+            for crate, name, says in SAYS:
+                tests = words.tests / crate / "out" / f"{crate}_tests"
+                tally.expect(f"the tests {tests} were built", tests.exists(), True)
+                if tests.exists():
+                    check(refusal, tests, name, says, tally)
+    return tally.end()
+
+
+if __name__ == "__main__":
+    sys.exit(main())
