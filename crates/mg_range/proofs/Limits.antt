@@ -1,18 +1,22 @@
 -- Limits on values: a value is within the tightest of them exactly where it is within each, and so meets each bound.
 use Rattle.std.proofs.Common.{◌≡◌, Bool, true, false, cond, ◌&&◌, List, [], ◌∷◌, Option, Some, None, Ordering, Less, Equal, Greater, refl, sym, ap, ap₂, ◌∙◌}
-use Rattle.std.specs.Cmp.{IsTotalOrder}
+use Rattle.std.proofs.lemmas.Cmp.{back_total, on_total}
+use Rattle.std.specs.Cmp.{IsTotalOrder, bool_cmp_total, then_total}
 use Rattle.std.specs.List.{list_all, filter_map, cons_option, fold}
-use Rattle.std.specs.Ordering.{is_lt, is_le, is_eq, is_ge, is_gt, ordering_reverse, match_ordering}
+use Rattle.std.specs.Ordering.{bool_cmp, is_lt, is_le, is_eq, is_ge, is_gt, ordering_reverse, ordering_then, match_ordering}
 use Rattle.mg_value.specs.Value.{Value}
 use Rattle.mg_collate.specs.Order.{value_order}
 use Rattle.mg_collate.specs.declared.direction.Direction.{Direction}
 use Rattle.mg_collate.specs.declared.direction.Direction.TheVariants.{Asc, Desc}
 use Rattle.mg_collate.proofs.Ties.{value_order_total, value_tie}
+use Rattle.mg_index.proofs.Best.{lesser_first}
 use Rattle.mg_index.specs.Bound.{Bound, meets_all, allows}
+use Rattle.mg_index.specs.Choice.{least, lesser}
 use Rattle.mg_index.specs.declared.bound.Comparison.{Comparison}
 use Rattle.mg_index.specs.declared.bound.Comparison.TheVariants.{Below, AtMost, Exactly, AtLeast, Above}
 use Rattle.mg_range.specs.Place.{admits, is_within}
-use Rattle.mg_range.specs.Range.{Limit, order_from, limit_by, limit_of, tighter, tightened, tightest}
+use Rattle.mg_range.specs.Edge.{tightened, tighter}
+use Rattle.mg_range.specs.Range.{Limit, limit_at, order_from, limit_by, limit_of, tightest, tightness}
 
 -- ---- tests
 
@@ -148,8 +152,53 @@ within_limits direction v [] = refl
 within_limits direction v (b ∷ bounds) =
     one_more direction v (limit_of direction b) (filter_map (limit_of direction) bounds) ∙ ap (λ c. limit_admits direction v b && c) (within_limits direction v bounds)
 
+-- ---- the tightest, found from the front on
+
+pub tightness_total : (direction : Direction) → IsTotalOrder (tightness direction)
+tightness_total direction =
+    then_total (back_total (on_total (λ (l : Limit). l.value) (order_from_total direction))) (on_total (λ (l : Limit). l.inclusive) bool_cmp_total)
+
+same_limit : (a b : Limit) → a.value ≡ b.value → a.inclusive ≡ b.inclusive → a ≡ b
+same_limit a b e f = ap₂ limit_at e f
+
+-- of two limits with one value
+lesser_tie : (a b : Limit) → a.value ≡ b.value → (i j : Bool) → a.inclusive ≡ i → b.inclusive ≡ j → cond (is_gt (bool_cmp i j)) b a ≡ cond i b a
+lesser_tie a b e true true f g = same_limit a b e (f ∙ sym g)
+lesser_tie a b e true false f g = refl
+lesser_tie a b e false true f g = refl
+lesser_tie a b e false false f g = refl
+
+lesser_at : (direction : Direction) (a b : Limit) (o p : Ordering) → order_from direction a.value b.value ≡ o → p ≡ ordering_reverse o
+    → cond (is_gt (ordering_then p (bool_cmp a.inclusive b.inclusive))) b a ≡ match_ordering o b (cond a.inclusive b a) a
+lesser_at direction a b Less p e f = ap (λ q. cond (is_gt (ordering_then q (bool_cmp a.inclusive b.inclusive))) b a) f
+lesser_at direction a b Equal p e f =
+    ap (λ q. cond (is_gt (ordering_then q (bool_cmp a.inclusive b.inclusive))) b a) f
+    ∙ lesser_tie a b (same_value direction a.value b.value e) a.inclusive b.inclusive refl refl
+lesser_at direction a b Greater p e f = ap (λ q. cond (is_gt (ordering_then q (bool_cmp a.inclusive b.inclusive))) b a) f
+
+-- the tighter of two limits is the lesser
+lesser_is : (direction : Direction) (a b : Limit) → lesser (tightness direction) a (Some b) ≡ tighter direction a b
+lesser_is direction a b = lesser_at direction a b (order_from direction a.value b.value) (order_from direction b.value a.value) refl ((order_from_total direction).antisymm b.value a.value)
+
+fold_least : (direction : Direction) (a : Limit) (ls : List Limit) → fold (tightened direction) (Some a) ls ≡ Some (lesser (tightness direction) a (least (tightness direction) ls))
+fold_least direction a [] = refl
+fold_least direction a (b ∷ ls) =
+    let rest = least (tightness direction) ls in
+    fold_least direction (tighter direction a b) ls
+    ∙ ap (λ x. Some (lesser (tightness direction) x rest)) (sym (lesser_is direction a b))
+    ∙ ap Some (sym (lesser_first (tightness_total direction) a b rest))
+
+pub tightest_is : (direction : Direction) (bounds : List Bound) → tightest direction bounds ≡ fold (tightened direction) None (filter_map (limit_of direction) bounds)
+tightest_is direction bounds = from (filter_map (limit_of direction) bounds)
+  where
+    from : (ls : List Limit) → least (tightness direction) ls ≡ fold (tightened direction) None ls
+    from [] = refl
+    from (l ∷ ls) = sym (fold_least direction l ls)
+
 within_tightest : (direction : Direction) (v : Value) (bounds : List Bound) → is_within_some direction (tightest direction bounds) v ≡ list_all (limit_admits direction v) bounds
-within_tightest direction v bounds = within_fold direction (filter_map (limit_of direction) bounds) None v ∙ within_limits direction v bounds
+within_tightest direction v bounds =
+    ap (λ o. is_within_some direction o v) (tightest_is direction bounds)
+    ∙ within_fold direction (filter_map (limit_of direction) bounds) None v ∙ within_limits direction v bounds
 
 -- ---- a bound is a limit from below, from above, or both
 

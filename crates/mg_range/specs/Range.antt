@@ -2,8 +2,8 @@
 -- `_explain` tells them. The rule is this project's own.
 use Rattle.std.specs.Prelude.{List, [], ◌∷◌, Bool, true, false, not, ◌&&◌, Option, Some, None, option_map, refl, if◌then◌else◌}
 use Rattle.std.specs.Coded.{Coded, code_by, coded×, coded_bool, coded_list, coded_option}
-use Rattle.std.specs.List.{filter_map, find, fold}
-use Rattle.std.specs.Ordering.{match_ordering}
+use Rattle.std.specs.List.{filter_map, find}
+use Rattle.std.specs.Ordering.{bool_cmp, flip_args, match_ordering, on, then_cmp}
 use Rattle.std.specs.declared.cmp.Ordering.{Ordering}
 use Rattle.mg_value.specs.Value.{Value}
 use Rattle.mg_value.specs.Code.{value_code}
@@ -13,6 +13,7 @@ use Rattle.mg_collate.specs.declared.direction.Direction.{Direction}
 use Rattle.mg_collate.specs.declared.direction.Direction.TheVariants.{Asc, Desc}
 use Rattle.mg_normal.specs.Atoms.{Atom}
 use Rattle.mg_index.specs.Bound.{Bound, bounds_on, is_exact, is_fixed, meets_all}
+use Rattle.mg_index.specs.Choice.{least}
 use Rattle.mg_index.specs.Definition.{Steps}
 use Rattle.mg_index.specs.declared.bound.Comparison.{Comparison}
 use Rattle.mg_index.specs.declared.bound.Comparison.TheVariants.{Below, AtMost, Exactly, AtLeast, Above}
@@ -73,18 +74,13 @@ limit_by direction comparison v = option_map (limit_at v) (inclusive_from direct
 abbrev pub limit_of : Direction → Bound → Option Limit
 limit_of direction b = limit_by direction b.comparison b.value
 
--- the tighter of two limits: the one that the other admits, and of equal values the exclusive one
-abbrev pub tighter : Direction → Limit → Limit → Limit
-tighter direction a b = match_ordering (order_from direction a.value b.value) b (if a.inclusive then b else a) a
-
--- the tighter of a limit, if there is one yet, and another
-abbrev pub tightened : Direction → Option Limit → Limit → Option Limit
-tightened direction None b = Some b
-tightened direction (Some a) b = Some (tighter direction a b)
+-- the order of limits from below, or from above, the tighter first: by the values, and of equal values the exclusive one
+abbrev pub tightness : Direction → Limit → Limit → Ordering
+tightness direction = then_cmp (flip_args (on (λ l. l.value) (order_from direction))) (on (λ l. l.inclusive) bool_cmp)
 
 -- the tightest limit that bounds give, if they give any
 abbrev pub tightest : Direction → List Bound → Option Limit
-tightest direction bounds = fold (tightened direction) None (filter_map (limit_of direction) bounds)
+tightest direction bounds = least (tightness direction) (filter_map (limit_of direction) bounds)
 
 -- the lower limit is above the upper one, or at it where one of them is exclusive
 abbrev pub are_crossed : Limit → Limit → Bool
@@ -103,8 +99,8 @@ between lower upper = if is_crossed lower upper then None else Some (span_of [] 
 abbrev pub with_equal : Value → Range → Range
 with_equal v rest = option_map (λ s. span_of (v ∷ s.equal) s.lower s.upper) rest
 
--- the range of columns whose first one has these bounds: where they fix its value, which has to meet them all, that value and the
--- range of the others, and else what is between the tightest limits
+-- the range of columns whose first one has these bounds: a fixed value that meets every bound stands in front of the range of the
+-- others; where no value is fixed, the range is what is between the tightest limits
 abbrev pub range_from : List Bound → Option Bound → Range → Range
 range_from bounds (Some fixed) rest = if meets_all fixed.value bounds then with_equal fixed.value rest else None
 range_from bounds None rest = between (tightest Asc bounds) (tightest Desc bounds)

@@ -4,8 +4,8 @@ ghost use Rattle.std.specs.List.{cons_option, filter_map, find, fold};
 ghost use Rattle.mg_value.specs.View.{view};
 ghost use Rattle.mg_normal.specs.View.{atom_view, atoms_view};
 ghost use Rattle.mg_index.specs.Bound.{Bound as BoundValue, bound_by, bound_on, bounds_on, is_exact, meets_all as meets_each};
-ghost use Rattle.mg_range.specs.Range.{inclusive_from as inclusive_given, limit_by, limit_of, tighter as tighter_of, tightened, tightest as tightest_of};
-ghost use Rattle.mg_range.specs.Edge.{edge_seen};
+ghost use Rattle.mg_range.specs.Range.{inclusive_from as inclusive_given, limit_by, limit_of, tightest as tightest_of};
+ghost use Rattle.mg_range.specs.Edge.{edge_seen, tightened, tighter as tighter_of};
 
 use mg_collate::{Direction, compare};
 use mg_index::{Bound, Comparison};

@@ -2,8 +2,8 @@ use Rattle.std.proofs.Common.{◌≡◌, drop, option_map}
 use Rattle.std.specs.List.{filter_map, fold}
 use Rattle.mg_normal.specs.View.{atoms_view}
 use Rattle.mg_index.specs.Bound.{bounds_on}
-use Rattle.mg_range.specs.Edge.{edge_seen}
-use Rattle.mg_range.specs.Range.{limit_of, tightened, tightest}
+use Rattle.mg_range.specs.Edge.{edge_seen, tightened}
+use Rattle.mg_range.specs.Range.{limit_of, tightest}
 use Rattle.mg_range.proofs.edge.tightest.Given as goal
 
 -- the atoms that are left tighten the best so far to the tightest
