@@ -1,11 +1,11 @@
 -- Documents stay objects, and what is served of one has its id and its revision.
-use Rattle.std.proofs.Common.{◌≡◌, ℕ, Bool, true, false, cond, List, [], ◌∷◌, ◌++◌, Option, Some, None, option_map, option_to_list, option_and_then, unwrap_or, is_some, codes, Result, Ok, Err, Ordering, Less, Equal, Greater, refl, sym, ap, ◌∙◌, subst}
+use Rattle.std.proofs.Common.{◌≡◌, ℕ, Bool, true, false, cond, List, [], ◌∷◌, ◌++◌, Option, Some, None, option_and_then, unwrap_or, is_some, codes, Result, Ok, Err, Ordering, Less, Equal, Greater, refl, sym, ap, ◌∙◌, subst}
 use Rattle.std.proofs.lemmas.Cmp.{nat_list_cmp_total, tied_itself}
 use Rattle.std.specs.Cmp.Lexicographic.{slice_cmp}
 use Rattle.std.specs.FinMap as finite
 use Rattle.std.specs.FinMap.{get, get-empty, get-insert}
-use Rattle.std.specs.List.{AllByRecursion, filter_map}
-use Rattle.std.specs.Ordering.{eq_by_cmp, is_lt, match_ordering, nat_cmp}
+use Rattle.std.specs.List.{AllByRecursion}
+use Rattle.std.specs.Ordering.{eq_by_cmp, match_ordering, nat_cmp}
 use Rattle.mg_value.specs.Value.{Value, null, flag, whole, text, list, object, Items, no_items, item, Members, no_members, member, get_member, put, with_member}
 use Rattle.mg_doc.specs.Document.{Edit, change_given, edit_of, id_of, is_object, mark_read, members_read, or_fault, own_members, then_read}
 use Rattle.mg_doc.specs.declared.change.Change.{Change}
@@ -19,10 +19,10 @@ use Rattle.mg_index.specs.Choice.{id_path, rev_path}
 use Rattle.mg_path.specs.Part.{part_of}
 use Rattle.mg_query.specs.Page.{Candidate, candidates_of}
 use Rattle.mg_query.specs.Served.{AreWhole}
-use Rattle.mg_query.proofs.Candidates.{shown_first}
 use Rattle.mg_query.proofs.Kept.{IsKnown, all_known}
-use Rattle.mg_revtree.specs.History.{History, Leaf, Path, all_links, better_of, best_from, best_of, has_child, is_at, leaf_of, leaf_order, marked, newest_of, tip_of, winner_of}
+use Rattle.mg_revtree.specs.History.{History, Leaf, Path, all_links, has_child, is_at, marked, newest_of, winner_of}
 use Rattle.mg_revtree.specs.Revision.{Revision, revision_text}
+use Rattle.mg_revtree.proofs.Winners.{winner_is_best}
 use Rattle.mg_shard.specs.Edits.{after_edit, after_edits, history_put, id_in, outcome_in}
 use Rattle.mg_shard.specs.Histories.{Histories, history_at}
 use Rattle.mg_shard.proofs.Shown.{bytes_cmp}
@@ -158,40 +158,13 @@ marked_object : (r : Revision) (h : History) (m : Bool × Value) → HasObjects 
 marked_object r [] m hs e = absurd cc
 marked_object r (p ∷ h) m hs e = marked_here (is_at r (newest_of p.revs)) p (marked r h) m hs.0 (λ m e. marked_object r h m hs.1 e) e
 
-leaf_here : (b : Bool) (r : Revision) (o : Option (Bool × Value)) (l : Leaf) → ((m : Bool × Value) → o ≡ Some m → is_object m.1 ≡ true)
-    → option_map (λ (m : Bool × Value). record { rev = r; deleted = m.0; body = m.1 }) (cond b None o) ≡ Some l → IsGood l
-leaf_here true r o l each e = absurd cc
-leaf_here false r None l each e = absurd cc
-leaf_here false r (Some m) l each e = subst IsGood (the_some _ l e) (each m refl)
-
-tip_object : (h : History) (o : Option Revision) (l : Leaf) → HasObjects h → option_and_then (leaf_of h) o ≡ Some l → IsGood l
-tip_object h None l hs e = absurd cc
-tip_object h (Some r) l hs e = leaf_here (has_child r (all_links h)) r (marked r h) l (λ m e. marked_object r h m hs e) e
-
-one_more : (o : Option Leaf) (rest : List Leaf) → ((l : Leaf) → o ≡ Some l → IsGood l) → AllByRecursion IsGood rest → AllByRecursion IsGood (option_to_list o ++ rest)
-one_more None rest each r = r
-one_more (Some l) rest each r = (each l refl, r)
-
-tips_objects : (h ps : History) → HasObjects h → AllByRecursion IsGood (filter_map (tip_of h) ps)
-tips_objects h [] hs = tt
-tips_objects h (p ∷ ps) hs =
-    subst (AllByRecursion IsGood) (sym (shown_first (tip_of h) p ps (tip_of h p) refl))
-    (one_more (tip_of h p) (filter_map (tip_of h) ps) (λ l e. tip_object h (newest_of p.revs) l hs e) (tips_objects h ps hs))
-
-better : (b : Bool) (l m : Leaf) → IsGood l → IsGood m → IsGood (cond b m l)
-better true l m g k = k
-better false l m g k = g
-
-best : (l : Leaf) (ms : List Leaf) → IsGood l → AllByRecursion IsGood ms → IsGood (best_from l ms)
-best l [] g gs = g
-best l (m ∷ ms) g gs = best (better_of l m) ms (better (is_lt (leaf_order l m)) l m g gs.0) gs.1
-
-best_object : (ls : List Leaf) (l : Leaf) → AllByRecursion IsGood ls → best_of ls ≡ Some l → IsGood l
-best_object [] l gs e = absurd cc
-best_object (m ∷ ms) l gs e = subst IsGood (the_some (best_from m ms) l e) (best m ms gs.0 gs.1)
+leaf_here : (b : Bool) (o : Option (Bool × Value)) (m : Bool × Value) → ((m : Bool × Value) → o ≡ Some m → is_object m.1 ≡ true) → cond b None o ≡ Some m → is_object m.1 ≡ true
+leaf_here true o m each e = absurd cc
+leaf_here false o m each e = each m e
 
 winner_object : (h : History) (l : Leaf) → HasObjects h → winner_of h ≡ Some l → IsGood l
-winner_object h l hs e = best_object (filter_map (tip_of h) h) l (tips_objects h h hs) e
+winner_object h l hs e =
+    leaf_here (has_child l.rev (all_links h)) (marked l.rev h) (l.deleted, l.body) (λ m k. marked_object l.rev h m hs k) (winner_is_best h l e).0
 
 -- ---- the members of what is served
 
