@@ -1,18 +1,17 @@
 -- What threads give, put together: the places of documents, and the shards that are made of them.
 use denote.Ref.{Bor}
-use Rattle.std.proofs.Common.{◌≡◌, ℕ, zero, suc, ◌+◌, ◌<◌, List, [], ◌∷◌, Some, Result, Ok, Err, length, get_or, map, slice_get, arith, refl, sym, ap, ◌∙◌, subst, IfOk}
-use Rattle.std.specs.Prelude.{MatchResult, Contains}
+use Rattle.std.proofs.lemmas.List.{length-map}
+use Rattle.std.proofs.lemmas.Option.{get_or_from_slice_get, slice_get-map, slice_get_within}
+use Rattle.std.proofs.Common.{◌++◌, option_map, ◌≡◌, ℕ, zero, suc, ◌<◌, List, [], ◌∷◌, Some, Result, Ok, length, get_or, map, slice_get, arith, refl, sym, ap, ◌∙◌, subst, IfOk}
 use Rattle.std.specs.Arc.{arc_value}
 use Rattle.std.specs.declared.alloc.Global.{Global}
 use Rattle.std.specs.declared.sync.Arc.{Arc}
-use Rattle.std.specs.declared.vec.Vec.{Vec}
-use Rattle.std.specs.List.{AllZip, range_with_len}
+use Rattle.std.specs.List.{AllZip}
 use Rattle.rayon.proofs.ToStd.{slice-AllZip}
 use Rattle.mg_shard.specs.Dealt.{Placing}
 use Rattle.mg_shard.specs.Redealt.{ArePlaces, IsPlace, documents_seen}
 use Rattle.mg_shard.specs.Shard.{ShardView}
 use Rattle.mg_shard.specs.declared.document.Document.{Document}
-use Rattle.mg_shard.proofs.Dealing.{same_some}
 use Rattle.mg_value.specs.declared.error.NoMemory.{NoMemory}
 
 abbrev Lent : Type 0
@@ -28,6 +27,11 @@ pub seen_at : (ds : List Lent) (k : ℕ) (d : Lent) → k < length ds → d ≡ 
 seen_at [] k d l e = absurd (omega (arith, l))
 seen_at (x ∷ ds) zero d l e = ap (λ (y : Lent). arc_value y.now) e
 seen_at (x ∷ ds) (suc k) d l e = seen_at ds k d (omega (arith, l)) e
+
+pub read_alike : (ps : List ℕ) (k a b : ℕ) → k < length ps → get_or ps k a ≡ get_or ps k b
+read_alike [] k a b l = absurd (omega (arith, l))
+read_alike (p ∷ ps) zero a b l = refl
+read_alike (p ∷ ps) (suc k) a b l = read_alike ps k a b (omega (arith, l))
 
 -- ---- places
 
@@ -45,51 +49,23 @@ places_together place n documents ds ps shown each =
 
 -- ---- shards
 
--- what was given for each number, where no memory was refused
-all_given : (P : ℕ → ShardView → Type 0) (ns : List ℕ) (rs : List (Result ShardView NoMemory)) (ss : List ShardView) → AllZip (λ i r. IfOk r (P i)) ns rs
-    → rs ≡ map Ok ss → AllZip P ns ss
-all_given P [] [] [] h e = tt
-all_given P [] [] (s ∷ ss) h e = absurd cc
-all_given P [] (r ∷ rs) ss h e = absurd h
-all_given P (n ∷ ns) [] ss h e = absurd h
-all_given P (n ∷ ns) (Err x ∷ rs) [] h e = absurd cc
-all_given P (n ∷ ns) (Err x ∷ rs) (s ∷ ss) h e = absurd cc
-all_given P (n ∷ ns) (Ok r ∷ rs) [] h e = absurd cc
-all_given P (n ∷ ns) (Ok r ∷ rs) (s ∷ ss) h e =
-    let same : r ≡ s = cc in
-    let more : rs ≡ map Ok ss = cc in
-    (subst (P n) same h.0, all_given P ns rs ss h.1 more)
+ok_at : (ss : List ShardView) (i : ℕ) (s : ShardView) → slice_get ss i ≡ Some s → slice_get (map {B = Result ShardView NoMemory} Ok ss) i ≡ Some (Ok s)
+ok_at ss i s e = slice_get-map Ok ss i ∙ ap (option_map Ok) e
 
--- so it is for the numbers from one on
-numbered : (P : ℕ → ShardView → Type 0) (from n : ℕ) (ss : List ShardView) → AllZip P (range_with_len from n) ss
-    → (length ss ≡ n) × ((i : ℕ) (s : ShardView) → slice_get ss i ≡ Some s → P (from + i) s)
-numbered P from zero [] h = (refl, λ i s e. absurd cc)
-numbered P from zero (s ∷ ss) h = absurd h
-numbered P from (suc n) [] h = absurd h
-numbered P from (suc n) (s ∷ ss) h = let more = numbered P (from + 1) n ss h.1 in (ap suc more.0, at more.1)
+-- what threads gave is a shard for each number, where memory was refused to none
+pub shards_together : (P : ℕ → ShardView → Type 0) (n : ℕ) (rs : List (Result ShardView NoMemory)) (ss : List ShardView) → length rs ≡ n
+    → ((i : ℕ) (r : Result ShardView NoMemory) → i < n → IfOk (get_or rs i r) (P i)) → rs ≡ map Ok ss
+    → (length ss ≡ n) × ((i : ℕ) (s : ShardView) → slice_get ss i ≡ Some s → P i s)
+shards_together P n rs ss long each all = (sym (length-map ss Ok) ∙ sym (ap length all) ∙ long, at)
   where
-    at : ((i : ℕ) (x : ShardView) → slice_get ss i ≡ Some x → P (from + 1 + i) x) → (i : ℕ) (x : ShardView) → slice_get (s ∷ ss) i ≡ Some x → P (from + i) x
-    at more zero x e = let here : from ≡ from + 0 = omega arith in subst (λ k. P k x) here (subst (P from) (same_some s x e) h.0)
-    at more (suc i) x e = let there : from + 1 + i ≡ from + suc i = omega arith in subst (λ k. P k x) there (more i x e)
+    at : (i : ℕ) (s : ShardView) → slice_get ss i ≡ Some s → P i s
+    at i s e =
+        let there : slice_get rs i ≡ Some (Ok s) = ap (λ xs. slice_get xs i) all ∙ ok_at ss i s e in
+        let less : i < n = subst (λ m. i < m) long (slice_get_within rs i (Ok s) there) in
+        subst (λ r. IfOk r (P i)) (get_or_from_slice_get rs i (Ok s) (Ok s) there) (each i (Ok s) less)
 
--- what threads put together of the numbers below n is either a shard for each or a refusal
-pub shards_together : (P : ℕ → ShardView → Type 0) (n : ℕ) (ns : List ℕ) (rs : List (Result ShardView NoMemory)) (together : Result (Vec ShardView Global) NoMemory)
-    → ns ≡ range_with_len 0 n → AllZip (λ i r. IfOk r (P i)) ns rs
-    → MatchResult together (λ v. (ss : List ShardView) × (rs ≡ map Ok ss) × (v.items ≡ ss)) (λ e. Contains rs (Err e))
-    → IfOk together (λ v. (length v.items ≡ n) × ((i : ℕ) (s : ShardView) → slice_get v.items i ≡ Some s → P i s))
-shards_together P n ns rs (Err e) all each given = tt
-shards_together P n ns rs (Ok v) all each given =
-    let found = numbered P 0 n given.0 (subst (λ ks. AllZip P ks given.0) all (all_given P ns rs given.0 each given.1)) in (
-      ap length given.2 ∙ found.0,
-      λ i s e.
-          let same : 0 + i ≡ i = omega arith in
-          subst (λ k. P k s) same (found.1 i s (sym (ap (λ xs. slice_get xs i) given.2) ∙ e)),
-    )
-
-pub if_first : {A : Type 0} (r : Result A NoMemory) (P Q : A → Type 0) → IfOk r (λ v. P v × Q v) → IfOk r P
-if_first (Ok v) P Q h = h.0
-if_first (Err e) P Q h = tt
-
-pub if_second : {A : Type 0} (r : Result A NoMemory) (P Q : A → Type 0) → IfOk r (λ v. P v × Q v) → IfOk r Q
-if_second (Ok v) P Q h = h.1
-if_second (Err e) P Q h = tt
+-- one more
+pub one_given : (ss : List ShardView) (s : ShardView) (r : Result ShardView NoMemory) (rest : List (Result ShardView NoMemory)) → r ≡ Ok s
+    → map Ok ss ++ r ∷ rest ≡ map Ok (ss ++ s ∷ []) ++ rest
+one_given [] s r rest e = ap (λ x. x ∷ rest) e
+one_given (x ∷ ss) s r rest e = ap (λ xs. Ok x ∷ xs) (one_given ss s r rest e)

@@ -1,5 +1,5 @@
 //! Documents that are dealt anew to another number of shards.
-ghost use Rattle.std.specs.Prelude.{◌≡◌, ◌<◌, All, IfOk, List, Some, length, slice_get};
+ghost use Rattle.std.specs.Prelude.{◌≡◌, ◌<◌, All, IfOk, List, Ok, Some, length, map, slice_get};
 ghost use Rattle.std.specs.Arc.{arc_value};
 ghost use Rattle.std.specs.List.{AllByRecursion};
 ghost use Rattle.std.specs.Thread.{IsSync};
@@ -21,9 +21,9 @@ use crate::shard::Shard;
 use mg_index::IndexDef;
 use mg_pages::Pages;
 use mg_value::NoMemory;
-use rayon::prelude::*;
 use std::alloc::Global;
 use std::sync::Arc;
+use std::thread;
 use std::thread::Threads;
 
 /// So many shards with the documents of these: the placement says to which of them a document goes, its tree with it, whatever placement
@@ -31,7 +31,7 @@ use std::thread::Threads;
 /// that are lent, not copied.
 ///
 /// The shards are the same for every number of workers. One worker starts no thread, and nor do fewer than 1,000 documents; otherwise
-/// threads find the places of the documents, and each of them makes some of the shards. Where there are more workers than shards, further
+/// threads find the places of the documents, and a thread for each shard makes it. Where there are twice as many workers as shards, further
 /// threads extract and sort the rows of each.
 ///
 /// Errors: `NoMemory` where a growth was refused. Cost: for each document its placement and the way to its place, and for each index a
@@ -175,7 +175,18 @@ fn made_in_turn<R: Threads + Sync>(
     Ok(shards)
 }
 
-// The new shards, made by several threads, each by so many workers.
+// All shards, if memory was refused to none of them.
+fn all_of(alloc: Global, results: Vec<Result<Shard, NoMemory>>) -> Result<Vec<Shard>, NoMemory>
+    ensures { IfOk result (λ v. results.items ≡ map Ok v.items) }
+{
+    let mut shards = Vec::with_capacity(alloc, results.len())?;
+    for given in results {
+        shards.push(given?)?;
+    }
+    Ok(shards)
+}
+
+// The new shards, made by a thread for each, which has so many workers.
 fn made_at_once<R: Threads + Sync>(
     rt: &R,
     alloc: Global,
@@ -190,17 +201,17 @@ fn made_at_once<R: Threads + Sync>(
     ensures number { IfOk result (λ v. length v.items ≡ count) }
     ensures made { IfOk result (λ v. AreMade (documents_seen documents.now) places.now (definitions_of (indexes_seen indexes.now)) v.items) }
 {
-    let shards: Result<Vec<Shard>, NoMemory> = (0..count)
-        .into_par_iter()
-        .with_min_len(1)
-        .map(
-            |place: usize| -> Result<Shard, NoMemory>
-                requires { IsSync R.row × (length places.now ≡ length documents.now) × IsCatalog (definitions_of (indexes_seen indexes.now)) }
-                ensures { IfOk result (IsMade (documents_seen documents.entry.now) places.entry.now (definitions_of (indexes_seen indexes.entry.now)) place) }
-            { made(rt, alloc, documents, places, indexes, place, workers) },
-        )
-        .collect(rt, alloc)?;
-    shards
+    let results = thread::map_indices(
+        rt,
+        alloc,
+        count,
+        &|place: usize| -> Result<Shard, NoMemory>
+            requires { IsSync R.row × (length places.now ≡ length documents.now) × IsCatalog (definitions_of (indexes_seen indexes.now)) }
+            ensures { IfOk result (IsMade (documents_seen documents.entry.now) places.entry.now (definitions_of (indexes_seen indexes.entry.now)) place) }
+        { made(rt, alloc, documents, places, indexes, place, workers) },
+    )?;
+    let shards = all_of(alloc, results)?;
+    Ok(shards)
 }
 
 // The new shards, each with indexes of these definitions.

@@ -1,4 +1,4 @@
-use Rattle.std.proofs.Common.{◌≡◌, ◌+◌, List, [], ◌∷◌, ap, length, length-append, sym, ◌∙◌, subst}
+use Rattle.std.proofs.Common.{◌+◌, List, [], ◌∷◌, ap, length, length-append, sym, ◌∙◌, subst}
 use Rattle.mg_shard.specs.Index.{definitions_of, indexes_seen}
 use Rattle.mg_shard.specs.Redealt.{AreMade, documents_seen}
 use Rattle.mg_shard.specs.Shard.{ShardView}

@@ -1,5 +1,5 @@
 use denote.Ref.{Bor}
-use Rattle.std.proofs.Common.{◌≡◌, ◌<◌, ℕ, Global, List, length, sym, ap, ◌∙◌, subst}
+use Rattle.std.proofs.Common.{◌<◌, ℕ, Global, List, length, sym, ap, ◌∙◌, subst}
 use Rattle.std.proofs.lemmas.List.{length-map}
 use Rattle.std.specs.Arc.{arc_value}
 use Rattle.std.specs.declared.sync.Arc.{Arc}
@@ -13,7 +13,7 @@ use Rattle.mg_shard.proofs.Together.{seen_length}
 use Rattle.mg_shard.proofs.redealt.redeal.Goals as goal
 
 pub all_made-requires-clause-number : goal.all_made-requires-clause-number
-all_made-requires-clause-number g c =
+all_made-requires-clause-number g c κs within =
     let ds = c.deref-documents.result.now in
     ap length c.deref-places.ensures.value ∙ as_many (g.P.Placement.place c.args.placement.now) c.args.count (documents_seen ds) c.in_ok-found.found.items c.in_ok-found.ensures
     ∙ seen_length ds

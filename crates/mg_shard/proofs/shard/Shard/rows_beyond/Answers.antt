@@ -4,7 +4,6 @@ use Rattle.mg_collate.specs.declared.row.Row.{Row}
 use Rattle.mg_shard.specs.Documents.{shown}
 use Rattle.mg_shard.specs.Shard.{rows_at}
 use Rattle.mg_shard.specs.Walk.{beyond}
-use Rattle.mg_shard.specs.declared.index.IndexRows.{IndexRows}
 use Rattle.mg_shard.proofs.Catalogued.{rows_named}
 use Rattle.mg_shard.proofs.Walks.{beyond-map}
 use Rattle.mg_shard.proofs.shard.Shard.rows_beyond.Goals as goal
