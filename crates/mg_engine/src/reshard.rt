@@ -17,20 +17,24 @@ use crate::define::{done_line, shared};
 use crate::refusal::Refusal;
 use crate::reply::Reply;
 use crate::state::State;
+use mg_scan::Workers;
 use mg_shard::{Placement, Shard, redeal};
 use mg_value::{Json, NoMemory};
 use std::alloc::Global;
 use std::sync::Arc;
+use std::thread::Threads;
 
 impl State {
     /// The reply to a body that asks for a number of shards, and the next state, if that is whole and from 1 to 64; any other
     /// body is refused as of the wrong shape. The documents, the indexes and the counter stay as they are. Cost: the shards, where
     /// they are as many already; else each document, to its place, and its row in each index.
-    pub(crate) fn reshard<P: Placement>(
+    pub(crate) fn reshard<P: Placement, R: Threads + Sync>(
         &self,
+        rt: &R,
         alloc: Global,
         placement: &P,
         body: &Json,
+        workers: Workers,
     ) -> Result<(Reply, Option<State>), NoMemory>
         ensures does { IfOk result (λ r. (w : World) → Holds (P.place placement.now) self.now w
             → (said r.0 ≡ Some (reply_of w (reshard (view body.now))))
@@ -43,16 +47,18 @@ impl State {
             return Ok((Reply::refusing(alloc, Refusal::WrongShape)?, None));
         };
         let body = done_line(alloc)?;
-        let next = self.over_shards(alloc, placement, count)?;
+        let next = self.over_shards(rt, alloc, placement, count, workers)?;
         Ok((Reply::Full { status: 200, body }, Some(next)))
     }
 
     // The state over so many shards, all of it shared where they are as many already.
-    fn over_shards<P: Placement>(
+    fn over_shards<P: Placement, R: Threads + Sync>(
         &self,
+        rt: &R,
         alloc: Global,
         placement: &P,
         count: usize,
+        workers: Workers,
     ) -> Result<State, NoMemory>
         requires { 0 < count }
         ensures stands { IfOk result (λ s. (w : World) → Holds (P.place placement.now) self.now w → Holds (P.place placement.now) s w) }
@@ -62,7 +68,7 @@ impl State {
             let state = self.share(alloc)?;
             Ok(state)
         } else {
-            let shards = dealt_anew(alloc, &self.shards, placement, count)?;
+            let shards = dealt_anew(rt, alloc, &self.shards, placement, count, workers)?;
             let state = self.with_shards(shards, self.counter)?;
             Ok(state)
         }
@@ -70,11 +76,13 @@ impl State {
 }
 
 // So many shards with the documents of these, and the rows of the same indexes.
-fn dealt_anew<P: Placement>(
+fn dealt_anew<P: Placement, R: Threads + Sync>(
+    rt: &R,
     alloc: Global,
     shards: &[Arc<Shard>],
     placement: &P,
     count: usize,
+    workers: Workers,
 ) -> Result<Vec<Arc<Shard>>, NoMemory>
     requires { 0 < count }
     ensures number { IfOk result (λ v. length (shards_seen v.items) ≡ count) }
@@ -83,7 +91,7 @@ fn dealt_anew<P: Placement>(
     ensures rows { IfOk result (λ v. (ds : List IndexDefinition) → 0 < length shards.now → HaveRows ds (shards_seen shards.now)
         → HaveRows ds (shards_seen v.items)) }
 {
-    let dealt = redeal(alloc, shards, placement, count)?;
+    let dealt = redeal(rt, alloc, shards, placement, count, workers.count())?;
     let shards = shared(alloc, dealt)?;
     Ok(shards)
 }

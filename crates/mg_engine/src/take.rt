@@ -44,7 +44,7 @@ impl State {
             Command::Find(body) => told(self.find(rt, alloc, body, workers, gate)),
             Command::Explain(body) => told(self.explain(alloc, body)),
             Command::Get { id, conflicts } => told(self.get(alloc, placement, id, *conflicts)),
-            Command::Reshard(body) => settled(self.reshard(alloc, placement, body)),
+            Command::Reshard(body) => { settled(self.reshard(rt, alloc, placement, body, workers)) }
         }
     }
 

@@ -1,5 +1,6 @@
 //! Indexes built over shards, their keys extracted in parallel.
 ghost use Rattle.std.specs.Prelude.{◌≡◌, ◌+◌, ◌^◌, ◌<◌, ◌≤◌, Some, length, map, slice_get, vec_len, IfOk};
+ghost use Rattle.std.specs.Arc.{arc_value};
 ghost use Rattle.mg_scan.specs.Built.{with_index};
 ghost use Rattle.mg_scan.specs.Building.{AreRowsAt, AreRowsFrom, HasRowsAt};
 ghost use Rattle.mg_shard.specs.Shard.{shards_seen};
@@ -129,13 +130,13 @@ fn extracted<R: Threads + Sync, G: Gate + Sync>(
 fn with_these(
     alloc: Global,
     shards: &[Arc<Shard>],
-    definition: &IndexDef,
+    definition: &Arc<IndexDef>,
     i: usize,
     rows: Result<Vec<Row>, NoMemory>,
 ) -> Result<Shard, NoMemory>
     requires inside { i < length shards.now }
-    requires rows { HasRowsAt definition.now (shards_seen shards.now) i rows }
-    ensures { IfOk result (λ s. slice_get (map (with_index definition.now) (shards_seen shards.now)) i ≡ Some s) }
+    requires rows { HasRowsAt (arc_value definition.now) (shards_seen shards.now) i rows }
+    ensures { IfOk result (λ s. slice_get (map (with_index (arc_value definition.now)) (shards_seen shards.now)) i ≡ Some s) }
 {
     let shard: &Shard = &shards[i];
     Ok(shard.with_rows(alloc, definition, rows?)?)
@@ -146,28 +147,28 @@ fn taken(
     given: &mut Vec<Result<Vec<Row>, NoMemory>>,
     i: usize,
     shards: &[Arc<Shard>],
-    definition: &IndexDef,
+    definition: &Arc<IndexDef>,
 ) -> Result<Vec<Row>, NoMemory>
     requires inside { i < vec_len given.old }
-    requires given { AreRowsAt definition.now (shards_seen shards.now) given.old.items }
-    ensures rows { HasRowsAt definition.now (shards_seen shards.now) i result }
-    ensures given { AreRowsAt definition.now (shards_seen shards.now) given.new.items }
+    requires given { AreRowsAt (arc_value definition.now) (shards_seen shards.now) given.old.items }
+    ensures rows { HasRowsAt (arc_value definition.now) (shards_seen shards.now) i result }
+    ensures given { AreRowsAt (arc_value definition.now) (shards_seen shards.now) given.new.items }
     ensures len { vec_len given.new ≡ vec_len given.old }
 {
     let _ = (shards.len(), definition.columns().len());
     replace(&mut given[i], Err(NoMemory))
 }
 
-// The shards, each with the index of these rows.
+// The shards, each with the index of these rows. They share the definition.
 fn with_all(
     alloc: Global,
     shards: &[Arc<Shard>],
-    definition: &IndexDef,
+    definition: &Arc<IndexDef>,
     given: Vec<Result<Vec<Row>, NoMemory>>,
 ) -> Result<Vec<Shard>, NoMemory>
-    requires rows { AreRowsAt definition.now (shards_seen shards.now) given.items }
+    requires rows { AreRowsAt (arc_value definition.now) (shards_seen shards.now) given.items }
     requires len { vec_len given ≡ length shards.now }
-    ensures { IfOk result (λ v. v.items ≡ map (with_index definition.now) (shards_seen shards.now)) }
+    ensures { IfOk result (λ v. v.items ≡ map (with_index (arc_value definition.now)) (shards_seen shards.now)) }
 {
     let mut built = Vec::new(alloc);
     let mut given = given;
@@ -181,7 +182,7 @@ fn with_all(
 
 /// The shards, each with an index of this definition, instead of one of its design document and name: what `Shard::with_index` makes of
 /// each, for every number of workers, from 1 to 32, and for every gate. One worker starts no thread. Several take a shard each; where there
-/// are twice as many workers as shards left, as many threads extract the rows of a large shard as there are processors.
+/// are twice as many workers as shards left, as many threads extract the rows of a large shard as there are processors. The definition is copied once, and the shards share it.
 ///
 /// The gate is passed before a shard's first document is read and after its last row is made.
 /// Errors: `NoMemory` where a growth was refused. Cost: each document once, and its row to its place.
@@ -197,5 +198,6 @@ pub fn build<R: Threads + Sync, G: Gate + Sync>(
     ensures { IfOk result (λ v. v.items ≡ map (with_index definition.now) (shards_seen shards.now)) }
 {
     let given = extracted(rt, alloc, shards, definition, workers, gate)?;
-    with_all(alloc, shards, definition, given)
+    let shared = Arc::new(alloc, definition.copy(alloc)?)?;
+    with_all(alloc, shards, &shared, given)
 }

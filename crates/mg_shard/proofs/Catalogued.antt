@@ -244,14 +244,14 @@ pub rows_found : (ds : KeptDocuments) (ddoc name : List ℕ) (xs : List Index) �
 rows_found ds ddoc name [] h = refl
 rows_found ds ddoc name (x ∷ xs) h = found_here ds (is_at ddoc name x.0) x _ _ h.0 (rows_found ds ddoc name xs h.1)
 
-found_seen : (b : Bool) (x : IndexRows) (o : Option IndexRows) (p : Option Index) → option_map (λ y. rows_view y.rows) o ≡ option_map (λ y. rows_view y.1) p
-    → option_map (λ y. rows_view y.rows) (cond b (Some x) o) ≡ option_map (λ y. rows_view y.1) (cond b (Some (index_seen x)) p)
+found_seen : (b : Bool) (x : IndexRows) (o : Option IndexRows) (p : Option Index) → option_map (λ y. rows_view (arc_value y.rows)) o ≡ option_map (λ y. rows_view y.1) p
+    → option_map (λ y. rows_view (arc_value y.rows)) (cond b (Some x) o) ≡ option_map (λ y. rows_view y.1) (cond b (Some (index_seen x)) p)
 found_seen true x o p e = refl
 found_seen false x o p e = e
 
 -- what is found among the indexes of the code
 pub rows_seen : (ddoc name : List ℕ) (xs : List IndexRows)
-    → option_map (λ x. rows_view x.rows) (find (λ x. is_at ddoc name (arc_value x.definition)) xs) ≡ option_map (λ x. rows_view x.1) (find (λ x. is_at ddoc name x.0) (indexes_seen xs))
+    → option_map (λ x. rows_view (arc_value x.rows)) (find (λ x. is_at ddoc name (arc_value x.definition)) xs) ≡ option_map (λ x. rows_view x.1) (find (λ x. is_at ddoc name x.0) (indexes_seen xs))
 rows_seen ddoc name [] = refl
 rows_seen ddoc name (x ∷ xs) = found_seen (is_at ddoc name (arc_value x.definition)) x _ _ (rows_seen ddoc name xs)
 
@@ -283,7 +283,7 @@ twice_mapped f g (Some x) = refl
 
 -- the rows of the index of a name that is found among those of the code
 pub rows_named : (ds : KeptDocuments) (ddoc name : List ℕ) (xs ys : List IndexRows) → ys ≡ xs → AllByRecursion (HasRows ds) (indexes_seen xs)
-    → option_map (λ x. rows_view x.rows) (find (λ x. is_at ddoc name (arc_value x.definition)) ys) ≡ option_map (λ d. rows_of d.columns (docs_of ds)) (definition_at ddoc name (definitions_of (indexes_seen xs)))
+    → option_map (λ x. rows_view (arc_value x.rows)) (find (λ x. is_at ddoc name (arc_value x.definition)) ys) ≡ option_map (λ d. rows_of d.columns (docs_of ds)) (definition_at ddoc name (definitions_of (indexes_seen xs)))
 rows_named ds ddoc name xs ys same has =
-    ap (λ (zs : List IndexRows). option_map (λ (x : IndexRows). rows_view x.rows) (find (λ x. is_at ddoc name (arc_value x.definition)) zs)) same
+    ap (λ (zs : List IndexRows). option_map (λ (x : IndexRows). rows_view (arc_value x.rows)) (find (λ x. is_at ddoc name (arc_value x.definition)) zs)) same
     ∙ rows_seen ddoc name xs ∙ rows_found ds ddoc name (indexes_seen xs) has

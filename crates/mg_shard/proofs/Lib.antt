@@ -10,3 +10,6 @@ pub mod Keyed
 pub mod Walks
 pub mod Owned
 pub mod Extracting
+pub mod Values
+pub mod Crossing
+pub mod Together

@@ -1,29 +1,29 @@
--- Documents that are dealt anew: one more document of a shard, one more shard, and what the shards stand for then.
-use lib.Dec.{T, eqb}
-use Rattle.std.proofs.Common.{◌≡◌, ℕ, zero, suc, ◌<◌, Bool, true, false, List, [], ◌∷◌, ◌++◌, Less, Option, Some, None, option_and_then, option_map, length, get_or, map, set, slice_get, take, cond, is_eq, refl, ap, sym, ◌∙◌, subst, arith, length-set}
-use Rattle.std.proofs.lemmas.Bool.{eqb-true, eq-eqb}
+-- Documents that are dealt anew: those that are lent, their places, the documents of a place, and what the shards stand for then.
+use lib.Dec.{eqb}
+use Rattle.std.proofs.Common.{◌≡◌, ℕ, zero, suc, ◌+◌, ◌<◌, ◌≤◌, Bool, true, false, List, [], ◌∷◌, ◌++◌, Less, Option, Some, None, option_and_then, option_map, length, get_or, map, slice_get, take, cond, is_eq, refl, ap, sym, ◌∙◌, subst, add-one, arith, true≢false}
+use Rattle.std.proofs.lemmas.Bool.{eq-eqb, eqb-true}
 use Rattle.std.proofs.lemmas.Cmp.{nat_list_cmp_total}
-use Rattle.std.proofs.lemmas.List.{length-map}
-use Rattle.std.proofs.lemmas.Option.{slice_get-map}
+use Rattle.std.proofs.lemmas.List.{length-map, take_all}
+use Rattle.std.proofs.lemmas.Option.{slice_get-get_or, slice_get-map}
 use Rattle.std.specs.Arc.{arc_value}
 use Rattle.std.specs.declared.alloc.Global.{Global}
 use Rattle.std.specs.declared.sync.Arc.{Arc}
-use Rattle.std.specs.FinMap.{empty, find, get, get-empty, get-from_entries, get-insert, insert, same_map}
+use Rattle.std.specs.FinMap.{find, get, get-empty, get-from_entries, get-insert}
 use Rattle.std.specs.List.{All, AllByRecursion, slice_index_or}
 use Rattle.std.specs.Option.{option_or}
 use Rattle.std.specs.Ordering.{eq_by_cmp}
 use Rattle.mg_index.specs.Definition.{IndexDefinition}
 use Rattle.mg_pages.specs.Identified.{id_order}
-use Rattle.mg_pages.specs.Order.{Ascends}
+use Rattle.mg_pages.specs.Order.{Ascends, inserted}
 use Rattle.mg_revtree.specs.History.{History}
 use Rattle.mg_shard.specs.Dealt.{Placing, ShardsStandFor, histories_on}
 use Rattle.mg_shard.specs.Documents.{Kept, KeptDocuments, StandsAt, kept_entry, id_of, kept_of, shown}
 use Rattle.mg_shard.specs.Histories.{Histories}
-use Rattle.mg_shard.specs.Redealt.{AreRedealt, all_shown, documents_in, kept_in}
+use Rattle.mg_shard.specs.Redealt.{AreMade, ArePlaces, AreRedealt, IsMade, IsPlace, KeepsThose, documents_in, kept_in, last_kept}
 use Rattle.mg_shard.specs.Shard.{ShardView, shards_seen}
 use Rattle.mg_shard.specs.declared.document.Document.{Document}
-use Rattle.mg_shard.proofs.Dealing.{get-kept, not_there, same_some, slice_get-set, slice_get-set_other, stands_at}
-use Rattle.mg_shard.proofs.Shown.{bytes_cmp, bytes_exact}
+use Rattle.mg_shard.proofs.Dealing.{get-kept, not_there, same_some, stands_at}
+use Rattle.mg_shard.proofs.Shown.{bytes_cmp, shown-inserted}
 use Rattle.mg_shard.proofs.Standing.{same_id}
 
 -- ---- what several shards keep
@@ -41,98 +41,18 @@ pub kept-more : (from : List KeptDocuments) (ds : KeptDocuments) (id : List ℕ)
 kept-more [] ds id = sym (none_after (get ds id))
 kept-more (x ∷ from) ds id = ap (λ o. option_or o (get x id)) (kept-more from ds id) ∙ one_after_another (get ds id) (kept_in from id) (get x id)
 
-cond_none : (b : Bool) → ◌≡◌ {A = Option Kept} (cond b None None) None
-cond_none true = refl
-cond_none false = refl
-
--- documents are dealt from all shards that keep the same
-pub dealt_alike : (place : Placing) (from more to : List KeptDocuments) → ((id : List ℕ) → kept_in more id ≡ kept_in from id) → AreRedealt place from to → AreRedealt place more to
-dealt_alike place from more to same r = record {
-  placed = λ id d e. r.placed id d (sym (same id) ∙ e);
-  each = λ i ds is id. r.each i ds is id ∙ ap (λ o. cond (eqb (place id (length to)) i) o None) (sym (same id));
-}
-
--- a shard of which no document is dealt yet
-pub dealt_next : (place : Placing) (from to : List KeptDocuments) → AreRedealt place from to → AreRedealt place (from ++ empty ∷ []) to
-dealt_next place from to r =
-    dealt_alike place from (from ++ empty ∷ []) to
-    (λ id. kept-more from empty id ∙ ap (λ o. option_or o (kept_in from id)) (get-empty bytes_cmp id)) r
-
--- ---- no documents
-
-none_some : (d : Kept) → None ≡ Some d → ⊥
-none_some d e = cc
-
-pub dealt_none : (place : Placing) (to : List KeptDocuments) → ((i : ℕ) (ds : KeptDocuments) → slice_get to i ≡ Some ds → ds ≡ empty) → AreRedealt place [] to
-dealt_none place to none = record {
-  placed = λ id d e. absurd (none_some d e);
-  each = λ i ds is id. ap (λ m. get m id) (none i ds is) ∙ get-empty bytes_cmp id ∙ sym (cond_none (eqb (place id (length to)) i));
-}
-
-pub all_none : (dealt : List (List Document)) → AllByRecursion (λ ds. ds ≡ []) dealt → (i : ℕ) (m : KeptDocuments) → slice_get (all_shown dealt) i ≡ Some m → m ≡ empty
-all_none [] h i m e = absurd cc
-all_none (ds ∷ dealt) h zero m e = sym (same_some (shown ds) m e) ∙ ap shown h.0
-all_none (ds ∷ dealt) h (suc i) m e = all_none dealt h.1 i m e
-
--- ---- one more document
-
-here_step : (e p : Bool) (v : Kept) (o : Option Kept) → (e ≡ true → p ≡ true) → cond e (Some v) (cond p o None) ≡ cond p (cond e (Some v) o) None
-here_step true p v o is = sym (ap (λ b. cond b (Some v) None) (is refl))
-here_step false p v o is = refl
-
-other_step : (e p : Bool) (v : Kept) (o : Option Kept) → (e ≡ true → p ≡ false) → cond p o None ≡ cond p (cond e (Some v) o) None
-other_step true p v o is = ap (λ b. cond b o None) (is refl) ∙ sym (ap (λ b. cond b (Some v) None) (is refl))
-other_step false p v o is = refl
-
-module _ (place : Placing) (from more to : List KeptDocuments) (i : ℕ) (m : KeptDocuments) (k : List ℕ) (v : Kept)
-    (one : (q : List ℕ) → kept_in more q ≡ cond (eq_by_cmp bytes_cmp q k) (Some v) (kept_in from q))
-    (at : place k (length to) ≡ i) (below : i < length to) (is : slice_get to i ≡ Some m) (r : AreRedealt place from to) where
-  placed_more : (id : List ℕ) (d : Kept) (b : Bool) → eq_by_cmp bytes_cmp id k ≡ b → cond b (Some v) (kept_in from id) ≡ Some d → place id (length to) < length to
-  placed_more id d true e s = subst (λ q. place q (length to) < length to) (sym (same_id id k e)) (subst (λ j. j < length to) (sym at) below)
-  placed_more id d false e s = r.placed id d s
-
-  there_more : (j : ℕ) (x : KeptDocuments) (id : List ℕ) (b : Bool) → eqb j i ≡ b → slice_get (set to i (insert m k v)) j ≡ Some x
-      → get x id ≡ cond (eqb (place id (length to)) j) (cond (eq_by_cmp bytes_cmp id k) (Some v) (kept_in from id)) None
-  there_more j x id true e s =
-      let same : j ≡ i = eqb-true j i e in
-      let put : insert m k v ≡ x = same_some (insert m k v) x (sym (slice_get-set to i (insert m k v) below) ∙ ap (slice_get (set to i (insert m k v))) (sym same) ∙ s) in
-      ap (λ y. get y id) (sym put) ∙ get-insert nat_list_cmp_total m k v id
-      ∙ ap (cond (eq_by_cmp bytes_cmp id k) (Some v)) (r.each i m is id)
-      ∙ ap (λ l. cond (eq_by_cmp bytes_cmp id k) (Some v) (cond (eqb (place id (length to)) l) (kept_in from id) None)) (sym same)
-      ∙ here_step (eq_by_cmp bytes_cmp id k) (eqb (place id (length to)) j) v (kept_in from id)
-      (λ tie. eq-eqb (place id (length to)) j (ap (λ q. place q (length to)) (same_id id k tie) ∙ at ∙ sym same))
-  there_more j x id false e s =
-      let apart : j ≡ i → ⊥ = λ a. subst T (sym (eq-eqb j i a) ∙ e) tt in
-      r.each j x (sym (slice_get-set_other to i j (insert m k v) apart) ∙ s) id
-      ∙ other_step (eq_by_cmp bytes_cmp id k) (eqb (place id (length to)) j) v (kept_in from id)
-      (λ tie. not_there (place id (length to)) j (λ a. apart (sym a ∙ ap (λ q. place q (length to)) (same_id id k tie) ∙ at)))
-
-  -- a document that is put where its id is placed
-  pub dealt_more : AreRedealt place more (set to i (insert m k v))
-  dealt_more =
-      let long : length (set to i (insert m k v)) ≡ length to = length-set to i (insert m k v) in
-      record {
-        placed = λ id d s. subst (λ n. place id n < n) (sym long) (placed_more id d (eq_by_cmp bytes_cmp id k) refl (sym (one id) ∙ s));
-        each = λ j x s id.
-            there_more j x id (eqb j i) refl s ∙ ap (λ o. cond (eqb (place id (length to)) j) o None) (sym (one id))
-            ∙ ap (λ n. cond (eqb (place id n) j) (kept_in more id) None) (sym long);
-      }
+-- ---- documents that are lent
 
 first_of_both : (e : Bool) (v : Kept) (o p : Option Kept) → option_or (cond e (Some v) o) p ≡ cond e (Some v) (option_or o p)
 first_of_both true v o p = refl
 first_of_both false v o p = refl
 
--- so a document more of a shard is dealt
-pub one_dealt : (place : Placing) (from to : List KeptDocuments) (done : KeptDocuments) (i : ℕ) (m : KeptDocuments) (k : List ℕ) (v : Kept) → place k (length to) ≡ i → i < length to
-    → slice_get to i ≡ Some m → AreRedealt place (from ++ done ∷ []) to → AreRedealt place (from ++ insert done k v ∷ []) (set to i (insert m k v))
-one_dealt place from to done i m k v at below is r =
-    dealt_more place (from ++ done ∷ []) (from ++ insert done k v ∷ []) to i m k v
-    (λ q. kept-more from (insert done k v) q ∙ ap (λ o. option_or o (kept_in from q)) (get-insert nat_list_cmp_total done k v q)
-    ∙ first_of_both (eq_by_cmp bytes_cmp q k) v (get done q) (kept_in from q)
-    ∙ ap (cond (eq_by_cmp bytes_cmp q k) (Some v)) (sym (kept-more from done q)))
-    at below is r
-
--- ---- the documents of a shard that are left to deal
+-- what is kept with one more document
+pub last_more : (ds : List Document) (d : Document) (q : List ℕ) → last_kept (ds ++ d ∷ []) q ≡ cond (eq_by_cmp bytes_cmp q (id_of d)) (Some (kept_of d)) (last_kept ds q)
+last_more [] d q = refl
+last_more (x ∷ ds) d q =
+    let other : Option Kept = cond (eq_by_cmp bytes_cmp q (id_of x)) (Some (kept_of x)) None in
+    ap (λ o. option_or o other) (last_more ds d q) ∙ first_of_both (eq_by_cmp bytes_cmp q (id_of d)) (kept_of d) (last_kept ds q) other
 
 absent_above : (d : Document) (ds : List Document) → AllByRecursion (λ y. id_order id_of d y ≡ Less) ds → find bytes_cmp (id_of d) (map kept_entry ds) ≡ None
 absent_above d [] h = refl
@@ -145,34 +65,175 @@ left_step false v o p none = refl
 shown_get : (ds : List Document) (q : List ℕ) → get (shown ds) q ≡ find bytes_cmp q (map kept_entry ds)
 shown_get ds q = get-from_entries nat_list_cmp_total (map kept_entry ds) q
 
--- a document that is dealt is no longer left
-pub left_less : (d : Document) (rest : List Document) (done : KeptDocuments) (q : List ℕ) → Ascends (id_order id_of) (d ∷ rest)
-    → option_or (get (shown rest) q) (get (insert done (id_of d) (kept_of d)) q) ≡ option_or (get (shown (d ∷ rest)) q) (get done q)
-left_less d rest done q h =
+-- a document that is lent is no longer left
+pub left_less : (d : Document) (rest all : List Document) (q : List ℕ) → Ascends (id_order id_of) (d ∷ rest)
+    → option_or (get (shown rest) q) (last_kept (all ++ d ∷ []) q) ≡ option_or (get (shown (d ∷ rest)) q) (last_kept all q)
+left_less d rest all q h =
     let e = eq_by_cmp bytes_cmp q (id_of d) in
     let o = find bytes_cmp q (map kept_entry rest) in
-    ap (λ x. option_or x (get (insert done (id_of d) (kept_of d)) q)) (shown_get rest q)
-    ∙ ap (option_or o) (get-insert nat_list_cmp_total done (id_of d) (kept_of d) q)
-    ∙ left_step e (kept_of d) o (get done q) (λ tie. ap (λ x. find bytes_cmp x (map kept_entry rest)) (same_id q (id_of d) tie) ∙ absent_above d rest h.0)
-    ∙ ap (λ x. option_or x (get done q)) (sym (shown_get (d ∷ rest) q))
+    ap (λ x. option_or x (last_kept (all ++ d ∷ []) q)) (shown_get rest q)
+    ∙ ap (option_or o) (last_more all d q)
+    ∙ left_step e (kept_of d) o (last_kept all q) (λ tie. ap (λ x. find bytes_cmp x (map kept_entry rest)) (same_id q (id_of d) tie) ∙ absent_above d rest h.0)
+    ∙ ap (λ x. option_or x (last_kept all q)) (sym (shown_get (d ∷ rest) q))
 
--- at first none is dealt
-abbrev no_documents : KeptDocuments
-no_documents = empty
+-- where none is left, all are lent
+pub none_left : (rest : List Document) (o : Option Kept) (q : List ℕ) → rest ≡ [] → option_or (get (shown rest) q) o ≡ o
+none_left rest o q none = ap (λ (ds : List Document). option_or (get (shown ds) q) o) none ∙ ap (λ k. option_or k o) (get-empty bytes_cmp q)
 
-pub left_at_first : (q : List ℕ) (ds : KeptDocuments) → option_or (get ds q) (get no_documents q) ≡ get ds q
-left_at_first q ds = ap (option_or (get ds q)) (get-empty bytes_cmp q) ∙ none_after (get ds q)
+-- the documents of one more shard
+pub one_shard : (from : List KeptDocuments) (ds : KeptDocuments) (q : List ℕ) (before after : Option Kept)
+    → before ≡ kept_in from q → after ≡ option_or (get ds q) before → after ≡ kept_in (from ++ ds ∷ []) q
+one_shard from ds q before after was is = is ∙ ap (option_or (get ds q)) was ∙ sym (kept-more from ds q)
 
--- where none is left, all are dealt
-pub none_left_over : (rest : List Document) (done all : KeptDocuments) → rest ≡ [] → ((q : List ℕ) → option_or (get (shown rest) q) (get done q) ≡ get all q) → done ≡ all
-none_left_over rest done all none h = same_map nat_list_cmp_total bytes_exact done all (λ q.
-    sym (ap (λ o. option_or o (get done q)) (ap (λ (ds : List Document). get (shown ds) q) none ∙ get-empty bytes_cmp q)) ∙ h q)
+-- ---- places
 
--- documents of one shard that change
-pub shown-set : (dealt : List (List Document)) (i : ℕ) (ds : List Document) → all_shown (set dealt i ds) ≡ set (all_shown dealt) i (shown ds)
-shown-set [] i ds = refl
-shown-set (x ∷ dealt) zero ds = refl
-shown-set (x ∷ dealt) (suc i) ds = ap (λ ms. shown x ∷ ms) (shown-set dealt i ds)
+-- there are as many places as documents
+pub as_many : (place : Placing) (n : ℕ) (ds : List Document) (places : List ℕ) → ArePlaces place n ds places → length places ≡ length ds
+as_many place n [] [] h = refl
+as_many place n [] (p ∷ places) h = absurd h
+as_many place n (d ∷ ds) [] h = absurd h
+as_many place n (d ∷ ds) (p ∷ places) h = ap suc (as_many place n ds places h.1)
+
+-- a document has its place
+place_at : (place : Placing) (n : ℕ) (ds : List Document) (places : List ℕ) (k : ℕ) (d : Document) (p : ℕ) → k < length ds → d ≡ get_or ds k d → p ≡ get_or places k p
+    → ArePlaces place n ds places → p ≡ place (id_of d) n
+place_at place n [] places k d p l is at h = absurd (omega (arith, l))
+place_at place n (x ∷ ds) [] k d p l is at h = absurd h
+place_at place n (x ∷ ds) (y ∷ places) zero d p l is at h = at ∙ h.0.0 ∙ ap (λ (z : Document). place (id_of z) n) (sym is)
+place_at place n (x ∷ ds) (y ∷ places) (suc k) d p l is at h = place_at place n ds places k d p (omega (arith, l)) is at h.1
+
+-- the place of one more
+pub place_more : (place : Placing) (n : ℕ) (ds : List Document) (places : List ℕ) (d : Document) (p : ℕ) → ArePlaces place n ds places → IsPlace place n d p
+    → ArePlaces place n (ds ++ d ∷ []) (places ++ p ∷ [])
+place_more place n [] [] d p h is = (is, tt)
+place_more place n [] (y ∷ places) d p h is = absurd h
+place_more place n (x ∷ ds) [] d p h is = absurd h
+place_more place n (x ∷ ds) (y ∷ places) d p h is = (h.0, place_more place n ds places d p h.1 is)
+
+-- documents one more of which is read
+pub take_one : {A : Type 0} (xs : List A) (k : ℕ) (x : A) → k < length xs → x ≡ get_or xs k x → take (suc k) xs ≡ take k xs ++ x ∷ []
+take_one [] k x l e = absurd (omega (arith, l))
+take_one (y ∷ xs) zero x l e = ap (λ z. z ∷ []) (sym e)
+take_one (y ∷ xs) (suc k) x l e = ap (λ zs. y ∷ zs) (take_one xs k x (omega (arith, l)) e)
+
+some_kept : (d : Kept) → None ≡ Some d → ⊥
+some_kept d e = cc
+
+-- what is kept is placed on one of the shards
+pub kept_placed : (place : Placing) (n : ℕ) (ds : List Document) (places : List ℕ) (q : List ℕ) (d : Kept) → ArePlaces place n ds places → last_kept ds q ≡ Some d → place q n < n
+kept_placed place n [] places q d h e = absurd (some_kept d e)
+kept_placed place n (x ∷ ds) [] q d h e = absurd h
+kept_placed place n (x ∷ ds) (p ∷ places) q d h e =
+    go (λ y is. kept_placed place n ds places q y h.1 is) (last_kept ds q) refl (eq_by_cmp bytes_cmp q (id_of x)) refl
+  where
+    go : ((y : Kept) → last_kept ds q ≡ Some y → place q n < n) → (o : Option Kept) → last_kept ds q ≡ o → (b : Bool) → eq_by_cmp bytes_cmp q (id_of x) ≡ b → place q n < n
+    go more (Some y) is b tie = more y is
+    go more None is true tie = subst (λ i. i < n) (h.0.0 ∙ ap (λ z. place z n) (sym (same_id q (id_of x) tie))) h.0.1
+    go more None is false tie =
+        absurd (some_kept d (sym (ap (λ o. option_or o (cond false (Some (kept_of x)) None)) is)
+        ∙ ap (λ b. option_or (last_kept ds q) (cond b (Some (kept_of x)) None)) (sym tie) ∙ e))
+
+-- ---- the documents of one place
+
+here_step : (e p : Bool) (v : Kept) (o : Option Kept) → (e ≡ true → p ≡ true) → cond e (Some v) (cond p o None) ≡ cond p (cond e (Some v) o) None
+here_step true p v o is = sym (ap (λ b. cond b (Some v) None) (is refl))
+here_step false p v o is = refl
+
+other_step : (e p : Bool) (v : Kept) (o : Option Kept) → (e ≡ true → p ≡ false) → cond p o None ≡ cond p (cond e (Some v) o) None
+other_step true p v o is = ap (λ b. cond b o None) (is refl) ∙ sym (ap (λ b. cond b (Some v) None) (is refl))
+other_step false p v o is = refl
+
+-- of the documents so far
+abbrev pub KeepsSoFar : List Document → List ℕ → ℕ → ℕ → KeptDocuments → Type 0
+KeepsSoFar ds places i k to =
+    (place : Placing) (n : ℕ) → ArePlaces place n ds places → (id : List ℕ) → get to id ≡ cond (eqb (place id n) i) (last_kept (take k ds) id) None
+
+cond_none : (b : Bool) → ◌≡◌ {A = Option Kept} (cond b None None) None
+cond_none true = refl
+cond_none false = refl
+
+pub none_kept : (ds : List Document) (places : List ℕ) (i : ℕ) (there : List Document) → there ≡ [] → KeepsSoFar ds places i 0 (shown there)
+none_kept ds places i there none place n h id = ap (λ (xs : List Document). get (shown xs) id) none ∙ get-empty bytes_cmp id ∙ sym (cond_none (eqb (place id n) i))
+
+module _ (ds : List Document) (places : List ℕ) (i k : ℕ) (d : Document) (p : ℕ) (l : k < length ds) (is : d ≡ get_or ds k d) (at : p ≡ get_or places k p) where
+  taken : (q : List ℕ) → last_kept (take (suc k) ds) q ≡ cond (eq_by_cmp bytes_cmp q (id_of d)) (Some (kept_of d)) (last_kept (take k ds) q)
+  taken q = ap (λ (xs : List Document). last_kept xs q) (take_one ds k d l is) ∙ last_more (take k ds) d q
+
+  -- one that is placed there
+  pub keeps_more : (there new : List Document) → p ≡ i → new ≡ inserted (id_order id_of) d there → KeepsSoFar ds places i k (shown there) → KeepsSoFar ds places i (suc k) (shown new)
+  keeps_more there new here put h place n are q =
+      let e = eq_by_cmp bytes_cmp q (id_of d) in
+      let b = eqb (place q n) i in
+      ap (λ (xs : List Document). get (shown xs) q) put ∙ ap (λ m. get m q) (shown-inserted d there)
+      ∙ get-insert nat_list_cmp_total (shown there) (id_of d) (kept_of d) q
+      ∙ ap (cond e (Some (kept_of d))) (h place n are q)
+      ∙ here_step e b (kept_of d) (last_kept (take k ds) q)
+      (λ tie. eq-eqb (place q n) i (ap (λ z. place z n) (same_id q (id_of d) tie) ∙ sym (place_at place n ds places k d p l is at are) ∙ here))
+      ∙ ap (λ o. cond b o None) (sym (taken q))
+
+  -- one that is placed elsewhere
+  pub keeps_on : (there : List Document) → (p ≡ i → ⊥) → KeepsSoFar ds places i k (shown there) → KeepsSoFar ds places i (suc k) (shown there)
+  keeps_on there apart h place n are q =
+      let e = eq_by_cmp bytes_cmp q (id_of d) in
+      let b = eqb (place q n) i in
+      h place n are q
+      ∙ other_step e b (kept_of d) (last_kept (take k ds) q)
+      (λ tie. not_there (place q n) i (λ a. apart (place_at place n ds places k d p l is at are ∙ ap (λ z. place z n) (sym (same_id q (id_of d) tie)) ∙ a)))
+      ∙ ap (λ o. cond b o None) (sym (taken q))
+
+-- one more that is read
+pub one_read : (ds : List Document) (places : List ℕ) (i k : ℕ) (d : Document) (p : ℕ) → k < length ds → d ≡ get_or ds k d → p ≡ get_or places k p
+    → (there new : List Document) → (eqb p i ≡ true → new ≡ inserted (id_order id_of) d there) → (eqb p i ≡ false → new ≡ there)
+    → KeepsSoFar ds places i k (shown there) → KeepsSoFar ds places i (k + 1) (shown new)
+one_read ds places i k d p l is at there new here elsewhere h = subst (λ m. KeepsSoFar ds places i m (shown new)) (sym (add-one k)) (go (eqb p i) refl)
+  where
+    go : (b : Bool) → eqb p i ≡ b → KeepsSoFar ds places i (suc k) (shown new)
+    go true e = keeps_more ds places i k d p l is at there new (eqb-true p i e) (here e) h
+    go false e = subst (λ (xs : List Document). KeepsSoFar ds places i (suc k) (shown xs)) (sym (elsewhere e))
+        (keeps_on ds places i k d p l is at there (λ a. true≢false (sym (eq-eqb p i a) ∙ e)) h)
+
+-- where all are read
+pub all_read : (ds : List Document) (places : List ℕ) (i k : ℕ) (to : KeptDocuments) → length ds ≤ k → KeepsSoFar ds places i k to → KeepsThose ds places i to
+all_read ds places i k to l h place n are id =
+    h place n are id ∙ ap (λ (xs : List Document). cond (eqb (place id n) i) (last_kept xs id) None) (take_all k ds l)
+
+-- ---- all shards
+
+get_mapped : {X Y : Type 0} (f : X → Y) (xs : List X) (i : ℕ) (y : Y) → slice_get (map f xs) i ≡ Some y → (x : X) × (slice_get xs i ≡ Some x) × (f x ≡ y)
+get_mapped f [] i y e = absurd cc
+get_mapped f (x ∷ xs) zero y e = (x, refl, same_some (f x) y e)
+get_mapped f (x ∷ xs) (suc i) y e = get_mapped f xs i y e
+
+-- so the documents are dealt
+pub all_dealt : (place : Placing) (n : ℕ) (ds : List Document) (places : List ℕ) (definitions : List IndexDefinition) (from : List KeptDocuments) (new : List ShardView)
+    → ((q : List ℕ) → last_kept ds q ≡ kept_in from q) → ArePlaces place n ds places → length new ≡ n → AreMade ds places definitions new → AreRedealt place from (documents_in new)
+all_dealt place n ds places definitions from new same are long made =
+    let number : length (documents_in new) ≡ n = length-map new (λ s. s.documents) ∙ long in
+    record {
+      placed = λ id d e. subst (λ m. place id m < m) (sym number) (kept_placed place n ds places id d are (same id ∙ e));
+      each = λ i m is id.
+          let there = get_mapped (λ (s : ShardView). s.documents) new i m is in
+          ap (λ x. get x id) (sym there.2) ∙ (made i there.0 there.1).keeps place n are id
+          ∙ ap (λ o. cond (eqb (place id n) i) o None) (same id) ∙ ap (λ l. cond (eqb (place id l) i) (kept_in from id) None) (sym number);
+    }
+
+-- and one shard more is made
+pub one_made : (ds : List Document) (places : List ℕ) (definitions : List IndexDefinition) (shards : List ShardView) (i : ℕ) (s : ShardView) → length shards ≡ i
+    → AreMade ds places definitions shards → IsMade ds places definitions i s → AreMade ds places definitions (shards ++ s ∷ [])
+one_made ds places definitions shards i s long all one =
+    snoc_at (IsMade ds places definitions) shards s all (subst (λ k. IsMade ds places definitions k s) (sym long) one)
+  where
+    snoc_at : {A : Type 0} (P : ℕ → A → Type 0) (xs : List A) (a : A) → ((i : ℕ) (x : A) → slice_get xs i ≡ Some x → P i x) → P (length xs) a
+        → (i : ℕ) (x : A) → slice_get (xs ++ a ∷ []) i ≡ Some x → P i x
+    snoc_at P [] a all here zero x e = subst (P zero) (same_some a x e) here
+    snoc_at P [] a all here (suc i) x e = absurd cc
+    snoc_at P (y ∷ ys) a all here zero x e = all zero x e
+    snoc_at P (y ∷ ys) a all here (suc i) x e = snoc_at (λ k z. P (suc k) z) ys a (λ k z f. all (suc k) z f) here i x e
+
+-- shards that are made have these definitions
+pub made_definitions : (ds : List Document) (places : List ℕ) (definitions : List IndexDefinition) (shards : List ShardView) → AreMade ds places definitions shards
+    → All (λ s. s.definitions ≡ definitions) shards
+made_definitions ds places definitions shards made k d l = (made k (slice_index_or shards k d) (slice_get-get_or shards k d l)).indexes
 
 -- ---- what the shards stand for
 
@@ -218,15 +279,15 @@ either_stands : (b : Bool) (id : List ℕ) (k : Option Kept) (o : Option History
 either_stands true id k o st = st
 either_stands false id k o st = tt
 
--- shards to which the documents of others are dealt stand for what those stand for
-pub redealt_stand : (place : Placing) (shards new : List ShardView) (hs : Histories) → AreRedealt place (documents_in shards) (documents_in new)
-    → ShardsStandFor place shards hs → ShardsStandFor place new hs
-redealt_stand place shards new hs r st =
+-- shards to which the documents of others are dealt stand for what those stand for, whatever placement dealt them before
+pub redealt_stand : (before place : Placing) (shards new : List ShardView) (hs : Histories) → AreRedealt place (documents_in shards) (documents_in new)
+    → ShardsStandFor before shards hs → ShardsStandFor place new hs
+redealt_stand before place shards new hs r st =
     let n = length new in
     let long : length (documents_in new) ≡ n = length-map new (λ s. s.documents) in
     record {
       placed = λ id h e.
-          let had = some_stands id (kept_in (documents_in shards) id) (get hs id) h e (kept_stands place shards hs id st) in
+          let had = some_stands id (kept_in (documents_in shards) id) (get hs id) h e (kept_stands before shards hs id st) in
           subst (λ m. place id m < m) long (r.placed id had.0 had.1);
       each = λ i s is id.
           let b = eqb (place id n) i in
@@ -235,7 +296,7 @@ redealt_stand place shards new hs r st =
           r.each i s.documents at id ∙ ap (λ m. cond (eqb (place id m) i) (kept_in (documents_in shards) id) None) long in
           subst (λ (k : Option Kept). StandsAt id k (get (histories_on place n i hs) id)) (sym kept)
           (subst (λ (o : Option History). StandsAt id (cond b (kept_in (documents_in shards) id) None) o) (sym (get-kept hs (λ id. eqb (place id n) i) id))
-          (either_stands b id (kept_in (documents_in shards) id) (get hs id) (kept_stands place shards hs id st)));
+          (either_stands b id (kept_in (documents_in shards) id) (get hs id) (kept_stands before shards hs id st)));
     }
 
 -- ---- lists

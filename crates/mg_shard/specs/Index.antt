@@ -16,7 +16,7 @@ Index = IndexDefinition × List Row
 
 -- an index of the code
 abbrev pub index_seen : IndexRows → Index
-index_seen x = (arc_value x.definition, x.rows)
+index_seen x = (arc_value x.definition, arc_value x.rows)
 
 -- the indexes of the code
 abbrev pub indexes_seen : List IndexRows → List Index

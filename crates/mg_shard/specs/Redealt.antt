@@ -1,19 +1,23 @@
--- For private clauses: the documents of some shards, dealt to others by a placement of their ids.
+-- The documents of some shards, dealt to others by a placement of their ids.
+use denote.Ref.{Bor}
 use Rattle.std.specs.Prelude.{◌≡◌, ℕ, ◌<◌, ◌==◌, List, [], ◌∷◌, length, map, cond, Option, Some, None, slice_get}
+use Rattle.std.specs.Arc.{arc_value}
+use Rattle.std.specs.Cmp.Lexicographic.{slice_cmp}
+use Rattle.std.specs.declared.alloc.Global.{Global}
+use Rattle.std.specs.declared.sync.Arc.{Arc}
 use Rattle.std.specs.FinMap.{get}
+use Rattle.std.specs.List.{AllZip}
 use Rattle.std.specs.Option.{option_or}
+use Rattle.std.specs.Ordering.{eq_by_cmp, nat_cmp}
+use Rattle.mg_index.specs.Definition.{IndexDefinition}
 use Rattle.mg_shard.specs.Dealt.{Placing}
-use Rattle.mg_shard.specs.Documents.{Kept, KeptDocuments, shown}
+use Rattle.mg_shard.specs.Documents.{Kept, KeptDocuments, id_of, kept_of}
 use Rattle.mg_shard.specs.Shard.{ShardView}
 use Rattle.mg_shard.specs.declared.document.Document.{Document}
 
 -- the documents of each of these shards
 abbrev pub documents_in : List ShardView → List KeptDocuments
 documents_in shards = map (λ s. s.documents) shards
-
--- the documents of the code, for each shard
-abbrev pub all_shown : List (List Document) → List KeptDocuments
-all_shown dealt = map shown dealt
 
 -- what is kept of an id on any of these shards: where several keep it, on the last
 abbrev pub kept_in : List KeptDocuments → List ℕ → Option Kept
@@ -26,3 +30,36 @@ pub record AreRedealt (place : Placing) (from to : List KeptDocuments) : Type 0 
   pub placed : (id : List ℕ) (d : Kept) → kept_in from id ≡ Some d → place id (length to) < length to
   pub each : (i : ℕ) (ds : KeptDocuments) → slice_get to i ≡ Some ds → (id : List ℕ)
       → get ds id ≡ cond (place id (length to) == i) (kept_in from id) None
+
+-- ---- for private clauses
+
+-- documents that are lent
+abbrev pub documents_seen : List (Bor (Arc Document Global)) → List Document
+documents_seen documents = map (λ d. arc_value d.now) documents
+
+-- what is kept of an id by these documents: where several have it, by the last
+abbrev pub last_kept : List Document → List ℕ → Option Kept
+last_kept [] id = None
+last_kept (d ∷ ds) id = option_or (last_kept ds id) (cond (eq_by_cmp (slice_cmp nat_cmp) id (id_of d)) (Some (kept_of d)) None)
+
+-- this is the shard of a document, of n
+abbrev pub IsPlace : Placing → ℕ → Document → ℕ → Type 0
+IsPlace place n d i = (i ≡ place (id_of d) n) × (i < n)
+
+-- and these are those of so many documents
+abbrev pub ArePlaces : Placing → ℕ → List Document → List ℕ → Type 0
+ArePlaces place n ds places = AllZip (IsPlace place n) ds places
+
+-- for whatever placement gave these places: of the ids that are placed on the i-th shard what the documents keep, and of other ids nothing
+abbrev pub KeepsThose : List Document → List ℕ → ℕ → KeptDocuments → Type 0
+KeepsThose ds places i to =
+    (place : Placing) (n : ℕ) → ArePlaces place n ds places → (id : List ℕ) → get to id ≡ cond (place id n == i) (last_kept ds id) None
+
+-- a shard that is made of the documents that are placed there, with indexes of these definitions
+pub record IsMade (ds : List Document) (places : List ℕ) (definitions : List IndexDefinition) (i : ℕ) (s : ShardView) : Type 0 where
+  pub keeps : KeepsThose ds places i s.documents
+  pub indexes : s.definitions ≡ definitions
+
+-- and so is each of these
+abbrev pub AreMade : List Document → List ℕ → List IndexDefinition → List ShardView → Type 0
+AreMade ds places definitions shards = (i : ℕ) (s : ShardView) → slice_get shards i ≡ Some s → IsMade ds places definitions i s

@@ -18,8 +18,8 @@ use std::thread::Threads;
 /// The least number of documents of a shard whose rows several threads extract: for fewer, a thread costs more than it saves.
 pub(crate) const MANY_DOCUMENTS: usize = 1_000;
 
-// The least number of documents that one thread takes.
-const LEAST_PIECE: usize = 128;
+/// The least number of documents that one thread takes.
+pub(crate) const LEAST_PIECE: usize = 128;
 
 // The row of a document, if it has every column, or a refusal of memory.
 fn row_or_refusal(

@@ -23,7 +23,7 @@ use std::sync::Arc;
 #[derive(Drop)]
 pub(crate) struct IndexRows {
     pub(crate) definition: Arc<IndexDef>,
-    pub(crate) rows: Pages<Row>,
+    pub(crate) rows: Arc<Pages<Row>>,
 }
 
 // Copies of the parts of a document at the columns, if each is there.
@@ -110,22 +110,56 @@ fn put_row(alloc: Global, rows: &mut Pages<Row>, row: Option<Row>) -> Result<(),
     Ok(())
 }
 
+// Takes a row out and puts one in, where there is one.
+fn change_rows(
+    alloc: Global,
+    rows: &mut Pages<Row>,
+    gone: Option<Row>,
+    come: Option<Row>,
+) -> Result<(), NoMemory>
+    ensures { OnOk result (rows_view rows.new
+        ≡ with_row (option_map row_view come) (without_row (option_map row_view gone) (rows_view rows.old))) }
+{
+    take_row(alloc, rows, gone)?;
+    put_row(alloc, rows, come)?;
+    Ok(())
+}
+
+// The same of rows that may be shared: others keep theirs.
+fn change_shared(
+    alloc: Global,
+    rows: &mut Arc<Pages<Row>>,
+    gone: Option<Row>,
+    come: Option<Row>,
+) -> Result<(), NoMemory>
+    ensures { OnOk result (rows_view (arc_value rows.new)
+        ≡ with_row (option_map row_view come) (without_row (option_map row_view gone) (rows_view (arc_value rows.old)))) }
+{
+    if let Some(own) = Arc::get_mut(rows) {
+        return change_rows(alloc, own, gone, come);
+    }
+    let mut own = rows.share(alloc)?;
+    change_rows(alloc, &mut own, gone, come)?;
+    *rows = Arc::new(alloc, own)?;
+    Ok(())
+}
+
 impl IndexRows {
-    /// The same index, its rows shared. Errors: `NoMemory` where a growth was refused. Cost: the top of its pages.
-    pub(crate) fn share(&self, alloc: Global) -> Result<IndexRows, NoMemory>
+    /// The same index, its rows shared. Errors: `NoMemory` where there are too many shares. Takes no memory.
+    pub(crate) fn share(&self) -> Result<IndexRows, NoMemory>
         ensures definition { IfOk result (λ x. arc_value x.definition ≡ arc_value self.now.definition) }
-        ensures rows { IfOk result (λ x. x.rows ≡ self.now.rows) }
+        ensures rows { IfOk result (λ x. arc_value x.rows ≡ arc_value self.now.rows) }
     {
         Ok(IndexRows {
             definition: self.definition.clone()?,
-            rows: self.rows.share(alloc)?,
+            rows: self.rows.clone()?,
         })
     }
 
     /// Mends the rows where the document of an id changes, which had a form before and has another after.
     ///
     /// Errors: `NoMemory` where a growth was refused; the index is then of no more use.
-    /// Cost: copies of both keys, and the way to both rows where these differ.
+    /// Cost: copies of both keys, and where these differ the way to both rows, and once the top of pages that others share.
     pub(crate) fn mend(
         &mut self,
         alloc: Global,
@@ -135,8 +169,8 @@ impl IndexRows {
     ) -> Result<(), NoMemory>
         ensures definition { OnOk result (self.new.definition ≡ self.old.definition) }
         ensures rows { OnOk result ((ds : KeptDocuments) (d : Kept) → option_map (λ v. view v.now) before.entry ≡ form_at ds id.now → option_map (λ v. view v.now) after.entry ≡ d.1
-            → rows_view self.old.rows ≡ rows_of (arc_value self.old.definition).columns (docs_of ds)
-            → rows_view self.new.rows ≡ rows_of (arc_value self.old.definition).columns (docs_of (insert ds id.now d))) }
+            → rows_view (arc_value self.old.rows) ≡ rows_of (arc_value self.old.definition).columns (docs_of ds)
+            → rows_view (arc_value self.new.rows) ≡ rows_of (arc_value self.old.definition).columns (docs_of (insert ds id.now d))) }
     {
         let definition: &IndexDef = &self.definition;
         let gone = row_if(alloc, definition.columns(), id, before)?;
@@ -144,9 +178,9 @@ impl IndexRows {
         if are_same(&gone, &come) {
             return Ok(());
         }
-        take_row(alloc, &mut self.rows, gone)?;
-        put_row(alloc, &mut self.rows, come)?;
-        self.rows.ascends();
+        change_shared(alloc, &mut self.rows, gone, come)?;
+        let rows: &Pages<Row> = &self.rows;
+        rows.ascends();
         Ok(())
     }
 }

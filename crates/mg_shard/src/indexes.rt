@@ -6,12 +6,14 @@ ghost use Rattle.std.specs.List.{filter, find, AllByRecursion};
 ghost use Rattle.std.specs.Ordering.{is_gt, is_lt};
 ghost use Rattle.mg_index.specs.Catalog.{definition_order, is_at};
 ghost use Rattle.mg_value.specs.View.{view};
+ghost use Rattle.mg_collate.specs.Row.{rows_view};
 ghost use Rattle.mg_shard.specs.Documents.{form_at, kept_of, shown};
 ghost use Rattle.mg_shard.specs.Index.{HasRows, definitions_of, index_seen, indexes_seen};
 ghost use Rattle.mg_pages.specs.Order.{inserted};
 
 use crate::document::Document;
 use crate::index::IndexRows;
+use mg_collate::Row;
 use mg_index::IndexDef;
 use mg_pages::Pages;
 use mg_value::{Json, NoMemory};
@@ -33,28 +35,39 @@ fn is_named(definition: &IndexDef, ddoc: &str, name: &str) -> bool
     ddoc == definition.ddoc() && name == definition.name()
 }
 
-/// The same indexes, their rows shared. Errors: `NoMemory` where a growth was refused. Cost: the top of each one's pages.
+/// The same indexes, their rows shared. Errors: `NoMemory` where a growth was refused. Cost: their number.
 pub(crate) fn shared(alloc: Global, indexes: &[IndexRows]) -> Result<Vec<IndexRows>, NoMemory>
     ensures { IfOk result (λ v. indexes_seen v.items ≡ indexes_seen indexes.now) }
 {
     let mut all = Vec::with_capacity(alloc, indexes.len())?;
     for index in indexes {
-        all.push(index.share(alloc)?)?;
+        all.push(index.share()?)?;
     }
     Ok(all)
 }
 
-/// The index of this design document and name, if there is one. Takes no memory. Cost: each index once.
-pub(crate) fn index_at<'a>(
-    indexes: &'a [IndexRows],
-    ddoc: &str,
-    name: &str,
-) -> Option<&'a IndexRows>
+// The index of this design document and name, if there is one.
+fn index_at<'a>(indexes: &'a [IndexRows], ddoc: &str, name: &str) -> Option<&'a IndexRows>
     ensures { option_map (λ x. x.now) result ≡ find (λ x. is_at ddoc.now name.now (arc_value x.definition)) indexes.now }
 {
     indexes
         .iter()
         .find(|index| is_named(&index.definition, ddoc, name))
+}
+
+/// The rows of the index of this design document and name, if there is one. Takes no memory. Cost: each index once.
+pub(crate) fn rows_there<'a>(
+    indexes: &'a [IndexRows],
+    ddoc: &str,
+    name: &str,
+) -> Option<&'a Pages<Row>>
+    ensures { option_map (λ rows. rows_view rows.now) result
+        ≡ option_map (λ x. rows_view (arc_value x.rows)) (find (λ x. is_at ddoc.now name.now (arc_value x.definition)) indexes.now) }
+{
+    match index_at(indexes, ddoc, name) {
+        Some(index) => Some(&index.rows),
+        None => None,
+    }
 }
 
 // Shares of the indexes that come before a definition.
@@ -68,7 +81,7 @@ fn before(
     let mut found = Vec::with_capacity(alloc, indexes.len())?;
     for index in indexes {
         if order(definition, &index.definition).is_gt() {
-            found.push(index.share(alloc)?)?;
+            found.push(index.share()?)?;
         }
     }
     Ok(found)
@@ -85,7 +98,7 @@ fn add_after(
 {
     for index in indexes {
         if order(definition, &index.definition).is_lt() {
-            found.push(index.share(alloc)?)?;
+            found.push(index.share()?)?;
         }
     }
     Ok(())
@@ -122,7 +135,7 @@ pub(crate) fn without(
     let mut found = Vec::with_capacity(alloc, indexes.len())?;
     for index in indexes {
         if !is_named(&index.definition, ddoc, name) {
-            found.push(index.share(alloc)?)?;
+            found.push(index.share()?)?;
         }
     }
     Ok(found)

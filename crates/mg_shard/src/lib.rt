@@ -8,6 +8,7 @@ mod extracted;
 mod index;
 mod indexes;
 pub mod laws;
+mod placed;
 mod placement;
 mod redealt;
 mod reply;

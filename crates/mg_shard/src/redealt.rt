@@ -1,18 +1,21 @@
 //! Documents that are dealt anew to another number of shards.
-ghost use Rattle.std.specs.Prelude.{◌≡◌, ◌<◌, [], ◌∷◌, ◌++◌, All, IfOk, OnOk, List, Some, length, map, slice_get};
+ghost use Rattle.std.specs.Prelude.{◌≡◌, ◌<◌, All, IfOk, List, Ok, Some, length, map, slice_get};
 ghost use Rattle.std.specs.Arc.{arc_value};
 ghost use Rattle.std.specs.List.{AllByRecursion};
+ghost use Rattle.std.specs.Thread.{IsSync};
 ghost use Rattle.mg_index.specs.Catalog.{IsCatalog};
 ghost use Rattle.mg_index.specs.Definition.{IndexDefinition};
-ghost use Rattle.mg_shard.specs.Dealt.{ShardsStandFor};
-ghost use Rattle.mg_shard.specs.Documents.{KeptDocuments, shown};
+ghost use Rattle.mg_shard.specs.Dealt.{Placing, ShardsStandFor};
+ghost use Rattle.mg_shard.specs.Documents.{shown};
 ghost use Rattle.mg_shard.specs.Histories.{Histories};
 ghost use Rattle.mg_shard.specs.Index.{HasRows, definitions_of, index_seen, indexes_seen};
-ghost use Rattle.mg_shard.specs.Redealt.{AreRedealt, all_shown, documents_in};
+ghost use Rattle.mg_shard.specs.Redealt.{AreMade, AreRedealt, IsMade, documents_in, documents_seen};
 ghost use Rattle.mg_shard.specs.Shard.{ShardView, shards_seen};
 
 use crate::document::Document;
-use crate::index::{IndexRows, pages_of};
+use crate::extracted::MANY_DOCUMENTS;
+use crate::index::{IndexRows, pages_in_order};
+use crate::placed::{all_documents, documents_at, places_of};
 use crate::placement::Placement;
 use crate::shard::Shard;
 use mg_index::IndexDef;
@@ -20,80 +23,49 @@ use mg_pages::Pages;
 use mg_value::NoMemory;
 use std::alloc::Global;
 use std::sync::Arc;
+use std::thread;
+use std::thread::Threads;
 
-/// So many shards with the documents of these: the placement says to which of them a document goes, its tree with it, and each
-/// has the rows of all indexes that these have. Documents and trees are shared with the shards that are lent, not copied.
+/// So many shards with the documents of these: the placement says to which of them a document goes, its tree with it, whatever placement
+/// dealt them before, and each has the rows of all indexes that these have. Documents, trees and definitions are shared with the shards
+/// that are lent, not copied.
+///
+/// The shards are the same for every number of workers. One worker starts no thread, and nor do fewer than 1,000 documents; otherwise
+/// threads find the places of the documents, and a thread for each shard makes it. Where there are twice as many workers as shards, further
+/// threads extract and sort the rows of each.
 ///
 /// Errors: `NoMemory` where a growth was refused. Cost: for each document its placement and the way to its place, and for each index a
 /// copy of its key, and each shard's rows sorted.
-pub fn redeal<P: Placement>(
+pub fn redeal<P: Placement, R: Threads + Sync>(
+    rt: &R,
     alloc: Global,
     shards: &[Arc<Shard>],
     placement: &P,
     count: usize,
+    workers: usize,
 ) -> Result<Vec<Shard>, NoMemory>
     requires { 0 < count }
     ensures number { IfOk result (λ v. length v.items ≡ count) }
-    ensures stands { IfOk result (λ v. (hs : Histories) → ShardsStandFor (P.place placement.now) (shards_seen shards.now) hs
+
+    // Each document is kept where it is placed, and nowhere else: where several of the former shards keep one id, the last of them gives it.
+    ensures documents { IfOk result (λ v. AreRedealt (P.place placement.now) (documents_in (shards_seen shards.now)) (documents_in v.items)) }
+    ensures stands { IfOk result (λ v. (from : Placing) (hs : Histories) → ShardsStandFor from (shards_seen shards.now) hs
         → ShardsStandFor (P.place placement.now) v.items hs) }
     ensures indexes { IfOk result (λ v. (ds : List IndexDefinition) → 0 < length shards.now
         → All (λ s. s.definitions ≡ ds) (shards_seen shards.now) → All (λ s. s.definitions ≡ ds) v.items) }
 {
-    let dealt = deal(alloc, shards, placement, count)?;
+    let listed = all_documents(alloc, shards)?;
+    let documents: &[&Arc<Document>] = &listed;
+    let workers = if documents.len() < MANY_DOCUMENTS {
+        1
+    } else {
+        workers
+    };
+    let found = places_of(rt, alloc, placement, documents, count, workers)?;
+    let places: &[usize] = &found;
     let indexes = first_indexes(shards);
-    Ok(all_indexed(alloc, dealt, indexes)?)
-}
-
-// The documents of all these shards, each on the shard where it is placed, of so many.
-fn deal<P: Placement>(
-    alloc: Global,
-    shards: &[Arc<Shard>],
-    placement: &P,
-    count: usize,
-) -> Result<Vec<Pages<Document>>, NoMemory>
-    requires { 0 < count }
-    ensures number { IfOk result (λ v. length v.items ≡ count) }
-    ensures dealt { IfOk result (λ v. AreRedealt (P.place placement.now) (documents_in (shards_seen shards.now)) (all_shown v.items)) }
-{
-    let mut dealt = no_documents(alloc, count)?;
-    for shard in shards {
-        deal_shard(alloc, shard, placement, &mut dealt)?;
-    }
-    Ok(dealt)
-}
-
-// No documents, so many times.
-fn no_documents(alloc: Global, count: usize) -> Result<Vec<Pages<Document>>, NoMemory>
-    ensures number { IfOk result (λ v. length v.items ≡ count) }
-    ensures none { IfOk result (λ v. AllByRecursion (λ ds. ds ≡ []) v.items) }
-{
-    let mut dealt = Vec::with_capacity(alloc, count)?;
-    for _ in 0..count {
-        dealt.push(Pages::new(alloc))?;
-    }
-    Ok(dealt)
-}
-
-// Deals the documents of one more shard, deleted ones too.
-fn deal_shard<P: Placement>(
-    alloc: Global,
-    shard: &Shard,
-    placement: &P,
-    dealt: &mut [Pages<Document>],
-) -> Result<(), NoMemory>
-    requires { 0 < length dealt.old }
-    ensures number { OnOk result (length dealt.new ≡ length dealt.old) }
-    ensures dealt { OnOk result ((from : List KeptDocuments) → AreRedealt (P.place placement.now) from (all_shown dealt.old)
-        → AreRedealt (P.place placement.now) (from ++ shard.now.documents ∷ []) (all_shown dealt.new)) }
-{
-    shard.documents.ascends();
-    let mut documents = shard.documents.iter();
-    while let Some(document) = documents.next_shared() {
-        let place = placement.shard_of(&document.id, dealt.len());
-        let documents_there = &mut dealt[place];
-        documents_there.insert(alloc, document.clone()?)?;
-    }
-    Ok(())
+    let made = all_made(rt, alloc, documents, places, indexes, count, workers)?;
+    Ok(made)
 }
 
 // The indexes of the first shard, if there is one. Takes no memory.
@@ -107,42 +79,49 @@ fn first_indexes(shards: &[Arc<Shard>]) -> &[IndexRows]
     }
 }
 
-// An index of a shard's documents, whose definition is shared.
-fn index_over(
+// An index of a shard's documents, whose definition is shared. So many workers extract its rows.
+fn index_over<R: Threads + Sync>(
+    rt: &R,
     alloc: Global,
     shard: &Shard,
     definition: &Arc<IndexDef>,
+    workers: usize,
 ) -> Result<IndexRows, NoMemory>
     ensures definition { IfOk result (λ x. arc_value x.definition ≡ arc_value definition.now) }
     ensures rows { IfOk result (λ x. HasRows shard.now.documents (index_seen x)) }
 {
-    let columns = definition.columns();
-    let rows = pages_of(alloc, shard.unsorted(alloc, columns)?)?;
+    let rows = shard.rows_for(rt, alloc, definition, workers)?;
+    let pages = pages_in_order(alloc, rows)?;
+    let rows = Arc::new(alloc, pages)?;
     let definition = definition.clone()?;
     Ok(IndexRows { definition, rows })
 }
 
 // Indexes of a shard's documents, of the definitions that these have.
-fn indexes_over(
+fn indexes_over<R: Threads + Sync>(
+    rt: &R,
     alloc: Global,
     shard: &Shard,
     indexes: &[IndexRows],
+    workers: usize,
 ) -> Result<Vec<IndexRows>, NoMemory>
     ensures definitions { IfOk result (λ v. definitions_of (indexes_seen v.items) ≡ definitions_of (indexes_seen indexes.now)) }
     ensures rows { IfOk result (λ v. AllByRecursion (HasRows shard.now.documents) (indexes_seen v.items)) }
 {
     let mut all = Vec::with_capacity(alloc, indexes.len())?;
     for index in indexes {
-        all.push(index_over(alloc, shard, &index.definition)?)?;
+        all.push(index_over(rt, alloc, shard, &index.definition, workers)?)?;
     }
     Ok(all)
 }
 
 // A shard of these documents with indexes of these definitions.
-fn indexed(
+fn indexed<R: Threads + Sync>(
+    rt: &R,
     alloc: Global,
     documents: Pages<Document>,
     indexes: &[IndexRows],
+    workers: usize,
 ) -> Result<Shard, NoMemory>
     requires { IsCatalog (definitions_of (indexes_seen indexes.now)) }
     ensures documents { IfOk result (λ s. s.documents ≡ shown documents) }
@@ -152,23 +131,115 @@ fn indexed(
         documents: documents.share(alloc)?,
         indexes: Vec::new(alloc),
     };
-    let indexes = indexes_over(alloc, &bare, indexes)?;
+    let indexes = indexes_over(rt, alloc, &bare, indexes, workers)?;
     Ok(Shard { documents, indexes })
 }
 
-// Shards of these documents, each with indexes of these definitions.
-fn all_indexed(
+// One of the new shards: the documents that are placed there, with indexes of these definitions.
+fn made<R: Threads + Sync>(
+    rt: &R,
     alloc: Global,
-    dealt: Vec<Pages<Document>>,
+    documents: &[&Arc<Document>],
+    places: &[usize],
     indexes: &[IndexRows],
-) -> Result<Vec<Shard>, NoMemory>
-    requires { IsCatalog (definitions_of (indexes_seen indexes.now)) }
-    ensures documents { IfOk result (λ v. documents_in v.items ≡ all_shown dealt.items) }
-    ensures definitions { IfOk result (λ v. AllByRecursion (λ s. s.definitions ≡ definitions_of (indexes_seen indexes.now)) v.items) }
+    place: usize,
+    workers: usize,
+) -> Result<Shard, NoMemory>
+    requires number { length places.now ≡ length documents.now }
+    requires catalog { IsCatalog (definitions_of (indexes_seen indexes.now)) }
+    ensures { IfOk result (IsMade (documents_seen documents.now) places.now (definitions_of (indexes_seen indexes.now)) place) }
 {
-    let mut shards = Vec::with_capacity(alloc, dealt.len())?;
-    for documents in dealt {
-        shards.push(indexed(alloc, documents, indexes)?)?;
+    let there = documents_at(alloc, documents, places, place)?;
+    indexed(rt, alloc, there, indexes, workers)
+}
+
+// The new shards one after the other, each by so many workers.
+fn made_in_turn<R: Threads + Sync>(
+    rt: &R,
+    alloc: Global,
+    documents: &[&Arc<Document>],
+    places: &[usize],
+    indexes: &[IndexRows],
+    count: usize,
+    workers: usize,
+) -> Result<Vec<Shard>, NoMemory>
+    requires number { length places.now ≡ length documents.now }
+    requires catalog { IsCatalog (definitions_of (indexes_seen indexes.now)) }
+    ensures number { IfOk result (λ v. length v.items ≡ count) }
+    ensures made { IfOk result (λ v. AreMade (documents_seen documents.now) places.now (definitions_of (indexes_seen indexes.now)) v.items) }
+{
+    let mut shards = Vec::with_capacity(alloc, count)?;
+    for i in 0..count {
+        shards.push(made(rt, alloc, documents, places, indexes, i, workers)?)?;
     }
     Ok(shards)
+}
+
+// All shards, if memory was refused to none of them.
+fn all_of(alloc: Global, results: Vec<Result<Shard, NoMemory>>) -> Result<Vec<Shard>, NoMemory>
+    ensures { IfOk result (λ v. results.items ≡ map Ok v.items) }
+{
+    let mut shards = Vec::with_capacity(alloc, results.len())?;
+    for given in results {
+        shards.push(given?)?;
+    }
+    Ok(shards)
+}
+
+// The new shards, made by a thread for each, which has so many workers.
+fn made_at_once<R: Threads + Sync>(
+    rt: &R,
+    alloc: Global,
+    documents: &[&Arc<Document>],
+    places: &[usize],
+    indexes: &[IndexRows],
+    count: usize,
+    workers: usize,
+) -> Result<Vec<Shard>, NoMemory>
+    requires number { length places.now ≡ length documents.now }
+    requires catalog { IsCatalog (definitions_of (indexes_seen indexes.now)) }
+    ensures number { IfOk result (λ v. length v.items ≡ count) }
+    ensures made { IfOk result (λ v. AreMade (documents_seen documents.now) places.now (definitions_of (indexes_seen indexes.now)) v.items) }
+{
+    let results = thread::map_indices(
+        rt,
+        alloc,
+        count,
+        &|place: usize| -> Result<Shard, NoMemory>
+            requires { IsSync R.row × (length places.now ≡ length documents.now) × IsCatalog (definitions_of (indexes_seen indexes.now)) }
+            ensures { IfOk result (IsMade (documents_seen documents.entry.now) places.entry.now (definitions_of (indexes_seen indexes.entry.now)) place) }
+        { made(rt, alloc, documents, places, indexes, place, workers) },
+    )?;
+    let shards = all_of(alloc, results)?;
+    Ok(shards)
+}
+
+// The new shards, each with indexes of these definitions.
+fn all_made<R: Threads + Sync>(
+    rt: &R,
+    alloc: Global,
+    documents: &[&Arc<Document>],
+    places: &[usize],
+    indexes: &[IndexRows],
+    count: usize,
+    workers: usize,
+) -> Result<Vec<Shard>, NoMemory>
+    requires some { 0 < count }
+    requires number { length places.now ≡ length documents.now }
+    requires catalog { IsCatalog (definitions_of (indexes_seen indexes.now)) }
+    ensures number { IfOk result (λ v. length v.items ≡ count) }
+    ensures made { IfOk result (λ v. AreMade (documents_seen documents.now) places.now (definitions_of (indexes_seen indexes.now)) v.items) }
+{
+    if workers < 2 {
+        return made_in_turn(rt, alloc, documents, places, indexes, count, workers);
+    }
+    made_at_once(
+        rt,
+        alloc,
+        documents,
+        places,
+        indexes,
+        count,
+        workers / count,
+    )
 }

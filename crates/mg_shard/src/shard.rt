@@ -1,5 +1,6 @@
 //! A shard: documents by their ids, and the rows of indexes over them.
 ghost use Rattle.std.specs.Prelude.{◌≡◌, ℕ, List, [], Some, length, map, option_map, reverse, unwrap_or, IfOk, IfSome};
+ghost use Rattle.std.specs.Arc.{arc_value};
 ghost use Rattle.std.specs.FinMap as finite;
 ghost use Rattle.std.specs.FinMap.{entries, get};
 ghost use Rattle.std.specs.declared.cmp.Ordering.{Ordering};
@@ -26,7 +27,7 @@ use crate::document::Document;
 use crate::draft::Draft;
 use crate::extracted::{MANY_DOCUMENTS, rows_by_threads, sorted_by_threads};
 use crate::index::{IndexRows, pages_in_order, pages_of, row_in, sorted_rows};
-use crate::indexes::{index_at, shared, with, without};
+use crate::indexes::{rows_there, shared, with, without};
 use crate::reply::EditReply;
 use crate::walk::{Documents, Rows, Walk, count_beyond};
 use mg_collate::{Direction, Row};
@@ -222,8 +223,8 @@ impl Shard {
     pub fn rows(&self, ddoc: &str, name: &str) -> Option<Rows<'_>>
         ensures { option_map (λ it. rows_view it) result ≡ rows_at ddoc.now name.now self.now }
     {
-        match index_at(&self.indexes, ddoc, name) {
-            Some(index) => Some(Walk::over(&index.rows, Direction::Asc)),
+        match rows_there(&self.indexes, ddoc, name) {
+            Some(rows) => Some(Walk::over(rows, Direction::Asc)),
             None => None,
         }
     }
@@ -233,8 +234,8 @@ impl Shard {
     pub fn rows_back(&self, ddoc: &str, name: &str) -> Option<Rows<'_>>
         ensures { option_map (λ it. rows_view it) result ≡ option_map reverse (rows_at ddoc.now name.now self.now) }
     {
-        match index_at(&self.indexes, ddoc, name) {
-            Some(index) => Some(Walk::over(&index.rows, Direction::Desc)),
+        match rows_there(&self.indexes, ddoc, name) {
+            Some(rows) => Some(Walk::over(rows, Direction::Desc)),
             None => None,
         }
     }
@@ -252,8 +253,8 @@ impl Shard {
         ensures { (order : RowValue → Ordering) → ((r : Row) → Q.against place.now r ≡ order (row_view r))
             → option_map (λ it. rows_view it) result ≡ option_map (beyond direction order) (rows_at ddoc.now name.now self.now) }
     {
-        match index_at(&self.indexes, ddoc, name) {
-            Some(index) => Some(Walk::beyond(&index.rows, place, direction)),
+        match rows_there(&self.indexes, ddoc, name) {
+            Some(rows) => Some(Walk::beyond(rows, place, direction)),
             None => None,
         }
     }
@@ -271,8 +272,8 @@ impl Shard {
         ensures { (order : RowValue → Ordering) → ((r : Row) → Q.against place.now r ≡ order (row_view r))
             → result ≡ option_map (λ rows. length (beyond direction order rows)) (rows_at ddoc.now name.now self.now) }
     {
-        match index_at(&self.indexes, ddoc, name) {
-            Some(index) => Some(count_beyond(&index.rows, place, direction)),
+        match rows_there(&self.indexes, ddoc, name) {
+            Some(rows) => Some(count_beyond(rows, place, direction)),
             None => None,
         }
     }
@@ -343,13 +344,13 @@ impl Shard {
     fn with(
         &self,
         alloc: Global,
-        definition: &IndexDef,
+        definition: Arc<IndexDef>,
         rows: Pages<Row>,
     ) -> Result<Shard, NoMemory>
-        requires { rows_view rows ≡ rows_of definition.now.columns (docs_of self.now.documents) }
-        ensures { IfOk result (λ s. s ≡ record self.now { definitions = with_definition definition.now self.now.definitions }) }
+        requires { rows_view rows ≡ rows_of (arc_value definition).columns (docs_of self.now.documents) }
+        ensures { IfOk result (λ s. s ≡ record self.now { definitions = with_definition (arc_value definition) self.now.definitions }) }
     {
-        let definition = Arc::new(alloc, definition.copy(alloc)?)?;
+        let rows = Arc::new(alloc, rows)?;
         let indexes = with(alloc, &self.indexes, IndexRows { definition, rows })?;
         let documents = self.documents.share(alloc)?;
         Ok(Shard { documents, indexes })
@@ -363,23 +364,25 @@ impl Shard {
     {
         let rows = self.unsorted(alloc, definition.columns())?;
         let pages = pages_of(alloc, rows)?;
+        let definition = Arc::new(alloc, definition.copy(alloc)?)?;
         self.with(alloc, definition, pages)
     }
 
-    /// The shard with an index, as of `with_index`, whose rows the caller brings: those that `rows_for` gives.
+    /// The shard with an index, as of `with_index`, whose rows the caller brings: those that `rows_for` gives. The definition is shared,
+    /// not copied.
     ///
     /// Errors: `NoMemory` where a growth was refused. Cost: a step a row.
     pub fn with_rows(
         &self,
         alloc: Global,
-        definition: &IndexDef,
+        definition: &Arc<IndexDef>,
         rows: Vec<Row>,
     ) -> Result<Shard, NoMemory>
-        requires { rows_view rows.items ≡ rows_of definition.now.columns (docs_of self.now.documents) }
-        ensures { IfOk result (λ s. s ≡ record self.now { definitions = with_definition definition.now self.now.definitions }) }
+        requires { rows_view rows.items ≡ rows_of (arc_value definition.now).columns (docs_of self.now.documents) }
+        ensures { IfOk result (λ s. s ≡ record self.now { definitions = with_definition (arc_value definition.now) self.now.definitions }) }
     {
         let pages = pages_in_order(alloc, rows)?;
-        self.with(alloc, definition, pages)
+        self.with(alloc, definition.clone()?, pages)
     }
 
     /// The shard without the index of this design document and name, if there is one.

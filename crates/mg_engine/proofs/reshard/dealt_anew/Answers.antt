@@ -7,7 +7,7 @@ use Rattle.mg_engine.proofs.reshard.dealt_anew.Goals as goal
 
 pub returns-clause-stands : goal.returns-clause-stands
 returns-clause-stands g c = λ hs h.
-    subst (λ (ss : List ShardView). ShardsStandFor (g.P.Placement.place c.args.placement.now) ss hs) (sym c.in_ok-shards.ensures) (c.in_ok-dealt.ensures.stands hs h)
+    subst (λ (ss : List ShardView). ShardsStandFor (g.P.Placement.place c.args.placement.now) ss hs) (sym c.in_ok-shards.ensures) (c.in_ok-dealt.ensures.stands (g.P.Placement.place c.args.placement.now) hs h)
 
 pub returns-clause-rows : goal.returns-clause-rows
 returns-clause-rows g c = λ ds some h.

@@ -1,29 +1,48 @@
-use Rattle.std.proofs.Common.{◌≡◌, ◌<◌, List, length, sym, subst}
+use denote.Ref.{Bor}
+use Rattle.std.proofs.Common.{◌<◌, ℕ, Global, List, length, sym, ap, ◌∙◌, subst}
 use Rattle.std.proofs.lemmas.List.{length-map}
 use Rattle.std.specs.Arc.{arc_value}
-use Rattle.std.specs.List.{AllByRecursion}
+use Rattle.std.specs.declared.sync.Arc.{Arc}
 use Rattle.mg_index.specs.Definition.{IndexDefinition}
-use Rattle.mg_shard.specs.Documents.{KeptDocuments}
 use Rattle.mg_shard.specs.Index.{definitions_of, indexes_seen}
-use Rattle.mg_shard.specs.Redealt.{AreRedealt, documents_in}
+use Rattle.mg_shard.specs.Redealt.{ArePlaces, documents_in, documents_seen, last_kept}
 use Rattle.mg_shard.specs.Shard.{ShardView, shards_seen}
-use Rattle.mg_shard.proofs.Redealing.{each_of_all, first_definitions, redealt_stand}
+use Rattle.mg_shard.specs.declared.document.Document.{Document}
+use Rattle.mg_shard.proofs.Redealing.{all_dealt, as_many, first_definitions, made_definitions, redealt_stand}
+use Rattle.mg_shard.proofs.Together.{seen_length}
 use Rattle.mg_shard.proofs.redealt.redeal.Goals as goal
 
-pub returns-clause-stands : goal.returns-clause-stands
-returns-clause-stands g c = λ hs st.
+pub all_made-requires-clause-number : goal.all_made-requires-clause-number
+all_made-requires-clause-number g c κs within =
+    let ds = c.deref-documents.result.now in
+    ap length c.deref-places.ensures.value ∙ as_many (g.P.Placement.place c.args.placement.now) c.args.count (documents_seen ds) c.in_ok-found.found.items c.in_ok-found.ensures
+    ∙ seen_length ds
+
+pub returns-clause-documents : goal.returns-clause-documents
+returns-clause-documents g c =
     let place = g.P.Placement.place c.args.placement.now in
-    let shards : List ShardView = shards_seen c.args.shards.now in
-    let new : List ShardView = c.in_ok-all_indexed.field-0.items in
-    redealt_stand place shards new hs
-    (subst (λ (ms : List KeptDocuments). AreRedealt place (documents_in shards) ms) (sym c.in_ok-all_indexed.ensures.documents) c.in_ok-dealt.ensures.dealt) st
+    let ds = c.deref-documents.result.now in
+    let those : List IndexDefinition = definitions_of (indexes_seen c.first_indexes-indexes.result.now) in
+    all_dealt place c.args.count (documents_seen ds) c.deref-places.result.now those (documents_in (shards_seen c.args.shards.now)) c.in_ok-made.made.items
+    (λ id. ap (λ (xs : List (Bor (Arc Document Global))). last_kept (documents_seen xs) id) c.deref-documents.ensures.value ∙ c.in_ok-listed.ensures id)
+    (subst (λ (ps : List ℕ). ArePlaces place c.args.count (documents_seen ds) ps) (sym c.deref-places.ensures.value) c.in_ok-found.ensures)
+    c.in_ok-made.ensures.number c.in_ok-made.ensures.made
+
+pub returns-clause-stands : goal.returns-clause-stands
+returns-clause-stands g c = λ before hs st.
+    let place = g.P.Placement.place c.args.placement.now in
+    let ds = c.deref-documents.result.now in
+    let those : List IndexDefinition = definitions_of (indexes_seen c.first_indexes-indexes.result.now) in
+    redealt_stand before place (shards_seen c.args.shards.now) c.in_ok-made.made.items hs
+    (all_dealt place c.args.count (documents_seen ds) c.deref-places.result.now those (documents_in (shards_seen c.args.shards.now)) c.in_ok-made.made.items
+    (λ id. ap (λ (xs : List (Bor (Arc Document Global))). last_kept (documents_seen xs) id) c.deref-documents.ensures.value ∙ c.in_ok-listed.ensures id)
+    (subst (λ (ps : List ℕ). ArePlaces place c.args.count (documents_seen ds) ps) (sym c.deref-places.ensures.value) c.in_ok-found.ensures)
+    c.in_ok-made.ensures.number c.in_ok-made.ensures.made) st
 
 pub returns-clause-indexes : goal.returns-clause-indexes
-returns-clause-indexes g c = λ ds some all.
+returns-clause-indexes g c = λ ds some all k d l.
     let shards : List ShardView = shards_seen c.args.shards.now in
-    let new : List ShardView = c.in_ok-all_indexed.field-0.items in
     let those : List IndexDefinition = definitions_of (indexes_seen c.first_indexes-indexes.result.now) in
     let one : 0 < length shards = subst (λ n. 0 < n) (sym (length-map c.args.shards.now arc_value)) some in
-    let same : those ≡ ds = first_definitions shards ds those c.first_indexes-indexes.ensures.first one all in
-    each_of_all (λ (s : ShardView). s.definitions ≡ ds) new
-    (subst (λ (cs : List IndexDefinition). AllByRecursion (λ (s : ShardView). s.definitions ≡ cs) new) same c.in_ok-all_indexed.ensures.definitions)
+    made_definitions (documents_seen c.deref-documents.result.now) c.deref-places.result.now those c.in_ok-made.made.items c.in_ok-made.ensures.made k d l
+    ∙ first_definitions shards ds those c.first_indexes-indexes.ensures.first one all

@@ -1,7 +1,9 @@
-use Rattle.std.proofs.Common.{◌≡◌, Some, option_map, ap, ap₂, sym, ◌∙◌}
+use Rattle.std.proofs.Common.{◌≡◌, List, Some, option_map, ap, ap₂, sym, ◌∙◌, subst}
 use Rattle.std.specs.Arc.{arc_value}
 use Rattle.std.specs.FinMap.{get}
-use Rattle.mg_collate.specs.Row.{row_view, rows_view}
+use Rattle.mg_collate.specs.Row.{row_order, row_view, rows_view}
+use Rattle.mg_collate.specs.declared.row.Row.{Row}
+use Rattle.mg_pages.specs.Order.{Ascends}
 use Rattle.mg_value.specs.View.{view}
 use Rattle.mg_shard.specs.Mended.{own_row, with_row, without_row}
 use Rattle.mg_shard.proofs.Rows.{own_at, row_at, rows_left, rows_mended, view_rises}
@@ -17,9 +19,10 @@ returns-clause-rows c = λ ds d before after were.
     let come : option_map row_view c.in_ok-come.come ≡ row_at columns id (Some d) =
     c.in_ok-come.ensures ∙ ap (λ cs. own_row cs id (option_map (λ v. view v.now) c.args.after)) (c.columns-2.ensures ∙ ap (λ x. x.columns) c.deref-definition.ensures)
     ∙ ap (own_row columns id) after in
-    let rows = rows_view c.args.self.now.rows in
-    rows_mended columns ds id d rows (rows_view c.put_row.new.rows) were (view_rises c.put_row.new.rows c.ascends.ensures)
-    (c.in_ok-put_row.ensures ∙ ap₂ (λ n rs. with_row n rs) come (c.in_ok-take_row.ensures ∙ ap (λ o. without_row o rows) gone))
+    let rows = rows_view (arc_value c.args.self.now.rows) in
+    let new = arc_value c.change_shared.new.rows in
+    rows_mended columns ds id d rows (rows_view new) were (view_rises new (subst (λ (rs : List Row). Ascends row_order rs) c.deref-rows.ensures c.ascends.ensures))
+    (c.in_ok-change_shared.ensures ∙ ap₂ (λ n rs. with_row n rs) come (ap (λ o. without_row o rows) gone))
 
 pub returns-then-are_same-clause-rows : goal.returns-then-are_same-clause-rows
 returns-then-are_same-clause-rows c = λ ds d before after were.
@@ -31,4 +34,4 @@ returns-then-are_same-clause-rows c = λ ds d before after were.
     let come : option_map row_view c.in_ok-come.come ≡ row_at columns id (Some d) =
     c.in_ok-come.ensures ∙ ap (λ cs. own_row cs id (option_map (λ v. view v.now) c.args.after)) (c.columns-2.ensures ∙ ap (λ x. x.columns) c.deref-definition.ensures)
     ∙ ap (own_row columns id) after in
-    rows_left columns ds id d (rows_view c.args.self.now.rows) were (sym gone ∙ c.are_same.ensures c.if-are_same.true ∙ come)
+    rows_left columns ds id d (rows_view (arc_value c.args.self.now.rows)) were (sym gone ∙ c.are_same.ensures c.if-are_same.true ∙ come)

@@ -15,8 +15,8 @@ returns-in-Some c =
     let ddoc = c.args.ddoc.now in
     let name = c.args.name.now in
     let xs = c.self.inside.indexes.items in
-    ap (λ rs. Some (rows_view rs)) c.over.ensures ∙ ap (option_map (λ (x : IndexRows). rows_view x.rows)) c.in-Some.ensures
-    ∙ ap (λ (ys : List IndexRows). option_map (λ (x : IndexRows). rows_view x.rows) (find (λ x. is_at ddoc name (arc_value x.definition)) ys)) c.deref.ensures.value
+    ap (λ rs. Some (rows_view rs)) c.over.ensures ∙ c.in-Some.ensures
+    ∙ ap (λ (ys : List IndexRows). option_map (λ (x : IndexRows). rows_view (arc_value x.rows)) (find (λ x. is_at ddoc name (arc_value x.definition)) ys)) c.deref.ensures.value
     ∙ rows_seen ddoc name xs ∙ rows_found (shown c.self.inside.documents) ddoc name (indexes_seen xs) c.self.invariant.rows ∙ ap (rows_at ddoc name) c.self.view_is
 
 pub returns-in-None : goal.returns-in-None
@@ -24,6 +24,6 @@ returns-in-None c =
     let ddoc = c.args.ddoc.now in
     let name = c.args.name.now in
     let xs = c.self.inside.indexes.items in
-    ap (option_map (λ (x : IndexRows). rows_view x.rows)) c.in-None.ensures
-    ∙ ap (λ (ys : List IndexRows). option_map (λ (x : IndexRows). rows_view x.rows) (find (λ x. is_at ddoc name (arc_value x.definition)) ys)) c.deref.ensures.value
+    c.in-None.ensures
+    ∙ ap (λ (ys : List IndexRows). option_map (λ (x : IndexRows). rows_view (arc_value x.rows)) (find (λ x. is_at ddoc name (arc_value x.definition)) ys)) c.deref.ensures.value
     ∙ rows_seen ddoc name xs ∙ rows_found (shown c.self.inside.documents) ddoc name (indexes_seen xs) c.self.invariant.rows ∙ ap (rows_at ddoc name) c.self.view_is

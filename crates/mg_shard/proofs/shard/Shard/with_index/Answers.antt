@@ -1,7 +1,7 @@
 use Rattle.std.proofs.Common.{◌≤◌, List, sym, ap, ◌∙◌, subst}
 use Rattle.mg_collate.specs.Row.{RowValue, row_value_order}
 use Rattle.mg_collate.specs.Sorted.{sorted}
-use Rattle.mg_index.specs.Definition.{Steps}
+use Rattle.mg_index.specs.Definition.{IndexDefinition, Steps}
 use Rattle.mg_shard.specs.Documents.{docs_of}
 use Rattle.mg_shard.specs.Rows.{rows_of}
 use Rattle.mg_shard.proofs.Rows.{at_most_once, count}
@@ -14,3 +14,4 @@ pages_of-requires c = λ z.
 pub with-requires : goal.with-requires
 with-requires c =
     c.in_ok-pages.ensures ∙ ap (sorted row_value_order) c.in_ok-rows.ensures ∙ ap (λ (columns : List Steps). rows_of columns (docs_of c.args.self.now.documents)) c.columns.ensures
+    ∙ ap (λ (d : IndexDefinition). rows_of d.columns (docs_of c.args.self.now.documents)) (sym (c.in_ok-definition.ensures.ok ∙ c.in_ok-copy.ensures))

@@ -1,0 +1,71 @@
+-- What threads give, put together: the places of documents, and the shards that are made of them.
+use denote.Ref.{Bor}
+use Rattle.std.proofs.lemmas.List.{length-map}
+use Rattle.std.proofs.lemmas.Option.{get_or_from_slice_get, slice_get-map, slice_get_within}
+use Rattle.std.proofs.Common.{◌++◌, option_map, ◌≡◌, ℕ, zero, suc, ◌<◌, List, [], ◌∷◌, Some, Result, Ok, length, get_or, map, slice_get, arith, refl, sym, ap, ◌∙◌, subst, IfOk}
+use Rattle.std.specs.Arc.{arc_value}
+use Rattle.std.specs.declared.alloc.Global.{Global}
+use Rattle.std.specs.declared.sync.Arc.{Arc}
+use Rattle.std.specs.List.{AllZip}
+use Rattle.rayon.proofs.ToStd.{slice-AllZip}
+use Rattle.mg_shard.specs.Dealt.{Placing}
+use Rattle.mg_shard.specs.Redealt.{ArePlaces, IsPlace, documents_seen}
+use Rattle.mg_shard.specs.Shard.{ShardView}
+use Rattle.mg_shard.specs.declared.document.Document.{Document}
+use Rattle.mg_value.specs.declared.error.NoMemory.{NoMemory}
+
+abbrev Lent : Type 0
+Lent = Bor (Arc Document Global)
+
+-- ---- documents that are lent
+
+pub seen_length : (ds : List Lent) → length (documents_seen ds) ≡ length ds
+seen_length [] = refl
+seen_length (d ∷ ds) = ap suc (seen_length ds)
+
+pub seen_at : (ds : List Lent) (k : ℕ) (d : Lent) → k < length ds → d ≡ get_or ds k d → arc_value d.now ≡ get_or (documents_seen ds) k (arc_value d.now)
+seen_at [] k d l e = absurd (omega (arith, l))
+seen_at (x ∷ ds) zero d l e = ap (λ (y : Lent). arc_value y.now) e
+seen_at (x ∷ ds) (suc k) d l e = seen_at ds k d (omega (arith, l)) e
+
+pub read_alike : (ps : List ℕ) (k a b : ℕ) → k < length ps → get_or ps k a ≡ get_or ps k b
+read_alike [] k a b l = absurd (omega (arith, l))
+read_alike (p ∷ ps) zero a b l = refl
+read_alike (p ∷ ps) (suc k) a b l = read_alike ps k a b (omega (arith, l))
+
+-- ---- places
+
+places_seen : (place : Placing) (n : ℕ) (ds : List Lent) (ps : List ℕ) → AllZip (λ (d : Lent) p. IsPlace place n (arc_value d.now) p) ds ps → ArePlaces place n (documents_seen ds) ps
+places_seen place n [] [] h = tt
+places_seen place n [] (p ∷ ps) h = absurd h
+places_seen place n (d ∷ ds) [] h = absurd h
+places_seen place n (d ∷ ds) (p ∷ ps) h = (h.0, places_seen place n ds ps h.1)
+
+-- the places that were given are those of the documents
+pub places_together : (place : Placing) (n : ℕ) (documents : List Lent) (ds : List (Bor Lent)) (ps : List ℕ) → map (λ (d : Bor Lent). d.now) ds ≡ documents
+    → AllZip (λ (d : Bor Lent) p. IsPlace place n (arc_value d.now.now) p) ds ps → ArePlaces place n (documents_seen documents) ps
+places_together place n documents ds ps shown each =
+    places_seen place n documents ps (slice-AllZip ds documents shown (λ (d : Lent) p. IsPlace place n (arc_value d.now) p) ps each)
+
+-- ---- shards
+
+ok_at : (ss : List ShardView) (i : ℕ) (s : ShardView) → slice_get ss i ≡ Some s → slice_get (map {B = Result ShardView NoMemory} Ok ss) i ≡ Some (Ok s)
+ok_at ss i s e = slice_get-map Ok ss i ∙ ap (option_map Ok) e
+
+-- what threads gave is a shard for each number, where memory was refused to none
+pub shards_together : (P : ℕ → ShardView → Type 0) (n : ℕ) (rs : List (Result ShardView NoMemory)) (ss : List ShardView) → length rs ≡ n
+    → ((i : ℕ) (r : Result ShardView NoMemory) → i < n → IfOk (get_or rs i r) (P i)) → rs ≡ map Ok ss
+    → (length ss ≡ n) × ((i : ℕ) (s : ShardView) → slice_get ss i ≡ Some s → P i s)
+shards_together P n rs ss long each all = (sym (length-map ss Ok) ∙ sym (ap length all) ∙ long, at)
+  where
+    at : (i : ℕ) (s : ShardView) → slice_get ss i ≡ Some s → P i s
+    at i s e =
+        let there : slice_get rs i ≡ Some (Ok s) = ap (λ xs. slice_get xs i) all ∙ ok_at ss i s e in
+        let less : i < n = subst (λ m. i < m) long (slice_get_within rs i (Ok s) there) in
+        subst (λ r. IfOk r (P i)) (get_or_from_slice_get rs i (Ok s) (Ok s) there) (each i (Ok s) less)
+
+-- one more
+pub one_given : (ss : List ShardView) (s : ShardView) (r : Result ShardView NoMemory) (rest : List (Result ShardView NoMemory)) → r ≡ Ok s
+    → map Ok ss ++ r ∷ rest ≡ map Ok (ss ++ s ∷ []) ++ rest
+one_given [] s r rest e = ap (λ x. x ∷ rest) e
+one_given (x ∷ ss) s r rest e = ap (λ xs. Ok x ∷ xs) (one_given ss s r rest e)

@@ -1,0 +1,147 @@
+//! Documents of several shards with the places that a placement gives them.
+ghost use Rattle.std.specs.Prelude.{◌≡◌, ◌<◌, ◌==◌, ℕ, IfOk, List, OnOk, false, length, true};
+ghost use Rattle.std.specs.Arc.{arc_value};
+ghost use Rattle.std.specs.FinMap.{get};
+ghost use Rattle.std.specs.Option.{option_or};
+ghost use Rattle.mg_pages.specs.Identified.{id_order};
+ghost use Rattle.mg_pages.specs.Order.{inserted};
+ghost use Rattle.mg_shard.specs.Documents.{id_of, shown};
+ghost use Rattle.mg_shard.specs.Redealt.{ArePlaces, IsPlace, KeepsThose, documents_in, documents_seen, kept_in, last_kept};
+ghost use Rattle.mg_shard.specs.Shard.{shards_seen};
+
+use crate::document::Document;
+use crate::extracted::LEAST_PIECE;
+use crate::placement::Placement;
+use crate::shard::Shard;
+use mg_pages::Pages;
+use mg_value::NoMemory;
+use rayon::prelude::*;
+use std::alloc::Global;
+use std::sync::Arc;
+use std::thread::Threads;
+
+/// The documents of all these shards, deleted ones too, lent one shard after the other.
+///
+/// Errors: `NoMemory` where a growth was refused. Cost: a step a document.
+pub(crate) fn all_documents<'a>(
+    alloc: Global,
+    shards: &'a [Arc<Shard>],
+) -> Result<Vec<&'a Arc<Document>>, NoMemory>
+    ensures { IfOk result (λ v. (id : List ℕ) → last_kept (documents_seen v.items) id ≡ kept_in (documents_in (shards_seen shards.now)) id) }
+{
+    let mut all = Vec::new(alloc);
+    for shard in shards {
+        add_documents(shard, &mut all)?;
+    }
+    Ok(all)
+}
+
+// Adds the documents of one more shard.
+fn add_documents<'a>(shard: &'a Shard, all: &mut Vec<&'a Arc<Document>>) -> Result<(), NoMemory>
+    ensures { OnOk result ((id : List ℕ) → last_kept (documents_seen all.new.items) id
+        ≡ option_or (get shard.now.documents id) (last_kept (documents_seen all.old.items) id)) }
+{
+    shard.documents.ascends();
+    let mut documents = shard.documents.iter();
+    while let Some(document) = documents.next_shared() {
+        all.push(document)?;
+    }
+    Ok(())
+}
+
+/// The shard of each of these documents, of so many. One worker starts no thread.
+///
+/// Errors: `NoMemory` where a growth was refused. Cost: the placement of each document.
+pub(crate) fn places_of<P: Placement, R: Threads + Sync>(
+    rt: &R,
+    alloc: Global,
+    placement: &P,
+    documents: &[&Arc<Document>],
+    count: usize,
+    workers: usize,
+) -> Result<Vec<usize>, NoMemory>
+    requires { 0 < count }
+    ensures { IfOk result (λ v. ArePlaces (P.place placement.now) count (documents_seen documents.now) v.items) }
+{
+    if workers < 2 {
+        return places_in_turn(alloc, placement, documents, count);
+    }
+    places_by_threads(rt, alloc, placement, documents, count)
+}
+
+// The shard of each, asked for on the caller's thread.
+fn places_in_turn<P: Placement>(
+    alloc: Global,
+    placement: &P,
+    documents: &[&Arc<Document>],
+    count: usize,
+) -> Result<Vec<usize>, NoMemory>
+    requires { 0 < count }
+    ensures { IfOk result (λ v. ArePlaces (P.place placement.now) count (documents_seen documents.now) v.items) }
+{
+    let mut places = Vec::with_capacity(alloc, documents.len())?;
+    for document in documents {
+        places.push(placement.shard_of(&document.id, count))?;
+    }
+    Ok(places)
+}
+
+// The shard of each, asked for by a thread for each piece.
+fn places_by_threads<P: Placement, R: Threads + Sync>(
+    rt: &R,
+    alloc: Global,
+    placement: &P,
+    documents: &[&Arc<Document>],
+    count: usize,
+) -> Result<Vec<usize>, NoMemory>
+    requires { 0 < count }
+    ensures { IfOk result (λ v. ArePlaces (P.place placement.now) count (documents_seen documents.now) v.items) }
+{
+    let places = documents
+        .par_iter()
+        .with_min_len(LEAST_PIECE)
+        .map(
+            |document: &&Arc<Document>| -> usize
+                requires { 0 < count }
+                ensures { IsPlace (P.place placement.entry.now) count (arc_value document.now.now) result }
+            { placement.shard_of(&document.id, count) },
+        )
+        .collect(rt, alloc)?;
+    Ok(places)
+}
+
+// Puts a document among those of a shard, where that is the document's own.
+fn put_if(
+    alloc: Global,
+    there: &mut Pages<Document>,
+    document: &Arc<Document>,
+    own: usize,
+    place: usize,
+) -> Result<(), NoMemory>
+    ensures here { OnOk result ((own == place) ≡ true → there.new ≡ inserted (id_order id_of) (arc_value document.now) there.old) }
+    ensures elsewhere { OnOk result ((own == place) ≡ false → there.new ≡ there.old) }
+{
+    if own == place {
+        there.insert(alloc, document.clone()?)?;
+    }
+    Ok(())
+}
+
+/// The documents that are placed on this shard: where several have one id, the last of them.
+///
+/// Errors: `NoMemory` where a growth was refused. Cost: a step a document, and for each that is placed there the way to its place.
+pub(crate) fn documents_at(
+    alloc: Global,
+    documents: &[&Arc<Document>],
+    places: &[usize],
+    place: usize,
+) -> Result<Pages<Document>, NoMemory>
+    requires { length places.now ≡ length documents.now }
+    ensures { IfOk result (λ ds. KeepsThose (documents_seen documents.now) places.now place (shown ds)) }
+{
+    let mut there = Pages::new(alloc);
+    for k in 0..documents.len() {
+        put_if(alloc, &mut there, documents[k], places[k], place)?;
+    }
+    Ok(there)
+}
