@@ -110,10 +110,6 @@ fn is_ddoc(a: Option<&str>, b: Option<&str>) -> bool
     }
 }
 
-// How many atoms are looked at for whether a range decides them: each is compared with the others at each column, so many atoms would cost
-// more than asking the documents.
-const MOST_ATOMS: usize = 16;
-
 impl<'a> Source<'a> {
     // Its design document, none for the index of all documents.
     pub(crate) fn ddoc(self) -> Option<&'a str>
@@ -171,17 +167,14 @@ impl<'a> Source<'a> {
     }
 
     // Whether the range of its keys decides the whole selector, so that no document has to be asked. False for the index of all
-    // documents, where the documents are at hand, and for more atoms than `MOST_ATOMS`.
+    // documents, where the documents are at hand.
     pub(crate) fn is_decided(self, normal: &Normal) -> bool
         ensures { result ≡ true → IsDecidedBy (columns_of (source_seen self.entry)) normal.now }
     {
         match self {
             Source::AllDocs => false,
             Source::Defined(definition) => {
-                let atoms = normal.atoms();
-                atoms.len() <= MOST_ATOMS
-                    && !normal.has_rest()
-                    && decides(definition.columns(), atoms)
+                !normal.has_rest() && decides(definition.columns(), normal.atoms())
             }
         }
     }
