@@ -1,5 +1,5 @@
 -- A text is read as a place exactly where it is that place's spelling.
-use Rattle.std.proofs.Common.{◌≡◌, ◌≢◌, ◌↔◌, ℕ, List, Bool, true, false, ◌&&◌, cond, Option, Some, None, option_map, if◌then◌else◌, refl, sym, ap, ◌∙◌, subst, codes}
+use Rattle.std.proofs.Common.{◌≡◌, ◌≢◌, ◌↔◌, ℕ, List, Bool, true, false, ◌&&◌, cond, Option, Some, None, option_map, if◌then◌else◌, refl, ap, ◌∙◌, subst, codes}
 use Rattle.std.specs.Option.{option_and_then}
 use Rattle.std.specs.Str.{IsUtf8, bytes_eq, is_utf8}
 use Rattle.std.proofs.lemmas.Option.{option_and_then_some}

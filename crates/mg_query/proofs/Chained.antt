@@ -1,31 +1,40 @@
--- Pages that follow one another by their bookmarks.
+-- Pages that follow one another by their bookmarks are there, and they join.
 use lib.Dec.{T}
-use Rattle.std.proofs.Common.{◌≡◌, ℕ, zero, suc, ◌-◌, ◌≤◌, Bool, true, false, ◌&&◌, cond, List, [], ◌∷◌, ◌++◌, Option, Some, None, option_map, option_to_list, length, take, drop, slice_get, Ordering, Less, Equal, Greater, is_gt, is_lt, refl, sym, ap, ◌∙◌, subst, arith, append_assoc}
-use Rattle.std.specs.Prelude.{unwrap_or}
+use Rattle.std.proofs.Common.{◌≡◌, ◌≢◌, ℕ, zero, suc, ◌-◌, ◌≤◌, Bool, true, false, ◌&&◌, cond, codes, List, [], ◌∷◌, ◌++◌, Option, Some, None, option_map, option_to_list, Ok, length, map, take, drop, Ordering, Less, Equal, Greater, is_gt, is_lt, refl, sym, ap, ap₂, ◌∙◌, subst, arith, append_assoc, length-drop}
+use Rattle.std.specs.Prelude.{nat_eq}
+use Rattle.std.proofs.Math.Seq.{take-nil}
 use Rattle.std.specs.Cmp.{IsTotalOrder}
 use Rattle.std.specs.Ordering.{ordering_reverse}
 use Rattle.std.specs.FinMap.{entries, entries_sorted}
 use Rattle.std.specs.FinMap.Entries.{below_all, is_sorted}
 use Rattle.std.specs.List.{AllByRecursion, filter, filter_map}
 use Rattle.std.specs.Option.{option_map_or}
-use Rattle.std.proofs.lemmas.Cmp.{on_total, tied_itself, nat_list_cmp_total}
-use Rattle.std.proofs.lemmas.List.{take-append-drop}
+use Rattle.std.proofs.lemmas.Cmp.{on_total, tied_itself, nat_eq_equiv, nat_list_cmp_total}
+use Rattle.std.proofs.lemmas.List.{map-append, take-append-drop}
+use Rattle.std.proofs.lemmas.Slice.Eq.{bytes_eq-Decides}
 use Rattle.mg_collate.specs.Row.{directed_order}
+use Rattle.mg_collate.specs.declared.direction.Direction.{Direction}
+use Rattle.mg_collate.specs.declared.direction.Direction.TheVariants.{Asc, Desc}
 use Rattle.mg_collate.specs.Sorted.{inserted, sorted}
 use Rattle.mg_collate.proofs.Directed.{directed_total, directed_ties}
 use Rattle.mg_collate.proofs.Sorting.{NoneBelow, Rises, rises_sorted}
 use Rattle.mg_doc.specs.Served.{served_of}
 use Rattle.mg_revtree.specs.History.{History}
-use Rattle.mg_bookmark.specs.Bookmark.{Place, bookmark_read, spelled}
-use Rattle.mg_value.specs.Value.{Value}
-use Rattle.mg_index.specs.Choice.{Source}
-use Rattle.mg_index.specs.Definition.{Steps}
+use Rattle.mg_bookmark.specs.Bookmark.{Place, spelled}
+use Rattle.mg_bookmark.specs.Reading.{bookmark_read}
+use Rattle.mg_value.specs.Value.{Value, item_list}
+use Rattle.mg_value.specs.View.{items_of}
+use Rattle.mg_normal.specs.Atoms.{atoms_of}
+use Rattle.mg_index.specs.Choice.{Source, choice_of}
+use Rattle.mg_index.specs.Definition.{IndexDefinition, Steps}
+use Rattle.mg_index.specs.Reading.{is_same}
 use Rattle.mg_merge.specs.Merged.{joined}
 use Rattle.mg_shard.proofs.Shown.{bytes_cmp}
-use Rattle.mg_query.specs.Laws.{AreChained, CanBeReadBack, PagesReadBackJoin, beginning_after, place_at}
-use Rattle.mg_query.specs.Page.{Candidate, bookmark_after, candidate_of, candidates_of, columns_of, is_asked, order_by, page_rows, row_by}
+use Rattle.mg_query.specs.Laws.{CanBeReadBack, Follow, PagesReadBackJoin, answer_with, asked_after, from_first, place_at}
+use Rattle.mg_query.specs.Page.{Candidate, Page, answer_of, candidate_of, candidates_of, columns_of, ddoc_of, fits, if_served, is_asked, is_ddoc, last, name_of, order_by, page_of, page_rows, row_by, served_by, shown_of, value_at}
 use Rattle.mg_query.specs.Query.{Query}
 use Rattle.mg_query.proofs.Candidates.{shown_first}
+use Rattle.mg_query.proofs.Serving.{choice_served, serves}
 
 -- ---- lists whose elements are apart
 
@@ -159,66 +168,115 @@ module _ (columns : List Steps) (q : Query) where
 
 record IsLast {X : Type 0} (xs : List X) : Type 0 where
   front : List X
-  last : X
-  is : xs ≡ front ++ last ∷ []
-  at : slice_get xs (length xs - 1) ≡ Some last
+  end : X
+  is : xs ≡ front ++ end ∷ []
+  at : last xs ≡ Some end
 
 last_of : {X : Type 0} (x : X) (xs : List X) → IsLast (x ∷ xs)
-last_of x [] = record { front = []; last = x; is = refl; at = refl }
-last_of x (y ∷ xs) =
-    let more = last_of y xs in
-    let n : length (x ∷ y ∷ xs) - 1 ≡ suc (length (y ∷ xs) - 1) = omega arith in
-    record { front = x ∷ more.front; last = more.last; is = ap (λ ys. x ∷ ys) more.is; at = ap (slice_get (x ∷ y ∷ xs)) n ∙ more.at }
+last_of x [] = record { front = []; end = x; is = refl; at = refl }
+last_of x (y ∷ xs) = let more = last_of y xs in record { front = x ∷ more.front; end = more.end; is = ap (λ ys. x ∷ ys) more.is; at = more.at }
 
-none_taken : {X : Type 0} (n : ℕ) (xs : List X) → 1 ≤ n → take n xs ≡ [] → xs ≡ []
-none_taken zero xs h e = absurd (omega arith)
-none_taken (suc n) [] h e = refl
-none_taken (suc n) (x ∷ xs) h e = absurd cc
+first_taken : {X : Type 0} (n : ℕ) (x : X) (xs : List X) → 1 ≤ n → take n (x ∷ xs) ≡ x ∷ take (n - 1) xs
+first_taken zero x xs h = absurd (omega arith)
+first_taken (suc n) x xs h = let m : n ≡ suc n - 1 = omega arith in ap (λ k. x ∷ take k xs) m
+
+-- ---- the place of a document fits the index
+
+ddoc_itself : (d : Option (List ℕ)) → is_ddoc d d ≡ true
+ddoc_itself None = refl
+ddoc_itself (Some d) = (bytes_eq-Decides d d).1 refl
+
+direction_itself : (d : Direction) → is_same d d ≡ true
+direction_itself Asc = refl
+direction_itself Desc = refl
+
+width : (f : Steps → Value) (columns : List Steps) → length (item_list (items_of (map f columns))) ≡ length columns
+width f [] = refl
+width f (column ∷ columns) = ap suc (width f columns)
+
+one_width : (m n : ℕ) → m ≡ n → nat_eq m n ≡ true
+one_width m n e = subst (λ k. nat_eq m k ≡ true) e (nat_eq_equiv.refl m)
+
+fits_place : (s : Source) (q : Query) (c : Candidate) (t : List ℕ) → fits s (asked_after q (Some (place_at s q c)) t) ≡ true
+fits_place s q c t =
+    ap₂ ◌&&◌ (ddoc_itself (ddoc_of s)) (ap₂ ◌&&◌ ((bytes_eq-Decides (name_of s) (name_of s)).1 refl)
+    (ap₂ ◌&&◌ (direction_itself q.direction) (one_width (length (item_list (items_of (map (value_at c) (columns_of s))))) (length (columns_of s)) (width (value_at c) (columns_of s)))))
 
 -- ---- pages joined
 
-module _ (s : Source) (q : Query) (cs : List Candidate) (none_skipped : q.skip ≡ 0) (some : 1 ≤ q.limit) where
+module _ (ds : List IndexDefinition) (s : Source) (q : Query) (cs : List Candidate) (chosen : choice_of ds (atoms_of q.selector) q.sort q.hint ≡ Some s) (none_skipped : q.skip ≡ 0) (some : 1 ≤ q.limit) where
   abbrev whole : List Candidate
   whole = sorted (order_by (columns_of s) q.direction) (filter (is_asked q) cs)
 
   abbrev after : Option Place → Candidate → Bool
   after place c = option_map_or (λ p. is_gt (directed_order q.direction (row_by (columns_of s) c) (p.key, p.id))) place true
 
-  page_is : (place : Option Place) (left : List Candidate) → filter (after place) whole ≡ left → page_rows (columns_of s) (beginning_after q place) cs ≡ take q.limit left
-  page_is place left h = ap (λ n. take q.limit (drop n (filter (after place) whole))) none_skipped ∙ ap (take q.limit) h
+  -- the page of these, asked for after a place, by a text
+  abbrev page_with : Option Place → List ℕ → List Candidate → Page
+  page_with place t rows = page_of s (asked_after q place t) rows
 
+  -- what is left after a place answers the query by the text that is read as this place
+  answered : (t : List ℕ) (place : Option Place) (left rows : List Candidate) → bookmark_read t ≡ Some place → fits s (asked_after q place t) ≡ true → filter (after place) whole ≡ left → rows ≡ take q.limit left
+      → answer_with ds q cs t ≡ Some (Ok (page_with place t rows))
+  answered t place left rows read fit here e =
+      let asked = asked_after q place t in
+      let cut : page_rows (columns_of s) asked cs ≡ rows = ap (λ n. take q.limit (drop n (filter (after place) whole))) none_skipped ∙ ap (take q.limit) here ∙ sym e in
+      let served : served_by ds asked ≡ Ok s = serves ds asked s true chosen fit in
+      ap (option_map (λ (p : Option Place). answer_of ds (asked_after q p t) cs)) read
+      ∙ ap Some (ap (if_served (λ (r : Source). page_of r asked (page_rows (columns_of r) asked cs))) served ∙ ap (λ (xs : List Candidate). Ok (page_with place t xs)) cut)
+
+  -- pages from a text on, which show these documents
+  record Joined (t : List ℕ) (left : List Candidate) : Type 0 where
+    pages : List Page
+    follow : Follow ds q cs t pages
+    all : joined (map (λ page. page.docs) pages) ≡ map (shown_of q) left
+
+  one_more : (t : List ℕ) (page : Page) (pages : List Page) → answer_with ds q cs t ≡ Some (Ok page) → page.docs ≢ [] → Follow ds q cs page.bookmark pages → Follow ds q cs t (page ∷ pages)
+  one_more t page [] answer some f = absurd f
+  one_more t page (next ∷ pages) answer some f = (answer, some, f)
+
+  -- there are such pages
   join : Climbs (columns_of s) q whole → AllByRecursion (CanBeReadBack s q) whole
-      → (pages : List (List Candidate)) (done left : List Candidate) (place : Option Place) → whole ≡ done ++ left → filter (after place) whole ≡ left → AreChained s q cs place pages → joined pages ≡ left
-  join climbing back [] done left place parts here chained = sym (none_taken q.limit left some (sym (page_is place left here) ∙ chained))
-  join climbing back ([] ∷ pages) done left place parts here chained = absurd (chained.0 refl)
-  join climbing back ((c ∷ rest) ∷ pages) done left place parts here chained =
-      let l = last_of c rest in
-      let later = drop q.limit left in
-      let page : c ∷ rest ≡ take q.limit left = chained.1 ∙ page_is place left here in
-      let cut : left ≡ (c ∷ rest) ++ later = sym (take-append-drop q.limit left) ∙ ap (λ xs. xs ++ later) (sym page) in
-      let whole_is : whole ≡ (done ++ l.front) ++ l.last ∷ later =
-      parts ∙ ap (λ xs. done ++ xs) (cut ∙ ap (λ xs. xs ++ later) l.is ∙ append_assoc l.front (l.last ∷ []) later) ∙ sym (append_assoc done l.front (l.last ∷ later)) in
-      let readable = all_middle (columns_of s) q (CanBeReadBack s q) (done ++ l.front) l.last later (subst (AllByRecursion (CanBeReadBack s q)) whole_is back) in
-      let mark : bookmark_after s (beginning_after q place) (c ∷ rest) ≡ spelled (place_at s q l.last) = ap (λ (o : Option Candidate). option_map_or (λ d. spelled (place_at s q d)) o q.told_bookmark) l.at in
-      let next : chained.2.0 ≡ Some (place_at s q l.last) =
-      ap (λ o. unwrap_or o chained.2.0) (sym chained.2.1 ∙ ap bookmark_read mark ∙ readable) in
-      let left_over : filter (after (Some (place_at s q l.last))) whole ≡ later =
-      ap (filter (after (Some (place_at s q l.last)))) whole_is ∙ after_one (columns_of s) q (done ++ l.front) l.last later (subst (Climbs (columns_of s) q) whole_is climbing) in
-      let here_next : filter (after chained.2.0) whole ≡ later = ap (λ p. filter (after p) whole) next ∙ left_over in
-      let parts_next : whole ≡ (done ++ (c ∷ rest)) ++ later = parts ∙ ap (λ xs. done ++ xs) cut ∙ sym (append_assoc done (c ∷ rest) later) in
-      ap (λ xs. (c ∷ rest) ++ xs) (join climbing back pages (done ++ (c ∷ rest)) later chained.2.0 parts_next here_next chained.2.2) ∙ sym cut
+      → (n : ℕ) (done left : List Candidate) (place : Option Place) (t : List ℕ) → length left ≤ n → whole ≡ done ++ left → filter (after place) whole ≡ left → bookmark_read t ≡ Some place
+      → fits s (asked_after q place t) ≡ true → Joined t left
+  join climbing back n done [] place t small parts here read fit =
+      record { pages = page_with place t [] ∷ []; follow = (answered t place [] [] read fit here (sym (take-nil q.limit)), refl); all = refl }
+  join climbing back zero done (c ∷ rest) place t small parts here read fit = absurd (omega (arith, small))
+  join climbing back (suc n) done (c ∷ rest) place t small parts here read fit =
+      let taken = take (q.limit - 1) rest in
+      let rows = c ∷ taken in
+      let page = page_with place t rows in
+      let l = last_of c taken in
+      let later = drop q.limit (c ∷ rest) in
+      let cut : c ∷ rest ≡ rows ++ later = sym (take-append-drop q.limit (c ∷ rest)) ∙ ap (λ xs. xs ++ later) (first_taken q.limit c rest some) in
+      let whole_is : whole ≡ (done ++ l.front) ++ l.end ∷ later =
+      parts ∙ ap (λ xs. done ++ xs) (cut ∙ ap (λ xs. xs ++ later) l.is ∙ append_assoc l.front (l.end ∷ []) later) ∙ sym (append_assoc done l.front (l.end ∷ later)) in
+      let readable : CanBeReadBack s q l.end = all_middle (columns_of s) q (CanBeReadBack s q) (done ++ l.front) l.end later (subst (AllByRecursion (CanBeReadBack s q)) whole_is back) in
+      let mark : page.bookmark ≡ spelled (place_at s q l.end) = ap (λ (o : Option Candidate). option_map_or (λ d. spelled (place_at s q d)) o t) l.at in
+      let here_next : filter (after (Some (place_at s q l.end))) whole ≡ later =
+      ap (filter (after (Some (place_at s q l.end)))) whole_is ∙ after_one (columns_of s) q (done ++ l.front) l.end later (subst (Climbs (columns_of s) q) whole_is climbing) in
+      let parts_next : whole ≡ (done ++ rows) ++ later = parts ∙ ap (λ xs. done ++ xs) cut ∙ sym (append_assoc done rows later) in
+      let fewer : length later ≡ length (c ∷ rest) - q.limit = length-drop q.limit (c ∷ rest) in
+      let smaller : length later ≤ n = omega (arith, fewer, small, some) in
+      let next = join climbing back n (done ++ rows) later (Some (place_at s q l.end)) page.bookmark smaller parts_next here_next (ap bookmark_read mark ∙ readable) (fits_place s q l.end page.bookmark) in
+      record {
+        pages = page ∷ next.pages;
+        follow = one_more t page next.pages (answered t place (c ∷ rest) rows read fit here (sym (first_taken q.limit c rest some))) (λ e. cc) next.follow;
+        all = ap (λ xs. map (shown_of q) rows ++ xs) next.all ∙ sym (map-append (shown_of q) rows later) ∙ ap (map (shown_of q)) (sym cut);
+      }
 
 all_after_none : (cs : List Candidate) → filter (λ c. true) cs ≡ cs
 all_after_none [] = refl
 all_after_none (c ∷ cs) = ap (λ xs. c ∷ xs) (all_after_none cs)
 
 pub pages_that_read_back_join : PagesReadBackJoin
-pages_that_read_back_join s q hs pages skipped limit back chained =
+pages_that_read_back_join ds s q hs served skipped limit back =
     let cs = candidates_of hs in
     let order = order_by (columns_of s) q.direction in
     let asked = filter (is_asked q) cs in
     let whole = sorted order asked in
     let climbing = climbs (columns_of s) q whole (rises_sorted order (order_total (columns_of s) q) asked) (apart_sorted order asked (apart_kept (is_asked q) cs (apart_entries (entries hs) (entries_sorted hs)))) in
     let readable = all_sorted (CanBeReadBack s q) order asked (all_kept (CanBeReadBack s q) (is_asked q) cs back) in
-    join s q cs skipped limit climbing readable pages [] whole None refl (all_after_none whole) chained
-    ∙ sym (all_after_none whole)
+    let chosen = choice_served ds (from_first q) s served in
+    let all = join ds s q cs chosen skipped limit climbing readable (length whole) [] whole None (codes "nil") (omega arith) refl (all_after_none whole) refl refl in
+    (all.pages, all.follow, all.all ∙ ap (map (shown_of q)) (sym (all_after_none whole)))

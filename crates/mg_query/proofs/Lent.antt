@@ -18,7 +18,7 @@ use Rattle.mg_shard.specs.Dealt.{Placing, ShardsStandFor, histories_on}
 use Rattle.mg_shard.specs.Documents.{KeptDocuments, StandFor, kept_of}
 use Rattle.mg_shard.specs.Histories.{Histories}
 use Rattle.mg_shard.specs.Shard.{ShardView}
-use Rattle.mg_query.specs.Page.{Candidate, candidates_of, is_after, is_asked, order_by as candidate_order, page_rows, row_by}
+use Rattle.mg_query.specs.Page.{Candidate, candidates_of, is_after, is_asked, last, order_by as candidate_order, page_rows, row_by}
 use Rattle.mg_query.specs.Lent.{LendEach, Lends}
 use Rattle.mg_query.specs.Query.{Query}
 use Rattle.mg_query.proofs.Chained.{all_kept, all_sorted}
@@ -143,13 +143,21 @@ lends_at columns (x ∷ hits) [] i h l e = absurd l
 lends_at columns (x ∷ hits) (c ∷ cs) zero h l e = (c, subst (λ y. Lends columns y c) (same x h e) l.0, refl)
 lends_at columns (x ∷ hits) (c ∷ cs) (suc i) h l e = lends_at columns hits cs i h l.1 e
 
+-- the last of a list stands at its last place
+last_at : {X : Type 0} (xs : List X) → slice_get xs (length xs - 1) ≡ last xs
+last_at [] = refl
+last_at (x ∷ []) = refl
+last_at (x ∷ y ∷ ys) =
+    let n : length (x ∷ y ∷ ys) - 1 ≡ suc (length (y ∷ ys) - 1) = omega arith in
+    ap (slice_get (x ∷ y ∷ ys)) n ∙ last_at (y ∷ ys)
+
 -- the last ones
 pub lends_last : (columns : List Steps) (hits : List Hit) (cs : List Candidate) (h : Hit) → LendEach columns hits cs → slice_get hits (length hits - 1) ≡ Some h
-    → (c : Candidate) × Lends columns h c × (slice_get cs (length cs - 1) ≡ Some c)
+    → (c : Candidate) × Lends columns h c × (last cs ≡ Some c)
 lends_last columns hits cs h l e =
-    let last : length hits - 1 ≡ length cs - 1 = ap (λ n. n - 1) (sym (as_many columns hits cs l)) in
+    let place : length hits - 1 ≡ length cs - 1 = ap (λ n. n - 1) (sym (as_many columns hits cs l)) in
     let found = lends_at columns hits cs (length hits - 1) h l e in
-    (found.0, found.1, ap (slice_get cs) (sym last) ∙ found.2)
+    (found.0, found.1, sym (last_at cs) ∙ ap (slice_get cs) (sym place) ∙ found.2)
 
 none_at : (columns : List Steps) (hits : List Hit) (cs : List Candidate) (i : ℕ) → LendEach columns hits cs → slice_get hits i ≡ None → slice_get cs i ≡ None
 none_at columns [] [] zero l e = refl
@@ -159,5 +167,5 @@ none_at columns (h ∷ hits) [] i l e = absurd l
 none_at columns (h ∷ hits) (c ∷ cs) zero l e = absurd cc
 none_at columns (h ∷ hits) (c ∷ cs) (suc i) l e = none_at columns hits cs i l.1 e
 
-pub lends_none : (columns : List Steps) (hits : List Hit) (cs : List Candidate) → LendEach columns hits cs → slice_get hits (length hits - 1) ≡ None → slice_get cs (length cs - 1) ≡ None
-lends_none columns hits cs l e = ap (λ n. slice_get cs (n - 1)) (as_many columns hits cs l) ∙ none_at columns hits cs (length hits - 1) l e
+pub lends_none : (columns : List Steps) (hits : List Hit) (cs : List Candidate) → LendEach columns hits cs → slice_get hits (length hits - 1) ≡ None → last cs ≡ None
+lends_none columns hits cs l e = sym (last_at cs) ∙ ap (λ n. slice_get cs (n - 1)) (as_many columns hits cs l) ∙ none_at columns hits cs (length hits - 1) l e

@@ -10,6 +10,7 @@ pub mod Candidates
 pub mod Answered
 pub mod Serving
 pub mod Chained
+pub mod Marked
 pub mod Kept
 pub mod Listed
 pub mod Handed

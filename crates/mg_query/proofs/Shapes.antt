@@ -21,7 +21,7 @@ module _ {F L K P D H B C R : Type 0} (make : F → L → K → P → D → H �
   in_turn : Option F → Option L → Option K → Option P → Option D → Option H → Option B → Option C → Option R
   in_turn f l k p d h b c =
       option_and_then (λ fields. option_and_then (λ limit. option_and_then (λ skip. option_and_then (λ sort. option_and_then (λ directions. option_and_then (λ hint. option_and_then (λ bookmark.
-      option_map (λ conflicts. make fields limit skip sort directions hint bookmark conflicts) c) b) h) d) p) k) l) f
+      option_and_then (λ conflicts. Some (make fields limit skip sort directions hint bookmark conflicts)) c) b) h) d) p) k) l) f
 
   paths_last : Option F → Option L → Option K → Option P → Option D → Option H → Option B → Option C → Option R
   paths_last f l k p d h b c =
@@ -59,8 +59,8 @@ lent_from a f l k s h b c =
 
 after_fields : Option Value → Option (List Steps) → Option ℕ → Option ℕ → Option (List Value) → Option Hint → Option (List ℕ) → Option Bool → Option Shaped
 after_fields a f l k s h b c =
-    option_and_then (λ selector. option_and_then (λ fields. option_and_then (λ limit. option_and_then (λ skip. option_and_then (λ sorted. option_and_then (λ sort. option_and_then (λ directions. option_and_then (λ hint. option_and_then (λ bookmark. option_map (λ conflicts.
-    record { selector = selector; fields = fields; limit = limit; skip = skip; sort = sort; directions = directions; hint = hint; bookmark = bookmark; conflicts = conflicts })
+    option_and_then (λ selector. option_and_then (λ fields. option_and_then (λ limit. option_and_then (λ skip. option_and_then (λ sorted. option_and_then (λ sort. option_and_then (λ directions. option_and_then (λ hint. option_and_then (λ bookmark. option_and_then (λ conflicts.
+    Some (record { selector = selector; fields = fields; limit = limit; skip = skip; sort = sort; directions = directions; hint = hint; bookmark = bookmark; conflicts = conflicts }))
     c) b) h) (each_of field_direction sorted)) (each_of sort_path sorted)) s) k) l) f) a
 
 made : Value → List Steps → ℕ → ℕ → List Steps → List Direction → Hint → List ℕ → Bool → Shaped

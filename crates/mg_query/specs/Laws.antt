@@ -1,16 +1,51 @@
--- Pages that follow one another by their bookmarks join to the answer with no limit taken.
-use Rattle.std.specs.Prelude.{◌≡◌, ◌≢◌, ◌≤◌, List, [], ◌∷◌, Option, Some, None}
+-- Pages that follow one another by their bookmarks: each answers the query, and together they join to the answer where no limit is taken.
+use Rattle.std.specs.Prelude.{◌≡◌, ◌≢◌, ◌≤◌, ℕ, List, [], ◌∷◌, codes, map, Option, Some, None, option_map, Result, Ok}
 use Rattle.std.specs.List.{AllByRecursion}
-use Rattle.mg_bookmark.specs.Bookmark.{CanBeSpelled, Place, bookmark_read}
+use Rattle.mg_value.specs.Value.{Value, member_of, text}
+use Rattle.mg_bookmark.specs.Bookmark.{CanBeSpelled, Place}
+use Rattle.mg_bookmark.specs.Reading.{bookmark_read}
 use Rattle.mg_index.specs.Choice.{Source}
+use Rattle.mg_index.specs.Definition.{IndexDefinition}
 use Rattle.mg_merge.specs.Merged.{joined}
 use Rattle.mg_shard.specs.Histories.{Histories}
-use Rattle.mg_query.specs.Page.{Candidate, bookmark_after, bookmark_at, candidates_of, columns_of, ddoc_of, candidates_found, name_of, page_rows, row_by}
-use Rattle.mg_query.specs.Query.{Query}
+use Rattle.mg_query.specs.Page.{Candidate, Page, Unanswered, answer_of, bookmark_at, candidates_of, columns_of, ddoc_of, candidates_found, name_of, row_by, served_by, shown_of}
+use Rattle.mg_query.specs.Query.{Query, or_fault, query_of}
+use Rattle.mg_query.specs.declared.error.QueryError.TheVariants.{BadBookmark}
 
--- the query with its page beginning after another place, or with the first document
-abbrev pub beginning_after : Query → Option Place → Query
-beginning_after q place = record q { bookmark = place }
+-- ---- a query and its bookmark
+
+-- the query with its page beginning after a place, or with the first document, by this text as its bookmark
+abbrev pub asked_after : Query → Option Place → List ℕ → Query
+asked_after q place t = record q { bookmark = place; told_bookmark = t }
+
+-- the body is the other one with this text as its bookmark
+pub record HasBookmark (t : List ℕ) (v other : Value) : Type 0 where
+  pub bookmark : member_of (codes "bookmark") v ≡ Some (text t)
+  pub others : (name : List ℕ) → name ≢ codes "bookmark" → member_of name v ≡ member_of name other
+
+-- such a body is read as the query with that bookmark, and refused where the text is none
+abbrev pub BookmarksChangeNothingElse : Type 0
+BookmarksChangeNothingElse =
+    (v other : Value) (t : List ℕ) (q : Query) → HasBookmark t v other → query_of other ≡ Ok q → query_of v ≡ or_fault BadBookmark (option_map (λ place. asked_after q place t) (bookmark_read t))
+
+-- ---- pages that follow one another
+
+-- the answer to the query with this text as its bookmark, and none where the text is no bookmark
+abbrev pub answer_with : List IndexDefinition → Query → List Candidate → List ℕ → Option (Result Page Unanswered)
+answer_with ds q cs t = option_map (λ place. answer_of ds (asked_after q place t) cs) (bookmark_read t)
+
+-- Pages until one is empty: the first is the answer to the query with this text as its bookmark, and each other one the answer to the query
+-- with the bookmark that the page before gave.
+abbrev pub Follow : List IndexDefinition → Query → List Candidate → List ℕ → List Page → Type 0
+Follow ds q cs t [] = ⊥
+Follow ds q cs t (page ∷ []) = (answer_with ds q cs t ≡ Some (Ok page)) × (page.docs ≡ [])
+Follow ds q cs t (page ∷ next ∷ pages) = (answer_with ds q cs t ≡ Some (Ok page)) × (page.docs ≢ []) × Follow ds q cs page.bookmark (next ∷ pages)
+
+-- ---- they join
+
+-- the query, from its first document on
+abbrev pub from_first : Query → Query
+from_first q = asked_after q None (codes "nil")
 
 -- the place of a document in the index
 abbrev pub place_at : Source → Query → Candidate → Place
@@ -24,22 +59,15 @@ HasPlace s q c = CanBeSpelled (place_at s q c)
 abbrev pub CanBeReadBack : Source → Query → Candidate → Type 0
 CanBeReadBack s q c = bookmark_read (bookmark_at s q c) ≡ Some (Some (place_at s q c))
 
--- Pages that follow one another until one is empty: each is the query's page after a place, and the next one is after the place that
--- its bookmark is read as.
-abbrev pub AreChained : Source → Query → List Candidate → Option Place → List (List Candidate) → Type 0
-AreChained s q cs place [] = page_rows (columns_of s) (beginning_after q place) cs ≡ []
-AreChained s q cs place (page ∷ pages) =
-    (page ≢ []) × (page ≡ page_rows (columns_of s) (beginning_after q place) cs)
-    × ((next : Option Place) × (bookmark_read (bookmark_after s (beginning_after q place) page) ≡ Some next) × AreChained s q cs next pages)
-
--- with nothing passed over and a limit of at least 1, such pages from the first on join to all documents that are found, where this
--- holds of each document
+-- Where an index serves the query, nothing is passed over, the limit is at least 1, and this holds of each document: there are pages that
+-- follow one another from the first on, and they show together what the query finds, in order.
 abbrev pub PagesJoinWhere : (Source → Query → Candidate → Type 0) → Type 0
 PagesJoinWhere Holds =
-    (s : Source) (q : Query) (hs : Histories) (pages : List (List Candidate)) → q.skip ≡ 0 → 1 ≤ q.limit → AllByRecursion (Holds s q) (candidates_of hs)
-    → AreChained s q (candidates_of hs) None pages → joined pages ≡ candidates_found (columns_of s) (beginning_after q None) (candidates_of hs)
+    (ds : List IndexDefinition) (s : Source) (q : Query) (hs : Histories) → served_by ds (from_first q) ≡ Ok s → q.skip ≡ 0 → 1 ≤ q.limit → AllByRecursion (Holds s q) (candidates_of hs)
+    → (pages : List Page) × Follow ds q (candidates_of hs) (codes "nil") pages
+    × (joined (map (λ page. page.docs) pages) ≡ map (shown_of q) (candidates_found (columns_of s) (from_first q) (candidates_of hs)))
 
--- they do where the key of each document nests at most 125 deep
+-- so it is where the key of each document nests at most 125 deep
 abbrev pub PagesJoin : Type 0
 PagesJoin = PagesJoinWhere HasPlace
 

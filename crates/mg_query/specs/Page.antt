@@ -1,6 +1,6 @@
 -- The page that answers a query, after CouchDB's `_find`: of the documents that the selector holds of and that have each path of the
 -- sort, in the order of the index that serves the query, what comes after the bookmark, and the bookmark of the last.
-use Rattle.std.specs.Prelude.{ℕ, ◌==◌, ◌-◌, List, [], ◌∷◌, Bool, true, false, ◌&&◌, codes, drop, filter, length, map, take, slice_get, Option, Some, None, is_some, option_map, unwrap_or, Result, Ok, Err, if◌then◌else◌}
+use Rattle.std.specs.Prelude.{ℕ, ◌==◌, List, [], ◌∷◌, Bool, true, false, ◌&&◌, codes, drop, filter, length, map, take, Option, Some, None, is_some, option_map, unwrap_or, Result, Ok, Err, if◌then◌else◌}
 use Rattle.std.specs.FinMap.{entries}
 use Rattle.std.specs.List.{filter_map, list_all}
 use Rattle.std.specs.Option.{option_map_or}
@@ -106,9 +106,15 @@ shown_of q c = projected q.fields (with_asked q c)
 abbrev pub bookmark_at : Source → Query → Candidate → List ℕ
 bookmark_at s q c = spelled (record { ddoc = ddoc_of s; name = name_of s; direction = q.direction; key = (row_by (columns_of s) c).0; id = c.id })
 
+-- the last of a list, and none of an empty one
+abbrev pub last : {X : Type 0} → List X → Option X
+last [] = None
+last (x ∷ []) = Some x
+last (x ∷ y ∷ ys) = last (y ∷ ys)
+
 -- the bookmark of the last document, and the one that came in where there is none
 abbrev pub bookmark_after : Source → Query → List Candidate → List ℕ
-bookmark_after s q cs = option_map_or (bookmark_at s q) (slice_get cs (length cs - 1)) q.told_bookmark
+bookmark_after s q cs = option_map_or (bookmark_at s q) (last cs) q.told_bookmark
 
 -- a page: its documents and its bookmark
 pub record Page : Type 0 where

@@ -1,6 +1,6 @@
 -- How the body of a query is read, after CouchDB's `_find`. All shapes are settled first, then the selector's operators, then the
 -- bookmark's text, and last that a sort has one direction.
-use Rattle.std.specs.Prelude.{ℕ, pos, nat_le, List, [], ◌∷◌, Bool, false, codes, Option, Some, None, option_and_then, option_map, Result, Ok, Err, if◌then◌else◌}
+use Rattle.std.specs.Prelude.{ℕ, pos, nat_le, List, [], ◌∷◌, Bool, false, codes, Option, Some, None, option_and_then, Result, Ok, Err, if◌then◌else◌}
 use Rattle.std.specs.List.{list_all}
 use Rattle.std.specs.Result.{result_err}
 use Rattle.mg_value.specs.Value.{Value, null, flag, whole, text, list, object, no_items, item, member_of, item_list}
@@ -13,7 +13,8 @@ use Rattle.mg_selector.specs.Selector.{Selector}
 use Rattle.mg_selector.specs.Reading.{reading}
 use Rattle.mg_selector.specs.declared.error.SelError.{SelError}
 use Rattle.mg_selector.specs.declared.error.SelError.TheVariants as selector_fault
-use Rattle.mg_bookmark.specs.Bookmark.{Place, bookmark_read}
+use Rattle.mg_bookmark.specs.Bookmark.{Place}
+use Rattle.mg_bookmark.specs.Reading.{bookmark_read}
 use Rattle.mg_index.specs.Choice.{Hint, no_hint, in_document, exactly}
 use Rattle.mg_index.specs.Definition.{Steps, design_document}
 use Rattle.mg_index.specs.Reading.{each_of, field_path, field_direction, is_same}
@@ -152,20 +153,35 @@ pub record Shaped : Type 0 where
   pub bookmark : List ℕ
   pub conflicts : Bool
 
+-- none, or what f gives of the value
+infixl 10 ◌>>◌
+abbrev pub ◌>>◌ : {A B : Type 0} → Option A → (A → Option B) → Option B
+o >> f = option_and_then f o
+
 -- the members of a body; a member that is not named here is ignored
 abbrev pub shaped : Value → Option Shaped
 shaped v =
-    option_and_then (λ selector. option_and_then (λ fields. option_and_then (λ limit. option_and_then (λ skip.
-    option_and_then (λ sorted. option_and_then (λ sort. option_and_then (λ directions.
-    option_and_then (λ hint. option_and_then (λ bookmark. option_map (λ conflicts.
-    record { selector = selector; fields = fields; limit = limit; skip = skip; sort = sort; directions = directions; hint = hint; bookmark = bookmark; conflicts = conflicts })
-    (conflicts_of (member_of (codes "conflicts") v)))
-    (bookmark_given (member_of (codes "bookmark") v)))
-    (hint_given (member_of (codes "use_index") v)))
-    (each_of field_direction sorted)) (each_of sort_path sorted)) (sort_fields (member_of (codes "sort") v)))
-    (count_of 0 (member_of (codes "skip") v))) (count_of 25 (member_of (codes "limit") v)))
-    (fields_of (member_of (codes "fields") v)))
-    (selector_given (member_of (codes "selector") v))
+    selector_given (member_of (codes "selector") v) >> (λ selector.
+    fields_of (member_of (codes "fields") v) >> (λ fields.
+    count_of 25 (member_of (codes "limit") v) >> (λ limit.
+    count_of 0 (member_of (codes "skip") v) >> (λ skip.
+    sort_fields (member_of (codes "sort") v) >> (λ sorted.
+    each_of sort_path sorted >> (λ sort.
+    each_of field_direction sorted >> (λ directions.
+    hint_given (member_of (codes "use_index") v) >> (λ hint.
+    bookmark_given (member_of (codes "bookmark") v) >> (λ bookmark.
+    conflicts_of (member_of (codes "conflicts") v) >> (λ conflicts.
+    Some (record {
+      selector = selector;
+      fields = fields;
+      limit = limit;
+      skip = skip;
+      sort = sort;
+      directions = directions;
+      hint = hint;
+      bookmark = bookmark;
+      conflicts = conflicts;
+    })))))))))))
 
 -- the query of members whose shapes are right, or the first of its other faults; `fields` is the member as it was given
 abbrev pub query_with : Option Value → Shaped → Result Query QueryError

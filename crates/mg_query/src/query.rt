@@ -2,7 +2,7 @@ ghost use Rattle.std.specs.Prelude.{◌≡◌, Err, Some, option_map, unwrap_or}
 ghost use Rattle.mg_value.specs.View.{view};
 ghost use Rattle.mg_query.specs.Given.{given_seen, query_given};
 ghost use Rattle.mg_query.specs.Query.{early_fault, or_fault, query_of};
-ghost use Rattle.mg_bookmark.specs.Bookmark.{bookmark_read};
+ghost use Rattle.mg_bookmark.specs.Reading.{bookmark_read};
 ghost use Rattle.mg_bookmark.specs.Seen.{bookmark_place};
 ghost use Rattle.mg_query.specs.Seen.{Gives, lent, query_seen};
 

@@ -5,6 +5,6 @@ use Rattle.mg_query.proofs.Chained.{pages_that_read_back_join}
 use Rattle.mg_query.proofs.laws.pages_join.Goals as goal
 
 pub returns : goal.returns
-returns c = λ s q hs pages skipped limit places chained.
+returns c = λ ds s q hs served skipped limit places.
     let back = all_weaker (HasPlace s q) (CanBeReadBack s q) (λ d h. c.what_is_spelled_is_read.ensures (place_at s q d) h) (candidates_of hs) places in
-    pages_that_read_back_join s q hs pages skipped limit back chained
+    pages_that_read_back_join ds s q hs served skipped limit back
