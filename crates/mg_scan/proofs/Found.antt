@@ -61,7 +61,7 @@ pub index_missing : (s : Search) (ds : KeptDocuments) (o : Option IndexDefinitio
 index_missing s ds None e = refl
 index_missing s ds (Some d) e = absurd cc
 
-pub or_map : (f : List Steps → List RowValue) (o : Option IndexDefinition) → option_map_or (λ d. f d.columns) o [] ≡ option_map_or f (option_map (λ d. d.columns) o) []
+or_map : (f : List Steps → List RowValue) (o : Option IndexDefinition) → option_map_or (λ d. f d.columns) o [] ≡ option_map_or f (option_map (λ d. d.columns) o) []
 or_map f None = refl
 or_map f (Some d) = refl
 

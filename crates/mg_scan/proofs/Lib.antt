@@ -14,4 +14,3 @@ pub mod Begun
 pub mod Decided
 pub mod Leads
 pub mod AddedUp
-pub mod Alone

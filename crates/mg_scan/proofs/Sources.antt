@@ -113,12 +113,12 @@ ordered_or s ds (Some columns) =
     in_order order (directed_total s.direction) (filter (is_wanted q) (sorted_rows s.direction rows))
     (rises_where order (is_wanted q) (sorted_rows s.direction rows) (rises_sorted order (directed_total s.direction) rows))
 
-pub cut_or : (n : ℕ) (f : List Steps → List RowValue) (o : Option (List Steps)) → option_map_or (λ columns. take n (f columns)) o [] ≡ take n (option_map_or f o [])
+cut_or : (n : ℕ) (f : List Steps → List RowValue) (o : Option (List Steps)) → option_map_or (λ columns. take n (f columns)) o [] ≡ take n (option_map_or f o [])
 cut_or n f None = sym (take-nil n)
 cut_or n f (Some columns) = refl
 
 -- all that a shard has is in order
-pub found_in_order : (s : Search) (shard : ShardView) → IsInOrder s.direction (all_found_by s shard)
+found_in_order : (s : Search) (shard : ShardView) → IsInOrder s.direction (all_found_by s shard)
 found_in_order s shard = ordered_or s shard.documents (columns_of s.target shard.definitions)
 
 all_in_order : (s : Search) (shards : List ShardView) → AllByRecursion (IsInOrder s.direction) (map (all_found_by s) shards)

@@ -1,7 +1,6 @@
 //! Scans: what shards have in an index within a range of keys, and indexes built over shards, by scoped workers.
 #![tactic(auto)]
 
-mod alone;
 mod begin;
 mod building;
 mod counting;

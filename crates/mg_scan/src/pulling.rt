@@ -8,10 +8,8 @@ ghost use Rattle.mg_scan.specs.Decided.{IsDecidedIn};
 ghost use Rattle.mg_scan.specs.Found.{asked, found_in};
 ghost use Rattle.mg_scan.specs.Hit.{AreHitsIn, hit_rows};
 ghost use Rattle.mg_scan.specs.Lead.{IsLeadSourceOf};
-ghost use Rattle.mg_scan.specs.Search.{found_by};
 ghost use Rattle.mg_scan.specs.Sourced.{IsSourceOf};
 
-use crate::alone::hits_behind;
 use crate::hit::Hit;
 use crate::lead::hits_after;
 use crate::lead_source::{LeadSource, lead_source_of};
@@ -63,12 +61,10 @@ pub fn pull_lent<'a>(
 
 /// The same hits without the first `skip` of them, where the range decides: in each shard the key of a row tells whether the selector
 /// holds of its document. Documents are looked up only for the hits that are given, and the selector is not asked. Beside them stands
-/// how many rows were looked for and found: at most `take`, and one more for each shard; of one shard alone, where rows are passed over
-/// unseen, those that are given. All is done on the caller's thread.
+/// how many rows were looked for and found: at most `take`, and one more for each shard. All is done on the caller's thread.
 ///
 /// Errors: `NoMemory` where a growth was refused. Cost: in each shard one look-up of where to begin; then a step for each row that is
-/// read, until `take` are found, and the merge, which one index of one shard does without; a look-up of a document for each hit that is
-/// given.
+/// read, until `take` are found, and the merge; a look-up of a document for each hit that is given.
 pub fn pull_rows<'a>(
     alloc: Global,
     shards: &'a [Arc<Shard>],
@@ -94,52 +90,8 @@ pub fn pull_rows<'a>(
         take,
         direction,
     };
-    if shards.len() == 1 {
-        if let Target::Index { ddoc, name } = target {
-            return pull_alone(alloc, shards, ddoc, name, search, skip);
-        }
-    }
-    pull_merged(alloc, shards, search, skip)
-}
-
-// The hits of an index of one shard alone without the first `skip`, and how many these are.
-fn pull_alone<'a>(
-    alloc: Global,
-    shards: &'a [Arc<Shard>],
-    ddoc: &str,
-    name: &str,
-    search: Search<'_>,
-    skip: usize,
-) -> Result<(Vec<Hit<'a>>, u64), NoMemory>
-    requires one { length shards.now ≡ 1 }
-    requires index { search.target ≡ Target.Index ddoc name }
-    requires decided { All (IsDecidedIn search.target search.normal.now search.range.now) (shards_seen shards.now) }
-    ensures rows { IfOk result (λ made. hit_rows made.0.items
-        ≡ drop skip (merged search.entry.direction search.entry.take (map (found_by search.entry) (shards_seen shards.now)))) }
-    ensures hits { IfOk result (λ made. AreHitsIn (shards_seen shards.now) made.0.items) }
-    ensures pulled { IfOk result (λ made. made.1 ≤ search.entry.take + length shards.now) }
-{
-    let shard: &Shard = &shards[0];
-    let hits = hits_behind(alloc, shard, ddoc, name, search, skip)?;
-    let count = hits.len() as u64;
-    Ok((hits, count))
-}
-
-// The hits of all shards together without the first `skip`, and how many rows were pulled.
-fn pull_merged<'a>(
-    alloc: Global,
-    shards: &'a [Arc<Shard>],
-    search: Search<'_>,
-    skip: usize,
-) -> Result<(Vec<Hit<'a>>, u64), NoMemory>
-    requires { All (IsDecidedIn search.target search.normal.now search.range.now) (shards_seen shards.now) }
-    ensures rows { IfOk result (λ made. hit_rows made.0.items
-        ≡ drop skip (merged search.entry.direction search.entry.take (map (found_by search.entry) (shards_seen shards.now)))) }
-    ensures hits { IfOk result (λ made. AreHitsIn (shards_seen shards.now) made.0.items) }
-    ensures pulled { IfOk result (λ made. made.1 ≤ search.entry.take + length shards.now) }
-{
     let mut sources = lead_sources_of(alloc, shards, search)?;
-    let (leads, pulled) = merge_pulled(alloc, &mut sources, search.direction, search.take)?;
+    let (leads, pulled) = merge_pulled(alloc, &mut sources, direction, take)?;
     let hits = hits_after(alloc, &leads, skip)?;
     Ok((hits, pulled))
 }

@@ -59,7 +59,7 @@ pub(crate) fn hit_at<'a>(shard: &'a Shard, row: &'a Row, normal: &Normal) -> Opt
 }
 
 // Whether a search that has found so many looks no further than a row of this key.
-pub(crate) fn is_over(search: Search<'_>, found: usize, key: &[Json]) -> bool
+fn is_over(search: Search<'_>, found: usize, key: &[Json]) -> bool
     ensures { result ≡ nat_le search.entry.take found || stands_late search.entry.direction (place_of search.entry.range.now (map view key.now)) }
 {
     found >= search.take || is_late(search.direction, search.range.place(key))
