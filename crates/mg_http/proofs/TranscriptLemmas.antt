@@ -1,5 +1,5 @@
 -- What a session wrote for which memory sufficed, and that no input is without a transcript.
-use Rattle.std.proofs.Common.{◌≡◌, ◌⊎◌, ℕ, zero, suc, ◌+◌, ◌-◌, ◌<◌, ◌≤◌, Bool, true, false, List, [], ◌∷◌, ◌++◌, length, map, take, drop, All, Option, Some, refl, sym, ap, ◌∙◌, subst, append_assoc, append-nil, take-append-drop, arith, length-append, length-take, length-drop, inl, inr}
+use Rattle.std.proofs.Common.{◌≡◌, ◌⊎◌, ℕ, zero, suc, ◌<◌, Bool, true, false, List, [], ◌∷◌, ◌++◌, length, take, drop, All, Option, Some, refl, sym, ap, ◌∙◌, subst, append_assoc, append-nil, take-append-drop, arith, length-append, length-take, length-drop, inl, inr}
 use Rattle.std.proofs.lemmas.Bool.{cases_lt}
 use Rattle.std.proofs.lemmas.List.{take_all}
 use Rattle.std.proofs.lemmas.List.Elements.{All-head, All-tail}
@@ -11,7 +11,7 @@ use Rattle.mg_engine.specs.World.{World}
 use Rattle.mg_http.specs.declared.sessions.SessionEnd.{SessionEnd}
 use Rattle.mg_http.specs.declared.sessions.SessionEnd.TheVariants.{Eof, Closed, Refused, ReadFault, WriteFault, Limit}
 use Rattle.mg_http.specs.Device.{IsPrefix}
-use Rattle.mg_http.specs.Head.{Asks, framed, unframed, asks_of, is_silent, closes_after}
+use Rattle.mg_http.specs.Head.{framed, unframed, asks_of, is_silent, closes_after}
 use Rattle.mg_http.specs.Message.{Message, HasHead, Begins, IsRefused, IsNoHead, CanGoOn}
 use Rattle.mg_http.specs.Reply.{text_of, reply_text}
 use Rattle.mg_http.specs.Session.{Call, Handles, call_text, Serves, Answered, Ends, Converses, asked_by}
