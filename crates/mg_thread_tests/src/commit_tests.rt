@@ -55,7 +55,9 @@ fn hundred<D: Database + Send + Sync, R: Threads + Wait + Abort + Sync + Send + 
     ) else {
         rt.panic("memory")
     };
-    let seats = thread::map_vec(&rt, seats, &|seat| work(&rt, alloc, seat)).expect(&rt, "memory");
+    let Ok(seats) = thread::map_vec(&rt, seats, &|seat| work(&rt, alloc, seat)) else {
+        rt.panic("memory")
+    };
     let Ok(closed) = live.close(&rt, seats) else {
         rt.panic("it is not closed")
     };
@@ -318,8 +320,12 @@ fn two<D: Database + Send + Sync, R: Threads + Wait + Abort + Sync + Send + Drop
     ) else {
         rt.panic("memory")
     };
-    let mut b = seats.pop().expect(&rt, "a seat");
-    let mut a = seats.pop().expect(&rt, "a seat");
+    let Some(mut b) = seats.pop() else {
+        rt.panic("a seat")
+    };
+    let Some(mut a) = seats.pop() else {
+        rt.panic("a seat")
+    };
     let mut refused = 0;
     assert!(rt; are_told(&rt, alloc, &mut a, &mut b, calls, &mut refused));
     seats.push(a).expect(&rt, "memory");

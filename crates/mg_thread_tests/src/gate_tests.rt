@@ -173,7 +173,7 @@ fn write_during_query<
     requires opened { 1 ≡ D.shards }
 {
     let ends = Waiting(rt);
-    let (_live, seats) = Live::<D, Waiting<R>>::open(
+    let Ok((_live, seats)) = Live::<D, Waiting<R>>::open(
         ends,
         alloc,
         blank,
@@ -182,11 +182,14 @@ fn write_during_query<
         Md5Placement,
         1,
         2,
-    ).expect(&rt, "memory");
+    ) else {
+        rt.panic("memory")
+    };
     let gate = Held::new();
-    let _seats = thread::map_vec(&rt, seats, &|seat| act(&rt, alloc, seat, &gate, during)).expect(
-        &rt, "memory",
-    );
+    let Ok(_seats) = thread::map_vec(&rt, seats, &|seat| act(&rt, alloc, seat, &gate, during))
+    else {
+        rt.panic("memory")
+    };
     assert!(rt; gate.faults.load(Ordering::SeqCst) == 0);
     assert!(rt; gate.status.load(Ordering::SeqCst) == during.status());
     assert!(rt; gate.same.load(Ordering::SeqCst) == 1);

@@ -60,7 +60,7 @@ fn begun<D: Database + Send + Sync, R: Threads + Wait + Abort + Sync + Send + Dr
     requires opened { 2 ≡ D.shards }
 {
     let ends = Waiting(rt);
-    let (_live, mut seats) = Live::<D, Waiting<R>, OnFirst>::open(
+    let Ok((_live, mut seats)) = Live::<D, Waiting<R>, OnFirst>::open(
         ends,
         alloc,
         blank,
@@ -69,8 +69,12 @@ fn begun<D: Database + Send + Sync, R: Threads + Wait + Abort + Sync + Send + Dr
         OnFirst,
         2,
         1,
-    ).expect(&rt, "memory");
-    let mut seat = seats.pop().expect(&rt, "a seat");
+    ) else {
+        rt.panic("memory")
+    };
+    let Some(mut seat) = seats.pop() else {
+        rt.panic("a seat")
+    };
     assert!(rt; is_written(&rt, alloc, &mut seat));
     let gate = BothBegin::new();
     assert!(rt; is_found(&rt, alloc, &mut seat, &gate));
