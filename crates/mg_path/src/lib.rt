@@ -9,5 +9,5 @@ mod projection;
 
 pub use error::PathError;
 pub use part::part_of;
-pub use path::Path;
+pub use path::{Path, is_path};
 pub use projection::project;

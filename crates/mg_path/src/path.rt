@@ -1,4 +1,4 @@
-ghost use Rattle.std.specs.Prelude.{◌≡◌, ◌↔◌, ℕ, List, map, string_bytes, Some, None, Err, IfOk, option_map, option_and_then};
+ghost use Rattle.std.specs.Prelude.{◌≡◌, ◌↔◌, ℕ, List, map, string_bytes, Some, None, Err, IfOk, is_some, option_map, option_and_then};
 ghost use Rattle.std.specs.Coded.{coded_ℕ, coded_list};
 ghost use Rattle.mg_value.specs.View.{view as json_view};
 ghost use Rattle.mg_path.specs.Part.{steps_of, part_of};
@@ -53,7 +53,7 @@ impl Path {
         ensures ok { IfOk result (λ path. steps_of text.now ≡ Some path) }
         ensures empty { (result ≡ Err PathError.Empty) ↔ (steps_of text.now ≡ None) }
     {
-        if has_empty_piece(text) {
+        if !is_path(text) {
             return Err(PathError::Empty);
         }
         Ok(Path {
@@ -94,4 +94,11 @@ impl Path {
         let steps = copy_texts(alloc, &self.steps)?;
         Ok(Path { steps })
     }
+}
+
+/// Whether a text is a path: it has no empty step. Takes no memory. Cost: the length of the text.
+pub fn is_path(text: &str) -> bool
+    ensures { result ≡ is_some (steps_of text.now) }
+{
+    !has_empty_piece(text)
 }

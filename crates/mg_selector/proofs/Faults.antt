@@ -23,11 +23,6 @@ pub fault_here : (first : Result Selector SelError) (rest : Result Arms SelError
 fault_here (Ok s) rest fault is some = absurd cc
 fault_here (Err e) rest fault is some = is
 
--- what is not absent is there
-pub there_unless_none : {A : Type 0} (o : Option A) → (o ≡ None → ⊥) → true ≡ is_some o
-there_unless_none None some = absurd (some refl)
-there_unless_none (Some x) some = refl
-
 -- a fault of what was read, or a refusal, is what a reading may return
 pub fault_or_refusal : {A B : Type 0} (seen : A → B) (r : Result B SelError) → Gives seen (Err (unwrap_or (result_err r) NoMemory)) r
 fault_or_refusal seen (Ok x) = tt

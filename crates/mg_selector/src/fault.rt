@@ -1,8 +1,6 @@
-// The first fault of a value that is no selector, found whether memory suffices or not.
-ghost use Rattle.std.specs.Prelude.{◌≡◌, is_some};
+ghost use Rattle.std.specs.Prelude.{◌≡◌};
 ghost use Rattle.std.specs.Result.{result_err};
 ghost use Rattle.mg_value.specs.View.{view, items_view, members_view};
-ghost use Rattle.mg_path.specs.Part.{steps_of};
 ghost use Rattle.mg_selector.specs.Argument.{array_of};
 ghost use Rattle.mg_selector.specs.Reading.{reading, of_object, of_arms, of_items, of_members, named, path_named, argument};
 ghost use Rattle.mg_selector.specs.Word.{by_word, operator_with};
@@ -10,47 +8,47 @@ ghost use Rattle.mg_selector.specs.Word.{by_word, operator_with};
 use crate::argument::{read_exists, read_mod, read_size, read_type};
 use crate::error::SelError;
 use crate::word::{Test, Word, word_of};
-use mg_path::{Path, PathError};
+use mg_path::is_path;
 use mg_value::Json;
-use std::alloc::Global;
 use std::collections::BTreeMap;
 
-// The first fault of the value, if it has one.
-pub(crate) fn fault_of(alloc: Global, value: &Json) -> Option<SelError>
+/// The first fault of a value as a selector, as `Sel::read` names it, if it has one. Takes no memory, so that a fault is found where memory
+/// was refused. Cost: the size of the value.
+pub fn fault_of(value: &Json) -> Option<SelError>
     ensures { result ≡ result_err (reading (view value.now)) }
 {
     match value {
-        Json::Object(members) => members_fault(alloc, members),
+        Json::Object(members) => members_fault(members),
         _ => Some(SelError::Shape),
     }
 }
 
 #[cycle(faults)]
-fn object_fault(alloc: Global, value: &Json) -> Option<SelError>
+fn object_fault(value: &Json) -> Option<SelError>
     ensures { result ≡ result_err (of_object (view value.now)) }
 {
     match value {
-        Json::Object(members) => members_fault(alloc, members),
+        Json::Object(members) => members_fault(members),
         _ => Some(SelError::BadArg),
     }
 }
 
 #[cycle(faults)]
-fn arms_fault(alloc: Global, value: &Json) -> Option<SelError>
+fn arms_fault(value: &Json) -> Option<SelError>
     ensures { result ≡ result_err (of_arms (view value.now)) }
 {
     match value {
-        Json::List(items) => items_fault(alloc, items),
+        Json::List(items) => items_fault(items),
         _ => Some(SelError::BadArg),
     }
 }
 
 #[cycle(faults)]
-fn items_fault(alloc: Global, items: &[Json]) -> Option<SelError>
+fn items_fault(items: &[Json]) -> Option<SelError>
     ensures { result ≡ result_err (of_items (items_view items.now)) }
 {
     for item in items {
-        let fault = object_fault(alloc, item);
+        let fault = object_fault(item);
         if fault.is_some() {
             return fault;
         }
@@ -59,11 +57,11 @@ fn items_fault(alloc: Global, items: &[Json]) -> Option<SelError>
 }
 
 #[cycle(faults)]
-fn members_fault(alloc: Global, members: &BTreeMap<String, Json>) -> Option<SelError>
+fn members_fault(members: &BTreeMap<String, Json>) -> Option<SelError>
     ensures { result ≡ result_err (of_members (members_view members.now.entries)) }
 {
     for (name, value) in members.iter() {
-        let fault = member_fault(alloc, name.as_str(), value);
+        let fault = member_fault(name.as_str(), value);
         if fault.is_some() {
             return fault;
         }
@@ -72,66 +70,54 @@ fn members_fault(alloc: Global, members: &BTreeMap<String, Json>) -> Option<SelE
 }
 
 #[cycle(faults)]
-fn member_fault(alloc: Global, name: &str, value: &Json) -> Option<SelError>
+fn member_fault(name: &str, value: &Json) -> Option<SelError>
     ensures { result ≡ result_err
         (named name.now (view value.now) (of_object (view value.now)) (of_arms (view value.now))) }
 {
-    word_fault(alloc, word_of(name), name, value)
+    word_fault(word_of(name), name, value)
 }
 
 #[cycle(faults)]
-fn word_fault(alloc: Global, word: Word, name: &str, value: &Json) -> Option<SelError>
+fn word_fault(word: Word, name: &str, value: &Json) -> Option<SelError>
     ensures { result ≡ result_err (by_word word name.now
         (view value.now) (of_object (view value.now)) (of_arms (view value.now))) }
 {
     match word {
-        Word::And => arms_fault(alloc, value),
-        Word::Or => arms_fault(alloc, value),
-        Word::Nor => arms_fault(alloc, value),
-        Word::Not => object_fault(alloc, value),
-        Word::ElemMatch => object_fault(alloc, value),
-        Word::AllMatch => object_fault(alloc, value),
+        Word::And => arms_fault(value),
+        Word::Or => arms_fault(value),
+        Word::Nor => arms_fault(value),
+        Word::Not => object_fault(value),
+        Word::ElemMatch => object_fault(value),
+        Word::AllMatch => object_fault(value),
         Word::Test(test) => operator_fault(test, value),
         Word::Unknown => Some(SelError::InvalidOperator),
-        Word::Path => path_fault(alloc, name, value),
+        Word::Path => path_fault(name, value),
     }
 }
 
 // The path is read before its argument.
 #[cycle(faults)]
-fn path_fault(alloc: Global, name: &str, value: &Json) -> Option<SelError>
+fn path_fault(name: &str, value: &Json) -> Option<SelError>
     ensures { result ≡ result_err (path_named name.now (view value.now) (of_object (view value.now))) }
 {
-    if is_path(alloc, name) {
-        argument_fault(alloc, value)
+    if is_path(name) {
+        argument_fault(value)
     } else {
         Some(SelError::BadArg)
     }
 }
 
 #[cycle(faults)]
-fn argument_fault(alloc: Global, value: &Json) -> Option<SelError>
+fn argument_fault(value: &Json) -> Option<SelError>
     ensures { result ≡ result_err (argument (view value.now) (of_object (view value.now))) }
 {
     match value {
         Json::Object(members) => if members.is_empty() {
             None
         } else {
-            object_fault(alloc, value)
+            object_fault(value)
         },
         _ => None,
-    }
-}
-
-// Whether a text is a path. An empty step is found before memory is taken, so that no want of memory hides it.
-#[tactic(auto, using(crate::proofs::Faults::there_unless_none))]
-fn is_path(alloc: Global, text: &str) -> bool
-    ensures { result ≡ is_some (steps_of text.now) }
-{
-    match Path::parse(alloc, text).err() {
-        Some(PathError::Empty) => false,
-        Some(PathError::NoMemory) => true,
-        None => true,
     }
 }
 

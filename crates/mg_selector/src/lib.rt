@@ -15,6 +15,7 @@ mod sense;
 mod word;
 
 pub use error::SelError;
+pub use fault::fault_of;
 pub use json_type::JsonType;
 pub use operator::Op;
 pub use selector::Sel;

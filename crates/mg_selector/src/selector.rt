@@ -52,7 +52,7 @@ impl Sel {
         ensures refused { (e : SelError) → reading (view value.now) ≡ Err e → result ≡ Err e }
     {
         match reader::read(alloc, value) {
-            Err(SelError::NoMemory) => Err(fault_or_refusal(alloc, value)),
+            Err(SelError::NoMemory) => Err(fault_or_refusal(value)),
             read => read,
         }
     }
@@ -76,8 +76,8 @@ impl Sel {
 }
 
 // The fault of a value for which memory was refused, or that refusal.
-fn fault_or_refusal(alloc: Global, value: &Json) -> SelError
+fn fault_or_refusal(value: &Json) -> SelError
     ensures { result ≡ unwrap_or (result_err (reading (view value.now))) SelError.NoMemory }
 {
-    fault_of(alloc, value).unwrap_or(SelError::NoMemory)
+    fault_of(value).unwrap_or(SelError::NoMemory)
 }
