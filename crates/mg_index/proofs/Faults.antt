@@ -122,8 +122,3 @@ fault_or_refusal seen (Ok x) = tt
 fault_or_refusal seen (Err Shape) = refl
 fault_or_refusal seen (Err Mixed) = refl
 fault_or_refusal seen (Err NoMemory) = tt
-
--- what is not absent is there
-pub there_unless_none : {A : Type 0} (o : Option A) → (o ≡ None → ⊥) → true ≡ is_some o
-there_unless_none None some = absurd (some refl)
-there_unless_none (Some x) some = refl

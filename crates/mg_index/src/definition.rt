@@ -66,7 +66,7 @@ impl IndexDef {
         ensures refused { (e : IndexError) → definition_of (json_view body.now) ≡ Err e → result ≡ Err e }
     {
         match reader::read_definition(alloc, body) {
-            Err(IndexError::NoMemory) => Err(fault_or_refusal(alloc, body)),
+            Err(IndexError::NoMemory) => Err(fault_or_refusal(body)),
             read => read,
         }
     }
@@ -155,10 +155,10 @@ impl IndexDef {
 }
 
 // The fault of a body for which memory was refused, or that refusal.
-fn fault_or_refusal(alloc: Global, body: &Json) -> IndexError
+fn fault_or_refusal(body: &Json) -> IndexError
     ensures { result ≡ unwrap_or (result_err (definition_of (json_view body.now))) IndexError.NoMemory }
 {
-    fault_of(alloc, body).unwrap_or(IndexError::NoMemory)
+    fault_of(body).unwrap_or(IndexError::NoMemory)
 }
 
 fn are_same_texts(texts: &[String], others: &[String]) -> bool

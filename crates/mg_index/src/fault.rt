@@ -1,10 +1,9 @@
-// The fault of a body of an `_index`, found whether memory suffices or not.
+// The fault of a body of an `_index`, found without memory.
 ghost use Rattle.std.specs.Prelude.{◌≡◌, None, Some, if◌then◌else◌, is_some, map, option_map, true};
 ghost use Rattle.std.specs.List.{list_all};
 ghost use Rattle.std.specs.Result.{result_err};
 ghost use Rattle.mg_value.specs.View.{view, items_view};
 ghost use Rattle.mg_value.specs.Value.{list};
-ghost use Rattle.mg_path.specs.Part.{steps_of};
 ghost use Rattle.mg_index.specs.Fault.{is_column as gives_column, is_directed as gives_direction, fault_of_directions};
 ghost use Rattle.mg_index.specs.Reading.{each_of, definition_of, columns_read, field_direction as direction_given};
 
@@ -12,12 +11,11 @@ use crate::error::IndexError;
 use crate::field::{field_direction, field_path, is_same};
 use crate::reader::{is_plain, member_of_index, text_given};
 use mg_collate::Direction;
-use mg_path::{Path, PathError};
+use mg_path::is_path;
 use mg_value::Json;
-use std::alloc::Global;
 
 // The fault of a body, if it has one.
-pub(crate) fn fault_of(alloc: Global, body: &Json) -> Option<IndexError>
+pub(crate) fn fault_of(body: &Json) -> Option<IndexError>
     ensures { result ≡ result_err (definition_of (view body.now)) }
 {
     if !is_plain(body) {
@@ -26,24 +24,24 @@ pub(crate) fn fault_of(alloc: Global, body: &Json) -> Option<IndexError>
     if text_given(body.member("ddoc")).is_err() || text_given(body.member("name")).is_err() {
         return Some(IndexError::Shape);
     }
-    fields_fault(alloc, member_of_index(body, "fields"))
+    fields_fault(member_of_index(body, "fields"))
 }
 
 // The fault of `fields`.
-fn fields_fault(alloc: Global, fields: Option<&Json>) -> Option<IndexError>
+fn fields_fault(fields: Option<&Json>) -> Option<IndexError>
     ensures { result ≡ result_err (columns_read (option_map (λ j. view j.now) fields.entry)) }
 {
     match fields {
-        Some(Json::List(fields)) => columns_fault(alloc, fields),
+        Some(Json::List(fields)) => columns_fault(fields),
         _ => Some(IndexError::Shape),
     }
 }
 
 // The fault of the columns.
-fn columns_fault(alloc: Global, fields: &[Json]) -> Option<IndexError>
+fn columns_fault(fields: &[Json]) -> Option<IndexError>
     ensures { result ≡ result_err (columns_read (Some (list (items_view fields.now)))) }
 {
-    if are_columns(alloc, fields) {
+    if are_columns(fields) {
         direction_fault(fields)
     } else {
         Some(IndexError::Shape)
@@ -51,35 +49,23 @@ fn columns_fault(alloc: Global, fields: &[Json]) -> Option<IndexError>
 }
 
 // Whether each field gives a path and a direction.
-fn are_columns(alloc: Global, fields: &[Json]) -> bool
+fn are_columns(fields: &[Json]) -> bool
     ensures { result ≡ list_all gives_column (map view fields.now) }
 {
     for field in fields {
-        if !is_column(alloc, field) {
+        if !is_column(field) {
             return false;
         }
     }
     true
 }
 
-fn is_column(alloc: Global, field: &Json) -> bool
+fn is_column(field: &Json) -> bool
     ensures { result ≡ gives_column (view field.now) }
 {
     match field_path(field) {
-        Some(path) => is_path(alloc, path) && field_direction(field).is_some(),
+        Some(path) => is_path(path) && field_direction(field).is_some(),
         None => false,
-    }
-}
-
-// Whether a text is a path. An empty step is found before memory is taken, so that no want of memory hides it.
-#[tactic(auto, using(crate::proofs::Faults::there_unless_none))]
-fn is_path(alloc: Global, text: &str) -> bool
-    ensures { result ≡ is_some (steps_of text.now) }
-{
-    match Path::parse(alloc, text).err() {
-        Some(PathError::Empty) => false,
-        Some(PathError::NoMemory) => true,
-        None => true,
     }
 }
 
