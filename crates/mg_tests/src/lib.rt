@@ -41,3 +41,5 @@ mod selector_tests;
 mod shard_tests;
 #[cfg(test)]
 mod value_tests;
+#[cfg(test)]
+mod workers_tests;

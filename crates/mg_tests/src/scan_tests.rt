@@ -85,13 +85,13 @@ impl Gate for BothBegin {
 }
 
 // The query for what has an n above 1.
-fn above_one(alloc: Global) -> Result<Normal, Fail> {
+pub(crate) fn above_one(alloc: Global) -> Result<Normal, Fail> {
     let selector = selector_of(alloc, r#"{"n":{"$gt":1}}"#)?;
     Ok(Normal::of(alloc, &selector)?)
 }
 
 // Its range of ids.
-fn ids_of(alloc: Global, normal: &Normal) -> Result<KeyRange, Fail> {
+pub(crate) fn ids_of(alloc: Global, normal: &Normal) -> Result<KeyRange, Fail> {
     let mut columns = Vec::new(alloc);
     columns.push(Path::parse(alloc, "_id")?)?;
     Ok(KeyRange::of(alloc, &columns, normal)?)
