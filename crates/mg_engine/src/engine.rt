@@ -49,6 +49,7 @@ impl<P: Placement + Drop> Engine<P> {
         requires most { shards ≤ 64 }
         ensures stands { IfOk result (λ e. Stands P.place e (empty_world db.now)) }
         ensures shards { IfOk result (λ e. shard_count e ≡ shards) }
+        ensures placement { IfOk result (λ e. e.0 ≡ placement) }
     {
         let placement = Arc::new(alloc, placement)?;
         let state = State::new(alloc, db, shards)?;
@@ -77,6 +78,7 @@ impl<P: Placement + Drop> Engine<P> {
             → Answers w (asked command.now) (said result) (Stands P.place self.new) }
         ensures refused { IfNone (said result) (self.new ≡ self.old) }
         ensures shards { IfSome (said result) (λ _. shard_count self.new ≡ shards_after (shard_count self.old) (asked command.now)) }
+        ensures placement { self.new.0 ≡ self.old.0 }
     {
         let workers = Workers::most(workers);
         let (reply, next) = self
@@ -148,6 +150,7 @@ impl<P: Placement + Drop> Engine<P> {
         ensures next { IsSettled result.0 result.1 }
         ensures shards { IfSome (said result.0) (λ _. shard_count (unwrap_or result.1 self.now)
             ≡ shards_after (shard_count self.now) (asked command.now)) }
+        ensures placement { IfSome result.1 (λ next. next.0 ≡ self.now.0) }
     {
         match Prepared::of(alloc, command) {
             Ok(prepared) => self.commit_prepared(rt, alloc, prepared, workers),
@@ -172,6 +175,7 @@ impl<P: Placement + Drop> Engine<P> {
         ensures next { IsSettled result.0 result.1 }
         ensures shards { IfSome (said result.0) (λ _. shard_count (unwrap_or result.1 self.now)
             ≡ shards_after (shard_count self.now) prepared.entry) }
+        ensures placement { IfSome result.1 (λ next. next.0 ≡ self.now.0) }
     {
         let Ok(placement) = self.placement.clone() else {
             return (Reply::NoMemory, None);
@@ -219,6 +223,7 @@ impl<P: Placement + Drop> Engine<P> {
         ensures none_run { OnErr result (self.new ≡ self.old) }
         ensures shards { IfOk result (λ replies. shard_count self.new
             ≡ shards_after_all (shard_count self.old) (kept (map asked commands.now) (map said replies.items))) }
+        ensures placement { self.new.0 ≡ self.old.0 }
     {
         let mut replies = Vec::with_capacity(alloc, commands.len())?;
         for command in commands {

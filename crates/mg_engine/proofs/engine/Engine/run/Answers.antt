@@ -1,4 +1,4 @@
-use Rattle.std.proofs.Common.{ap, ◌+◌}
+use Rattle.std.proofs.Common.{refl, ap, ◌+◌, ◌∙◌}
 use Rattle.mg_engine.specs.View.{asked, said}
 use Rattle.mg_engine.specs.Stands.{Stands, Shown, shard_count}
 use Rattle.mg_engine.proofs.Numbers.{is_number_then, number_after, number_here}
@@ -8,7 +8,7 @@ use Rattle.mg_engine.proofs.engine.Engine.run.Goals as goal
 pub loop-command-init : goal.loop-command-init
 loop-command-init g c =
     let made = c.in_ok-replies.ensures in
-    record { room = made.exact; some = made.len; numbers = λ rs. rw made.items; goes_on = λ w h. (w, h, λ rs after run. rw made.items run) }
+    record { room = made.exact; some = made.len; placement = refl; numbers = λ rs. rw made.items; goes_on = λ w h. (w, h, λ rs after run. rw made.items run) }
 
 pub loop-command-preserved : goal.loop-command-preserved
 loop-command-preserved g c =
@@ -20,6 +20,7 @@ loop-command-preserved g c =
     record {
       room = rw pushed.capacity l.invariant.room;
       some = rw pushed.len (ap (λ n. n + 1) l.invariant.some);
+      placement = c.step-reply.ensures.placement ∙ l.invariant.placement;
       numbers = λ rs.
           let went = is_number_then (λ (e : g.row.P.Denot × Shown). shard_count e) l.self c.step-reply.new.self (asked command) (said reply) c.step-reply.ensures.refused c.step-reply.ensures.shards in
           rw pushed.items (number_after (shard_count c.args.self.now) (shard_count l.self) (shard_count c.step-reply.new.self) c.args.commands.now l.command-index command l.replies.items reply rs

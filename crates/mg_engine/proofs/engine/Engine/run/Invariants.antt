@@ -13,6 +13,7 @@ invariant-loop-command g l =
     record {
       room : vec_capacity l.replies ≡ length l.commands;
       some : vec_len l.replies ≡ l.command-index;
+      placement : l.self.0 ≡ l.fn.self.0;
       numbers : (rs : List (Option Answer)) → shards_after_all (shard_count l.self) (kept (map asked (drop l.command-index l.commands)) rs)
           ≡ shards_after_all (shard_count l.fn.self) (kept (map asked l.commands) (map said l.replies.items ++ rs));
       goes_on : (w : World) → Stands place l.fn.self w
