@@ -16,3 +16,4 @@ pub mod Handed
 pub mod Counts
 pub mod Lent
 pub mod Showing
+pub mod Faults

@@ -2,6 +2,7 @@
 -- bookmark's text, and last that a sort has one direction.
 use Rattle.std.specs.Prelude.{ℕ, pos, nat_le, List, [], ◌∷◌, Bool, false, codes, Option, Some, None, option_and_then, option_map, Result, Ok, Err, if◌then◌else◌}
 use Rattle.std.specs.List.{list_all}
+use Rattle.std.specs.Result.{result_err}
 use Rattle.mg_value.specs.Value.{Value, null, flag, whole, text, list, object, no_items, item, member_of, item_list}
 use Rattle.mg_path.specs.Part.{steps_of}
 use Rattle.mg_path.specs.declared.error.PathError.{PathError}
@@ -190,3 +191,7 @@ query_with fields m =
 -- the query that a body is, or its first fault
 abbrev pub query_of : Value → Result Query QueryError
 query_of v = or_fault Shape (shaped v) >>= query_with (member_of (codes "fields") v)
+
+-- the faults that are found without memory: a wrong shape, and else the first fault of the selector
+abbrev pub early_fault : Value → Option QueryError
+early_fault v = result_err (or_fault Shape (shaped v) >>= (λ m. selector_or_fault (reading m.selector)))

@@ -4,6 +4,7 @@
 mod answer;
 mod error;
 mod explanation;
+mod fault;
 mod field;
 mod found;
 pub mod laws;

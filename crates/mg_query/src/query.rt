@@ -1,12 +1,13 @@
-ghost use Rattle.std.specs.Prelude.{◌≡◌, None, Err, option_map};
+ghost use Rattle.std.specs.Prelude.{◌≡◌, Err, Some, option_map, unwrap_or};
 ghost use Rattle.mg_value.specs.View.{view};
-ghost use Rattle.mg_query.specs.Given.{given as given_of, given_seen, query_given};
-ghost use Rattle.mg_query.specs.Query.{or_fault, query_of};
+ghost use Rattle.mg_query.specs.Given.{given_seen, query_given};
+ghost use Rattle.mg_query.specs.Query.{early_fault, or_fault, query_of};
 ghost use Rattle.mg_bookmark.specs.Bookmark.{bookmark_read};
 ghost use Rattle.mg_bookmark.specs.Seen.{bookmark_place};
 ghost use Rattle.mg_query.specs.Seen.{Gives, lent, query_seen};
 
 use crate::error::QueryError;
+use crate::fault::fault_of;
 use crate::field::{one_direction, read_directions, read_paths, read_sort_paths};
 use crate::member::{Members, members_in};
 use mg_bookmark::{Bookmark, BookmarkError};
@@ -55,18 +56,34 @@ impl<'a> Query<'a> {
     ///
     /// Errors, in this order: `Shape` for any other body, or a path of `sort` or `fields` with an empty step; the
     /// selector's first fault; `BadBookmark` where the text spells no bookmark; `MixedSort` for a sort in both
-    /// directions. `NoMemory` where a growth was refused, and never in place of a wrong shape that needs no look
-    /// into a path or a field of the sort.
+    /// directions. `NoMemory` where a growth was refused, and never in place of a wrong shape or of the selector's fault.
     /// Cost: the size of the selector, the sort, the fields and the bookmark. Source: `_find` of CouchDB's API
     /// reference.
     pub fn read(alloc: Global, body: &'a Json) -> Result<Query<'a>, QueryError>
         ensures query { Gives query_seen result (query_of (view body.now)) }
-        ensures shape { given_of (view body.now) ≡ None → result ≡ Err QueryError.Shape }
+        ensures refused { (e : QueryError) → early_fault (view body.now) ≡ Some e → result ≡ Err e }
     {
-        match members_in(body) {
-            Some(members) => query_with(alloc, members, body.member("fields")),
-            None => Err(QueryError::Shape),
+        match query_in(alloc, body) {
+            Err(QueryError::NoMemory) => Err(fault_or_refusal(body)),
+            read => read,
         }
+    }
+}
+
+// The fault of a body for which memory was refused, or that refusal.
+fn fault_or_refusal(body: &Json) -> QueryError
+    ensures { result ≡ unwrap_or (early_fault (view body.now)) QueryError.NoMemory }
+{
+    fault_of(body).unwrap_or(QueryError::NoMemory)
+}
+
+// The query that a body asks.
+fn query_in(alloc: Global, body: &Json) -> Result<Query<'_>, QueryError>
+    ensures { Gives query_seen result (query_of (view body.now)) }
+{
+    match members_in(body) {
+        Some(members) => query_with(alloc, members, body.member("fields")),
+        None => Err(QueryError::Shape),
     }
 }
 

@@ -211,6 +211,6 @@ fn id_column(alloc: Global) -> Result<Path, NoMemory>
     match Path::parse(alloc, ID_COLUMN) {
         Ok(path) => Ok(path),
         Err(PathError::NoMemory) => Err(NoMemory),
-        Err(PathError::Empty) => Err(NoMemory),
+        Err(PathError::Empty) => unreachable!(),
     }
 }

@@ -1,14 +1,13 @@
-use Rattle.std.proofs.Common.{subst, sym, ◌∙◌, ap}
+use Rattle.std.proofs.Common.{◌≡◌, Err, sym, subst}
 use Rattle.mg_value.specs.View.{view}
-use Rattle.mg_query.specs.Given.{given_seen, query_given}
+use Rattle.mg_query.specs.Query.{query_of}
 use Rattle.mg_query.specs.Seen.{Gives, query_seen}
-use Rattle.mg_query.proofs.Shapes.{of_lent, of_none}
+use Rattle.mg_query.specs.declared.error.QueryError.{QueryError}
+use Rattle.mg_query.proofs.Faults.{early_first, exact, fault_or_refusal}
 use Rattle.mg_query.proofs.query.Query.read.Goals as goal
 
-pub returns-in-Some-clause-query : goal.returns-in-Some-clause-query
-returns-in-Some-clause-query c =
-    let told = of_lent (view c.args.body.now) (given_seen c.in-Some.members) (sym c.in-Some.ensures) in
-    subst (Gives query_seen c.query_with.result) (ap (λ f. query_given f (given_seen c.in-Some.members)) c.member.ensures ∙ sym told) c.query_with.ensures
-
-pub returns-in-None-clause-query : goal.returns-in-None-clause-query
-returns-in-None-clause-query c = of_none (view c.args.body.now) (sym c.in-None.ensures)
+pub returns-in-Err-NoMemory-clause-query : goal.returns-in-Err-NoMemory-clause-query
+returns-in-Err-NoMemory-clause-query c =
+    let v = view c.args.body.now in
+    let P : QueryError → Type 0 = λ e. Gives query_seen (Err e) (query_of v) in
+    subst P (sym c.fault_or_refusal.ensures) (fault_or_refusal v)
