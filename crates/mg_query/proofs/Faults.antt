@@ -99,20 +99,14 @@ fails BadBookmark r h = h
 fails MixedSort r h = h
 fails NoMemory r h = tt
 
-fault_or : {X Y : Type 0} (seen : X → Y) (o : Option QueryError) (r : Result Y QueryError) → ((e : QueryError) → o ≡ Some e → r ≡ Err e) → Gives seen (Err (unwrap_or o NoMemory)) r
-fault_or seen None r h = tt
-fault_or seen (Some e) r h = fails e r (h e refl)
+fault_or : {X Y : Type 0} (seen : X → Y) (o : Option QueryError) (met : QueryError) (r : Result Y QueryError) → ((e : QueryError) → o ≡ Some e → r ≡ Err e) → Fails met r → Gives seen (Err (unwrap_or o met)) r
+fault_or seen None met r h f = f
+fault_or seen (Some e) met r h f = fails e r (h e refl)
 
--- that fault, or a refusal, is what a reading may return
-pub fault_or_refusal : (v : Value) → Gives query_seen (Err (unwrap_or (early_fault v) NoMemory)) (query_of v)
-fault_or_refusal v = fault_or query_seen (early_fault v) (query_of v) (early_first v)
+-- that fault, or the one that was met, is what a reading may return
+pub first_fault : (v : Value) (met : QueryError) → Fails met (query_of v) → Gives query_seen (Err (unwrap_or (early_fault v) met)) (query_of v)
+first_fault v met f = fault_or query_seen (early_fault v) met (query_of v) (early_first v) f
 
--- what was read, or a fault that is no refusal, is what the definition says
-pub exact : {X Y : Type 0} (seen : X → Y) (result : Result X QueryError) (r : Result Y QueryError) (e : QueryError) → Gives seen result r → (result ≡ Err NoMemory → ⊥) → r ≡ Err e → result ≡ Err e
-exact seen (Ok x) r e g n h = absurd cc
-exact seen (Err Shape) r e g n h = let same : Shape ≡ e = cc in ap Err same
-exact seen (Err InvalidOperator) r e g n h = let same : InvalidOperator ≡ e = cc in ap Err same
-exact seen (Err BadArg) r e g n h = let same : BadArg ≡ e = cc in ap Err same
-exact seen (Err BadBookmark) r e g n h = let same : BadBookmark ≡ e = cc in ap Err same
-exact seen (Err MixedSort) r e g n h = let same : MixedSort ≡ e = cc in ap Err same
-exact seen (Err NoMemory) r e g n h = absurd (n refl)
+-- a query that was read has no fault
+pub no_fault : {X : Type 0} (r : Result X QueryError) (x : X) (e : QueryError) → r ≡ Ok x → r ≡ Err e → ⊥
+no_fault r x e h k = cc

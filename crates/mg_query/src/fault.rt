@@ -34,7 +34,6 @@ fn members_fault(members: Members<'_>) -> Option<QueryError>
 }
 
 // Whether `fields` and `sort` give paths, and `sort` directions.
-#[tactic(auto, using(crate::proofs::Faults::shapes_there))]
 fn are_shaped(members: Members<'_>) -> bool
     ensures { result ≡ is_some (parsed (given_seen members.entry)) }
 {

@@ -64,17 +64,17 @@ impl<'a> Query<'a> {
         ensures refused { (e : QueryError) → early_fault (view body.now) ≡ Some e → result ≡ Err e }
     {
         match query_in(alloc, body) {
-            Err(QueryError::NoMemory) => Err(fault_or_refusal(body)),
-            read => read,
+            Ok(query) => Ok(query),
+            Err(fault) => Err(first_fault(body, fault)),
         }
     }
 }
 
-// The fault of a body for which memory was refused, or that refusal.
-fn fault_or_refusal(body: &Json) -> QueryError
-    ensures { result ≡ unwrap_or (early_fault (view body.now)) QueryError.NoMemory }
+// The fault of a body that is found without memory, if it has such a one, and else the fault that was met.
+fn first_fault(body: &Json, met: QueryError) -> QueryError
+    ensures { result ≡ unwrap_or (early_fault (view body.now)) met }
 {
-    fault_of(body).unwrap_or(QueryError::NoMemory)
+    fault_of(body).unwrap_or(met)
 }
 
 // The query that a body asks.
