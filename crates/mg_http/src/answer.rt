@@ -47,7 +47,8 @@ fn answer_body<H: Wait + Threads + Sync, S: Service, W: Write>(
     body: &[u8],
 ) -> Result<(), Fault>
     ensures bytes { (reply : Option Answer)
-        × HandlesBody S.answers endpoint body.now (record { old = service.old; reply = reply; new = service.new })
+        × HandlesBody S.answers endpoint body.now
+        (record { old = service.old; reply = reply; new = service.new })
         × Writes (W.contents (inner_of writer.old)) (W.contents (inner_of writer.new)) (reply_text silent reply) result }
     ensures failed { has_failed writer.new ≡ (if is_ok result then has_failed writer.old else true) }
 {
@@ -74,7 +75,8 @@ pub(crate) fn answer<H: Wait + Threads + Sync, S: Service, W: Write>(
     body: &[u8],
 ) -> Result<(), Fault>
     ensures bytes { (reply : Option Answer)
-        × Handles S.answers (request_in target.now) body.now (record { old = service.old; reply = reply; new = service.new })
+        × Handles S.answers (request_in target.now) body.now
+        (record { old = service.old; reply = reply; new = service.new })
         × Writes (W.contents (inner_of writer.old)) (W.contents (inner_of writer.new)) (reply_text silent reply) result }
     ensures failed { has_failed writer.new ≡ (if is_ok result then has_failed writer.old else true) }
 {

@@ -99,7 +99,12 @@ fn message<H: Wait + Threads + Sync, S: Service, R: Read, W: Write>(
         × Consumes (R.remaining (inner_of reader.old)) (R.remaining (inner_of reader.new)) came
         × Appends (W.contents (inner_of writer.old)) (W.contents (inner_of writer.new)) written
         × Turns S.answers db
-        (record { old = service.old; bytes = unanswered inbox.old ++ came; text = written; new = service.new })
+        (record {
+          old = service.old;
+          bytes = unanswered inbox.old ++ came;
+          text = written;
+          new = service.new;
+        })
         (unanswered inbox.new) result
         × Counts (progress_of inbox.old) (progress_of inbox.new) came result }
     ensures end { IsErrOf result SessionEnd.Eof → IsAtEnd (R.remaining (inner_of reader.new)) }
@@ -146,7 +151,12 @@ fn turn<H: Wait + Threads + Sync, S: Service, R: Read, W: Write>(
         × Consumes (R.remaining (inner_of reader.old)) (R.remaining (inner_of reader.new)) came
         × Appends (W.contents (inner_of writer.old)) (W.contents (inner_of writer.new)) written
         × Turns S.answers db.now
-        (record { old = service.old; bytes = unanswered inbox.old ++ came; text = written; new = service.new })
+        (record {
+          old = service.old;
+          bytes = unanswered inbox.old ++ came;
+          text = written;
+          new = service.new;
+        })
         (unanswered inbox.new) result
         × Counts (progress_of inbox.old) (progress_of inbox.new) came result }
     ensures end { IsErrOf result SessionEnd.Eof → IsAtEnd (R.remaining (inner_of reader.new)) }
