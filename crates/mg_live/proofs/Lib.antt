@@ -1,4 +1,5 @@
 mod Fronts
 mod Adding
 mod Publishing
+mod Hearing
 pub mod Crossing
