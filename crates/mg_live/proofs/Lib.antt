@@ -1,5 +1,4 @@
 mod Fronts
 mod Adding
 mod Publishing
-mod Hearing
 pub mod Crossing

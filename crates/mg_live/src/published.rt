@@ -45,14 +45,9 @@ where
     requires { IsOf P.place D.history D.db D.shards snapshot }
     ensures { writer.new.desk.shown.value ≡ snapshot }
 {
-    replace_with(
-        writer,
-        snapshot,
-        |writer: Writes<D, P>, snapshot: Snapshot<P>| -> (Writes<D, P>, Snapshot<P>)
-            requires { IsOf P.place D.history D.db D.shards snapshot }
-            ensures { result.0.desk.shown.value ≡ snapshot }
-        { show(rt, writer, snapshot) },
-    )
+    replace_with(writer, snapshot, |writer, snapshot| {
+        show(rt, writer, snapshot)
+    })
 }
 
 // The same, for a writer that is given and given back.

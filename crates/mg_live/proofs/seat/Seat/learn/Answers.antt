@@ -1,8 +1,0 @@
-use Rattle.mg_live.specs.View.{commits_seen}
-use Rattle.mg_live.proofs.Hearing.{heard}
-use Rattle.mg_live.proofs.seat.Seat.learn.Goals as goal
-
-pub returns-then-begins : goal.returns-then-begins
-returns-then-begins g c =
-    let s = c.self.inside in
-    rw (← c.self.view_is, ← c.seen.view_is, c.again.ensures) (heard s.number s.tally (commits_seen s.front.seen.log) (commits_seen c.seen.inside.front.seen.log) c.if-begins.ensures.begins)
