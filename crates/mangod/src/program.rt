@@ -146,7 +146,7 @@ fn listen<
 }
 
 // The service of a database that is empty at first.
-fn solo<H: AllocGlobal>(rt: &H, settings: &Settings<'_>) -> Result<Solo, NoMemory>
+fn solo<H: AllocGlobal>(rt: &H, settings: &Settings<'_>) -> Result<Solo<Md5Placement>, NoMemory>
     ensures stands { IfOk result (λ solo. Stands (λ p id shards. md5_place id shards) solo.engine (empty_world settings.now.db.now)) }
     ensures shards { IfOk result (λ solo. shard_count solo.engine ≡ settings.now.shards) }
     ensures workers { IfOk result (λ solo. solo.workers ≡ settings.now.workers) }

@@ -4,11 +4,10 @@ ghost use Rattle.mg_engine.specs.Commands.{Asked, Answer};
 ghost use Rattle.mg_engine.specs.View.{asked, said};
 ghost use Rattle.mg_http.specs.Solo.{Steps};
 ghost use Rattle.mg_live.specs.Sitting.{Answered};
-ghost use Rattle.mg_shard.specs.Placement.{md5_place};
 
 use mg_engine::{Command, Engine, Reply};
 use mg_live::{Database, Ends, Seat};
-use mg_shard::Md5Placement;
+use mg_shard::Placement;
 use std::alloc::Global;
 use std::sync::Wait;
 use std::thread::Threads;
@@ -25,20 +24,19 @@ pub trait Service {
         ensures { answers self.old (asked command.now) (said result) self.new };
 }
 
-/// An engine for one caller, at the program's placement, and the number of workers, 1 to 32, with which it answers.
+/// An engine for one caller, and the number of workers, 1 to 32, with which it answers.
 #[derive(Drop)]
-pub struct Solo {
-    pub engine: Engine<Md5Placement>,
+pub struct Solo<P> {
+    pub engine: Engine<P>,
     pub workers: usize,
     ghost some_worker: { 1 ≤ workers },
     ghost most_workers: { workers ≤ 32 },
 }
 
-impl Service for Solo {
+impl<P: Placement + Drop> Service for Solo<P> {
     // At each world that the engine stands for the answer is the engine's, or memory was refused and nothing changed.
     ghost answers = { λ old command answer new.
-        Steps (λ p id shards. md5_place id shards) old.engine command answer new.engine
-        × IfNone answer (new.engine ≡ old.engine) };
+        Steps P.place old.engine command answer new.engine × IfNone answer (new.engine ≡ old.engine) };
 
     fn ask<H: Wait + Threads + Sync>(&mut self, rt: &H, alloc: Global, command: &Command) -> Reply {
         self.engine.step(rt, alloc, command, self.workers)

@@ -4,17 +4,17 @@ ghost use Rattle.mg_engine.specs.Stands.{Stands};
 ghost use Rattle.mg_engine.specs.World.{World};
 ghost use Rattle.mg_http.specs.Device.{inner_of, has_failed};
 ghost use Rattle.mg_http.specs.Talk.{HoldsAt};
-ghost use Rattle.mg_shard.specs.Placement.{md5_place};
 
 use crate::device::Device;
 use crate::service::Solo;
 use crate::sessions::{SessionEnd, session};
+use mg_shard::Placement;
 use std::alloc::Global;
 use std::io::{Read, Write};
 use std::sync::Wait;
 use std::thread::Threads;
 
-impl Solo {
+impl<P: Placement + Drop> Solo<P> {
     /// Serves one session of the database `db`: each message that was read is answered as the engine's world answers it, and the
     /// engine then stands for the world that they leave. Where memory sufficed, what is written is the transcript of what was read;
     /// after a failed write, or at the session's limit, it is a front of it.
@@ -30,7 +30,7 @@ impl Solo {
     ) -> SessionEnd
         requires reading { has_failed reader.old ≡ false }
         requires writing { has_failed writer.old ≡ false }
-        ensures talk { (w : World) → Stands (λ p id shards. md5_place id shards) self.old.engine w
+        ensures talk { (w : World) → Stands P.place self.old.engine w
             → (u : World) × HoldsAt db.now (record {
               read = Consumes (R.remaining (inner_of reader.old)) (R.remaining (inner_of reader.new));
               wrote = Appends (W.contents (inner_of writer.old)) (W.contents (inner_of writer.new));
@@ -38,7 +38,7 @@ impl Solo {
               new = u;
               end = result;
             })
-            × Stands (λ p id shards. md5_place id shards) self.new.engine u }
+            × Stands P.place self.new.engine u }
         ensures eof { result ≡ SessionEnd.Eof → IsAtEnd (R.remaining (inner_of reader.new)) }
         ensures read_fault { IsTrue (has_failed reader.new) ↔ (result ≡ SessionEnd.ReadFault) }
         ensures write_fault { IsTrue (has_failed writer.new) ↔ (result ≡ SessionEnd.WriteFault) }
