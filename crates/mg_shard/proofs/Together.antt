@@ -1,4 +1,4 @@
--- What threads give, put together: the places of documents, and the shards that are made of them.
+-- Documents that are lent, and the shards that threads give, put together.
 use denote.Ref.{Bor}
 use Rattle.std.proofs.lemmas.List.{length-map}
 use Rattle.std.proofs.lemmas.Option.{get_or_from_slice_get, slice_get-map, slice_get_within}
@@ -6,10 +6,7 @@ use Rattle.std.proofs.Common.{◌++◌, option_map, ◌≡◌, ℕ, zero, suc, �
 use Rattle.std.specs.Arc.{arc_value}
 use Rattle.std.specs.declared.alloc.Global.{Global}
 use Rattle.std.specs.declared.sync.Arc.{Arc}
-use Rattle.std.specs.List.{AllZip}
-use Rattle.rayon.proofs.ToStd.{slice-AllZip}
-use Rattle.mg_shard.specs.Dealt.{Placing}
-use Rattle.mg_shard.specs.Redealt.{ArePlaces, IsPlace, documents_seen}
+use Rattle.mg_shard.specs.Redealt.{documents_seen}
 use Rattle.mg_shard.specs.Shard.{ShardView}
 use Rattle.mg_shard.specs.declared.document.Document.{Document}
 use Rattle.mg_value.specs.declared.error.NoMemory.{NoMemory}
@@ -32,20 +29,6 @@ pub read_alike : (ps : List ℕ) (k a b : ℕ) → k < length ps → get_or ps k
 read_alike [] k a b l = absurd (omega (arith, l))
 read_alike (p ∷ ps) zero a b l = refl
 read_alike (p ∷ ps) (suc k) a b l = read_alike ps k a b (omega (arith, l))
-
--- ---- places
-
-places_seen : (place : Placing) (n : ℕ) (ds : List Lent) (ps : List ℕ) → AllZip (λ (d : Lent) p. IsPlace place n (arc_value d.now) p) ds ps → ArePlaces place n (documents_seen ds) ps
-places_seen place n [] [] h = tt
-places_seen place n [] (p ∷ ps) h = absurd h
-places_seen place n (d ∷ ds) [] h = absurd h
-places_seen place n (d ∷ ds) (p ∷ ps) h = (h.0, places_seen place n ds ps h.1)
-
--- the places that were given are those of the documents
-pub places_together : (place : Placing) (n : ℕ) (documents : List Lent) (ds : List (Bor Lent)) (ps : List ℕ) → map (λ (d : Bor Lent). d.now) ds ≡ documents
-    → AllZip (λ (d : Bor Lent) p. IsPlace place n (arc_value d.now.now) p) ds ps → ArePlaces place n (documents_seen documents) ps
-places_together place n documents ds ps shown each =
-    places_seen place n documents ps (slice-AllZip ds documents shown (λ (d : Lent) p. IsPlace place n (arc_value d.now) p) ps each)
 
 -- ---- shards
 

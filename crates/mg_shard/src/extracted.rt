@@ -19,7 +19,7 @@ use std::thread::Threads;
 pub(crate) const MANY_DOCUMENTS: usize = 1_000;
 
 /// The least number of documents that one thread takes.
-pub(crate) const LEAST_PIECE: usize = 128;
+const LEAST_PIECE: usize = 128;
 
 // The row of a document, if it has every column, or a refusal of memory.
 fn row_or_refusal(

@@ -6,19 +6,16 @@ ghost use Rattle.std.specs.Option.{option_or};
 ghost use Rattle.mg_pages.specs.Identified.{id_order};
 ghost use Rattle.mg_pages.specs.Order.{inserted};
 ghost use Rattle.mg_shard.specs.Documents.{id_of, shown};
-ghost use Rattle.mg_shard.specs.Redealt.{ArePlaces, IsPlace, KeepsThose, documents_in, documents_seen, kept_in, last_kept};
+ghost use Rattle.mg_shard.specs.Redealt.{ArePlaces, KeepsThose, documents_in, documents_seen, kept_in, last_kept};
 ghost use Rattle.mg_shard.specs.Shard.{shards_seen};
 
 use crate::document::Document;
-use crate::extracted::LEAST_PIECE;
 use crate::placement::Placement;
 use crate::shard::Shard;
 use mg_pages::Pages;
 use mg_value::NoMemory;
-use rayon::prelude::*;
 use std::alloc::Global;
 use std::sync::Arc;
-use std::thread::Threads;
 
 /// The documents of all these shards, deleted ones too, lent one shard after the other.
 ///
@@ -49,28 +46,10 @@ fn add_documents<'a>(shard: &'a Shard, all: &mut Vec<&'a Arc<Document>>) -> Resu
     Ok(())
 }
 
-/// The shard of each of these documents, of so many. One worker starts no thread.
+/// The shard of each of these documents, of so many, asked for on the caller's thread: a placement need not be one that threads may share.
 ///
 /// Errors: `NoMemory` where a growth was refused. Cost: the placement of each document.
-pub(crate) fn places_of<P: Placement, R: Threads + Sync>(
-    rt: &R,
-    alloc: Global,
-    placement: &P,
-    documents: &[&Arc<Document>],
-    count: usize,
-    workers: usize,
-) -> Result<Vec<usize>, NoMemory>
-    requires { 0 < count }
-    ensures { IfOk result (λ v. ArePlaces (P.place placement.now) count (documents_seen documents.now) v.items) }
-{
-    if workers < 2 {
-        return places_in_turn(alloc, placement, documents, count);
-    }
-    places_by_threads(rt, alloc, placement, documents, count)
-}
-
-// The shard of each, asked for on the caller's thread.
-fn places_in_turn<P: Placement>(
+pub(crate) fn places_of<P: Placement>(
     alloc: Global,
     placement: &P,
     documents: &[&Arc<Document>],
@@ -83,30 +62,6 @@ fn places_in_turn<P: Placement>(
     for document in documents {
         places.push(placement.shard_of(&document.id, count))?;
     }
-    Ok(places)
-}
-
-// The shard of each, asked for by a thread for each piece.
-fn places_by_threads<P: Placement, R: Threads + Sync>(
-    rt: &R,
-    alloc: Global,
-    placement: &P,
-    documents: &[&Arc<Document>],
-    count: usize,
-) -> Result<Vec<usize>, NoMemory>
-    requires { 0 < count }
-    ensures { IfOk result (λ v. ArePlaces (P.place placement.now) count (documents_seen documents.now) v.items) }
-{
-    let places = documents
-        .par_iter()
-        .with_min_len(LEAST_PIECE)
-        .map(
-            |document: &&Arc<Document>| -> usize
-                requires { 0 < count }
-                ensures { IsPlace (P.place placement.entry.now) count (arc_value document.now.now) result }
-            { placement.shard_of(&document.id, count) },
-        )
-        .collect(rt, alloc)?;
     Ok(places)
 }
 

@@ -2,10 +2,9 @@ ghost use Rattle.std.specs.Prelude.{◌≡◌, ◌<◌, ℕ, List};
 ghost use Rattle.mg_shard.specs.Placement.{md5_place};
 
 use md5::{Digest, Md5};
-use std::marker::Sync;
 
-/// Which shard a document is kept in, by its id: a function of the id and of the number of shards. Several threads may ask it.
-pub trait Placement: Sync {
+/// Which shard a document is kept in, by its id: a function of the id and of the number of shards.
+pub trait Placement {
     // the shard of an id, of so many
     ghost place: { Self → List ℕ → ℕ → ℕ };
 

@@ -30,9 +30,8 @@ use std::thread::Threads;
 /// dealt them before, and each has the rows of all indexes that these have. Documents, trees and definitions are shared with the shards
 /// that are lent, not copied.
 ///
-/// The shards are the same for every number of workers. One worker starts no thread, and nor do fewer than 1,000 documents; otherwise
-/// threads find the places of the documents, and a thread for each shard makes it. Where there are twice as many workers as shards, further
-/// threads extract and sort the rows of each.
+/// The shards are the same for every number of workers. One worker starts no thread, and nor do fewer than 1,000 documents; otherwise a thread
+/// for each shard makes it. Where there are twice as many workers as shards, further threads extract and sort the rows of each.
 ///
 /// Errors: `NoMemory` where a growth was refused. Cost: for each document its placement and the way to its place, and for each index a
 /// copy of its key, and each shard's rows sorted.
@@ -61,7 +60,7 @@ pub fn redeal<P: Placement, R: Threads + Sync>(
     } else {
         workers
     };
-    let found = places_of(rt, alloc, placement, documents, count, workers)?;
+    let found = places_of(alloc, placement, documents, count)?;
     let places: &[usize] = &found;
     let indexes = first_indexes(shards);
     let made = all_made(rt, alloc, documents, places, indexes, count, workers)?;

@@ -1,6 +1,6 @@
 use Rattle.std.proofs.Common.{take}
 use Rattle.mg_shard.specs.Redealt.{ArePlaces, documents_seen}
-use Rattle.mg_shard.proofs.placed.places_in_turn.Given as goal
+use Rattle.mg_shard.proofs.placed.places_of.Given as goal
 
 -- the places so far
 abbrev pub invariant-loop-document : goal.invariant-loop-document

@@ -5,7 +5,7 @@ use Rattle.std.specs.Arc.{arc_value}
 use Rattle.mg_shard.specs.Redealt.{ArePlaces, documents_seen}
 use Rattle.mg_shard.specs.declared.document.Document.{Document}
 use Rattle.mg_shard.proofs.Redealing.{place_more, take_one}
-use Rattle.mg_shard.proofs.placed.places_in_turn.Goals as goal
+use Rattle.mg_shard.proofs.placed.places_of.Goals as goal
 
 pub loop-document-preserved : goal.loop-document-preserved
 loop-document-preserved g c =
