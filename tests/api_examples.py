@@ -9,12 +9,13 @@ conversation: one process `PATH db 1 1 1 -`, which has no document at first. An 
 is laid out otherwise, is a fault. Prints each difference; the last line is 'N passed, M failed', and the exit status is 0 where M
 is 0.
 """
-import argparse
 import re
 import subprocess
 import sys
 from dataclasses import dataclass
 from pathlib import Path
+
+from common.arguments import arguments
 
 SECONDS = 60
 TOP = Path(__file__).resolve().parent.parent
@@ -120,16 +121,13 @@ def tried(program, name, examples):
 
 
 def main():
-    parser = argparse.ArgumentParser()
-    parser.add_argument("--program", required=True, type=Path)
-    parser.add_argument("--document", type=Path, nargs="+", default=[TOP / "docs" / "REFERENCE.md", TOP / "tests" / "requests.md"])
-    options = parser.parse_args()
+    words = arguments(__doc__, document=[TOP / "docs" / "REFERENCE.md", TOP / "tests" / "requests.md"])
     passed = failed = 0
-    for document in options.document:
+    for document in words.document:
         text = document.read_text(encoding="utf-8")
         named, sent = text.count("```http-request"), 0
         for heading, examples in sections_of(text):
-            wrong = tried(options.program.resolve(), f"{document.name}, {heading}", examples)
+            wrong = tried(words.program, f"{document.name}, {heading}", examples)
             failed += wrong
             passed += len(examples) - wrong
             sent += len(examples)

@@ -7,7 +7,6 @@ The program speaks over its standard input and output. For each connection that 
 `PATH db SHARDS 1 1 -` is started whose standard input and output are that connection. How each process ends is compared too. It needs
 `curl`. Prints each fault; the last line is 'N passed, M failed'.
 """
-import argparse
 import http.client
 import json
 import socket
@@ -16,6 +15,7 @@ import sys
 import threading
 import time
 
+from common.arguments import arguments
 from common.tally import Tally
 
 SECONDS = 30
@@ -139,11 +139,8 @@ def curl_client(bridge, tally):
 
 
 def main():
-    words = argparse.ArgumentParser(description=__doc__.split("\n")[0])
-    words.add_argument("--program", required=True)
-    words.add_argument("--shards", default="2")
-    args = words.parse_args()
-    bridge, tally = Bridge(args.program, args.shards), Tally()
+    words = arguments(__doc__, shards="2")
+    bridge, tally = Bridge(words.program, words.shards), Tally()
     python_client(bridge, tally)
     answered_before_more_is_sent(bridge, tally)
     byte_by_byte(bridge, tally)

@@ -7,7 +7,6 @@ The imitation, tests/imitation/front.py, stands in front of a second program and
 nothing else; then each run plants one more difference, which has to be found. The names of differences are those of the reference.
 The last line is 'N passed, M failed'.
 """
-import argparse
 import contextlib
 import http.client
 import importlib.util
@@ -17,7 +16,8 @@ import sys
 import tempfile
 from pathlib import Path
 
-from common.server import listening
+from common.arguments import arguments
+from common.server import Setting, listening
 from common.tally import Tally
 from imitation.front import Front, serving
 
@@ -39,7 +39,7 @@ def example():
 def two(program):
     """The ports of two programs."""
     with contextlib.ExitStack() as stack:
-        yield [stack.enter_context(listening(argparse.Namespace(program=program, shards=shards, workers=1), 4)) for shards in (1, 5)]
+        yield [stack.enter_context(listening(Setting(program, shards, 1), 4)) for shards in (1, 5)]
 
 
 def ran(*args):
@@ -170,9 +170,7 @@ def check_databases(tally, program):
 
 
 def main():
-    parser = argparse.ArgumentParser(description=__doc__.split("\n")[0])
-    parser.add_argument("--program", required=True, type=Path)
-    program, tally, module = parser.parse_args().program.resolve(), Tally(), example()
+    program, tally, module = arguments(__doc__).program, Tally(), example()
     rows = REFERENCE.read_text(encoding="utf-8")
     for name in sorted({request.named.name for request in module.requests() if request.named}):
         tally.expect(f"the row of the reference: {name}", f"| {name} |" in rows, True)
@@ -180,8 +178,7 @@ def main():
     check_databases(tally, program)
     with tempfile.TemporaryDirectory() as folder:
         check_own_requests(tally, program, Path(folder))
-    print(f"{tally.passed} passed, {tally.failed} failed")
-    sys.exit(tally.failed > 0)
+    sys.exit(tally.end())
 
 
 if __name__ == "__main__":

@@ -25,7 +25,6 @@ A line that begins with a blank goes on with the line before it; `#` and a blank
 conversations and of files. Prints each fault; a conversation passes or fails as one in all its runs. The last line is 'N passed,
 M failed', and the exit status is 0 where M is 0.
 """
-import argparse
 import itertools
 import json
 import re
@@ -34,6 +33,7 @@ import sys
 from dataclasses import dataclass, field
 from pathlib import Path
 
+from common.arguments import arguments
 from common.tally import Tally
 
 SECONDS = 60
@@ -323,21 +323,15 @@ def numbers(text):
 
 
 def main():
-    parser = argparse.ArgumentParser()
-    parser.add_argument("--program", required=True, type=Path)
-    parser.add_argument("--shards", type=numbers, default=[1, 2, 7, 64])
-    parser.add_argument("--workers", type=numbers, default=[1, 2, 32])
-    parser.add_argument("--reshards", type=numbers, nargs="*", default=[[3], [64, 1, 3]])
-    parser.add_argument("--only", nargs="+", default=[])
-    parser.add_argument("--folder", type=Path, default=Path(__file__).resolve().parent / "conversations")
-    options = parser.parse_args()
+    folder = Path(__file__).resolve().parent / "conversations"
+    words = arguments(__doc__, shards="1,2,7,64", workers="1,2,32", reshards=["3", "64,1,3"], only=[], folder=folder)
     tally = Tally()
-    settings = list(itertools.product(options.shards, options.workers, [(), *options.reshards]))
-    for conversation in chosen(options.folder, options.only):
+    settings = list(itertools.product(numbers(words.shards), numbers(words.workers), [(), *map(numbers, words.reshards)]))
+    for conversation in chosen(words.folder, words.only):
         faults = []
         for shards, workers, reshards in settings:
             where = f"{shards} shards, {workers} workers, reshards {list(reshards)}"
-            for place, fault in run(options.program.resolve(), conversation, shards, workers, reshards):
+            for place, fault in run(words.program, conversation, shards, workers, reshards):
                 faults.append(f"\n  line {place}, {where}: {fault}")
         tally.count(f"{conversation.file.name}: {conversation.name}", faults)
     print(f"each conversation on {len(settings)} settings (numbers of shards and of workers, reshards between the messages or none):")

@@ -8,7 +8,6 @@ less, that is printed: then, or for a change that is worth its cost, `bench/miss
 anew. The counts are those of valgrind, which hardly depend on the machine; the documents, requests and numbers of shards are those that
 the file names. Each reply is compared with the answer that the documents give. The last line is 'N passed, M failed'.
 """
-import argparse
 import json
 import sys
 from pathlib import Path
@@ -16,6 +15,7 @@ from pathlib import Path
 TOP = Path(__file__).resolve().parent.parent
 sys.path.insert(0, str(TOP / "bench"))
 
+from common.arguments import arguments
 from common.tally import Tally
 from measuring.counted import of_sizes
 
@@ -31,10 +31,7 @@ def compare(tally, name, counted, kept):
 
 
 def main():
-    parser = argparse.ArgumentParser(description=__doc__, formatter_class=argparse.RawDescriptionHelpFormatter)
-    parser.add_argument("--program", required=True)
-    parser.add_argument("--counts", default=TOP / "bench" / "counts.json")
-    words = parser.parse_args()
+    words = arguments(__doc__, counts=TOP / "bench" / "counts.json")
     tally = Tally()
     with open(words.counts) as file:
         kept = json.load(file)

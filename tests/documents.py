@@ -1,7 +1,7 @@
 #!/usr/bin/env python3
 """Checks that what README.md and docs/*.md name is there: files, links and crates; and the table of crates.
 
-usage: documents.py [--program PATH] [--top FOLDER]
+usage: documents.py --program PATH [--top FOLDER]
 
 - A path that begins with a file or folder of the top of the repository (docs/MODEL.md, tests/*.py) is there. What a check makes, in
   out/, is left out. A path that begins with a folder of crates (src/leaf.rt, specs/Lib.antt) is there in some crate, and a name of a
@@ -11,11 +11,11 @@ usage: documents.py [--program PATH] [--top FOLDER]
 - The table of crates in docs/INTERNALS.md has the crates of crates.txt in their order, each with the same libraries.
 The program is not run. Prints each fault; a document passes or fails as one. The last line is 'N passed, M failed'.
 """
-import argparse
 import re
 import sys
 from pathlib import Path
 
+from common.arguments import arguments
 from common.tally import Tally
 
 TOP = Path(__file__).resolve().parent.parent
@@ -97,10 +97,7 @@ def table_faults(crates, table):
 
 
 def main():
-    parser = argparse.ArgumentParser(description=__doc__.split("\n")[0])
-    parser.add_argument("--program")
-    parser.add_argument("--top", type=Path, default=TOP)
-    words, tally = parser.parse_args(), Tally()
+    words, tally = arguments(__doc__, top=TOP), Tally()
     top, readme, internals = words.top, words.top / "README.md", words.top / "docs" / "INTERNALS.md"
     crates = crates_of((top / "crates.txt").read_text(encoding="utf-8"))
     documents = sorted((top / "docs").glob("*.md"))

@@ -7,13 +7,13 @@ The texts were written from the rules, and not by the program: orders and refusa
 MD5 of the text `[deleted, parent, body]`. Each example is run on new servers with 1, 4 and 64 shards, and passes or fails as one. The
 report needs `curl`. The last line is 'N passed, M failed'.
 """
-import argparse
 import contextlib
 import subprocess
 import sys
 from pathlib import Path
 
-from common.server import listening
+from common.arguments import arguments
+from common.server import Setting, listening
 from common.tally import Tally
 
 SECONDS = 60
@@ -28,24 +28,20 @@ SHARDS = (1, 4, 64)
 def printed(program, example, servers, shards):
     """The status of an example, and what it prints, with that many servers of so many shards."""
     with contextlib.ExitStack() as stack:
-        settings = argparse.Namespace(program=program, shards=shards, workers=2)
-        ports = [stack.enter_context(listening(settings, 4)) for _ in range(servers)]
+        ports = [stack.enter_context(listening(Setting(program, shards, 2), 4)) for _ in range(servers)]
         urls = [f"http://127.0.0.1:{port}/db" for port in ports]
         done = subprocess.run([TOP / "examples" / example, *urls], capture_output=True, text=True, timeout=SECONDS)
     return done.returncode, done.stdout, done.stderr
 
 
 def main():
-    parser = argparse.ArgumentParser(description=__doc__.split("\n")[0])
-    parser.add_argument("--program", required=True, type=Path)
-    words = parser.parse_args()
-    tally = Tally()
+    words, tally = arguments(__doc__), Tally()
     tally.expect("the examples", sorted(file.name for file in (TOP / "examples").iterdir() if file.is_file()), sorted([*EXAMPLES, *ELSEWHERE]))
     for example, servers in EXAMPLES.items():
         if example == "report.sh" and not tally.needs("curl"):
             continue
         wanted = (TOP / "tests" / "examples" / example).with_suffix(".txt").read_text(encoding="utf-8")
-        found = {shards: printed(words.program.resolve(), example, servers, shards) for shards in SHARDS}
+        found = {shards: printed(words.program, example, servers, shards) for shards in SHARDS}
         tally.expect(example, found, dict.fromkeys(SHARDS, (0, wanted, "")))
     print(f"each example on {len(SHARDS)} numbers of shards:")
     sys.exit(tally.end())

@@ -7,7 +7,6 @@ No CouchDB can be had where this runs: tests/imitation/couchdb.py was written fr
 to be what the imitation would serve, winners and conflicts included; and of each document that the dry run lists, or does not list,
 the program itself says whether it can be written. The last line is 'N passed, M failed'.
 """
-import argparse
 import contextlib
 import http.client
 import json
@@ -19,7 +18,8 @@ import time
 import urllib.parse
 from pathlib import Path
 
-from common.server import listening
+from common.arguments import arguments
+from common.server import Setting, listening
 from common.tally import Tally
 from imitation.couchdb import Source, serving
 
@@ -56,7 +56,7 @@ class Target:
 
 @contextlib.contextmanager
 def fresh(program, sessions=4):
-    with listening(argparse.Namespace(program=program, shards=3, workers=2), sessions) as port:
+    with listening(Setting(program, 3, 2), sessions) as port:
         yield Target(port)
 
 
@@ -252,19 +252,15 @@ def large_bulks(tally, program):
 
 
 def main():
-    parser = argparse.ArgumentParser(description=__doc__.split("\n")[0])
-    parser.add_argument("--program", required=True, type=Path)
-    parser.add_argument("--seed", type=int, default=1)
-    args = parser.parse_args()
-    program, tally, choice = args.program.resolve(), Tally(), random.Random(args.seed)
+    words = arguments(__doc__, seed=1)
+    program, tally, choice = words.program, Tally(), random.Random(words.seed)
     with tempfile.TemporaryDirectory() as folder:
         brought(tally, program, Path(folder), choice)
         followed(tally, program, Path(folder), choice)
     listed(tally, program)
     left_out(tally, program)
     large_bulks(tally, program)
-    print(f"{tally.passed} passed, {tally.failed} failed")
-    sys.exit(tally.failed > 0)
+    sys.exit(tally.end())
 
 
 if __name__ == "__main__":

@@ -9,13 +9,13 @@ them. The model (the folder model/) keeps the revisions of each document and no 
 and a page by sorting all documents in the order of CouchDB's collation. One process `PATH db SHARDS WORKERS 1 -` for each seed, number of
 shards and number of workers; a seed passes or fails as one. Prints the first reply that differs; the last line is 'N passed, M failed'.
 """
-import argparse
 import itertools
 import random
 import subprocess
 import sys
 from urllib.parse import quote
 
+from common.arguments import arguments
 from common.tally import Tally
 from conversations import PHRASES
 from model.documents import Document, text_of
@@ -222,19 +222,13 @@ def fault(program, talk, shards, workers):
 
 
 def main():
-    words = argparse.ArgumentParser(description=__doc__.split("\n")[0])
-    words.add_argument("--program", required=True)
-    words.add_argument("--shards", default="1,2,7,64")
-    words.add_argument("--workers", default="1,2")
-    words.add_argument("--seeds", default="1,2,3,4")
-    words.add_argument("--edits", type=int, default=1500)
-    args = words.parse_args()
+    words = arguments(__doc__, shards="1,2,7,64", workers="1,2", seeds="1,2,3,4", edits=1500)
     tally = Tally()
-    settings = list(itertools.product(args.shards.split(","), args.workers.split(",")))
-    for seed in args.seeds.split(","):
-        talk, faults = Talk(int(seed), args.edits), []
+    settings = list(itertools.product(words.shards.split(","), words.workers.split(",")))
+    for seed in words.seeds.split(","):
+        talk, faults = Talk(int(seed), words.edits), []
         for shards, workers in settings:
-            found = fault(args.program, talk, shards, workers)
+            found = fault(words.program, talk, shards, workers)
             faults += [f"\n  {shards} shards, {workers} workers, {found}"] if found else []
         tally.count(f"seed {seed}, {len(talk.exchanges)} messages", faults)
     print(f"each conversation on {len(settings)} pairs of shards and workers:")

@@ -10,7 +10,6 @@ refused. At a random moment the proxy, the program or both are killed, and the p
   replies to the same requests as the proxy.
 A write that was sent and not answered may be in the file or not. The last line is 'N passed, M failed'.
 """
-import argparse
 import json
 import os
 import random
@@ -22,8 +21,9 @@ import threading
 import time
 from pathlib import Path
 
+from common.arguments import arguments
 from common.proxy import Proxy, message, status_of
-from common.server import listening
+from common.server import Setting, listening
 from common.tally import Tally
 from common.wire import Wire
 
@@ -179,20 +179,15 @@ def check_replies(tally, name, clients, writes, wire):
 
 
 def main():
-    parser = argparse.ArgumentParser(description=__doc__.split("\n")[0])
-    parser.add_argument("--program", required=True, type=Path)
-    parser.add_argument("--seed", type=int, default=1)
-    parser.add_argument("--rounds", type=int, default=6)
-    args = parser.parse_args()
-    program, tally, done, accepted = args.program.resolve(), Tally(), 0, 0
-    settings = argparse.Namespace(program=program, shards=1, workers=1)
-    with tempfile.TemporaryDirectory() as folder, listening(settings, 1) as port:
+    words = arguments(__doc__, seed=1, rounds=6)
+    program, tally, done, accepted = words.program, Tally(), 0, 0
+    with tempfile.TemporaryDirectory() as folder, listening(Setting(program, 1, 1), 1) as port:
         file = Path(folder) / "journal"
-        for turn in range(args.rounds):
+        for turn in range(words.rounds):
             victim = list(ENDS)[turn % 3]
-            name = f"seed {args.seed}, round {turn}, {victim} killed"
+            name = f"seed {words.seed}, round {turn}, {victim} killed"
             with Proxy(program, file) as proxy:
-                clients, ending, ended = killed(proxy, victim, f"{args.seed}-{turn}", turn * CLIENTS)
+                clients, ending, ended = killed(proxy, victim, f"{words.seed}-{turn}", turn * CLIENTS)
             tally.expect(f"{name}: the proxy's end {ending}", ending in ENDS[victim], True)
             tally.expect(f"{name}: the program ended with the proxy", ended, True)
             with Proxy(program, file) as proxy:
@@ -204,10 +199,9 @@ def main():
                 through.close()
                 wire.close()
                 tally.expect(f"{name}: the proxy is stopped", proxy.stop(), 0)
-    tally.expect("there were writes", accepted > args.rounds, True)
+    tally.expect("there were writes", accepted > words.rounds, True)
     print(f"{accepted} writes were accepted, {done} are in the journal")
-    print(f"{tally.passed} passed, {tally.failed} failed")
-    sys.exit(tally.failed > 0)
+    sys.exit(tally.end())
 
 
 if __name__ == "__main__":

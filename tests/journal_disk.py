@@ -7,7 +7,6 @@ Some checks open the file by the functions of examples/journal_file.py, as the p
 tried; the others start the proxy. Without a C compiler the check of `out_of_memory` is left out, and a line says so. The last line
 is 'N passed, M failed'.
 """
-import argparse
 import contextlib
 import io
 import json
@@ -18,6 +17,7 @@ import tempfile
 import time
 from pathlib import Path
 
+from common.arguments import arguments
 from common.proxy import EXAMPLES, Proxy, message, status_of
 from common.refusal import refusals
 from common.tally import Tally
@@ -249,9 +249,7 @@ def out_of_memory(tally, program, folder):
 
 
 def main():
-    parser = argparse.ArgumentParser(description=__doc__.split("\n")[0])
-    parser.add_argument("--program", required=True, type=Path)
-    program, tally = parser.parse_args().program.resolve(), Tally()
+    program, tally = arguments(__doc__).program, Tally()
     with tempfile.TemporaryDirectory() as name:
         folder = Path(name)
         torn_tails(tally, folder / "journal")
@@ -262,8 +260,7 @@ def main():
         answers_wait(tally, program, folder)
         full_disk(tally, program, folder)
         out_of_memory(tally, program, folder)
-    print(f"{tally.passed} passed, {tally.failed} failed")
-    sys.exit(tally.failed > 0)
+    sys.exit(tally.end())
 
 
 if __name__ == "__main__":

@@ -7,13 +7,13 @@ Both get the same messages in the same order, each at a connection of its own, s
 those that the proxy refuses where the program does not, or with another refusal, as journal.py says at its head; their replies
 are written out here. The last line is 'N passed, M failed'.
 """
-import argparse
 import sys
 import tempfile
 from pathlib import Path
 
+from common.arguments import arguments
 from common.proxy import Proxy, message, status_of
-from common.server import listening
+from common.server import Setting, listening
 from common.tally import Tally
 from common.wire import Wire
 
@@ -80,11 +80,8 @@ def replies(port, data):
 
 
 def main():
-    parser = argparse.ArgumentParser(description=__doc__.split("\n")[0])
-    parser.add_argument("--program", required=True, type=Path)
-    program, tally = parser.parse_args().program.resolve(), Tally()
-    settings = argparse.Namespace(program=program, shards=2, workers=2)
-    with tempfile.TemporaryDirectory() as folder, listening(settings, 2) as port:
+    program, tally = arguments(__doc__).program, Tally()
+    with tempfile.TemporaryDirectory() as folder, listening(Setting(program, 2, 2), 2) as port:
         file = Path(folder) / "journal"
         with Proxy(program, file) as proxy:
             for name, data in SAME.items():
@@ -97,8 +94,7 @@ def main():
             for name in ("several at once", "an escaped name of the database", "a page of the whole"):
                 tally.expect(f"{name}, after a start", replies(proxy.port, SAME[name]), replies(port, SAME[name]))
             tally.expect("the proxy is stopped", proxy.stop(), 0)
-    print(f"{tally.passed} passed, {tally.failed} failed")
-    sys.exit(tally.failed > 0)
+    sys.exit(tally.end())
 
 
 if __name__ == "__main__":

@@ -1,7 +1,7 @@
 #!/usr/bin/env python3
 """Compares docs/openapi.json with the reference and with every request and reply that the other tests expect.
 
-usage: openapi.py --program PATH
+usage: openapi.py --program PATH [--document FILE]
 
 - the routes and the refusals of docs/openapi.json are those of the tables of the reference, no more and no fewer;
 - each example of the reference, of tests/sessions and of tests/conversations: its path, method and status are in the document, and
@@ -11,13 +11,13 @@ usage: openapi.py --program PATH
 The replies themselves are compared with those of the program by other scripts, so the program is not started. The validator is
 tests/common/schema.py. The last line is 'N passed, M failed'.
 """
-import argparse
 import json
 import re
 import sys
 from pathlib import Path
 
 from api_examples import sections_of
+from common.arguments import arguments
 from common.schema import Schemas
 from common.tally import Tally
 
@@ -196,13 +196,10 @@ def refusals_of(surface):
 
 
 def main():
-    parser = argparse.ArgumentParser(description=__doc__.split("\n")[0])
-    parser.add_argument("--program", help="ignored")
-    parser.add_argument("--document", type=Path, default=TOP / "docs" / "openapi.json")
-    args = parser.parse_args()
+    words = arguments(__doc__, document=TOP / "docs" / "openapi.json")
     sys.setrecursionlimit(20_000)  # texts nest 127 deep, and a schema takes several calls a level
     tally, text = Tally(), REFERENCE.read_text(encoding="utf-8")
-    surface = Surface(json.loads(args.document.read_text(encoding="utf-8")))
+    surface = Surface(json.loads(words.document.read_text(encoding="utf-8")))
     check_document(tally, surface, text)
     counts = []
     for where, examples in ((REFERENCE.name, reference_examples(text)), ("sessions", session_examples()), ("conversations", conversation_examples())):
@@ -211,8 +208,7 @@ def main():
             check_example(tally, surface, where, example)
         counts.append(tally.passed + tally.failed - before)
     tally.expect("checks of the reference, the sessions and the conversations", [count > 50 for count in counts], [True] * 3)
-    print(f"{tally.passed} passed, {tally.failed} failed")
-    sys.exit(tally.failed > 0)
+    sys.exit(tally.end())
 
 
 if __name__ == "__main__":

@@ -9,13 +9,13 @@ has to be the `text` blocks, joined. The program's path and port are put in thei
 bytes of crates/mangod/stdout. It needs `rt`, and takes two and a half minutes of processor time. The last line is
 'N passed, M failed'.
 """
-import argparse
 import re
 import socket
 import subprocess
 import sys
 from pathlib import Path
 
+from common.arguments import arguments
 from common.tally import Tally
 
 SECONDS = 60
@@ -50,10 +50,7 @@ PARTS = {"conversation": (conversation, "curl"), "command": (command, "rt")}
 
 
 def main():
-    parser = argparse.ArgumentParser(description=__doc__.split("\n")[0])
-    parser.add_argument("--program", required=True, type=lambda path: Path(path).resolve())
-    parser.add_argument("--part", choices=PARTS, default="conversation")
-    words, tally = parser.parse_args(), Tally()
+    words, tally = arguments(__doc__, part="conversation"), Tally()
     part, needed = PARTS[words.part]
     if tally.needs(needed):
         part((TOP / "README.md").read_text(encoding="utf-8"), words.program, tally)

@@ -13,12 +13,12 @@ A reply is [STATUS, BODY] or [STATUS, BODY, "silent"], which leaves out the body
 One process `PATH db SHARDS WORKERS 1 -` a conversation and number of shards, and one with the first of these for each front of its bytes;
 a conversation passes or fails as one. Prints each fault; the last line is 'N passed, M failed'.
 """
-import argparse
 import json
 import subprocess
 import sys
 from pathlib import Path
 
+from common.arguments import arguments
 from common.tally import Tally
 from conversations import PHRASES
 
@@ -78,22 +78,16 @@ def cases_of(conversation):
 
 
 def main():
-    words = argparse.ArgumentParser(description=__doc__.split("\n")[0])
-    words.add_argument("--program", required=True)
-    words.add_argument("--data", type=Path, default=Path(__file__).parent / "sessions")
-    words.add_argument("--shards", default="1,2,7,64")
-    words.add_argument("--workers", default="1")
-    words.add_argument("--only", nargs="*", default=[])
-    args = words.parse_args()
-    tally, numbers, runs = Tally(), args.shards.split(","), 0
-    for file in sorted(args.data.glob("*.json")):
+    words = arguments(__doc__, data=Path(__file__).parent / "sessions", shards="1,2,7,64", workers="1", only=[])
+    tally, numbers, runs = Tally(), words.shards.split(","), 0
+    for file in sorted(words.data.glob("*.json")):
         for conversation in json.loads(file.read_text()):
-            if args.only and conversation["name"] not in args.only:
+            if words.only and conversation["name"] not in words.only:
                 continue
             faults = []
             for name, data, text, end in cases_of(conversation):
                 for shards in numbers if name == conversation["name"] else numbers[:1]:
-                    found, runs = fault(run(args.program, shards, args.workers, data), (text, end)), runs + 1
+                    found, runs = fault(run(words.program, shards, words.workers, data), (text, end)), runs + 1
                     faults += [f"\n  {name}, {shards} shards: {found}"] if found else []
             tally.count(f"{file.name}: {conversation['name']}", faults)
     print(f"each conversation on {len(numbers)} numbers of shards, and cut, in {runs} runs:")

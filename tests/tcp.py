@@ -7,7 +7,6 @@ The program listens on a free port of 127.0.0.1. Each message and each reply is 
 line is 'N passed, M failed'. It needs `curl`. Only with --full is it waited for that a message and a reply run out of their 60
 seconds.
 """
-import argparse
 import concurrent.futures
 import http.client
 import signal
@@ -17,6 +16,7 @@ import sys
 import threading
 import time
 
+from common.arguments import arguments
 from common.server import listening, started
 from common.tally import Tally
 from common.wire import Client, asks, connect, is_closed, read, reset
@@ -379,12 +379,7 @@ CONVERSATIONS = [(1, [one_after_another, cut_messages, a_client_that_pauses, pau
 
 
 def main():
-    parser = argparse.ArgumentParser(description=__doc__.split("\n")[0])
-    parser.add_argument("--program", required=True)
-    parser.add_argument("--shards", type=int, default=7)
-    parser.add_argument("--workers", type=int, default=2)
-    parser.add_argument("--full", action="store_true")
-    words = parser.parse_args()
+    words = arguments(__doc__, shards=7, workers=2)
     tally = Tally()
     for sessions, parts in CONVERSATIONS:
         with listening(words, sessions) as port:

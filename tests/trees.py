@@ -9,14 +9,13 @@ the higher position, then the greater id. At the end an edit of each known revis
 One process `PATH db SHARDS 1 1 -` for each number of shards; a document passes or fails as one. Prints the first reply that differs of
 each document; the last line is 'N passed, M failed'.
 """
-import argparse
 import hashlib
 import itertools
 import json
 import subprocess
 import sys
-from pathlib import Path
 
+from common.arguments import arguments
 from common.tally import Tally
 from conversations import replies_in
 
@@ -126,15 +125,12 @@ def fault_of(talk, replies):
 
 
 def main():
-    parser = argparse.ArgumentParser()
-    parser.add_argument("--program", required=True, type=Path)
-    parser.add_argument("--shards", default="1,7")
-    options = parser.parse_args()
+    words = arguments(__doc__, shards="1,7")
     talks = [list(talk_of(f"d{place}", paths)) for place, paths in enumerate(itertools.product(PATHS, repeat=3))]
     given = "".join(message for talk in talks for message, _ in talk).encode()
-    tally, faults, numbers = Tally(), [[] for _ in talks], options.shards.split(",")
+    tally, faults, numbers = Tally(), [[] for _ in talks], words.shards.split(",")
     for shards in numbers:
-        call = [options.program.resolve(), "db", shards, "1", "1", "-"]
+        call = [words.program, "db", shards, "1", "1", "-"]
         done = subprocess.run(call, input=given, capture_output=True, timeout=SECONDS)
         replies, left = replies_in(done.stdout)
         tally.expect(f"{shards} shards: the end", (len(replies), left, done.returncode, done.stderr), (sum(map(len, talks)), b"", 0, b""))

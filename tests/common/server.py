@@ -1,9 +1,18 @@
 """Programs that a test has started, which listen on a free port of 127.0.0.1."""
 import contextlib
+import dataclasses
 import resource
 import socket
 import subprocess
 import sys
+
+
+@dataclasses.dataclass(frozen=True)
+class Setting:
+    """Which program is started, with how many shards and workers."""
+    program: str
+    shards: int
+    workers: int
 
 
 def free_port():
