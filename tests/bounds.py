@@ -111,8 +111,8 @@ def compare(program, shape, small, times, tally):
     tally.expect(f"{shape.name}: right replies", found is not None, True)
     if found:
         (one, little), (other, much) = found
-        print(f"{shape.name}: {small} in {one:.2f} s and {little / 2**20:.0f} MiB, {small * times} in {other:.2f} s and {much / 2**20:.0f} MiB"
-              f"{f', {rounds} processes' if rounds > 1 else ''}", flush=True)
+        print(f"{shape.name}: {small} in {one:.2f} s and {little / 2**20:.0f} MiB, {small * times} in {other:.2f} s and {much / 2**20:.0f} MiB:"
+              f" {other / one:.1f} times the time, {much / little:.1f} times the memory{f', {rounds} processes' if rounds > 1 else ''}", flush=True)
         tally.expect(f"{shape.name}: time", other <= share * one, True)
         tally.expect(f"{shape.name}: memory", much - ROOM <= share * (little + ROOM), True)
 
