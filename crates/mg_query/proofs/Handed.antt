@@ -10,7 +10,7 @@ use Rattle.mg_value.specs.Value.{item_list}
 use Rattle.mg_collate.specs.declared.direction.Direction.{Direction}
 use Rattle.mg_collate.specs.declared.row.Row.{Row}
 use Rattle.mg_collate.specs.Row.{RowValue, directed_order, row_view}
-use Rattle.mg_collate.specs.Sorted.{IsInOrder, inserted, sorted, sorted_rows}
+use Rattle.mg_collate.specs.Sorted.{IsInOrder, sorted_with, sorted, sorted_rows}
 use Rattle.mg_bookmark.specs.Bookmark.{Place}
 use Rattle.mg_index.specs.Choice.{Source, is_usable}
 use Rattle.mg_index.specs.Definition.{IndexDefinition, Steps}
@@ -56,9 +56,9 @@ either : {X : Type 0} (b : Bool) (xs ys : List X) (n : ℕ) → length xs ≡ n 
 either true xs ys n p q = p
 either false xs ys n p q = q
 
-length_inserted : {X : Type 0} (order : X → X → Ordering) (x : X) (ys : List X) → length (inserted order x ys) ≡ suc (length ys)
+length_inserted : {X : Type 0} (order : X → X → Ordering) (x : X) (ys : List X) → length (sorted_with order x ys) ≡ suc (length ys)
 length_inserted order x [] = refl
-length_inserted order x (y ∷ ys) = either (is_gt (order x y)) (y ∷ inserted order x ys) (x ∷ y ∷ ys) (suc (suc (length ys))) (ap suc (length_inserted order x ys)) refl
+length_inserted order x (y ∷ ys) = either (is_gt (order x y)) (y ∷ sorted_with order x ys) (x ∷ y ∷ ys) (suc (suc (length ys))) (ap suc (length_inserted order x ys)) refl
 
 length_sorted : {X : Type 0} (order : X → X → Ordering) (xs : List X) → length (sorted order xs) ≡ length xs
 length_sorted order [] = refl
