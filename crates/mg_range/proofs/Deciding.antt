@@ -10,7 +10,7 @@ use Rattle.mg_normal.specs.View.{form_of}
 use Rattle.mg_normal.specs.declared.form.Form.{Form}
 use Rattle.mg_index.specs.Bound.{bound_on, is_fixed}
 use Rattle.mg_index.specs.Definition.{Steps}
-use Rattle.mg_index.specs.Reading.{each_of}
+use Rattle.mg_index.specs.Key.{key_of}
 use Rattle.mg_range.proofs.Bounded.{bounds_hold}
 use Rattle.mg_range.proofs.Contained.{contained}
 use Rattle.mg_range.proofs.Limits.{and_true, four}
@@ -74,7 +74,7 @@ parts (Some w) (Some ws) key e = record { first = w; more = ws; is_first = refl;
 key_length : (columns : List Steps) (v : Value) (key : List Value) → HasKey columns v key → length key ≡ length columns
 key_length [] v key e = let e : [] ≡ key = cc e in ap length (sym e)
 key_length (c ∷ cs) v key e =
-    let p = parts (part_of c v) (each_of (λ d. part_of d v) cs) key e in
+    let p = parts (part_of c v) (key_of cs v) key e in
     ap length p.is ∙ ap suc (key_length cs v p.more p.is_more)
 
 in_both : (b f d h : Bool) → (not (b || (f && d)) || h) ≡ ((not b || h) && cond f (not d || h) true)
@@ -94,7 +94,7 @@ decided_hold : (atoms : List Atom) (columns : List Steps) (v : Value) (key : Lis
     → list_all (λ a. not (is_decided atoms columns a) || atom_holds (Some v) a) atoms ≡ in_range atoms columns key
 decided_hold atoms [] v key e = all_true atoms
 decided_hold atoms (c ∷ cs) v key e =
-    let p = parts (part_of c v) (each_of (λ d. part_of d v) cs) key e in
+    let p = parts (part_of c v) (key_of cs v) key e in
     let bounds = λ (a : Atom). is_some (bound_on c a) in
     let fixed = is_fixed atoms c in
     let decided = is_decided atoms cs in

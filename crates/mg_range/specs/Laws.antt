@@ -14,7 +14,7 @@ use Rattle.mg_normal.specs.Atoms.{Atom, atoms_of}
 use Rattle.mg_normal.specs.Normal.{NormalForm, IsNormalOf, all_hold, normal_atoms, normal_holds}
 use Rattle.mg_index.specs.Choice.{is_usable, id_path, rev_path}
 use Rattle.mg_index.specs.Definition.{Steps}
-use Rattle.mg_index.specs.Reading.{each_of}
+use Rattle.mg_index.specs.Key.{key_of}
 use Rattle.mg_range.specs.Decided.{decides_of, undecided}
 use Rattle.mg_range.specs.Place.{has_key, place_of, place_rank}
 use Rattle.mg_range.specs.Range.{Range, in_range, range_of}
@@ -23,9 +23,9 @@ use Rattle.mg_range.specs.Range.{Range, in_range, range_of}
 abbrev pub Has : Value → Steps → Type 0
 Has v path = IsSome (part_of path v)
 
--- the document's key: the values of its columns, in a document that has them all
+-- the document has each column, and this is its key
 abbrev pub HasKey : List Steps → Value → List Value → Type 0
-HasKey columns v key = each_of (λ c. part_of c v) columns ≡ Some key
+HasKey columns v key = key_of columns v ≡ Some key
 
 -- where an index is usable for a selector and a sort, and a document has `_id`, `_rev` and every path of the sort, and the selector
 -- holds of it, then no column is missing in the document, and what stands there is a key of the range

@@ -24,7 +24,7 @@ use Rattle.mg_scan.proofs.Sources.{source_rows}
 use Rattle.mg_scan.proofs.Walking.{all_found_rows, named_id}
 use Rattle.mg_shard.specs.Documents.{KeptDocuments, docs_of, form_at}
 use Rattle.mg_shard.specs.Histories.{ServedDocument}
-use Rattle.mg_shard.specs.Rows.{key_of, row_of, rows_of}
+use Rattle.mg_shard.specs.Rows.{row_key, row_of, rows_of}
 use Rattle.mg_shard.specs.Shard.{ShardView}
 use Rattle.mg_shard.specs.Walk.{beyond}
 
@@ -81,7 +81,7 @@ served_rows : (columns : List Steps) (ds : KeptDocuments) (docs : List ServedDoc
 served_rows columns ds [] h = tt
 served_rows columns ds (d ∷ docs) h =
     served_step ds (row_of columns d) (filter_map (row_of columns) docs)
-    (λ r e. ap (λ id. is_some (form_at ds id)) (named_id d.0 (key_of columns d.1) r e) ∙ ap is_some h.0) (served_rows columns ds docs h.1)
+    (λ r e. ap (λ id. is_some (form_at ds id)) (named_id d.0 (row_key columns d.1) r e) ∙ ap is_some h.0) (served_rows columns ds docs h.1)
 
 -- the rows of an index are of served documents
 pub served_begun : (s : Search) (ds : KeptDocuments) (columns : List Steps) (rows : List RowValue) → rows ≡ beyond s.direction (begin_at s) (rows_of columns (docs_of ds)) → AreServed ds rows
