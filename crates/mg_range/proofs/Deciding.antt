@@ -5,9 +5,8 @@ use Rattle.std.specs.List.{cons_option, filter, filter_map, list_all}
 use Rattle.mg_value.specs.Value.{Value}
 use Rattle.mg_path.specs.Part.{part_of}
 use Rattle.mg_normal.specs.Atoms.{Atom, atom_holds}
-use Rattle.mg_normal.specs.Normal.{NormalForm, all_hold, normal_atoms, normal_holds, rest_holds}
-use Rattle.mg_normal.specs.View.{form_of}
-use Rattle.mg_normal.specs.declared.form.Form.{Form}
+use Rattle.mg_normal.specs.Form.{Form}
+use Rattle.mg_normal.specs.Normal.{NormalForm, all_hold, normal_holds, rest_holds}
 use Rattle.mg_index.specs.Bound.{bound_on, is_fixed}
 use Rattle.mg_index.specs.Definition.{Steps}
 use Rattle.mg_index.specs.Key.{key_of}
@@ -122,9 +121,9 @@ none_besides (Some x) e = absurd (false≢true (sym e))
 
 pub decides_form : RangeDecidesForm
 decides_form n columns v key none all e =
-    let atoms = normal_atoms n in
+    let atoms = n.atoms in
     let holds = atom_holds (Some v) in
-    ap (λ (o : Option Form). all_hold (Some v) atoms && rest_holds (option_map form_of o) (Some v)) (none_besides n.rest none)
+    ap (λ (o : Option Form). all_hold (Some v) atoms && rest_holds o (Some v)) (none_besides n.rest none)
     ∙ sym (and_true (all_hold (Some v) atoms))
     ∙ decides_atoms atoms columns v key e
     ∙ ap (λ t. has_key (range_of atoms columns) key && t) (left_hold (is_decided atoms columns) holds atoms ∙ none_left (is_decided atoms columns) holds atoms all)
@@ -145,9 +144,9 @@ row_step row in_it d ds rows (Some r) false is same e = ap (λ b. cond b (r ∷ 
 
 -- of documents with rows by their keys, the rows in the range are those of the documents that the form holds of
 pub decides_rows : {D R : Type 0} (served : D → Value) (row : D → Option R) (key : R → List Value) (n : NormalForm) (columns : List Steps) → is_some n.rest ≡ false
-    → decides_of (normal_atoms n) columns ≡ true → ((d : D) (r : R) → row d ≡ Some r → HasKey columns (served d) (key r)) → (ds : List D)
-    → filter (λ r. has_key (range_of (normal_atoms n) columns) (key r)) (filter_map row ds) ≡ filter_map row (filter (λ d. normal_holds n (Some (served d))) ds)
+    → decides_of n.atoms columns ≡ true → ((d : D) (r : R) → row d ≡ Some r → HasKey columns (served d) (key r)) → (ds : List D)
+    → filter (λ r. has_key (range_of n.atoms columns) (key r)) (filter_map row ds) ≡ filter_map row (filter (λ d. normal_holds n (Some (served d))) ds)
 decides_rows served row key n columns none all keyed [] = refl
 decides_rows served row key n columns none all keyed (d ∷ ds) =
-    row_step row (λ r. has_key (range_of (normal_atoms n) columns) (key r)) d (filter (λ x. normal_holds n (Some (served x))) ds) (filter_map row ds) (row d) (normal_holds n (Some (served d))) refl
+    row_step row (λ r. has_key (range_of n.atoms columns) (key r)) d (filter (λ x. normal_holds n (Some (served x))) ds) (filter_map row ds) (row d) (normal_holds n (Some (served d))) refl
     (λ r e. decides_form n columns (served d) (key r) none all (keyed d r e)) (decides_rows served row key n columns none all keyed ds)

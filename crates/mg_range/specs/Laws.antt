@@ -11,7 +11,7 @@ use Rattle.mg_selector.specs.Meaning.{holds_in}
 use Rattle.mg_selector.specs.Selector.{Selector}
 use Rattle.mg_selector.specs.declared.sense.Sense.TheVariants.{Plain}
 use Rattle.mg_normal.specs.Atoms.{Atom, atoms_of}
-use Rattle.mg_normal.specs.Normal.{NormalForm, IsNormalOf, all_hold, normal_atoms, normal_holds}
+use Rattle.mg_normal.specs.Normal.{NormalForm, IsNormalOf, all_hold, normal_holds}
 use Rattle.mg_index.specs.Choice.{is_usable, id_path, rev_path}
 use Rattle.mg_index.specs.Definition.{Steps}
 use Rattle.mg_index.specs.Key.{key_of}
@@ -55,12 +55,12 @@ RangeDecidesAtoms =
 -- so where it decides each atom, and a normal form asks nothing besides atoms, the form holds exactly where it has the key
 abbrev pub RangeDecidesForm : Type 0
 RangeDecidesForm =
-    (n : NormalForm) (columns : List Steps) (v : Value) (key : List Value) → is_some n.rest ≡ false → decides_of (normal_atoms n) columns ≡ true
-    → HasKey columns v key → normal_holds n (Some v) ≡ has_key (range_of (normal_atoms n) columns) key
+    (n : NormalForm) (columns : List Steps) (v : Value) (key : List Value) → is_some n.rest ≡ false → decides_of n.atoms columns ≡ true
+    → HasKey columns v key → normal_holds n (Some v) ≡ has_key (range_of n.atoms columns) key
 
 -- and so does a selector whose normal form it is
 abbrev pub RangeDecides : Type 0
 RangeDecides =
     (s : Selector) (n : NormalForm) (columns : List Steps) (v : Value) (key : List Value) → IsNormalOf s n
-    → is_some n.rest ≡ false → decides_of (normal_atoms n) columns ≡ true → HasKey columns v key
-    → holds_in s Plain (Some v) ≡ has_key (range_of (normal_atoms n) columns) key
+    → is_some n.rest ≡ false → decides_of n.atoms columns ≡ true → HasKey columns v key
+    → holds_in s Plain (Some v) ≡ has_key (range_of n.atoms columns) key
