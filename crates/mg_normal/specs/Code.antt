@@ -4,7 +4,7 @@ use Rattle.std.proofs.Common.{inl, inr, ap, sym, ◌∙◌, append_assoc, append
 use Rattle.std.specs.Coded.{Coded, code_by, coded×, coded⊎, coded_ℕ, coded_list}
 use Rattle.mg_selector.specs.Code.{operator_code}
 use Rattle.mg_selector.specs.Selector.{Operator}
-use Rattle.mg_selector.specs.contracts.sense.Sense as sense
+use Rattle.mg_selector.specs.contracts.sense.Sense as sense_row
 use Rattle.mg_selector.specs.declared.sense.Sense.{Sense}
 use Rattle.mg_normal.specs.Atoms.{Atom}
 use Rattle.mg_normal.specs.Form.{Form, all_of, any_of, within, asked, Forms, no_forms, form}
@@ -12,7 +12,7 @@ use Rattle.mg_normal.specs.Form.{Form, all_of, any_of, within, asked, Forms, no_
 -- the code of an atom
 abbrev pub atom_code : Coded Atom
 atom_code =
-    code_by (List (List ℕ) × (Operator × Sense)) (coded× (coded_list (coded_list coded_ℕ)) (coded× operator_code sense.the_row.coded))
+    code_by (List (List ℕ) × (Operator × Sense)) (coded× (coded_list (coded_list coded_ℕ)) (coded× operator_code sense_row.the_row.coded))
     (λ a. (a.steps, (a.operator, a.sense))) (λ p. record { steps = p.0; operator = p.1.0; sense = p.1.1 }) (λ _. refl)
 
 -- an operator in a sense, the steps of a path, or the number of a joining step
@@ -90,4 +90,4 @@ form_from-steps f = ap (λ xs. top (built xs ([], [])).0) (sym (append-nil (form
 
 -- the code of a form
 abbrev pub form_code : Coded Form
-form_code = code_by (List Step) (coded_list (coded⊎ (coded× operator_code sense.the_row.coded) (coded⊎ (coded_list (coded_list coded_ℕ)) coded_ℕ))) form_steps form_from form_from-steps
+form_code = code_by (List Step) (coded_list (coded⊎ (coded× operator_code sense_row.the_row.coded) (coded⊎ (coded_list (coded_list coded_ℕ)) coded_ℕ))) form_steps form_from form_from-steps
