@@ -7,7 +7,7 @@ use Rattle.std.specs.Ordering.{ordering_reverse}
 use Rattle.std.proofs.lemmas.Cmp.{upto, tied_itself, alike_right}
 use Rattle.std.proofs.lemmas.List.Recursion.{is_count_by}
 use Rattle.std.proofs.lemmas.List.Sorted.{ranks_by, sorted_far, sum_by-IsPermutation, IsPermutation-refl, IsPermutation-cons, IsPermutation-middle, IsPermutation-trans}
-use Rattle.mg_collate.specs.Sorted.{inserted, sorted}
+use Rattle.mg_collate.specs.Sorted.{sorted_with, sorted}
 
 -- no element of the list is below x
 abbrev pub NoneBelow : {X : Type 0} → (X → X → Ordering) → X → List X → Type 0
@@ -56,9 +56,9 @@ all_either : {X : Type 0} (P : X → Type 0) (b : Bool) (xs ys : List X) → All
 all_either P true xs ys h k = h
 all_either P false xs ys h k = k
 
-all_inserted : {X : Type 0} (order : X → X → Ordering) (P : X → Type 0) (x : X) (ys : List X) → P x → AllByRecursion P ys → AllByRecursion P (inserted order x ys)
+all_inserted : {X : Type 0} (order : X → X → Ordering) (P : X → Type 0) (x : X) (ys : List X) → P x → AllByRecursion P ys → AllByRecursion P (sorted_with order x ys)
 all_inserted order P x [] p h = (p, tt)
-all_inserted order P x (y ∷ ys) p h = all_either P (is_gt (order x y)) (y ∷ inserted order x ys) (x ∷ y ∷ ys) (h.0, all_inserted order P x ys p h.1) (p, h)
+all_inserted order P x (y ∷ ys) p h = all_either P (is_gt (order x y)) (y ∷ sorted_with order x ys) (x ∷ y ∷ ys) (h.0, all_inserted order P x ys p h.1) (p, h)
 
 all_sorted : {X : Type 0} (order : X → X → Ordering) (P : X → Type 0) (xs : List X) → AllByRecursion P xs → AllByRecursion P (sorted order xs)
 all_sorted order P [] h = tt
@@ -92,11 +92,11 @@ in_order order o (x ∷ y ∷ ys) h (suc k) d lo hi = from_tail (λ a b. is_lt (
 -- ---- what sorting gives is in order, and has the same elements
 
 rises_at : {X : Type 0} (order : X → X → Ordering) → IsTotalOrder order → (x y : X) (ys : List X) (b : Bool) → is_gt (order x y) ≡ b
-    → Rises order (y ∷ ys) → Rises order (inserted order x ys) → Rises order (if b then y ∷ inserted order x ys else x ∷ y ∷ ys)
+    → Rises order (y ∷ ys) → Rises order (sorted_with order x ys) → Rises order (if b then y ∷ sorted_with order x ys else x ∷ y ∷ ys)
 rises_at order o x y ys true e h more = (all_inserted order (λ z. is_gt (order y z) ≡ false) x ys (above_turned (order y x) (order x y) (o.antisymm y x) e) h.0, more)
 rises_at order o x y ys false e h more = ((e, all_weaker (λ z. is_gt (order y z) ≡ false) (λ z. is_gt (order x z) ≡ false) (λ z k. upto o x y z e k) ys h.0), h)
 
-rises_inserted : {X : Type 0} (order : X → X → Ordering) → IsTotalOrder order → (x : X) (ys : List X) → Rises order ys → Rises order (inserted order x ys)
+rises_inserted : {X : Type 0} (order : X → X → Ordering) → IsTotalOrder order → (x : X) (ys : List X) → Rises order ys → Rises order (sorted_with order x ys)
 rises_inserted order o x [] h = (tt, tt)
 rises_inserted order o x (y ∷ ys) h = rises_at order o x y ys (is_gt (order x y)) refl h (rises_inserted order o x ys h.1)
 
@@ -108,17 +108,17 @@ permutation_either : {X : Type 0} (xs ys zs : List X) (b : Bool) → IsPermutati
 permutation_either xs ys zs true h k = h
 permutation_either xs ys zs false h k = k
 
-permutation_inserted : {X : Type 0} (order : X → X → Ordering) (x : X) (ys : List X) → IsPermutation (x ∷ ys) (inserted order x ys)
+permutation_inserted : {X : Type 0} (order : X → X → Ordering) (x : X) (ys : List X) → IsPermutation (x ∷ ys) (sorted_with order x ys)
 permutation_inserted order x [] = IsPermutation-refl (x ∷ [])
 permutation_inserted order x (y ∷ ys) =
-    permutation_either (x ∷ y ∷ ys) (y ∷ inserted order x ys) (x ∷ y ∷ ys) (is_gt (order x y))
-    (IsPermutation-trans (x ∷ y ∷ ys) (y ∷ x ∷ ys) (y ∷ inserted order x ys) (IsPermutation-middle (x ∷ []) y ys) (IsPermutation-cons y (x ∷ ys) (inserted order x ys) (permutation_inserted order x ys)))
+    permutation_either (x ∷ y ∷ ys) (y ∷ sorted_with order x ys) (x ∷ y ∷ ys) (is_gt (order x y))
+    (IsPermutation-trans (x ∷ y ∷ ys) (y ∷ x ∷ ys) (y ∷ sorted_with order x ys) (IsPermutation-middle (x ∷ []) y ys) (IsPermutation-cons y (x ∷ ys) (sorted_with order x ys) (permutation_inserted order x ys)))
     (IsPermutation-refl (x ∷ y ∷ ys))
 
 pub permutation_sorted : {X : Type 0} (order : X → X → Ordering) (xs : List X) → IsPermutation xs (sorted order xs)
 permutation_sorted order [] = IsPermutation-refl []
 permutation_sorted order (x ∷ xs) =
-    IsPermutation-trans (x ∷ xs) (x ∷ sorted order xs) (inserted order x (sorted order xs)) (IsPermutation-cons x xs (sorted order xs) (permutation_sorted order xs)) (permutation_inserted order x (sorted order xs))
+    IsPermutation-trans (x ∷ xs) (x ∷ sorted order xs) (sorted_with order x (sorted order xs)) (IsPermutation-cons x xs (sorted order xs) (permutation_sorted order xs)) (permutation_inserted order x (sorted order xs))
 
 pub times_permutation : {X : Type 0} (order : X → X → Ordering) (x : X) (xs ys : List X) → IsPermutation xs ys → times order x ys ≡ times order x xs
 times_permutation order x xs ys h =
@@ -177,9 +177,9 @@ pub one_in_order : {X : Type 0} (order : X → X → Ordering) → IsTotalOrder 
 one_in_order order o ties xs ys h k =
     same_list order o ties ys (sorted order xs) (rises order o ys k) (rises_sorted order o xs) (λ z. times_permutation order z xs ys h ∙ sym (times_permutation order z xs (sorted order xs) (permutation_sorted order xs)))
 
-inserted_first : {X : Type 0} (order : X → X → Ordering) (x : X) (ys : List X) → NoneBelow order x ys → inserted order x ys ≡ x ∷ ys
+inserted_first : {X : Type 0} (order : X → X → Ordering) (x : X) (ys : List X) → NoneBelow order x ys → sorted_with order x ys ≡ x ∷ ys
 inserted_first order x [] h = refl
-inserted_first order x (y ∷ ys) h = ap (λ b. if b then y ∷ inserted order x ys else x ∷ y ∷ ys) h.0
+inserted_first order x (y ∷ ys) h = ap (λ b. if b then y ∷ sorted_with order x ys else x ∷ y ∷ ys) h.0
 
 -- an element with none below it comes first
 pub sorted_least : {X : Type 0} (order : X → X → Ordering) (x : X) (xs : List X) → NoneBelow order x xs → sorted order (x ∷ xs) ≡ x ∷ sorted order xs

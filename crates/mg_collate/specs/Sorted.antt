@@ -7,14 +7,14 @@ use Rattle.mg_collate.specs.declared.direction.Direction.{Direction}
 use Rattle.mg_collate.specs.Row.{RowValue, directed_order}
 
 -- a list that is in order, with x put before the first element that is above it
-abbrev pub inserted : {X : Type 0} → (X → X → Ordering) → X → List X → List X
-inserted order x [] = x ∷ []
-inserted order x (y ∷ ys) = if is_gt (order x y) then y ∷ inserted order x ys else x ∷ y ∷ ys
+abbrev pub sorted_with : {X : Type 0} → (X → X → Ordering) → X → List X → List X
+sorted_with order x [] = x ∷ []
+sorted_with order x (y ∷ ys) = if is_gt (order x y) then y ∷ sorted_with order x ys else x ∷ y ∷ ys
 
 -- the list put in order: nothing is lost, and nothing is doubled
 abbrev pub sorted : {X : Type 0} → (X → X → Ordering) → List X → List X
 sorted order [] = []
-sorted order (x ∷ xs) = inserted order x (sorted order xs)
+sorted order (x ∷ xs) = sorted_with order x (sorted order xs)
 
 -- rows sorted in a direction
 abbrev pub sorted_rows : Direction → List RowValue → List RowValue

@@ -4,6 +4,7 @@ pub mod Catalog
 pub mod Choice
 pub mod Definition
 pub mod Fault
+pub mod Key
 pub mod Laws
 pub mod Places
 pub mod Reading

@@ -1,5 +1,4 @@
 ghost use Rattle.std.specs.Prelude.{◌≡◌, ◌<◌, List, MatchOption, Some, None, slice_get, length};
-ghost use Rattle.mg_normal.specs.Normal.{normal_atoms};
 ghost use Rattle.mg_normal.specs.View.{atoms_view};
 ghost use Rattle.mg_index.specs.Choice.{Hint as HintValue, choice_of, least, preference, usable_of};
 ghost use Rattle.mg_index.specs.View.{Chooses, hint_of};
@@ -52,7 +51,7 @@ pub fn choose(
     sort: &Sort,
     hint: &Hint,
 ) -> Result<Choice, NoUsableIndex>
-    ensures { Chooses catalog.now (choice_of catalog.now (normal_atoms normal.now)
+    ensures { Chooses catalog.now (choice_of catalog.now normal.now.atoms
         sort.now.paths.items (hint_of hint.now)) result }
 {
     match preferred(catalog.list(), normal.atoms(), &sort.paths, hint) {

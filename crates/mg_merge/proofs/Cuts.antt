@@ -10,7 +10,7 @@ use Rattle.std.proofs.lemmas.List.Sorted.{sum_by-IsPermutation, IsPermutation-re
 use Rattle.std.proofs.lemmas.List.Sums.{sum_by-cons, sum_by-append}
 use Rattle.mg_collate.specs.declared.direction.Direction.{Direction}
 use Rattle.mg_collate.specs.Row.{RowValue, directed_order}
-use Rattle.mg_collate.specs.Sorted.{IsInOrder, inserted, sorted}
+use Rattle.mg_collate.specs.Sorted.{IsInOrder, sorted_with, sorted}
 use Rattle.mg_collate.proofs.Directed.{directed_total, directed_ties}
 use Rattle.mg_collate.proofs.Sorting.{NoneBelow, Rises, times, all_of_each, all_weaker, rises, in_order, rises_sorted, permutation_sorted, sorted_of_same, one_in_order, sorted_least}
 use Rattle.mg_merge.specs.Merged.{joined, merged}
@@ -61,12 +61,12 @@ up_to_sorted order x ys = sum_by-IsPermutation (λ y. cond (is_le (order y x)) 1
 
 -- ---- an element that comes late is not among the first
 
-first_inserted : {X : Type 0} (order : X → X → Ordering) → IsTotalOrder order → TiesAreEqual order → (x : X) (ys : List X) → NoneBelow order x ys → Rises order ys → inserted order x ys ≡ x ∷ ys
+first_inserted : {X : Type 0} (order : X → X → Ordering) → IsTotalOrder order → TiesAreEqual order → (x : X) (ys : List X) → NoneBelow order x ys → Rises order ys → sorted_with order x ys ≡ x ∷ ys
 first_inserted order o ties x ys h k =
-    subst (λ zs. inserted order x zs ≡ x ∷ zs) (sym (one_in_order order o ties ys ys (IsPermutation-refl ys) (in_order order o ys k))) (sorted_least order x ys h)
+    subst (λ zs. sorted_with order x zs ≡ x ∷ zs) (sym (one_in_order order o ties ys ys (IsPermutation-refl ys) (in_order order o ys k))) (sorted_least order x ys h)
 
 late_at : {X : Type 0} (order : X → X → Ordering) → IsTotalOrder order → TiesAreEqual order → (n : ℕ) (x y : X) (ys : List X) (a : Ordering) → order x y ≡ a → Rises order (y ∷ ys) → suc n ≤ up_to order x (y ∷ ys)
-    → take n (inserted order x ys) ≡ take n ys → take (suc n) (if is_gt a then y ∷ inserted order x ys else x ∷ y ∷ ys) ≡ y ∷ take n ys
+    → take n (sorted_with order x ys) ≡ take n ys → take (suc n) (if is_gt a then y ∷ sorted_with order x ys else x ∷ y ∷ ys) ≡ y ∷ take n ys
 late_at order o ties n x y ys Less e h k more = let none = none_from_above order o x y ys e h.0 in absurd (omega arith)
 late_at order o ties n x y ys Equal e h k more =
     let same = ties x y e in
@@ -74,7 +74,7 @@ late_at order o ties n x y ys Equal e h k more =
     ap₂ (λ z zs. z ∷ zs) same (ap (λ z. take n (z ∷ ys)) (sym same) ∙ ap (take n) (sym (first_inserted order o ties x ys none h.1)) ∙ more)
 late_at order o ties n x y ys Greater e h k more = ap (λ zs. y ∷ zs) more
 
-late_inserted : {X : Type 0} (order : X → X → Ordering) → IsTotalOrder order → TiesAreEqual order → (n : ℕ) (x : X) (ys : List X) → Rises order ys → n ≤ up_to order x ys → take n (inserted order x ys) ≡ take n ys
+late_inserted : {X : Type 0} (order : X → X → Ordering) → IsTotalOrder order → TiesAreEqual order → (n : ℕ) (x : X) (ys : List X) → Rises order ys → n ≤ up_to order x ys → take n (sorted_with order x ys) ≡ take n ys
 late_inserted order o ties zero x ys h k = refl
 late_inserted order o ties (suc n) x [] h k = absurd (omega arith)
 late_inserted order o ties (suc n) x (y ∷ ys) h k =

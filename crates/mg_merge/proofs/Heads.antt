@@ -6,7 +6,7 @@ use Rattle.std.specs.List.Sorted.{IsSorted}
 use Rattle.std.specs.Ordering.{ordering_reverse}
 use Rattle.std.proofs.lemmas.Cmp.{upto, alike_right}
 use Rattle.std.proofs.lemmas.List.{append-nil, get_or-map, length-map, map-set}
-use Rattle.mg_collate.specs.Sorted.{inserted, sorted}
+use Rattle.mg_collate.specs.Sorted.{sorted_with, sorted}
 use Rattle.mg_collate.proofs.Sorting.{NoneBelow, Rises, times, all_of_each, all_weaker, all_append, rises, in_order, sorted_least}
 use Rattle.mg_merge.specs.Merged.{contents_of, joined}
 use Rattle.mg_merge.specs.Rests.{lent_of, rests_of, begin_order, BeginsFirst}
@@ -106,7 +106,7 @@ sorted_behind : {X : Type 0} (order : X → X → Ordering) (x : X) (ys zs more 
     → sorted order (ys ++ zs) ≡ x ∷ sorted order (ys ++ more)
 sorted_behind order x [] zs more h e = e
 sorted_behind order x (y ∷ ys) zs more h e =
-    ap (inserted order y) (sorted_behind order x ys zs more h.1 e) ∙ ap (λ b. if b then x ∷ inserted order y (sorted order (ys ++ more)) else y ∷ x ∷ sorted order (ys ++ more)) h.0
+    ap (sorted_with order y) (sorted_behind order x ys zs more h.1 e) ∙ ap (λ b. if b then x ∷ sorted_with order y (sorted order (ys ++ more)) else y ∷ x ∷ sorted order (ys ++ more)) h.0
 
 taken_first : {X : Type 0} (order : X → X → Ordering) → IsTotalOrder order → (lists : List (List X)) (place : ℕ) (x : X) (rest : List X) → AllByRecursion (Rises order) lists → place < length lists
     → get_or lists place [] ≡ x ∷ rest → ((k : ℕ) → k < length lists → NoneBegins order (x ∷ rest) (get_or lists k [])) → ((k : ℕ) → k < place → begin_order order (x ∷ rest) (get_or lists k []) ≡ Less)

@@ -4,7 +4,7 @@ use Rattle.std.specs.Ordering.{is_gt}
 use Rattle.std.proofs.lemmas.List.{get_or-map, length-map, length-set, map-append, map-set, length-append}
 use Rattle.mg_collate.specs.declared.direction.Direction.{Direction}
 use Rattle.mg_collate.specs.Row.{RowValue, directed_order}
-use Rattle.mg_collate.specs.Sorted.{IsInOrder, sorted, inserted}
+use Rattle.mg_collate.specs.Sorted.{IsInOrder, sorted, sorted_with}
 use Rattle.mg_collate.proofs.Directed.{directed_total}
 use Rattle.mg_merge.specs.Merged.{joined, order_by}
 use Rattle.mg_merge.specs.Pulled.{AreFrom, IsAhead, IsGivenBy, coming, comings, firsts_of}
@@ -138,7 +138,7 @@ pulled_first row direction heads rests p queue x pulled new h order turns e r =
 pub pulled_ahead : {X : Type 0} (row : X → RowValue) (direction : Direction) (heads : List (Option X)) (rests : List (List RowValue)) (p : ℕ) (queue : List ℕ) (x : X) (pulled : Option X) (new : List RowValue)
     → length heads ≡ length rests → All (IsInOrder direction) (comings (map (option_map row) heads) rests)
     → AreInTurn (order_by row direction) (firsts_of heads) (length (firsts_of heads)) (p ∷ queue) → get_or heads p None ≡ Some x → get_or rests p [] ≡ coming (option_map row pulled) new
-    → IsAhead row direction (set heads p pulled) (set rests p new) (inserted (turn_order (order_by row direction) (firsts_of (set heads p pulled))) p queue)
+    → IsAhead row direction (set heads p pulled) (set rests p new) (sorted_with (turn_order (order_by row direction) (firsts_of (set heads p pulled))) p queue)
 pulled_ahead row direction heads rests p queue x pulled new h order turns e r =
     let fronts = length-map heads (λ head. coming head []) in
     let low = turns.within.0 in
@@ -151,8 +151,8 @@ pulled_ahead row direction heads rests p queue x pulled new h order turns e r =
     record {
       size = length-set heads p pulled ∙ h ∙ sym (length-set rests p new);
       order = subst (All (IsInOrder direction)) (sym (pulled_set row heads rests p pulled new h)) (order_kept (directed_order direction) (directed_total direction) all p (row x) (coming (option_map row pulled) new) order (omega (arith, l, size, mapped)) here);
-      turns = subst (λ lists. AreInTurn ordered lists (length lists) (inserted (turn_order ordered lists) p queue)) (sym (map-set (λ head. coming head []) heads p pulled))
-          (subst (λ n. AreInTurn ordered (set (firsts_of heads) p (coming pulled [])) n (inserted (turn_order ordered (set (firsts_of heads) p (coming pulled []))) p queue)) (sym (length-set (firsts_of heads) p (coming pulled [])))
+      turns = subst (λ lists. AreInTurn ordered lists (length lists) (sorted_with (turn_order ordered lists) p queue)) (sym (map-set (λ head. coming head []) heads p pulled))
+          (subst (λ n. AreInTurn ordered (set (firsts_of heads) p (coming pulled [])) n (sorted_with (turn_order ordered (set (firsts_of heads) p (coming pulled []))) p queue)) (sym (length-set (firsts_of heads) p (coming pulled [])))
           (first_enters ordered (by_total row direction) (firsts_of heads) (length (firsts_of heads)) p queue (coming pulled []) turns));
     }
 
@@ -184,9 +184,9 @@ source_first row rest direction heads sources p queue x pulled s new h order tur
 pub source_ahead : {T S : Type 0} (row : T → RowValue) (rest : S → List RowValue) (direction : Direction) (heads : List (Option T)) (sources : List S) (p : ℕ) (queue : List ℕ) (x : T) (pulled : Option T) (s new : S)
     → length heads ≡ length (map rest sources) → All (IsInOrder direction) (comings (map (option_map row) heads) (map rest sources))
     → AreInTurn (order_by row direction) (firsts_of heads) (length (firsts_of heads)) (p ∷ queue) → get_or heads p None ≡ Some x → p < length sources → s ≡ get_or sources p s → rest s ≡ coming (option_map row pulled) (rest new)
-    → IsAhead row direction (set heads p pulled) (map rest (set sources p new)) (inserted (turn_order (order_by row direction) (firsts_of (set heads p pulled))) p queue)
+    → IsAhead row direction (set heads p pulled) (map rest (set sources p new)) (sorted_with (turn_order (order_by row direction) (firsts_of (set heads p pulled))) p queue)
 source_ahead row rest direction heads sources p queue x pulled s new h order turns e l at was =
-    subst (λ rs. IsAhead row direction (set heads p pulled) rs (inserted (turn_order (order_by row direction) (firsts_of (set heads p pulled))) p queue)) (sym (map-set rest sources p new))
+    subst (λ rs. IsAhead row direction (set heads p pulled) rs (sorted_with (turn_order (order_by row direction) (firsts_of (set heads p pulled))) p queue)) (sym (map-set rest sources p new))
     (pulled_ahead row direction heads (map rest sources) p queue x pulled (rest new) h order turns e (source_at rest sources p s (coming (option_map row pulled) (rest new)) l at was))
 
 -- ---- of what kind the things are
@@ -260,9 +260,9 @@ length_either : {X : Type 0} (b : Bool) (xs ys : List X) (n : ℕ) → length xs
 length_either true xs ys n h k = h
 length_either false xs ys n h k = k
 
-length_inserted : {X : Type 0} (order : X → X → Ordering) (x : X) (ys : List X) → length (inserted order x ys) ≡ suc (length ys)
+length_inserted : {X : Type 0} (order : X → X → Ordering) (x : X) (ys : List X) → length (sorted_with order x ys) ≡ suc (length ys)
 length_inserted order x [] = refl
-length_inserted order x (y ∷ ys) = length_either (is_gt (order x y)) (y ∷ inserted order x ys) (x ∷ y ∷ ys) (suc (suc (length ys))) (ap suc (length_inserted order x ys)) refl
+length_inserted order x (y ∷ ys) = length_either (is_gt (order x y)) (y ∷ sorted_with order x ys) (x ∷ y ∷ ys) (suc (suc (length ys))) (ap suc (length_inserted order x ys)) refl
 
 length_sorted : {X : Type 0} (order : X → X → Ordering) (xs : List X) → length (sorted order xs) ≡ length xs
 length_sorted order [] = refl

@@ -7,7 +7,7 @@ use Rattle.std.proofs.lemmas.Bool.{eqb-true, eq-eqb}
 use Rattle.std.proofs.lemmas.Bool.Decides.{nat_tests}
 use Rattle.std.proofs.lemmas.List.{get_or-set_other, length-set}
 use Rattle.std.proofs.lemmas.Cmp.{on_total, nat_cmp_total, upto, tied_itself}
-use Rattle.mg_collate.specs.Sorted.{inserted}
+use Rattle.mg_collate.specs.Sorted.{sorted_with}
 use Rattle.mg_collate.proofs.Sorting.{all_weaker}
 use Rattle.mg_merge.specs.Rests.{AreInTurn, BeginsFirst, Climbs, begin_order, is_in, rests_of, turn_order}
 use Rattle.mg_merge.proofs.Heads.{all_at, begin_total, rests_of-set}
@@ -61,13 +61,13 @@ pub still_after : {X : Type 0} (o : X → X → Ordering) → IsTotalOrder o →
 still_after o t x y z h k = elim (two (is_gt (o x y))) [ inl e ↦ e | inr e ↦ absurd (let wrong : true ≡ false = sym k ∙ upto t x y z e h in cc) ]
 
 pub placed : {X : Type 0} (o : X → X → Ordering) (x d : X) (xs : List X) (place : ℕ) → place ≤ length xs → ((i : ℕ) → i < place → is_gt (o x (get_or xs i d)) ≡ true)
-    → ((i : ℕ) → place ≤ i → i < length xs → is_gt (o x (get_or xs i d)) ≡ false) → insert xs place x ≡ inserted o x xs
+    → ((i : ℕ) → place ≤ i → i < length xs → is_gt (o x (get_or xs i d)) ≡ false) → insert xs place x ≡ sorted_with o x xs
 placed o x d [] zero k after before = refl
 placed o x d [] (suc place) k after before = absurd (omega arith)
-placed o x d (y ∷ ys) zero k after before = ap (λ b. if b then y ∷ inserted o x ys else x ∷ y ∷ ys) (sym (before 0 (omega arith) (omega arith)))
+placed o x d (y ∷ ys) zero k after before = ap (λ b. if b then y ∷ sorted_with o x ys else x ∷ y ∷ ys) (sym (before 0 (omega arith) (omega arith)))
 placed o x d (y ∷ ys) (suc place) k after before =
     ap (λ zs. y ∷ zs) (placed o x d ys place (omega arith) (λ i l. after (suc i) (omega arith)) (λ i l m. before (suc i) (omega arith) (omega arith)))
-    ∙ ap (λ b. if b then y ∷ inserted o x ys else x ∷ y ∷ ys) (sym (after 0 (omega arith)))
+    ∙ ap (λ b. if b then y ∷ sorted_with o x ys else x ∷ y ∷ ys) (sym (after 0 (omega arith)))
 
 -- what a test told of a turn
 pub told : (a r : Ordering) (b c : Bool) → r ≡ a → b ≡ is_gt r → b ≡ c → is_gt a ≡ c
@@ -79,9 +79,9 @@ all_either : {X : Type 0} (P : X → Type 0) (b : Bool) (xs ys : List X) → All
 all_either P true xs ys h k = h
 all_either P false xs ys h k = k
 
-all_inserted : {X : Type 0} (o : X → X → Ordering) (P : X → Type 0) (x : X) (ys : List X) → P x → AllByRecursion P ys → AllByRecursion P (inserted o x ys)
+all_inserted : {X : Type 0} (o : X → X → Ordering) (P : X → Type 0) (x : X) (ys : List X) → P x → AllByRecursion P ys → AllByRecursion P (sorted_with o x ys)
 all_inserted o P x [] p h = (p, tt)
-all_inserted o P x (y ∷ ys) p h = all_either P (is_gt (o x y)) (y ∷ inserted o x ys) (x ∷ y ∷ ys) (h.0, all_inserted o P x ys p h.1) (p, h)
+all_inserted o P x (y ∷ ys) p h = all_either P (is_gt (o x y)) (y ∷ sorted_with o x ys) (x ∷ y ∷ ys) (h.0, all_inserted o P x ys p h.1) (p, h)
 
 was_greater : (a b : Ordering) → a ≡ ordering_reverse b → is_gt b ≡ true → a ≡ Less
 was_greater a Less e h = absurd cc
@@ -93,12 +93,12 @@ was_less Less h k = refl
 was_less Equal h k = absurd (k refl)
 was_less Greater h k = absurd cc
 
-climbs_at : {X : Type 0} (o : X → X → Ordering) → IsTotalOrder o → (x y : X) (ys : List X) (b : Bool) → is_gt (o x y) ≡ b → (o x y ≡ Equal → ⊥) → Climbs o (y ∷ ys) → Climbs o (inserted o x ys)
-    → Climbs o (if b then y ∷ inserted o x ys else x ∷ y ∷ ys)
+climbs_at : {X : Type 0} (o : X → X → Ordering) → IsTotalOrder o → (x y : X) (ys : List X) (b : Bool) → is_gt (o x y) ≡ b → (o x y ≡ Equal → ⊥) → Climbs o (y ∷ ys) → Climbs o (sorted_with o x ys)
+    → Climbs o (if b then y ∷ sorted_with o x ys else x ∷ y ∷ ys)
 climbs_at o t x y ys true e apart h more = (all_inserted o (λ z. o y z ≡ Less) x ys (was_greater (o y x) (o x y) (t.antisymm y x) e) h.0, more)
 climbs_at o t x y ys false e apart h more = let less = was_less (o x y) e apart in ((less, all_weaker (λ z. o y z ≡ Less) (λ z. o x z ≡ Less) (λ z l. t.trans x y z less l) ys h.0), h)
 
-climbs_inserted : {X : Type 0} (o : X → X → Ordering) → IsTotalOrder o → (x : X) (ys : List X) → AllByRecursion (λ y. o x y ≡ Equal → ⊥) ys → Climbs o ys → Climbs o (inserted o x ys)
+climbs_inserted : {X : Type 0} (o : X → X → Ordering) → IsTotalOrder o → (x : X) (ys : List X) → AllByRecursion (λ y. o x y ≡ Equal → ⊥) ys → Climbs o ys → Climbs o (sorted_with o x ys)
 climbs_inserted o t x [] apart h = (tt, tt)
 climbs_inserted o t x (y ∷ ys) apart h = climbs_at o t x y ys (is_gt (o x y)) refl apart.0 h (climbs_inserted o t x ys apart.1 h.1)
 
@@ -120,10 +120,10 @@ is_in-either : (k : ℕ) (b : Bool) (ms ns : List ℕ) (c : Bool) → is_in k ms
 is_in-either k true ms ns c h l = h
 is_in-either k false ms ns c h l = l
 
-is_in-inserted : (o : ℕ → ℕ → Ordering) (k x : ℕ) (ys : List ℕ) → is_in k (inserted o x ys) ≡ (nat_eq k x || is_in k ys)
+is_in-inserted : (o : ℕ → ℕ → Ordering) (k x : ℕ) (ys : List ℕ) → is_in k (sorted_with o x ys) ≡ (nat_eq k x || is_in k ys)
 is_in-inserted o k x [] = refl
 is_in-inserted o k x (y ∷ ys) =
-    is_in-either k (is_gt (o x y)) (y ∷ inserted o x ys) (x ∷ y ∷ ys) (nat_eq k x || (nat_eq k y || is_in k ys))
+    is_in-either k (is_gt (o x y)) (y ∷ sorted_with o x ys) (x ∷ y ∷ ys) (nat_eq k x || (nat_eq k y || is_in k ys))
     (ap (λ b. nat_eq k y || b) (is_in-inserted o k x ys) ∙ or_swapped (nat_eq k y) (nat_eq k x) (is_in k ys)) refl
 
 pub none_entered : {X : Type 0} (order : X → X → Ordering) (lists : List (List X)) → AreInTurn order lists 0 []
@@ -131,7 +131,7 @@ none_entered order lists = record { climbs = tt; within = tt; each = λ k l. abs
 
 -- the number after those that stand in the queue
 pub next_entered : {X : Type 0} (order : X → X → Ordering) → IsTotalOrder order → (lists : List (List X)) (size : ℕ) (queue : List ℕ) → AreInTurn order lists size queue
-    → AreInTurn order lists (size + 1) (inserted (turn_order order lists) size queue)
+    → AreInTurn order lists (size + 1) (sorted_with (turn_order order lists) size queue)
 next_entered order o lists size queue h = record {
   climbs = climbs_inserted (turn_order order lists) (turn_total order o lists) size queue
       (all_weaker (λ k. k < size) (λ k. turn_order order lists size k ≡ Equal → ⊥) (λ k l e. let same = turn_ties order lists size k e in absurd (omega (arith, same, l))) queue h.within) h.climbs;
@@ -199,7 +199,7 @@ others_climb order o lists size p queue rest h =
     queue (others order o lists size p queue h) h.climbs.1
 
 pub first_enters : {X : Type 0} (order : X → X → Ordering) → IsTotalOrder order → (lists : List (List X)) (size p : ℕ) (queue : List ℕ) (rest : List X) → AreInTurn order lists size (p ∷ queue)
-    → AreInTurn order (set lists p rest) size (inserted (turn_order order (set lists p rest)) p queue)
+    → AreInTurn order (set lists p rest) size (sorted_with (turn_order order (set lists p rest)) p queue)
 first_enters order o lists size p queue rest h =
     let turns = turn_order order (set lists p rest) in
     record {
@@ -226,8 +226,8 @@ rests_climb order o rests p queue left h =
     subst (λ lists. Climbs (turn_order order lists) queue) (sym (rests_of-set rests p left)) (others_climb order o (rests_of rests) (length (rests_of rests)) p queue left.now h)
 
 pub rests_in_turn : {X : Type 0} (order : X → X → Ordering) → IsTotalOrder order → (rests : List (Bor (List X))) (p : ℕ) (queue : List ℕ) (left : Bor (List X)) → AreInTurn order (rests_of rests) (length (rests_of rests)) (p ∷ queue)
-    → AreInTurn order (rests_of (set rests p left)) (length (rests_of (set rests p left))) (inserted (turn_order order (rests_of (set rests p left))) p queue)
+    → AreInTurn order (rests_of (set rests p left)) (length (rests_of (set rests p left))) (sorted_with (turn_order order (rests_of (set rests p left))) p queue)
 rests_in_turn order o rests p queue left h =
-    subst (λ lists. AreInTurn order lists (length lists) (inserted (turn_order order lists) p queue)) (sym (rests_of-set rests p left))
-    (subst (λ n. AreInTurn order (set (rests_of rests) p left.now) n (inserted (turn_order order (set (rests_of rests) p left.now)) p queue)) (sym (length-set (rests_of rests) p left.now))
+    subst (λ lists. AreInTurn order lists (length lists) (sorted_with (turn_order order lists) p queue)) (sym (rests_of-set rests p left))
+    (subst (λ n. AreInTurn order (set (rests_of rests) p left.now) n (sorted_with (turn_order order (set (rests_of rests) p left.now)) p queue)) (sym (length-set (rests_of rests) p left.now))
     (first_enters order o (rests_of rests) (length (rests_of rests)) p queue left.now h))

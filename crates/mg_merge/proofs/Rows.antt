@@ -7,7 +7,7 @@ use Rattle.std.proofs.lemmas.List.Elements.{All-map}
 use Rattle.mg_collate.specs.declared.direction.Direction.{Direction}
 use Rattle.mg_collate.specs.declared.row.Row.{Row}
 use Rattle.mg_collate.specs.Row.{RowValue, row_view, rows_view, directed_order}
-use Rattle.mg_collate.specs.Sorted.{IsInOrder, inserted, sorted, sorted_rows}
+use Rattle.mg_collate.specs.Sorted.{IsInOrder, sorted_with, sorted, sorted_rows}
 use Rattle.mg_collate.proofs.Directed.{directed_total}
 use Rattle.mg_merge.specs.Merged.{IsInOrderBy, contents_of, joined, lists_view, merged, merged_by, order_by}
 
@@ -21,15 +21,15 @@ either_map : {X Y : Type 0} (f : X → Y) (b : Bool) (xs ys : List X) → map f 
 either_map f true xs ys = refl
 either_map f false xs ys = refl
 
-map_inserted : {X : Type 0} (row : X → RowValue) (direction : Direction) (x : X) (ys : List X) → map row (inserted (order_by row direction) x ys) ≡ inserted (directed_order direction) (row x) (map row ys)
+map_inserted : {X : Type 0} (row : X → RowValue) (direction : Direction) (x : X) (ys : List X) → map row (sorted_with (order_by row direction) x ys) ≡ sorted_with (directed_order direction) (row x) (map row ys)
 map_inserted row direction x [] = refl
 map_inserted row direction x (y ∷ ys) =
     let above = is_gt (order_by row direction x y) in
-    either_map row above (y ∷ inserted (order_by row direction) x ys) (x ∷ y ∷ ys) ∙ ap (λ zs. if above then row y ∷ zs else row x ∷ row y ∷ map row ys) (map_inserted row direction x ys)
+    either_map row above (y ∷ sorted_with (order_by row direction) x ys) (x ∷ y ∷ ys) ∙ ap (λ zs. if above then row y ∷ zs else row x ∷ row y ∷ map row ys) (map_inserted row direction x ys)
 
 pub map_sorted : {X : Type 0} (row : X → RowValue) (direction : Direction) (xs : List X) → map row (sorted (order_by row direction) xs) ≡ sorted_rows direction (map row xs)
 map_sorted row direction [] = refl
-map_sorted row direction (x ∷ xs) = map_inserted row direction x (sorted (order_by row direction) xs) ∙ ap (inserted (directed_order direction) (row x)) (map_sorted row direction xs)
+map_sorted row direction (x ∷ xs) = map_inserted row direction x (sorted (order_by row direction) xs) ∙ ap (sorted_with (directed_order direction) (row x)) (map_sorted row direction xs)
 
 map_joined : {X : Type 0} (row : X → RowValue) (lists : List (List X)) → map row (joined lists) ≡ joined (map (map row) lists)
 map_joined row [] = refl

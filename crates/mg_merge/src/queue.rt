@@ -4,7 +4,7 @@
 //! comparison of rows for each step, and at most the numbers of the other lists move.
 ghost use Rattle.std.specs.Prelude.{◌≡◌, ◌<◌, ◌≤◌, length, All, IfOk, OnOk};
 ghost use Rattle.std.specs.List.{insert};
-ghost use Rattle.mg_collate.specs.Sorted.{inserted};
+ghost use Rattle.mg_collate.specs.Sorted.{sorted_with};
 ghost use Rattle.mg_merge.specs.Merged.{order_by};
 ghost use Rattle.mg_merge.specs.Rests.{AreInTurn, Climbs, turn_order};
 
@@ -43,7 +43,7 @@ pub(crate) fn enter<T: Ranked, B: Begins<T>>(
         queue.old.items }
     requires list { list < length (B.lists lists.now) }
     ensures { OnOk result (queue.new.items
-        ≡ inserted (turn_order (order_by T.row_of direction) (B.lists lists.now)) list
+        ≡ sorted_with (turn_order (order_by T.row_of direction) (B.lists lists.now)) list
         queue.old.items) }
 {
     let place = place_of(queue, lists, list, direction);
@@ -64,7 +64,7 @@ fn place_of<T: Ranked, B: Begins<T>>(
     requires list { list < length (B.lists lists.now) }
     ensures within { result ≤ length queue.now }
     ensures place { insert queue.now result list
-        ≡ inserted (turn_order (order_by T.row_of direction) (B.lists lists.now)) list queue.now }
+        ≡ sorted_with (turn_order (order_by T.row_of direction) (B.lists lists.now)) list queue.now }
 {
     let mut low = 0;
     let mut high = queue.len();

@@ -1,4 +1,5 @@
 pub mod Atoms
+pub mod Code
 pub mod Form
 pub mod Laws
 pub mod Normal

@@ -1,18 +1,14 @@
 -- What a normal form of a selector is: its atoms and what else it asks, which hold together of the same documents.
-use Rattle.std.specs.Prelude.{◌≡◌, Bool, true, ◌&&◌, List, Option, Some, None, option_map, refl}
+use Rattle.std.specs.Prelude.{◌≡◌, Bool, true, ◌&&◌, List, Option, Some, None, refl}
 use Rattle.std.specs.Coded.{Coded, code_by, coded×, coded_list, coded_option}
 use Rattle.std.specs.List.{list_all}
 use Rattle.mg_value.specs.Value.{Value}
 use Rattle.mg_selector.specs.Meaning.{holds_in}
 use Rattle.mg_selector.specs.Selector.{Selector}
 use Rattle.mg_selector.specs.declared.sense.Sense.TheVariants.{Plain}
-use Rattle.mg_normal.specs.Atoms.{Atom as AtomValue, atoms_of, atom_holds}
-use Rattle.mg_normal.specs.Form.{Form as FormValue, form_holds}
-use Rattle.mg_normal.specs.View.{form_of, atoms_view}
-use Rattle.mg_normal.specs.contracts.atom.Atom as atom
-use Rattle.mg_normal.specs.contracts.form.Form as form
-use Rattle.mg_normal.specs.declared.atom.Atom.{Atom}
-use Rattle.mg_normal.specs.declared.form.Form.{Form}
+use Rattle.mg_normal.specs.Atoms.{Atom, atoms_of, atom_holds}
+use Rattle.mg_normal.specs.Code.{atom_code, form_code}
+use Rattle.mg_normal.specs.Form.{Form, form_holds}
 
 -- a normal form: its atoms, and what it asks besides, if anything
 pub record NormalForm : Type 0 where
@@ -21,26 +17,22 @@ pub record NormalForm : Type 0 where
 
 -- a normal form is stored as the pair of them
 abbrev pub normal_code : Coded NormalForm
-normal_code = code_by (List Atom × Option Form) (coded× (coded_list atom.the_row.coded) (coded_option form.the_row.coded)) (λ n. (n.atoms, n.rest)) (λ p. record { atoms = p.0; rest = p.1 }) (λ _. refl)
-
--- its atoms
-abbrev pub normal_atoms : NormalForm → List AtomValue
-normal_atoms n = atoms_view n.atoms
+normal_code = code_by (List Atom × Option Form) (coded× (coded_list atom_code) (coded_option form_code)) (λ n. (n.atoms, n.rest)) (λ p. record { atoms = p.0; rest = p.1 }) (λ _. refl)
 
 -- each of the atoms holds of the document
-abbrev pub all_hold : Option Value → List AtomValue → Bool
+abbrev pub all_hold : Option Value → List Atom → Bool
 all_hold x atoms = list_all (atom_holds x) atoms
 
 -- the form holds of the document, where there is a form
-abbrev pub rest_holds : Option FormValue → Option Value → Bool
+abbrev pub rest_holds : Option Form → Option Value → Bool
 rest_holds None x = true
 rest_holds (Some f) x = form_holds f x
 
 -- it holds of the document, where it is there
 abbrev pub normal_holds : NormalForm → Option Value → Bool
-normal_holds n x = all_hold x (normal_atoms n) && rest_holds (option_map form_of n.rest) x
+normal_holds n x = all_hold x n.atoms && rest_holds n.rest x
 
 -- it is one of the selector
 pub record IsNormalOf (s : Selector) (n : NormalForm) : Type 0 where
   pub meaning : (x : Option Value) → normal_holds n x ≡ holds_in s Plain x
-  pub atoms : normal_atoms n ≡ atoms_of s
+  pub atoms : n.atoms ≡ atoms_of s

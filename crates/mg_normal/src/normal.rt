@@ -1,7 +1,7 @@
 ghost use Rattle.std.specs.Prelude.{◌≡◌, Some, IfOk, is_some};
 ghost use Rattle.mg_value.specs.View.{view};
 ghost use Rattle.mg_selector.specs.View.{selector_of};
-ghost use Rattle.mg_normal.specs.Normal.{IsNormalOf, normal_holds, normal_atoms};
+ghost use Rattle.mg_normal.specs.Normal.{IsNormalOf, normal_holds};
 ghost use Rattle.mg_normal.specs.View.{atoms_view};
 
 use crate::atom::{Atom, all_hold};
@@ -32,7 +32,10 @@ impl Model for Normal {
 
     ghost coded = { normal_code };
 
-    ghost view = { λ n. record { atoms = n.atoms.items; rest = n.rest } };
+    ghost use Rattle.std.specs.Prelude.{option_map};
+    ghost use Rattle.mg_normal.specs.View.{atoms_view, form_of};
+
+    ghost view = { λ n. record { atoms = atoms_view n.atoms.items; rest = option_map form_of n.rest } };
 }
 
 impl Normal {
@@ -68,7 +71,7 @@ impl Normal {
     ///
     /// Cost: none.
     pub fn atoms(&self) -> &[Atom]
-        ensures { atoms_view result.now ≡ normal_atoms self.now }
+        ensures { atoms_view result.now ≡ self.now.atoms }
     {
         &self.atoms
     }

@@ -3,7 +3,7 @@ use Rattle.std.proofs.Common.{◌≡◌, ℕ, zero, suc, arith, Bool, true, fals
 use Rattle.std.proofs.lemmas.Bool.{and_parts}
 use Rattle.std.specs.List.{All, filter, filter_map, list_all, starts_with}
 use Rattle.std.specs.Prelude.{unwrap_or}
-use Rattle.mg_value.specs.Value.{Value, Items, item, item_list, null}
+use Rattle.mg_value.specs.Value.{Value, item_list, null}
 use Rattle.mg_value.specs.View.{items_of}
 use Rattle.mg_collate.specs.Row.{RowValue}
 use Rattle.mg_doc.specs.Served.{served_of}
@@ -15,14 +15,14 @@ use Rattle.mg_selector.specs.declared.sense.Sense.TheVariants.{Plain}
 use Rattle.mg_normal.specs.Atoms.{atoms_of}
 use Rattle.mg_index.specs.Choice.{id_path, rev_path, is_covered, is_usable}
 use Rattle.mg_index.specs.Definition.{Steps}
-use Rattle.mg_index.specs.Reading.{each_of}
+use Rattle.mg_index.specs.Key.{key_of}
 use Rattle.mg_index.proofs.Paths.{paths_eq-Decides}
 use Rattle.mg_range.specs.Laws.{Has, HasKey, RangesAreComplete}
 use Rattle.mg_range.specs.Place.{has_key}
 use Rattle.mg_range.specs.Range.{range_of}
 use Rattle.mg_range.proofs.Contained.{contained}
 use Rattle.mg_shard.specs.Histories.{ServedDocument, served_entry}
-use Rattle.mg_shard.specs.Rows.{key_of, row_of}
+use Rattle.mg_shard.specs.Rows.{row_key, row_of}
 use Rattle.mg_query.specs.Page.{Candidate, candidate_of, is_asked, row_by, value_at}
 use Rattle.mg_query.specs.Query.{Query}
 use Rattle.mg_query.proofs.Gathered.{rows_asked}
@@ -50,16 +50,6 @@ documents_of (e ∷ es) =
 
 -- ---- keys
 
-key_step : (part : Option Value) (vs : Option (List Value)) (key : Option Items) → key ≡ option_map items_of vs
-    → option_and_then (λ w. option_map (item w) key) part ≡ option_map items_of (option_and_then (λ w. option_map (λ ws. w ∷ ws) vs) part)
-key_step None vs key e = refl
-key_step (Some w) None key e = rw e
-key_step (Some w) (Some vs) key e = rw e
-
-key_each : (v : Value) (columns : List Steps) → key_of columns v ≡ option_map items_of (each_of (λ c. part_of c v) columns)
-key_each v [] = refl
-key_each v (c ∷ cs) = key_step (part_of c v) (each_of (λ c. part_of c v) cs) (key_of cs v) (key_each v cs)
-
 items_listed : (vs : List Value) → item_list (items_of vs) ≡ vs
 items_listed [] = refl
 items_listed (v ∷ vs) = ap (λ ws. v ∷ ws) (items_listed vs)
@@ -76,7 +66,7 @@ lengths_at (Some w) (Some vs) cs key h e = let k : w ∷ vs ≡ key = ap (λ o. 
 lengths : (v : Value) (columns : List Steps) (key : List Value) → HasKey columns v key → length key ≡ length columns
 lengths v [] [] e = refl
 lengths v [] (w ∷ key) e = absurd cc
-lengths v (c ∷ cs) key e = lengths_at (part_of c v) (each_of (λ c. part_of c v) cs) cs key (λ k h. lengths v cs k h) e
+lengths v (c ∷ cs) key e = lengths_at (part_of c v) (key_of cs v) cs key (λ k h. lengths v cs k h) e
 
 -- the values of the columns are the key
 values_at : (part : Option Value) (vs : Option (List Value)) (rest key : List Value) (d : Value) → ((k : List Value) → vs ≡ Some k → rest ≡ k)
@@ -87,11 +77,11 @@ values_at (Some w) (Some vs) rest key d h e = ap (λ ws. w ∷ ws) (h vs refl) �
 
 values_are : (c : Candidate) (columns : List Steps) (key : List Value) → HasKey columns c.form key → map (value_at c) columns ≡ key
 values_are c [] key e = ap (λ o. unwrap_or o []) e
-values_are c (column ∷ columns) key e = values_at (part_of column c.form) (each_of (λ x. part_of x c.form) columns) (map (value_at c) columns) key null (λ k h. values_are c columns k h) e
+values_are c (column ∷ columns) key e = values_at (part_of column c.form) (key_of columns c.form) (map (value_at c) columns) key null (λ k h. values_are c columns k h) e
 
 -- ---- a document that lacks a path of the sort has no row
 
-lacks_at : (part : Option Value) (b : Bool) (key : Option Items) → (b ≡ false → key ≡ None) → (is_some part && b) ≡ false → option_and_then (λ w. option_map (item w) key) part ≡ None
+lacks_at : (part : Option Value) (b : Bool) (key : Option (List Value)) → (b ≡ false → key ≡ None) → (is_some part && b) ≡ false → option_and_then (λ w. option_map (λ ws. w ∷ ws) key) part ≡ None
 lacks_at None b key h e = refl
 lacks_at (Some w) b key h e = rw (h e)
 
@@ -100,9 +90,10 @@ lacks v zero columns e = absurd cc
 lacks v (suc n) [] e = absurd cc
 lacks v (suc n) (c ∷ cs) e = lacks_at (part_of c v) (list_all (λ path. is_some (part_of path v)) (take n cs)) (key_of cs v) (λ h. lacks v n cs h) e
 
-no_row : (v : Value) (sort columns : List Steps) → starts_with path_eq columns sort ≡ true → list_all (λ path. is_some (part_of path v)) sort ≡ false → key_of columns v ≡ None
+no_row : (v : Value) (sort columns : List Steps) → starts_with path_eq columns sort ≡ true → list_all (λ path. is_some (part_of path v)) sort ≡ false → row_key columns v ≡ None
 no_row v sort columns begins e =
-    lacks v (length sort) columns (ap (list_all (λ path. is_some (part_of path v))) (sym ((paths_eq-Decides sort (take (length sort) columns)).0 begins)) ∙ e)
+    ap (option_map items_of)
+    (lacks v (length sort) columns (ap (list_all (λ path. is_some (part_of path v))) (sym ((paths_eq-Decides sort (take (length sort) columns)).0 begins)) ∙ e))
 
 all_there : (v : Value) (sort : List Steps) → list_all (λ path. is_some (part_of path v)) sort ≡ true → All (Has v) sort
 all_there v [] e k d h = absurd (omega arith)
@@ -133,7 +124,7 @@ found_by complete q columns after holds same usable c i r =
     let found = complete q.selector q.sort columns c.form usable i r (all_there c.form q.sort there) holding in
     let key = found.0 in
     let values = values_are c columns key found.1 in (
-      ap (λ o. option_map (λ k. (k, c.id)) o) (key_each c.form columns ∙ ap (option_map items_of) found.1) ∙ ap (λ vs. Some (items_of vs, c.id)) (sym values),
+      ap (λ o. option_map (λ k. (k, c.id)) (option_map items_of o)) found.1 ∙ ap (λ vs. Some (items_of vs, c.id)) (sym values),
       ap (λ vs. has_key (range_of atoms columns) (item_list (items_of vs))) values ∙ ap (has_key (range_of atoms columns)) (items_listed key) ∙ contained atoms columns key (lengths c.form columns key found.1) ∙ found.2,
     ))
     (λ absent. ap (option_map (λ k. (k, c.id))) (no_row c.form q.sort columns parts.1 absent))

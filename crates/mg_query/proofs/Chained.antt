@@ -15,7 +15,7 @@ use Rattle.std.proofs.lemmas.Slice.Eq.{bytes_eq-Decides}
 use Rattle.mg_collate.specs.Row.{directed_order}
 use Rattle.mg_collate.specs.declared.direction.Direction.{Direction}
 use Rattle.mg_collate.specs.declared.direction.Direction.TheVariants.{Asc, Desc}
-use Rattle.mg_collate.specs.Sorted.{inserted, sorted}
+use Rattle.mg_collate.specs.Sorted.{sorted_with, sorted}
 use Rattle.mg_collate.proofs.Directed.{directed_total, directed_ties}
 use Rattle.mg_collate.proofs.Sorting.{NoneBelow, Rises, rises_sorted}
 use Rattle.mg_doc.specs.Served.{served_of}
@@ -46,9 +46,9 @@ pub all_kept : {X : Type 0} (P : X → Type 0) (p : X → Bool) (xs : List X) �
 all_kept P p [] h = tt
 all_kept P p (x ∷ xs) h = all_if P (p x) (x ∷ filter p xs) (filter p xs) (h.0, all_kept P p xs h.1) (all_kept P p xs h.1)
 
-all_inserted : {X : Type 0} (P : X → Type 0) (order : X → X → Ordering) (x : X) (ys : List X) → P x → AllByRecursion P ys → AllByRecursion P (inserted order x ys)
+all_inserted : {X : Type 0} (P : X → Type 0) (order : X → X → Ordering) (x : X) (ys : List X) → P x → AllByRecursion P ys → AllByRecursion P (sorted_with order x ys)
 all_inserted P order x [] h k = (h, tt)
-all_inserted P order x (y ∷ ys) h k = all_if P (is_gt (order x y)) (y ∷ inserted order x ys) (x ∷ y ∷ ys) (k.0, all_inserted P order x ys h k.1) (h, k)
+all_inserted P order x (y ∷ ys) h k = all_if P (is_gt (order x y)) (y ∷ sorted_with order x ys) (x ∷ y ∷ ys) (k.0, all_inserted P order x ys h k.1) (h, k)
 
 pub all_sorted : {X : Type 0} (P : X → Type 0) (order : X → X → Ordering) (xs : List X) → AllByRecursion P xs → AllByRecursion P (sorted order xs)
 all_sorted P order [] h = tt
@@ -70,10 +70,10 @@ apart_kept : (p : Candidate → Bool) (cs : List Candidate) → Apart cs → Apa
 apart_kept p [] h = tt
 apart_kept p (c ∷ cs) h = apart_if (p c) (c ∷ filter p cs) (filter p cs) (all_kept (Differ c) p cs h.0, apart_kept p cs h.1) (apart_kept p cs h.1)
 
-apart_inserted : (order : Candidate → Candidate → Ordering) (c : Candidate) (ds : List Candidate) → AllByRecursion (Differ c) ds → Apart ds → Apart (inserted order c ds)
+apart_inserted : (order : Candidate → Candidate → Ordering) (c : Candidate) (ds : List Candidate) → AllByRecursion (Differ c) ds → Apart ds → Apart (sorted_with order c ds)
 apart_inserted order c [] h k = (tt, tt)
 apart_inserted order c (d ∷ ds) h k =
-    apart_if (is_gt (order c d)) (d ∷ inserted order c ds) (c ∷ d ∷ ds) (all_inserted (Differ d) order c ds (λ e. h.0 (sym e)) k.0, apart_inserted order c ds h.1 k.1) (h, k)
+    apart_if (is_gt (order c d)) (d ∷ sorted_with order c ds) (c ∷ d ∷ ds) (all_inserted (Differ d) order c ds (λ e. h.0 (sym e)) k.0, apart_inserted order c ds h.1 k.1) (h, k)
 
 apart_sorted : (order : Candidate → Candidate → Ordering) (cs : List Candidate) → Apart cs → Apart (sorted order cs)
 apart_sorted order [] h = tt

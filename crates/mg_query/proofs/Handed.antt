@@ -10,7 +10,7 @@ use Rattle.mg_value.specs.Value.{item_list}
 use Rattle.mg_collate.specs.declared.direction.Direction.{Direction}
 use Rattle.mg_collate.specs.declared.row.Row.{Row}
 use Rattle.mg_collate.specs.Row.{RowValue, directed_order, row_view}
-use Rattle.mg_collate.specs.Sorted.{IsInOrder, inserted, sorted, sorted_rows}
+use Rattle.mg_collate.specs.Sorted.{IsInOrder, sorted_with, sorted, sorted_rows}
 use Rattle.mg_bookmark.specs.Bookmark.{Place}
 use Rattle.mg_index.specs.Choice.{Source, is_usable}
 use Rattle.mg_index.specs.Definition.{IndexDefinition, Steps}
@@ -20,7 +20,7 @@ use Rattle.mg_merge.specs.Sharding.{Document, rows_of}
 use Rattle.mg_merge.proofs.Cuts.{cut_in_order}
 use Rattle.mg_merge.proofs.Rows.{by_rows, rows_of_merged}
 use Rattle.mg_normal.specs.Atoms.{atoms_of}
-use Rattle.mg_normal.specs.Normal.{IsNormalOf, NormalForm, normal_atoms, normal_holds}
+use Rattle.mg_normal.specs.Normal.{IsNormalOf, NormalForm, normal_holds}
 use Rattle.mg_range.specs.Laws.{RangesAreComplete}
 use Rattle.mg_range.specs.Place.{has_key}
 use Rattle.mg_range.specs.Range.{Range, range_of}
@@ -56,9 +56,9 @@ either : {X : Type 0} (b : Bool) (xs ys : List X) (n : ℕ) → length xs ≡ n 
 either true xs ys n p q = p
 either false xs ys n p q = q
 
-length_inserted : {X : Type 0} (order : X → X → Ordering) (x : X) (ys : List X) → length (inserted order x ys) ≡ suc (length ys)
+length_inserted : {X : Type 0} (order : X → X → Ordering) (x : X) (ys : List X) → length (sorted_with order x ys) ≡ suc (length ys)
 length_inserted order x [] = refl
-length_inserted order x (y ∷ ys) = either (is_gt (order x y)) (y ∷ inserted order x ys) (x ∷ y ∷ ys) (suc (suc (length ys))) (ap suc (length_inserted order x ys)) refl
+length_inserted order x (y ∷ ys) = either (is_gt (order x y)) (y ∷ sorted_with order x ys) (x ∷ y ∷ ys) (suc (suc (length ys))) (ap suc (length_inserted order x ys)) refl
 
 length_sorted : {X : Type 0} (order : X → X → Ordering) (xs : List X) → length (sorted order xs) ≡ length xs
 length_sorted order [] = refl
@@ -79,19 +79,19 @@ pub merged_same : (direction : Direction) (hits : List Hit) (m n : ℕ) (lists o
 merged_same direction hits m n lists others e f g = e ∙ ap₂ (λ k ls. merged_by hit_row direction k (contents_of ls)) f g
 
 -- what a scan finds in a shard that has the columns of its target
-found_at : (q : Query) (columns : List Steps) (normal : NormalForm) (target : Target) (range : Range) (after : Option RowValue) (count : ℕ) → range ≡ range_of (normal_atoms normal) columns → after ≡ option_map row_at q.bookmark → count ≡ q.skip + q.limit
+found_at : (q : Query) (columns : List Steps) (normal : NormalForm) (target : Target) (range : Range) (after : Option RowValue) (count : ℕ) → range ≡ range_of normal.atoms columns → after ≡ option_map row_at q.bookmark → count ≡ q.skip + q.limit
     → (s : ShardView) → columns_at target s.definitions ≡ Some columns → found_in target (asked normal range after count q.direction) s ≡ shard_rows normal columns q s
 found_at q columns normal target range after count r a n s e =
     ap (λ o. option_map_or (λ cs. scanned (asked normal range after count q.direction cs) (docs_of s.documents)) o []) e
     ∙ ap (λ x. scanned (asked normal x after count q.direction columns) (docs_of s.documents)) r
-    ∙ ap₂ (λ x m. scanned (asked normal (range_of (normal_atoms normal) columns) x m q.direction columns) (docs_of s.documents)) a n
+    ∙ ap₂ (λ x m. scanned (asked normal (range_of normal.atoms columns) x m q.direction columns) (docs_of s.documents)) a n
 
 found_each : (target : Target) (request : List Steps → Request) (columns : List Steps) (rows : ShardView → List RowValue) → ((s : ShardView) → columns_at target s.definitions ≡ Some columns → found_in target request s ≡ rows s)
     → (shards : List ShardView) → AllByRecursion (λ s. columns_at target s.definitions ≡ Some columns) shards → map (found_in target request) shards ≡ map rows shards
 found_each target request columns rows f [] h = refl
 found_each target request columns rows f (s ∷ shards) h = ap₂ (λ x xs. x ∷ xs) (f s h.0) (found_each target request columns rows f shards h.1)
 
-pub found_rows : (q : Query) (columns : List Steps) (normal : NormalForm) (target : Target) (range : Range) (after : Option RowValue) (count : ℕ) → range ≡ range_of (normal_atoms normal) columns → after ≡ option_map row_at q.bookmark → count ≡ q.skip + q.limit
+pub found_rows : (q : Query) (columns : List Steps) (normal : NormalForm) (target : Target) (range : Range) (after : Option RowValue) (count : ℕ) → range ≡ range_of normal.atoms columns → after ≡ option_map row_at q.bookmark → count ≡ q.skip + q.limit
     → (shards : List ShardView) → All (λ s. columns_at target s.definitions ≡ Some columns) shards → map (found_in target (asked normal range after count q.direction)) shards ≡ map (shard_rows normal columns q) shards
 found_rows q columns normal target range after count r a n shards h =
     found_each target (asked normal range after count q.direction) columns (shard_rows normal columns q) (found_at q columns normal target range after count r a n) shards
@@ -104,7 +104,7 @@ listed_at source target shards at listed = All-weaker (λ s. IsListed s.definiti
 
 -- where the range decides, it does so in each shard
 pub decided_in : (source : Source) (target : Target) (normal : NormalForm) (range : Range) (shards : List ShardView) → All (λ s. columns_at target s.definitions ≡ Some (columns_of source)) shards
-    → IsDecidedBy (columns_of source) normal → range ≡ range_of (normal_atoms normal) (columns_of source) → All (IsDecidedIn target normal range) shards
+    → IsDecidedBy (columns_of source) normal → range ≡ range_of normal.atoms (columns_of source) → All (IsDecidedIn target normal range) shards
 decided_in source target normal range shards there decided is =
     All-weaker (λ s. columns_at target s.definitions ≡ Some (columns_of source)) (IsDecidedIn target normal range)
     (λ s e. record { columns = columns_of source; there = e; alone = decided.0; decides = decided.1; bounds = is }) shards there
@@ -142,7 +142,7 @@ module _ (q : Query) (columns : List Steps) (normal : NormalForm) (is : IsNormal
   pub shard_listed : (s : ShardView) → shard_rows normal columns q s ≡ take most (listed_here (docs_of s.documents))
   shard_listed s =
       ap (take most)
-      (filter_agree (λ r. has_key (range_of (normal_atoms normal) columns) (item_list r.0) && option_map_or (λ p. is_gt (directed_order q.direction r p)) (option_map row_at q.bookmark) true) (is_wanted_by q columns)
+      (filter_agree (λ r. has_key (range_of normal.atoms columns) (item_list r.0) && option_map_or (λ p. is_gt (directed_order q.direction r p)) (option_map row_at q.bookmark) true) (is_wanted_by q columns)
       (λ r. ap₂ ◌&&◌ (ap (λ atoms. has_key (range_of atoms columns) (item_list r.0)) is.atoms) (follows_same q.bookmark q.direction r))
       (sorted_rows q.direction (filter_map (row_of columns) (filter asked_here (docs_of s.documents)))))
 

@@ -6,7 +6,7 @@ use Rattle.std.specs.declared.cmp.Ordering.TheVariants.{Equal}
 use Rattle.std.specs.List.Sorted.{IsPermutation}
 use Rattle.std.proofs.lemmas.List.Recursion.{is_count_by}
 use Rattle.std.proofs.lemmas.List.Sorted.{sum_by-IsPermutation}
-use Rattle.mg_collate.specs.Sorted.{inserted, sorted}
+use Rattle.mg_collate.specs.Sorted.{sorted_with, sorted}
 use Rattle.mg_collate.proofs.Sorting.{Rises, times, rises_sorted, permutation_sorted, times_permutation, same_list}
 
 -- ---- what is shown of sorted elements
@@ -15,16 +15,16 @@ map_chosen : {X Y : Type 0} (f : X → Y) (b : Bool) (xs ys : List X) → map f 
 map_chosen f true xs ys = refl
 map_chosen f false xs ys = refl
 
-map_inserted : {X Y : Type 0} (f : X → Y) (order : Y → Y → Ordering) (x : X) (xs : List X) → map f (inserted (λ a b. order (f a) (f b)) x xs) ≡ inserted order (f x) (map f xs)
+map_inserted : {X Y : Type 0} (f : X → Y) (order : Y → Y → Ordering) (x : X) (xs : List X) → map f (sorted_with (λ a b. order (f a) (f b)) x xs) ≡ sorted_with order (f x) (map f xs)
 map_inserted f order x [] = refl
 map_inserted f order x (y ∷ ys) =
-    map_chosen f (is_gt (order (f x) (f y))) (y ∷ inserted (λ a b. order (f a) (f b)) x ys) (x ∷ y ∷ ys)
+    map_chosen f (is_gt (order (f x) (f y))) (y ∷ sorted_with (λ a b. order (f a) (f b)) x ys) (x ∷ y ∷ ys)
     ∙ ap (λ zs. cond (is_gt (order (f x) (f y))) (f y ∷ zs) (f x ∷ f y ∷ map f ys)) (map_inserted f order x ys)
 
 -- elements that are sorted by what is shown of them are shown sorted
 pub map_sorted : {X Y : Type 0} (f : X → Y) (order : Y → Y → Ordering) (xs : List X) → map f (sorted (λ a b. order (f a) (f b)) xs) ≡ sorted order (map f xs)
 map_sorted f order [] = refl
-map_sorted f order (x ∷ xs) = map_inserted f order x (sorted (λ a b. order (f a) (f b)) xs) ∙ ap (inserted order (f x)) (map_sorted f order xs)
+map_sorted f order (x ∷ xs) = map_inserted f order x (sorted (λ a b. order (f a) (f b)) xs) ∙ ap (sorted_with order (f x)) (map_sorted f order xs)
 
 -- elements that are kept by what is shown of them are those of the shown ones that are kept
 pub map_filter : {X Y : Type 0} (f : X → Y) (p : Y → Bool) (xs : List X) → map f (filter (λ x. p (f x)) xs) ≡ filter p (map f xs)

@@ -3,7 +3,7 @@ use Rattle.std.specs.Prelude.{◌≡◌, ℕ, ◌+◌, true, false, List, drop, 
 use Rattle.mg_collate.specs.Row.{RowValue, row_view}
 use Rattle.mg_merge.specs.Merged.{merged}
 use Rattle.mg_index.specs.Definition.{Steps}
-use Rattle.mg_normal.specs.Normal.{IsNormalOf, NormalForm, normal_atoms}
+use Rattle.mg_normal.specs.Normal.{IsNormalOf, NormalForm}
 use Rattle.mg_range.specs.Decided.{decides_of}
 use Rattle.mg_range.specs.Range.{range_of}
 use Rattle.mg_scan.specs.Hit.{AreHitsIn, hit_rows}
@@ -17,12 +17,12 @@ use Rattle.mg_query.specs.declared.found.Asked.{Asked}
 
 -- the normal form asks nothing besides atoms, and their range at the columns decides each of them
 abbrev pub IsDecidedBy : List Steps → NormalForm → Type 0
-IsDecidedBy columns normal = (is_some normal.rest ≡ false) × (decides_of (normal_atoms normal) columns ≡ true)
+IsDecidedBy columns normal = (is_some normal.rest ≡ false) × (decides_of normal.atoms columns ≡ true)
 
 -- it is what the query asks
 pub record IsAskedBy (q : Query) (a : Asked) : Type 0 where
   pub normal : IsNormalOf q.selector a.normal
-  pub range : a.range ≡ range_of (normal_atoms a.normal) (columns_of (source_seen a.source))
+  pub range : a.range ≡ range_of a.normal.atoms (columns_of (source_seen a.source))
   pub after : option_map row_view a.after ≡ option_map row_at q.bookmark
   pub decided : a.is_decided ≡ true → IsDecidedBy (columns_of (source_seen a.source)) a.normal
 

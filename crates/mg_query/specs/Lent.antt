@@ -5,7 +5,7 @@ use Rattle.mg_value.specs.Text.{compact}
 use Rattle.mg_collate.specs.Row.{RowValue}
 use Rattle.mg_bookmark.specs.Bookmark.{Place}
 use Rattle.mg_index.specs.Definition.{Steps}
-use Rattle.mg_normal.specs.Normal.{NormalForm, normal_atoms}
+use Rattle.mg_normal.specs.Normal.{NormalForm}
 use Rattle.mg_range.specs.Range.{range_of}
 use Rattle.mg_revtree.specs.Tree.{StandsFor}
 use Rattle.mg_scan.specs.Found.{asked}
@@ -24,7 +24,7 @@ row_at p = (p.key, p.id)
 -- what a shard lists for a query, in an index of these columns: so many rows at most as the page has and passes over
 abbrev pub shard_rows : NormalForm → List Steps → Query → ShardView → List RowValue
 shard_rows normal columns q s =
-    scanned (asked normal (range_of (normal_atoms normal) columns) (option_map row_at q.bookmark) (q.skip + q.limit) q.direction columns) (docs_of s.documents)
+    scanned (asked normal (range_of normal.atoms columns) (option_map row_at q.bookmark) (q.skip + q.limit) q.direction columns) (docs_of s.documents)
 
 -- the query shows documents as they are served: with no conflicts, and at no fields
 abbrev pub shows_whole : Query → Bool

@@ -5,7 +5,6 @@ ghost use Rattle.mg_value.specs.Value.{item_list};
 ghost use Rattle.mg_bookmark.specs.Seen.{bookmark_place};
 ghost use Rattle.mg_index.specs.Choice.{all_docs, choice_of, id_path};
 ghost use Rattle.mg_index.specs.Definition.{IndexDefinition};
-ghost use Rattle.mg_normal.specs.Normal.{normal_atoms};
 ghost use Rattle.mg_range.specs.Range.{range_of};
 ghost use Rattle.mg_normal.specs.Normal.{IsNormalOf};
 ghost use Rattle.mg_scan.specs.Found.{columns_of as columns_at};
@@ -62,7 +61,7 @@ fn chosen<'a>(
     normal: &Normal,
     catalog: &'a Catalog,
 ) -> Result<Source<'a>, PageError>
-    ensures chosen { Chooses result (choice_of catalog.now (normal_atoms normal.now)
+    ensures chosen { Chooses result (choice_of catalog.now normal.now.atoms
         (query_seen query.now).sort (query_seen query.now).hint) }
     ensures listed { IfOk result (λ s. IsListed catalog.now (source_seen s)) }
 {
@@ -158,7 +157,7 @@ impl<'a> Source<'a> {
     // The range of its keys in which a query looks.
     pub(crate) fn range(self, alloc: Global, normal: &Normal) -> Result<KeyRange, NoMemory>
         ensures { IfOk result
-            (λ r. r ≡ range_of (normal_atoms normal.now) (columns_of (source_seen self.entry))) }
+            (λ r. r ≡ range_of normal.now.atoms (columns_of (source_seen self.entry))) }
     {
         match self {
             Source::AllDocs => id_range(alloc, normal),
@@ -192,7 +191,7 @@ impl<'a> Source<'a> {
 
 // The range of ids.
 fn id_range(alloc: Global, normal: &Normal) -> Result<KeyRange, NoMemory>
-    ensures { IfOk result (λ r. r ≡ range_of (normal_atoms normal.now) (columns_of all_docs)) }
+    ensures { IfOk result (λ r. r ≡ range_of normal.now.atoms (columns_of all_docs)) }
 {
     let columns = vec![in alloc; id_column(alloc)?]?;
     KeyRange::of(alloc, &columns, normal)

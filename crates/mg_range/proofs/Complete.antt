@@ -87,13 +87,13 @@ either_way : (b r : Bool) → r ≡ true → cond b r true ≡ true
 either_way true r h = h
 either_way false r h = refl
 
-key_of : (v : Value) (atoms : List Atom) (sort columns : List Steps) → Hold v atoms → Has v id_path → Has v rev_path → All (Has v) sort
+key_there : (v : Value) (atoms : List Atom) (sort columns : List Steps) → Hold v atoms → Has v id_path → Has v rev_path → All (Has v) sort
     → list_all (is_covered atoms sort) columns ≡ true → (key : List Value) × HasKey columns v key × (in_range atoms columns key ≡ true)
-key_of v atoms sort [] h i r s k = ([], refl, refl)
-key_of v atoms sort (c ∷ cs) h i r s k =
+key_there v atoms sort [] h i r s k = ([], refl, refl)
+key_there v atoms sort (c ∷ cs) h i r s k =
     let p = and_parts (is_covered atoms sort c) (list_all (is_covered atoms sort) cs) k in
     let first = covered v atoms sort c h i r s p.0 in
-    let more = key_of v atoms sort cs h i r s p.1 in (
+    let more = key_there v atoms sort cs h i r s p.1 in (
       first.0 ∷ more.0,
       ap₂ (λ o os. option_and_then (λ y. option_map (λ ys. y ∷ ys) os) o) first.1 more.1,
       and_from (meets_all first.0 (bounds_on atoms c)) (cond (is_fixed atoms c) (in_range atoms cs more.0) true) (all_met v c first.0 atoms first.1 h)
@@ -103,4 +103,4 @@ key_of v atoms sort (c ∷ cs) h i r s k =
 pub complete : AtomsAreNecessary → RangesAreComplete
 complete necessary s sort columns v usable i r present holds =
     let p = and_parts (list_all (is_covered (atoms_of s) sort) columns) (starts_with path_eq columns sort) usable in
-    key_of v (atoms_of s) sort columns (necessary s (Some v) holds) i r present p.0
+    key_there v (atoms_of s) sort columns (necessary s (Some v) holds) i r present p.0

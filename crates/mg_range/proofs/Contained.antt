@@ -13,9 +13,8 @@ use Rattle.mg_index.specs.Definition.{Steps}
 use Rattle.mg_index.specs.declared.bound.Comparison.{Comparison}
 use Rattle.mg_index.specs.declared.bound.Comparison.TheVariants.{Below, AtMost, Exactly, AtLeast, Above}
 use Rattle.mg_range.proofs.Limits.{and_false, and_true, above, is_within_some, meets_tightest}
-use Rattle.mg_range.specs.Place.{admits, is_within, place_between, place_from, is_place_within, has_key}
+use Rattle.mg_range.specs.Place.{admits, is_within, is_before, is_past, place_from, is_place_within, has_key}
 use Rattle.mg_range.specs.Range.{Limit, Range, span_of, is_crossed, between, with_equal, range_from, range_of, in_range, tightest}
-use Rattle.mg_range.specs.declared.place.Place.{Place}
 use Rattle.mg_range.specs.declared.place.Place.TheVariants.{Before, Within, Past}
 
 same_tests : (s t : Bool) → (s ≡ true → t ≡ true) → (t ≡ true → s ≡ true) → s ≡ t
@@ -34,7 +33,7 @@ placed true true = refl
 placed true false = refl
 placed false b = refl
 
-within_both : (lower upper : Option Limit) (v : Value) (vs : List Value) → is_place_within (place_between lower upper (v ∷ vs)) ≡ (is_within_some Asc lower v && is_within_some Desc upper v)
+within_both : (lower upper : Option Limit) (v : Value) (vs : List Value) → is_place_within (place_from [] lower upper (v ∷ vs)) ≡ (is_within_some Asc lower v && is_within_some Desc upper v)
 within_both None None v vs = refl
 within_both None (Some u) v vs = placed true (is_within Desc u v)
 within_both (Some l) None v vs = placed (is_within Asc l v) true
@@ -85,14 +84,15 @@ has_between lower upper v vs = between_at lower upper v vs (is_crossed lower upp
 
 -- ---- a value that is fixed
 
-behind_at : (o : Ordering) (p : Place) → is_place_within (match_ordering o Before p Past) ≡ (is_eq o && is_place_within p)
-behind_at Less p = refl
-behind_at Equal p = refl
-behind_at Greater p = refl
+behind_at : (o : Ordering) (b p : Bool)
+    → is_place_within (cond (match_ordering o true b false) Before (cond (match_ordering o false p true) Past Within)) ≡ (is_eq o && is_place_within (cond b Before (cond p Past Within)))
+behind_at Less b p = refl
+behind_at Equal b p = refl
+behind_at Greater b p = refl
 
 has_behind : (w : Value) (rest : Range) (v : Value) (vs : List Value) → has_key (with_equal w rest) (v ∷ vs) ≡ (is_eq (value_order v w) && has_key rest vs)
 has_behind w None v vs = and_false (is_eq (value_order v w))
-has_behind w (Some s) v vs = behind_at (value_order v w) (place_from s.equal s.lower s.upper vs)
+has_behind w (Some s) v vs = behind_at (value_order v w) (is_before s.equal s.lower vs) (is_past s.equal s.upper vs)
 
 find_at : {X : Type 0} (x : X) (more : Bool) (o : Option X) → more ≡ is_some o → (b : Bool) → (b || more) ≡ is_some (cond b (Some x) o)
 find_at x more o e true = refl

@@ -5,12 +5,11 @@ use Rattle.std.specs.List.{cons_option, filter, filter_map, list_all}
 use Rattle.mg_value.specs.Value.{Value}
 use Rattle.mg_path.specs.Part.{part_of}
 use Rattle.mg_normal.specs.Atoms.{Atom, atom_holds}
-use Rattle.mg_normal.specs.Normal.{NormalForm, all_hold, normal_atoms, normal_holds, rest_holds}
-use Rattle.mg_normal.specs.View.{form_of}
-use Rattle.mg_normal.specs.declared.form.Form.{Form}
+use Rattle.mg_normal.specs.Form.{Form}
+use Rattle.mg_normal.specs.Normal.{NormalForm, all_hold, normal_holds, rest_holds}
 use Rattle.mg_index.specs.Bound.{bound_on, is_fixed}
 use Rattle.mg_index.specs.Definition.{Steps}
-use Rattle.mg_index.specs.Reading.{each_of}
+use Rattle.mg_index.specs.Key.{key_of}
 use Rattle.mg_range.proofs.Bounded.{bounds_hold}
 use Rattle.mg_range.proofs.Contained.{contained}
 use Rattle.mg_range.proofs.Limits.{and_true, four}
@@ -74,7 +73,7 @@ parts (Some w) (Some ws) key e = record { first = w; more = ws; is_first = refl;
 key_length : (columns : List Steps) (v : Value) (key : List Value) → HasKey columns v key → length key ≡ length columns
 key_length [] v key e = let e : [] ≡ key = cc e in ap length (sym e)
 key_length (c ∷ cs) v key e =
-    let p = parts (part_of c v) (each_of (λ d. part_of d v) cs) key e in
+    let p = parts (part_of c v) (key_of cs v) key e in
     ap length p.is ∙ ap suc (key_length cs v p.more p.is_more)
 
 in_both : (b f d h : Bool) → (not (b || (f && d)) || h) ≡ ((not b || h) && cond f (not d || h) true)
@@ -94,7 +93,7 @@ decided_hold : (atoms : List Atom) (columns : List Steps) (v : Value) (key : Lis
     → list_all (λ a. not (is_decided atoms columns a) || atom_holds (Some v) a) atoms ≡ in_range atoms columns key
 decided_hold atoms [] v key e = all_true atoms
 decided_hold atoms (c ∷ cs) v key e =
-    let p = parts (part_of c v) (each_of (λ d. part_of d v) cs) key e in
+    let p = parts (part_of c v) (key_of cs v) key e in
     let bounds = λ (a : Atom). is_some (bound_on c a) in
     let fixed = is_fixed atoms c in
     let decided = is_decided atoms cs in
@@ -122,9 +121,9 @@ none_besides (Some x) e = absurd (false≢true (sym e))
 
 pub decides_form : RangeDecidesForm
 decides_form n columns v key none all e =
-    let atoms = normal_atoms n in
+    let atoms = n.atoms in
     let holds = atom_holds (Some v) in
-    ap (λ (o : Option Form). all_hold (Some v) atoms && rest_holds (option_map form_of o) (Some v)) (none_besides n.rest none)
+    ap (λ (o : Option Form). all_hold (Some v) atoms && rest_holds o (Some v)) (none_besides n.rest none)
     ∙ sym (and_true (all_hold (Some v) atoms))
     ∙ decides_atoms atoms columns v key e
     ∙ ap (λ t. has_key (range_of atoms columns) key && t) (left_hold (is_decided atoms columns) holds atoms ∙ none_left (is_decided atoms columns) holds atoms all)
@@ -145,9 +144,9 @@ row_step row in_it d ds rows (Some r) false is same e = ap (λ b. cond b (r ∷ 
 
 -- of documents with rows by their keys, the rows in the range are those of the documents that the form holds of
 pub decides_rows : {D R : Type 0} (served : D → Value) (row : D → Option R) (key : R → List Value) (n : NormalForm) (columns : List Steps) → is_some n.rest ≡ false
-    → decides_of (normal_atoms n) columns ≡ true → ((d : D) (r : R) → row d ≡ Some r → HasKey columns (served d) (key r)) → (ds : List D)
-    → filter (λ r. has_key (range_of (normal_atoms n) columns) (key r)) (filter_map row ds) ≡ filter_map row (filter (λ d. normal_holds n (Some (served d))) ds)
+    → decides_of n.atoms columns ≡ true → ((d : D) (r : R) → row d ≡ Some r → HasKey columns (served d) (key r)) → (ds : List D)
+    → filter (λ r. has_key (range_of n.atoms columns) (key r)) (filter_map row ds) ≡ filter_map row (filter (λ d. normal_holds n (Some (served d))) ds)
 decides_rows served row key n columns none all keyed [] = refl
 decides_rows served row key n columns none all keyed (d ∷ ds) =
-    row_step row (λ r. has_key (range_of (normal_atoms n) columns) (key r)) d (filter (λ x. normal_holds n (Some (served x))) ds) (filter_map row ds) (row d) (normal_holds n (Some (served d))) refl
+    row_step row (λ r. has_key (range_of n.atoms columns) (key r)) d (filter (λ x. normal_holds n (Some (served x))) ds) (filter_map row ds) (row d) (normal_holds n (Some (served d))) refl
     (λ r e. decides_form n columns (served d) (key r) none all (keyed d r e)) (decides_rows served row key n columns none all keyed ds)

@@ -14,9 +14,8 @@ use Rattle.mg_collate.specs.declared.direction.Direction.TheVariants.{Asc, Desc}
 use Rattle.mg_collate.proofs.Flat.{items_order-item, items_order-above}
 use Rattle.mg_collate.proofs.Ties.{value_order_total}
 use Rattle.mg_range.proofs.Limits.{order_from_total}
-use Rattle.mg_range.specs.Place.{admits, is_within, is_before, is_past, place_between, place_from, place_of, place_rank}
+use Rattle.mg_range.specs.Place.{admits, is_within, is_before, is_past, place_of, place_rank}
 use Rattle.mg_range.specs.Range.{Limit, Range, order_from}
-use Rattle.mg_range.specs.declared.place.Place.{Place}
 use Rattle.mg_range.specs.declared.place.Place.TheVariants.{Before, Within, Past}
 
 not_gt : (o : Ordering) → is_le o ≡ true → is_gt o ≡ false
@@ -82,22 +81,68 @@ not_after_end v vs h = false≢true (ap is_le (sym (items_order-above v (items_o
 back_not_above : (v w : Value) → is_gt (value_order v w) ≡ false → is_gt (order_from Desc w v) ≡ false
 back_not_above v w h = ap is_gt (sym (value_order_total.antisymm v w)) ∙ h
 
--- ---- limits
+not_above : (v w : Value) (vs ws : List Value) → NotAfter (v ∷ vs) (w ∷ ws) → is_gt (value_order v w) ≡ false
+not_above v w vs ws h = first_not_above (value_order v w) (items_order (items_of vs) (items_of ws)) (firsts v w vs ws h)
 
-before_falls : (lower : Option Limit) (a b : List Value) → NotAfter a b → is_before lower b ≡ true → is_before lower a ≡ true
-before_falls None a b h k = k
-before_falls (Some l) [] b h k = refl
-before_falls (Some l) (v ∷ vs) [] h k = absurd (not_after_end v vs h)
-before_falls (Some l) (v ∷ vs) (w ∷ ws) h k =
-    contrary (is_within Asc l v) (is_within Asc l w) (rises Asc l v w (first_not_above (value_order v w) (items_order (items_of vs) (items_of ws)) (firsts v w vs ws h))) k
+last_not_after : (o p : Ordering) → o ≡ Equal → is_le (ordering_then o p) ≡ true → is_le p ≡ true
+last_not_after o p e h = ap (λ x. is_le (ordering_then x p)) (sym e) ∙ h
 
-past_rises : (upper : Option Limit) (a b : List Value) → NotAfter a b → is_past upper a ≡ true → is_past upper b ≡ true
-past_rises None a b h k = absurd (false≢true k)
-past_rises (Some u) [] b h k = absurd (false≢true k)
-past_rises (Some u) (v ∷ vs) [] h k = absurd (not_after_end v vs h)
-past_rises (Some u) (v ∷ vs) (w ∷ ws) h k =
-    let f = first_not_above (value_order v w) (items_order (items_of vs) (items_of ws)) (firsts v w vs ws h) in
-    contrary (is_within Desc u w) (is_within Desc u v) (rises Desc u w v (back_not_above v w f)) k
+-- behind values that both equal a third the keys are in order too
+behind : (v w e : Value) (vs ws : List Value) → NotAfter (v ∷ vs) (w ∷ ws) → value_order v e ≡ Equal → value_order w e ≡ Equal → NotAfter vs ws
+behind v w e vs ws h p q = last_not_after (value_order v w) (items_order (items_of vs) (items_of ws)) (alike_right value_order_total w e v q ∙ p) (firsts v w vs ws h)
+
+below_too : (v w e : Value) → is_gt (value_order v w) ≡ false → value_order w e ≡ Less → value_order v e ≡ Less
+below_too v w e f q =
+    let t = value_order_total in
+    let above_e = t.antisymm e w ∙ ap ordering_reverse q in
+    t.antisymm v e ∙ ap ordering_reverse (gt_is (value_order e v) (λ k. false≢true (sym (upto t e v w k f) ∙ ap is_gt above_e)))
+
+-- ---- the low end
+
+-- the first stands at o to a fixed value, the second at p
+falls : (o p : Ordering) (a b : Bool) → (o ≡ Greater → p ≡ Greater) → (p ≡ Less → o ≡ Less) → (o ≡ Equal → p ≡ Equal → b ≡ true → a ≡ true)
+    → match_ordering p true b false ≡ true → match_ordering o true a false ≡ true
+falls Less p a b f g h k = refl
+falls Equal Less a b f g h k = absurd (cc (g refl))
+falls Equal Equal a b f g h k = h refl refl k
+falls Equal Greater a b f g h k = absurd (false≢true k)
+falls Greater p a b f g h k = absurd (false≢true (ap (λ q. match_ordering q true b false) (sym (f refl)) ∙ k))
+
+before_falls : (es : List Value) (lower : Option Limit) (a b : List Value) → NotAfter a b → is_before es lower b ≡ true → is_before es lower a ≡ true
+before_falls [] None a b h k = k
+before_falls [] (Some l) [] b h k = refl
+before_falls [] (Some l) (v ∷ vs) [] h k = absurd (not_after_end v vs h)
+before_falls [] (Some l) (v ∷ vs) (w ∷ ws) h k = contrary (is_within Asc l v) (is_within Asc l w) (rises Asc l v w (not_above v w vs ws h)) k
+before_falls (e ∷ es) lower [] b h k = refl
+before_falls (e ∷ es) lower (v ∷ vs) [] h k = absurd (not_after_end v vs h)
+before_falls (e ∷ es) lower (v ∷ vs) (w ∷ ws) h k =
+    let f = not_above v w vs ws h in
+    falls (value_order v e) (value_order w e) (is_before es lower vs) (is_before es lower ws) (above_too value_order_total v w e f) (below_too v w e f)
+    (λ p q. before_falls es lower vs ws (behind v w e vs ws h p q)) k
+
+-- ---- the high end
+
+climbs : (o p : Ordering) (a b : Bool) → (o ≡ Greater → p ≡ Greater) → (p ≡ Less → o ≡ Less) → (o ≡ Equal → p ≡ Equal → a ≡ true → b ≡ true)
+    → match_ordering o false a true ≡ true → match_ordering p false b true ≡ true
+climbs Less p a b f g h k = absurd (false≢true k)
+climbs Equal Less a b f g h k = absurd (cc (g refl))
+climbs Equal Equal a b f g h k = h refl refl k
+climbs Equal Greater a b f g h k = refl
+climbs Greater p a b f g h k = ap (λ q. match_ordering q false b true) (f refl)
+
+past_rises : (es : List Value) (upper : Option Limit) (a b : List Value) → NotAfter a b → is_past es upper a ≡ true → is_past es upper b ≡ true
+past_rises [] None a b h k = absurd (false≢true k)
+past_rises [] (Some u) [] b h k = absurd (false≢true k)
+past_rises [] (Some u) (v ∷ vs) [] h k = absurd (not_after_end v vs h)
+past_rises [] (Some u) (v ∷ vs) (w ∷ ws) h k = contrary (is_within Desc u w) (is_within Desc u v) (rises Desc u w v (back_not_above v w (not_above v w vs ws h))) k
+past_rises (e ∷ es) upper [] b h k = absurd (false≢true k)
+past_rises (e ∷ es) upper (v ∷ vs) [] h k = absurd (not_after_end v vs h)
+past_rises (e ∷ es) upper (v ∷ vs) (w ∷ ws) h k =
+    let f = not_above v w vs ws h in
+    climbs (value_order v e) (value_order w e) (is_past es upper vs) (is_past es upper ws) (above_too value_order_total v w e f) (below_too v w e f)
+    (λ p q. past_rises es upper vs ws (behind v w e vs ws h p q)) k
+
+-- ---- places
 
 ranks : (a p b q : Bool) → (b ≡ true → a ≡ true) → (p ≡ true → q ≡ true) → place_rank (cond a Before (cond p Past Within)) ≤ place_rank (cond b Before (cond q Past Within))
 ranks true p b q f g = omega arith
@@ -107,54 +152,10 @@ ranks false true false false f g = absurd (false≢true (g refl))
 ranks false false false true f g = omega arith
 ranks false false false false f g = omega arith
 
-between_stands : (lower upper : Option Limit) (a b : List Value) → NotAfter a b → place_rank (place_between lower upper a) ≤ place_rank (place_between lower upper b)
-between_stands lower upper a b h =
-    ranks (is_before lower a) (is_past upper a) (is_before lower b) (is_past upper b) (before_falls lower a b h) (past_rises upper a b h)
-
--- ---- values that are fixed
-
-rank_at_most : (p : Place) → place_rank p ≤ 2
-rank_at_most Before = omega arith
-rank_at_most Within = omega arith
-rank_at_most Past = omega arith
-
-abbrev placed : Ordering → Place → Place
-placed o p = match_ordering o Before p Past
-
--- the first stands at o to the fixed value, the second at p, and they at r to one another
-orders : (o p : Ordering) (x y : Place) → (o ≡ Greater → p ≡ Greater) → (p ≡ Less → o ≡ Less) → (o ≡ Equal → p ≡ Equal → place_rank x ≤ place_rank y)
-    → place_rank (placed o x) ≤ place_rank (placed p y)
-orders Less p x y f g h = omega arith
-orders Equal Less x y f g h = absurd (cc (g refl))
-orders Equal Equal x y f g h = h refl refl
-orders Equal Greater x y f g h = rank_at_most x
-orders Greater p x y f g h = rw (f refl) (omega arith)
-
-last_not_after : (o p : Ordering) → o ≡ Equal → is_le (ordering_then o p) ≡ true → is_le p ≡ true
-last_not_after o p e h = ap (λ x. is_le (ordering_then x p)) (sym e) ∙ h
-
-stands : (es : List Value) (lower upper : Option Limit) (a b : List Value) → NotAfter a b → place_rank (place_from es lower upper a) ≤ place_rank (place_from es lower upper b)
-stands [] lower upper a b h = between_stands lower upper a b h
-stands (e ∷ es) lower upper [] b h = omega arith
-stands (e ∷ es) lower upper (v ∷ vs) [] h = absurd (not_after_end v vs h)
-stands (e ∷ es) lower upper (v ∷ vs) (w ∷ ws) h =
-    let f = first_not_above (value_order v w) (items_order (items_of vs) (items_of ws)) (firsts v w vs ws h) in
-    let t = value_order_total in
-    orders (value_order v e) (value_order w e) (place_from es lower upper vs) (place_from es lower upper ws) (above_too t v w e f) (below_too v w e f)
-    (λ p q. stands es lower upper vs ws (last_not_after (value_order v w) (items_order (items_of vs) (items_of ws)) (both_equal v w e p q) (firsts v w vs ws h)))
-  where
-    both_equal : (v w e : Value) → value_order v e ≡ Equal → value_order w e ≡ Equal → value_order v w ≡ Equal
-    both_equal v w e p q = alike_right value_order_total w e v q ∙ p
-
-    below_too : (v w e : Value) → is_gt (value_order v w) ≡ false → value_order w e ≡ Less → value_order v e ≡ Less
-    below_too v w e f q =
-        let t = value_order_total in
-        let above_e = t.antisymm e w ∙ ap ordering_reverse q in
-        t.antisymm v e ∙ ap ordering_reverse (gt_is (value_order e v) (λ k. false≢true (sym (upto t e v w k f) ∙ ap is_gt above_e)))
-
 pub together : (range : Range) (a b : List Value) → NotAfter a b → place_rank (place_of range a) ≤ place_rank (place_of range b)
 together None a b h = omega arith
-together (Some s) a b h = stands s.equal s.lower s.upper a b h
+together (Some s) a b h =
+    ranks (is_before s.equal s.lower a) (is_past s.equal s.upper a) (is_before s.equal s.lower b) (is_past s.equal s.upper b) (before_falls s.equal s.lower a b h) (past_rises s.equal s.upper a b h)
 
 first_not_after : (o p : Ordering) → is_le (ordering_then o p) ≡ true → is_le o ≡ true
 first_not_after Less p h = refl

@@ -11,10 +11,10 @@ use Rattle.mg_selector.specs.Meaning.{holds_in}
 use Rattle.mg_selector.specs.Selector.{Selector}
 use Rattle.mg_selector.specs.declared.sense.Sense.TheVariants.{Plain}
 use Rattle.mg_normal.specs.Atoms.{Atom, atoms_of}
-use Rattle.mg_normal.specs.Normal.{NormalForm, IsNormalOf, all_hold, normal_atoms, normal_holds}
+use Rattle.mg_normal.specs.Normal.{NormalForm, IsNormalOf, all_hold, normal_holds}
 use Rattle.mg_index.specs.Choice.{is_usable, id_path, rev_path}
 use Rattle.mg_index.specs.Definition.{Steps}
-use Rattle.mg_index.specs.Reading.{each_of}
+use Rattle.mg_index.specs.Key.{key_of}
 use Rattle.mg_range.specs.Decided.{decides_of, undecided}
 use Rattle.mg_range.specs.Place.{has_key, place_of, place_rank}
 use Rattle.mg_range.specs.Range.{Range, in_range, range_of}
@@ -23,9 +23,9 @@ use Rattle.mg_range.specs.Range.{Range, in_range, range_of}
 abbrev pub Has : Value → Steps → Type 0
 Has v path = IsSome (part_of path v)
 
--- the document's key: the values of its columns, in a document that has them all
+-- the document has each column, and this is its key
 abbrev pub HasKey : List Steps → Value → List Value → Type 0
-HasKey columns v key = each_of (λ c. part_of c v) columns ≡ Some key
+HasKey columns v key = key_of columns v ≡ Some key
 
 -- where an index is usable for a selector and a sort, and a document has `_id`, `_rev` and every path of the sort, and the selector
 -- holds of it, then no column is missing in the document, and what stands there is a key of the range
@@ -55,12 +55,12 @@ RangeDecidesAtoms =
 -- so where it decides each atom, and a normal form asks nothing besides atoms, the form holds exactly where it has the key
 abbrev pub RangeDecidesForm : Type 0
 RangeDecidesForm =
-    (n : NormalForm) (columns : List Steps) (v : Value) (key : List Value) → is_some n.rest ≡ false → decides_of (normal_atoms n) columns ≡ true
-    → HasKey columns v key → normal_holds n (Some v) ≡ has_key (range_of (normal_atoms n) columns) key
+    (n : NormalForm) (columns : List Steps) (v : Value) (key : List Value) → is_some n.rest ≡ false → decides_of n.atoms columns ≡ true
+    → HasKey columns v key → normal_holds n (Some v) ≡ has_key (range_of n.atoms columns) key
 
 -- and so does a selector whose normal form it is
 abbrev pub RangeDecides : Type 0
 RangeDecides =
     (s : Selector) (n : NormalForm) (columns : List Steps) (v : Value) (key : List Value) → IsNormalOf s n
-    → is_some n.rest ≡ false → decides_of (normal_atoms n) columns ≡ true → HasKey columns v key
-    → holds_in s Plain (Some v) ≡ has_key (range_of (normal_atoms n) columns) key
+    → is_some n.rest ≡ false → decides_of n.atoms columns ≡ true → HasKey columns v key
+    → holds_in s Plain (Some v) ≡ has_key (range_of n.atoms columns) key

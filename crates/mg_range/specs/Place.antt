@@ -19,27 +19,26 @@ admits false order = is_gt order
 abbrev pub is_within : Direction → Limit → Value → Bool
 is_within direction l v = admits l.inclusive (order_from direction v l.value)
 
--- the rest of the key is below the lower limit; an ended key is below any
-abbrev pub is_before : Option Limit → List Value → Bool
-is_before None key = false
-is_before (Some lower) [] = true
-is_before (Some lower) (v ∷ vs) = not (is_within Asc lower v)
+-- the key is below the low end of a range: by its first value that differs from the fixed ones, and else by the lower limit; a key that
+-- ends before is below
+abbrev pub is_before : List Value → Option Limit → List Value → Bool
+is_before (e ∷ es) lower (v ∷ vs) = match_ordering (value_order v e) true (is_before es lower vs) false
+is_before (e ∷ es) lower [] = true
+is_before [] (Some l) (v ∷ vs) = not (is_within Asc l v)
+is_before [] (Some l) [] = true
+is_before [] None key = false
 
--- the rest of the key is above the upper limit
-abbrev pub is_past : Option Limit → List Value → Bool
-is_past None key = false
-is_past (Some upper) [] = false
-is_past (Some upper) (v ∷ vs) = not (is_within Desc upper v)
+-- the key is above the high end of a range: likewise, by the upper limit; a key that ends before is not above
+abbrev pub is_past : List Value → Option Limit → List Value → Bool
+is_past (e ∷ es) upper (v ∷ vs) = match_ordering (value_order v e) false (is_past es upper vs) true
+is_past (e ∷ es) upper [] = false
+is_past [] (Some u) (v ∷ vs) = not (is_within Desc u v)
+is_past [] (Some u) [] = false
+is_past [] None key = false
 
--- the place of the rest of a key to the limits
-abbrev pub place_between : Option Limit → Option Limit → List Value → Place
-place_between lower upper key = if is_before lower key then Before else if is_past upper key then Past else Within
-
--- the place of a key: by its first value that differs from those that are fixed, and else by the limits; a proper prefix is below
+-- the place of a key to fixed values and limits
 abbrev pub place_from : List Value → Option Limit → Option Limit → List Value → Place
-place_from [] lower upper key = place_between lower upper key
-place_from (e ∷ es) lower upper [] = Before
-place_from (e ∷ es) lower upper (v ∷ vs) = match_ordering (value_order v e) Before (place_from es lower upper vs) Past
+place_from equal lower upper key = if is_before equal lower key then Before else if is_past equal upper key then Past else Within
 
 -- the place of a key to a range; all keys are past an empty one
 abbrev pub place_of : Range → List Value → Place

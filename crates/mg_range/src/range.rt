@@ -1,7 +1,6 @@
 ghost use Rattle.std.specs.Prelude.{◌≡◌, ℕ, List, [], ◌∷◌, IfOk, is_none, length, map, option_map};
 ghost use Rattle.mg_value.specs.Value.{Value, text as string};
 ghost use Rattle.mg_value.specs.View.{view as json_view};
-ghost use Rattle.mg_normal.specs.Normal.{normal_atoms};
 ghost use Rattle.mg_range.specs.Listed.{range_value};
 ghost use Rattle.mg_range.specs.Place.{has_key, place_of};
 ghost use Rattle.mg_range.specs.Enter.{limit_entered};
@@ -47,9 +46,9 @@ impl KeyRange {
     /// Errors: `NoMemory` where a growth is refused. Cost: the columns times the atoms, and each bound that
     /// is kept, which is copied once.
     pub fn of(alloc: Global, columns: &[Path], normal: &Normal) -> Result<KeyRange, NoMemory>
-        ensures range { IfOk result (λ r. r ≡ range_of (normal_atoms normal.now) columns.now) }
+        ensures range { IfOk result (λ r. r ≡ range_of normal.now.atoms columns.now) }
         ensures keys { IfOk result (λ r. (key : List Value) → length key ≡ length columns.now
-            → has_key r key ≡ in_range (normal_atoms normal.now) columns.now key) }
+            → has_key r key ≡ in_range normal.now.atoms columns.now key) }
     {
         Ok(KeyRange {
             span: span_of(alloc, columns, normal.atoms())?,

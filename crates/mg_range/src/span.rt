@@ -1,11 +1,11 @@
 // The keys between two limits, behind values that are fixed.
-ghost use Rattle.std.specs.Prelude.{◌≡◌, List, Some, IfOk, map, not, option_map};
+ghost use Rattle.std.specs.Prelude.{◌≡◌, List, [], Some, IfOk, map, not, option_map};
 ghost use Rattle.mg_value.specs.View.{view};
 ghost use Rattle.mg_normal.specs.View.{atoms_view};
 ghost use Rattle.mg_collate.specs.declared.direction.Direction.TheVariants.{Asc, Desc};
 ghost use Rattle.mg_range.specs.Edge.{edge_seen};
 ghost use Rattle.mg_range.specs.Range.{range_of, between, are_crossed as cross, is_crossed as is_cross};
-ghost use Rattle.mg_range.specs.Place.{place_from, place_between as stands_between, is_before as stands_before, is_past as stands_past, is_within as stands_within};
+ghost use Rattle.mg_range.specs.Place.{place_from, is_before as stands_before, is_past as stands_past, is_within as stands_within};
 ghost use Rattle.mg_range.specs.View.{limit_seen, span_seen, with_equals};
 
 use crate::edge::{Edge, fixed_value, meets_all, tightest};
@@ -132,7 +132,7 @@ pub(crate) fn place_in(span: &Span, key: &[Json]) -> Place
 
 // Where the rest of a key stands to the limits.
 pub(crate) fn place_at_limits(lower: &Option<Limit>, upper: &Option<Limit>, rest: &[Json]) -> Place
-    ensures { result ≡ stands_between (option_map limit_seen lower.now) (option_map limit_seen upper.now)
+    ensures { result ≡ place_from [] (option_map limit_seen lower.now) (option_map limit_seen upper.now)
         (map view rest.now) }
 {
     if is_before(lower, rest) {
@@ -145,7 +145,7 @@ pub(crate) fn place_at_limits(lower: &Option<Limit>, upper: &Option<Limit>, rest
 }
 
 fn is_before(lower: &Option<Limit>, rest: &[Json]) -> bool
-    ensures { result ≡ stands_before (option_map limit_seen lower.now) (map view rest.now) }
+    ensures { result ≡ stands_before [] (option_map limit_seen lower.now) (map view rest.now) }
 {
     let Some(lower) = lower else {
         return false;
@@ -157,7 +157,7 @@ fn is_before(lower: &Option<Limit>, rest: &[Json]) -> bool
 }
 
 fn is_past(upper: &Option<Limit>, rest: &[Json]) -> bool
-    ensures { result ≡ stands_past (option_map limit_seen upper.now) (map view rest.now) }
+    ensures { result ≡ stands_past [] (option_map limit_seen upper.now) (map view rest.now) }
 {
     let Some(upper) = upper else {
         return false;

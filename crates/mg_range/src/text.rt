@@ -2,7 +2,7 @@
 ghost use Rattle.std.specs.Prelude.{◌≡◌, [], ◌∷◌, map, option_map};
 ghost use Rattle.mg_value.specs.Value.{text as string};
 ghost use Rattle.mg_value.specs.View.{view};
-ghost use Rattle.mg_range.specs.Place.{place_from, place_between as stands_between, is_before as stands_before, is_past as stands_past, is_within as stands_within};
+ghost use Rattle.mg_range.specs.Place.{place_from, is_before as stands_before, is_past as stands_past, is_within as stands_within};
 ghost use Rattle.mg_range.specs.View.{limit_seen};
 
 use crate::place::Place;
@@ -28,7 +28,8 @@ pub(crate) fn place_in(span: &Span, text: &str) -> Place
 
 // Where a key that has ended stands to the values that are left, and to the limits.
 fn place_of_ended(equal: &[Json], lower: &Option<Limit>, upper: &Option<Limit>) -> Place
-    ensures { result ≡ place_from (map view equal.now) (option_map limit_seen lower.now) (option_map limit_seen upper.now) [] }
+    ensures { result ≡ place_from (map view equal.now) (option_map limit_seen lower.now)
+        (option_map limit_seen upper.now) [] }
 {
     match equal.split_first() {
         Some(_) => Place::Before,
@@ -38,7 +39,8 @@ fn place_of_ended(equal: &[Json], lower: &Option<Limit>, upper: &Option<Limit>) 
 
 // Where it stands to the limits.
 fn place_of_text(lower: &Option<Limit>, upper: &Option<Limit>, text: &str) -> Place
-    ensures { result ≡ stands_between (option_map limit_seen lower.now) (option_map limit_seen upper.now) (string text.now ∷ []) }
+    ensures { result ≡ place_from [] (option_map limit_seen lower.now) (option_map limit_seen upper.now)
+        (string text.now ∷ []) }
 {
     if is_before(lower, text) {
         Place::Before
@@ -50,7 +52,7 @@ fn place_of_text(lower: &Option<Limit>, upper: &Option<Limit>, text: &str) -> Pl
 }
 
 fn is_before(lower: &Option<Limit>, text: &str) -> bool
-    ensures { result ≡ stands_before (option_map limit_seen lower.now) (string text.now ∷ []) }
+    ensures { result ≡ stands_before [] (option_map limit_seen lower.now) (string text.now ∷ []) }
 {
     match lower {
         Some(lower) => !is_within(Direction::Asc, lower, text),
@@ -59,7 +61,7 @@ fn is_before(lower: &Option<Limit>, text: &str) -> bool
 }
 
 fn is_past(upper: &Option<Limit>, text: &str) -> bool
-    ensures { result ≡ stands_past (option_map limit_seen upper.now) (string text.now ∷ []) }
+    ensures { result ≡ stands_past [] (option_map limit_seen upper.now) (string text.now ∷ []) }
 {
     match upper {
         Some(upper) => !is_within(Direction::Desc, upper, text),

@@ -3,7 +3,7 @@ use Rattle.std.proofs.Common.{◌≡◌, ℕ, Bool, true, false, cond, List, [],
 use Rattle.std.specs.List.{AllByRecursion, cons_option, filter_map}
 use Rattle.std.specs.Option.{option_map_or}
 use Rattle.mg_collate.specs.Row.{RowValue, row_value_order, rows_view}
-use Rattle.mg_collate.specs.Sorted.{inserted, sorted}
+use Rattle.mg_collate.specs.Sorted.{sorted_with, sorted}
 use Rattle.mg_index.specs.Definition.{IndexDefinition, Steps}
 use Rattle.mg_scan.specs.Begun.{AreBegun, IsBegunIn}
 use Rattle.mg_scan.specs.Hit.{IsHitOf}
@@ -24,7 +24,7 @@ use Rattle.mg_scan.proofs.Sources.{source_rows}
 use Rattle.mg_scan.proofs.Walking.{all_found_rows, named_id}
 use Rattle.mg_shard.specs.Documents.{KeptDocuments, docs_of, form_at}
 use Rattle.mg_shard.specs.Histories.{ServedDocument}
-use Rattle.mg_shard.specs.Rows.{key_of, row_of, rows_of}
+use Rattle.mg_shard.specs.Rows.{row_key, row_of, rows_of}
 use Rattle.mg_shard.specs.Shard.{ShardView}
 use Rattle.mg_shard.specs.Walk.{beyond}
 
@@ -65,9 +65,9 @@ all_if : (P : RowValue → Type 0) (b : Bool) (xs ys : List RowValue) → AllByR
 all_if P true xs ys h k = h
 all_if P false xs ys h k = k
 
-all_inserted : (P : RowValue → Type 0) (order : RowValue → RowValue → Ordering) (x : RowValue) (ys : List RowValue) → P x → AllByRecursion P ys → AllByRecursion P (inserted order x ys)
+all_inserted : (P : RowValue → Type 0) (order : RowValue → RowValue → Ordering) (x : RowValue) (ys : List RowValue) → P x → AllByRecursion P ys → AllByRecursion P (sorted_with order x ys)
 all_inserted P order x [] h k = (h, tt)
-all_inserted P order x (y ∷ ys) h k = all_if P (is_gt (order x y)) (y ∷ inserted order x ys) (x ∷ y ∷ ys) (k.0, all_inserted P order x ys h k.1) (h, k)
+all_inserted P order x (y ∷ ys) h k = all_if P (is_gt (order x y)) (y ∷ sorted_with order x ys) (x ∷ y ∷ ys) (k.0, all_inserted P order x ys h k.1) (h, k)
 
 all_sorted : (P : RowValue → Type 0) (order : RowValue → RowValue → Ordering) (xs : List RowValue) → AllByRecursion P xs → AllByRecursion P (sorted order xs)
 all_sorted P order [] h = tt
@@ -81,7 +81,7 @@ served_rows : (columns : List Steps) (ds : KeptDocuments) (docs : List ServedDoc
 served_rows columns ds [] h = tt
 served_rows columns ds (d ∷ docs) h =
     served_step ds (row_of columns d) (filter_map (row_of columns) docs)
-    (λ r e. ap (λ id. is_some (form_at ds id)) (named_id d.0 (key_of columns d.1) r e) ∙ ap is_some h.0) (served_rows columns ds docs h.1)
+    (λ r e. ap (λ id. is_some (form_at ds id)) (named_id d.0 (row_key columns d.1) r e) ∙ ap is_some h.0) (served_rows columns ds docs h.1)
 
 -- the rows of an index are of served documents
 pub served_begun : (s : Search) (ds : KeptDocuments) (columns : List Steps) (rows : List RowValue) → rows ≡ beyond s.direction (begin_at s) (rows_of columns (docs_of ds)) → AreServed ds rows

@@ -7,7 +7,7 @@ use Rattle.mg_collate.specs.Row.{RowValue}
 use Rattle.mg_collate.specs.Sorted.{sorted_rows}
 use Rattle.mg_collate.specs.declared.direction.Direction.{Direction}
 use Rattle.mg_index.specs.Definition.{Steps}
-use Rattle.mg_normal.specs.Normal.{NormalForm, normal_atoms, normal_holds}
+use Rattle.mg_normal.specs.Normal.{NormalForm, normal_holds}
 use Rattle.mg_range.specs.Decided.{decides_of}
 use Rattle.mg_range.specs.Place.{has_key}
 use Rattle.mg_range.specs.Range.{Range, range_of}
@@ -35,8 +35,8 @@ once true b = refl
 once false b = refl
 
 -- rows in the range alone are those in the range whose documents the selector holds of
-scanned_alike : (n : NormalForm) (columns : List Steps) (range : Range) (after : Option RowValue) (count : ℕ) (direction : Direction) → is_some n.rest ≡ false → decides_of (normal_atoms n) columns ≡ true
-    → range ≡ range_of (normal_atoms n) columns → (ds : List ServedDocument) → all_scanned (asked everything range after count direction columns) ds ≡ all_scanned (asked n range after count direction columns) ds
+scanned_alike : (n : NormalForm) (columns : List Steps) (range : Range) (after : Option RowValue) (count : ℕ) (direction : Direction) → is_some n.rest ≡ false → decides_of n.atoms columns ≡ true
+    → range ≡ range_of n.atoms columns → (ds : List ServedDocument) → all_scanned (asked everything range after count direction columns) ds ≡ all_scanned (asked n range after count direction columns) ds
 scanned_alike n columns range after count direction alone decides is ds =
     let q = asked n range after count direction columns in
     let within : RowValue → Bool = λ r. has_key range (item_list r.0) in

@@ -26,6 +26,7 @@ use Rattle.mg_shard.proofs.Rows.{sorted_is}
 use Rattle.mg_shard.proofs.Shown.{bytes_cmp}
 use Rattle.mg_shard.proofs.Walks.{filter_map-reverse}
 use Rattle.mg_value.specs.Value.{Value, no_items, item, text}
+use Rattle.mg_value.specs.View.{items_of}
 
 abbrev pub Entry : Type 0
 Entry = List ℕ × Kept
@@ -94,7 +95,7 @@ abbrev pub IsOwnRow : Entry → Type 0
 IsOwnRow e = (r : RowValue) → entry_row e ≡ Some r → r ≡ id_row e.0
 
 own_part : (id : List ℕ) (o : Option Value) (r : RowValue) → ((part : Value) → o ≡ Some part → part ≡ text id)
-    → option_map (λ key. (key, id)) (option_and_then (λ part. option_map (item part) (Some no_items)) o) ≡ Some r → r ≡ id_row id
+    → option_map (λ key. (key, id)) (option_map items_of (option_and_then (λ part. option_map (λ parts. part ∷ parts) (Some [])) o)) ≡ Some r → r ≡ id_row id
 own_part id None r own e = absurd cc
 own_part id (Some part) r own e = let same : ◌≡◌ {A = RowValue} (item part no_items, id) r = cc in sym same ∙ ap (λ v. (item v no_items, id)) (own part refl)
 

@@ -34,7 +34,7 @@ use Rattle.mg_scan.proofs.Walking.{all_found_rows, named_id}
 use Rattle.mg_shard.proofs.Rows.{rises_where}
 use Rattle.mg_shard.specs.Documents.{KeptDocuments, docs_of, form_at, form_of, id_of, kept_entry, kept_of}
 use Rattle.mg_shard.specs.Own.{HasOwnId, all_columns}
-use Rattle.mg_shard.specs.Rows.{key_of, row_of, rows_of}
+use Rattle.mg_shard.specs.Rows.{row_key, row_of, rows_of}
 use Rattle.mg_shard.specs.Shard.{ShardView, shards_seen}
 use Rattle.mg_shard.specs.Walk.{beyond}
 use Rattle.mg_shard.specs.declared.document.Document.{Document}
@@ -75,12 +75,12 @@ docs_step s ds d (Some r) rest rows own is e =
     ap₂ (λ h xs. walked_on (is_late_row s.direction s.range.now) h (Some r) xs) (holds_of s.normal.now ds d is ∙ ap (holds_at s.normal.now ds) (sym (own r refl))) e
 
 -- a document that has no row is passed over
-pub among_none : (s : Search) (d : Document) (documents : List Document) → None ≡ option_and_then (key_of all_columns) (form_of d) → walked_documents s (d ∷ documents) ≡ walked_documents s documents
+pub among_none : (s : Search) (d : Document) (documents : List Document) → None ≡ option_and_then (row_key all_columns) (form_of d) → walked_documents s (d ∷ documents) ≡ walked_documents s documents
 among_none s d documents e =
     let late = is_late_row s.direction s.range.now in
     ap (λ o. walked_on late (holds_for s.normal.now d) (option_map (λ key. (key, id_of d)) o) (walked_documents s documents)) (sym e)
 
-pub among_some : (s : Search) (d : Document) (documents : List Document) (key : Items) → Some key ≡ option_and_then (key_of all_columns) (form_of d)
+pub among_some : (s : Search) (d : Document) (documents : List Document) (key : Items) → Some key ≡ option_and_then (row_key all_columns) (form_of d)
     → walked_documents s (d ∷ documents) ≡ walked_on (is_late_row s.direction s.range.now) (holds_for s.normal.now d) (Some (key, id_of d)) (walked_documents s documents)
 among_some s d documents key e =
     let late = is_late_row s.direction s.range.now in
@@ -90,8 +90,8 @@ among_some s d documents key e =
 walked_rows : (s : Search) (ds : KeptDocuments) (documents : List Document) → AreKept ds documents → walked_documents s documents ≡ walked_all_by s ds (entry_rows (map kept_entry documents))
 walked_rows s ds [] h = refl
 walked_rows s ds (d ∷ documents) h =
-    docs_step s ds d (row_among d) (walked_documents s documents) (entry_rows (map kept_entry documents)) (λ r e. named_id (id_of d) (option_and_then (key_of all_columns) (form_of d)) r e) h.0 (walked_rows s ds documents h.1)
-    ∙ ap (λ o. walked_all_by s ds (cons_option o (entry_rows (map kept_entry documents)))) (sym (row_lent d (option_and_then (key_of all_columns) (form_of d)) refl))
+    docs_step s ds d (row_among d) (walked_documents s documents) (entry_rows (map kept_entry documents)) (λ r e. named_id (id_of d) (option_and_then (row_key all_columns) (form_of d)) r e) h.0 (walked_rows s ds documents h.1)
+    ∙ ap (λ o. walked_all_by s ds (cons_option o (entry_rows (map kept_entry documents)))) (sym (row_lent d (option_and_then (row_key all_columns) (form_of d)) refl))
 
 -- all that is found among all documents
 pub source_rows : (s : Search) (ds : KeptDocuments) (documents : List Document) → AreKept ds documents → ((id : List ℕ) (form : Value) → form_at ds id ≡ Some form → HasOwnId id form)

@@ -17,7 +17,7 @@ use Rattle.std.specs.Option.{option_and_then, option_map_or}
 use Rattle.mg_scan.specs.declared.hit.Hit.{Hit}
 use Rattle.mg_shard.specs.Documents.{Kept, KeptDocuments, kept_entry, form_of, id_of, kept_of}
 use Rattle.mg_shard.specs.Own.{all_columns}
-use Rattle.mg_shard.specs.Rows.{key_of, row_of}
+use Rattle.mg_shard.specs.Rows.{row_key, row_of}
 use Rattle.mg_shard.specs.declared.document.Document.{Document}
 use Rattle.mg_value.specs.Value.{Value, Items}
 use Rattle.mg_value.specs.View.{items_view, view}
@@ -127,18 +127,18 @@ key_late s key id = ap (λ vs. is_late s.direction (place_of s.range.now vs)) (l
 
 -- ---- documents
 
-keyed : (id : List ℕ) (o : Option Value) → option_and_then (row_of all_columns) (option_map (λ form. (id, form)) o) ≡ option_map (λ key. (key, id)) (option_and_then (key_of all_columns) o)
+keyed : (id : List ℕ) (o : Option Value) → option_and_then (row_of all_columns) (option_map (λ form. (id, form)) o) ≡ option_map (λ key. (key, id)) (option_and_then (row_key all_columns) o)
 keyed id None = refl
 keyed id (Some form) = refl
 
 -- the row of a document, by the key that it lends
-pub row_lent : (d : Document) (o : Option Items) → o ≡ option_and_then (key_of all_columns) (form_of d) → entry_row (kept_entry d) ≡ option_map (λ key. (key, id_of d)) o
+pub row_lent : (d : Document) (o : Option Items) → o ≡ option_and_then (row_key all_columns) (form_of d) → entry_row (kept_entry d) ≡ option_map (λ key. (key, id_of d)) o
 row_lent d o e = keyed (id_of d) (form_of d) ∙ ap (option_map (λ key. (key, id_of d))) (sym e)
 
-pub rows_none : (d : Document) (ds : List Document) → None ≡ option_and_then (key_of all_columns) (form_of d) → entry_rows (map kept_entry (d ∷ ds)) ≡ entry_rows (map kept_entry ds)
+pub rows_none : (d : Document) (ds : List Document) → None ≡ option_and_then (row_key all_columns) (form_of d) → entry_rows (map kept_entry (d ∷ ds)) ≡ entry_rows (map kept_entry ds)
 rows_none d ds e = ap (λ o. cons_option o (entry_rows (map kept_entry ds))) (row_lent d None e)
 
-pub rows_some : (d : Document) (ds : List Document) (key : Items) → Some key ≡ option_and_then (key_of all_columns) (form_of d) → entry_rows (map kept_entry (d ∷ ds)) ≡ (key, id_of d) ∷ entry_rows (map kept_entry ds)
+pub rows_some : (d : Document) (ds : List Document) (key : Items) → Some key ≡ option_and_then (row_key all_columns) (form_of d) → entry_rows (map kept_entry (d ∷ ds)) ≡ (key, id_of d) ∷ entry_rows (map kept_entry ds)
 rows_some d ds key e = ap (λ o. cons_option o (entry_rows (map kept_entry ds))) (row_lent d (Some key) e)
 
 -- whether the selector holds of it

@@ -23,7 +23,7 @@ use Rattle.mg_scan.specs.Walked.{begin_order, holds_at, is_beyond, is_early, is_
 use Rattle.mg_scan.specs.Begins.{late_rises, place_row, reached}
 use Rattle.mg_shard.specs.Documents.{KeptDocuments, docs_of, form_at}
 use Rattle.mg_shard.specs.Histories.{ServedDocument}
-use Rattle.mg_shard.specs.Rows.{key_of, row_of, rows_of}
+use Rattle.mg_shard.specs.Rows.{row_key, row_of, rows_of}
 use Rattle.mg_shard.specs.Walk.{beyond, in_direction}
 use Rattle.mg_value.specs.Value.{Items}
 use Rattle.mg_shard.proofs.Rows.{rises_where, sorted-where}
@@ -184,7 +184,7 @@ asked_is columns normal ds [] h = refl
 asked_is columns normal ds (d ∷ docs) h =
     pushed (row_of columns) (normal_holds normal (Some d.1)) d (filter (λ x. normal_holds normal (Some x.1)) docs)
     ∙ asked_step (λ r. holds_at normal ds r.1) (row_of columns d) (normal_holds normal (Some d.1)) (filter_map (row_of columns) (filter (λ x. normal_holds normal (Some x.1)) docs)) (filter_map (row_of columns) docs)
-    (λ r e. ap (holds_at normal ds) (named_id d.0 (key_of columns d.1) r e) ∙ ap (λ o. option_map_or (λ form. normal_holds normal (Some form)) o false) h.0)
+    (λ r e. ap (holds_at normal ds) (named_id d.0 (row_key columns d.1) r e) ∙ ap (λ o. option_map_or (λ form. normal_holds normal (Some form)) o false) h.0)
     (asked_is columns normal ds docs h.1)
 
 -- ---- the whole search

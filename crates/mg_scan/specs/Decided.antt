@@ -1,7 +1,7 @@
 -- Where the key of a row alone decides whether a search finds it.
 use Rattle.std.specs.Prelude.{◌≡◌, true, false, List, [], Some, None, is_some}
 use Rattle.mg_index.specs.Definition.{Steps}
-use Rattle.mg_normal.specs.Normal.{NormalForm, normal_atoms}
+use Rattle.mg_normal.specs.Normal.{NormalForm}
 use Rattle.mg_range.specs.Decided.{decides_of}
 use Rattle.mg_range.specs.Range.{Range, range_of}
 use Rattle.mg_scan.specs.Found.{columns_of}
@@ -17,5 +17,5 @@ pub record IsDecidedIn (target : Target) (normal : NormalForm) (range : Range) (
   pub columns : List Steps
   pub there : columns_of target s.definitions ≡ Some columns
   pub alone : is_some normal.rest ≡ false
-  pub decides : decides_of (normal_atoms normal) columns ≡ true
-  pub bounds : range ≡ range_of (normal_atoms normal) columns
+  pub decides : decides_of normal.atoms columns ≡ true
+  pub bounds : range ≡ range_of normal.atoms columns

@@ -1,4 +1,3 @@
 mod Arms
 mod Elements
-mod Names
 mod Faults

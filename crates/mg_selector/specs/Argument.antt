@@ -3,11 +3,14 @@ use Rattle.std.specs.Prelude.{ℕ, pos, List, codes, Option, Some, None, Result,
 use Rattle.std.specs.Str.{bytes_eq}
 use Rattle.std.specs.Option.{option_map_or}
 use Rattle.mg_value.specs.Value.{Value, flag, whole, text, list, Items, no_items, item}
-use Rattle.mg_selector.specs.Selector.{Operator, exists, of_type, size, modulo}
+use Rattle.mg_selector.specs.Fault.{fmap}
+use Rattle.mg_selector.specs.Selector.{Operator, less, at_most, equal, unequal, at_least, greater, exists, of_type, among, not_among, size, modulo, containing}
 use Rattle.mg_selector.specs.declared.error.SelError.{SelError}
 use Rattle.mg_selector.specs.declared.error.SelError.TheVariants.{BadArg}
 use Rattle.mg_selector.specs.declared.json_type.JsonType.{JsonType}
 use Rattle.mg_selector.specs.declared.json_type.JsonType.TheVariants as json_type
+use Rattle.mg_selector.specs.declared.word.Test.{Test}
+use Rattle.mg_selector.specs.declared.word.Test.TheVariants as test
 
 -- the type of this name
 abbrev pub type_named : List ℕ → Option JsonType
@@ -49,3 +52,19 @@ modulo_of v = Err BadArg
 abbrev pub array_of : Value → Result Items SelError
 array_of (list vs) = Ok vs
 array_of v = Err BadArg
+
+-- the operator with the value as its argument, or the fault of the value; a comparison takes any value
+abbrev pub operator_with : Test → Value → Result Operator SelError
+operator_with test.Lt v = Ok (less v)
+operator_with test.Lte v = Ok (at_most v)
+operator_with test.Eq v = Ok (equal v)
+operator_with test.Ne v = Ok (unequal v)
+operator_with test.Gte v = Ok (at_least v)
+operator_with test.Gt v = Ok (greater v)
+operator_with test.Exists v = exists_of v
+operator_with test.Type v = type_of v
+operator_with test.In v = fmap among (array_of v)
+operator_with test.Nin v = fmap not_among (array_of v)
+operator_with test.Size v = size_of v
+operator_with test.Mod v = modulo_of v
+operator_with test.All v = fmap containing (array_of v)

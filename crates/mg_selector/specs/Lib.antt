@@ -1,4 +1,5 @@
 pub mod Argument
+pub mod Code
 pub mod Entry
 pub mod Fault
 pub mod Meaning

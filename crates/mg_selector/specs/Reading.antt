@@ -1,15 +1,17 @@
 -- Which selector a value spells, or the fault that is met first, after the selector syntax of the CouchDB 3.x API reference. A
 -- member is read whole before the one with the next name, and an arm before the next arm.
-use Rattle.std.specs.Prelude.{◌≡◌, ℕ, List, [], ◌∷◌, codes, Result, Ok, Err, if◌then◌else◌}
-use Rattle.std.specs.Str.{bytes_eq}
+use Rattle.std.specs.Prelude.{◌≡◌, ℕ, List, Result, Ok, Err}
 use Rattle.std.specs.Option.{option_map_or}
 use Rattle.mg_value.specs.Value.{Value, null, flag, whole, text, list, object, Items, no_items, item, Members, no_members, member}
 use Rattle.mg_path.specs.Part.{steps_of}
-use Rattle.mg_selector.specs.Argument.{exists_of, type_of, size_of, modulo_of, array_of}
+use Rattle.mg_selector.specs.Argument.{operator_with}
 use Rattle.mg_selector.specs.Fault.{◌>>=◌, fmap}
-use Rattle.mg_selector.specs.Selector.{Selector, members, every, some, none, opposite, at, asks, Arms, no_arms, arm, less, at_most, equal, unequal, at_least, greater, among, not_among, containing, some_element, each_element}
+use Rattle.mg_selector.specs.Selector.{Selector, members, every, some, none, opposite, at, asks, Arms, no_arms, arm, equal, some_element, each_element}
+use Rattle.mg_selector.specs.Word.{word_of}
 use Rattle.mg_selector.specs.declared.error.SelError.{SelError}
 use Rattle.mg_selector.specs.declared.error.SelError.TheVariants.{InvalidOperator, BadArg, Shape, NoMemory}
+use Rattle.mg_selector.specs.declared.word.Word.{Word}
+use Rattle.mg_selector.specs.declared.word.Word.TheVariants as word
 
 -- the result is the fault, or anything where a growth was refused
 abbrev pub Fails : {Y : Type 0} → SelError → Result Y SelError → Type 0
@@ -32,34 +34,21 @@ argument v inner = Ok (asks (equal v))
 abbrev pub path_named : List ℕ → Value → Result Selector SelError → Result Selector SelError
 path_named k v inner = option_map_or (λ steps. fmap (at steps) (argument v inner)) (steps_of k) (Err BadArg)
 
--- a member whose name is no operator's: unknown where it begins with `$`, and else at a path
-abbrev pub other_named : List ℕ → Value → Result Selector SelError → Result Selector SelError
-other_named [] v inner = path_named [] v inner
-other_named (c ∷ k) v inner = if bytes_eq (c ∷ []) (codes "$") then Err InvalidOperator else path_named (c ∷ k) v inner
+-- a member by what its name asks for, where `inner` is what its value is as a selector, and `arms` what it is as an array of selectors
+abbrev pub by_word : Word → List ℕ → Value → Result Selector SelError → Result Arms SelError → Result Selector SelError
+by_word word.And k v inner arms = fmap every arms
+by_word word.Or k v inner arms = fmap some arms
+by_word word.Nor k v inner arms = fmap none arms
+by_word word.Not k v inner arms = fmap opposite inner
+by_word word.ElemMatch k v inner arms = fmap (λ s. asks (some_element s)) inner
+by_word word.AllMatch k v inner arms = fmap (λ s. asks (each_element s)) inner
+by_word (word.Test o) k v inner arms = fmap asks (operator_with o v)
+by_word word.Unknown k v inner arms = Err InvalidOperator
+by_word word.Path k v inner arms = path_named k v inner
 
--- a member by its name, where `inner` is what its value is as a selector, and `arms` what it is as an array of selectors
+-- a member by its name
 abbrev pub named : List ℕ → Value → Result Selector SelError → Result Arms SelError → Result Selector SelError
-named k v inner arms =
-    if bytes_eq k (codes "$and") then fmap every arms
-    else if bytes_eq k (codes "$or") then fmap some arms
-    else if bytes_eq k (codes "$nor") then fmap none arms
-    else if bytes_eq k (codes "$not") then fmap opposite inner
-    else if bytes_eq k (codes "$elemMatch") then fmap (λ s. asks (some_element s)) inner
-    else if bytes_eq k (codes "$allMatch") then fmap (λ s. asks (each_element s)) inner
-    else if bytes_eq k (codes "$lt") then Ok (asks (less v))
-    else if bytes_eq k (codes "$lte") then Ok (asks (at_most v))
-    else if bytes_eq k (codes "$eq") then Ok (asks (equal v))
-    else if bytes_eq k (codes "$ne") then Ok (asks (unequal v))
-    else if bytes_eq k (codes "$gte") then Ok (asks (at_least v))
-    else if bytes_eq k (codes "$gt") then Ok (asks (greater v))
-    else if bytes_eq k (codes "$exists") then fmap asks (exists_of v)
-    else if bytes_eq k (codes "$type") then fmap asks (type_of v)
-    else if bytes_eq k (codes "$in") then fmap asks (fmap among (array_of v))
-    else if bytes_eq k (codes "$nin") then fmap asks (fmap not_among (array_of v))
-    else if bytes_eq k (codes "$size") then fmap asks (size_of v)
-    else if bytes_eq k (codes "$mod") then fmap asks (modulo_of v)
-    else if bytes_eq k (codes "$all") then fmap asks (fmap containing (array_of v))
-    else other_named k v inner
+named k v inner arms = by_word (word_of k) k v inner arms
 
 abbrev mutual
   -- a selector inside another, which has to be an object

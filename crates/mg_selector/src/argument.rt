@@ -2,10 +2,9 @@ ghost use Rattle.std.specs.Prelude.{◌≡◌};
 ghost use Rattle.std.specs.Result.{result_err};
 ghost use Rattle.mg_value.specs.Value.{list};
 ghost use Rattle.mg_value.specs.View.{view, items_view};
-ghost use Rattle.mg_selector.specs.Argument.{exists_of, type_of, size_of, modulo_of, modulo_by, array_of};
+ghost use Rattle.mg_selector.specs.Argument.{exists_of, type_of, size_of, modulo_of, modulo_by, array_of, operator_with};
 ghost use Rattle.mg_selector.specs.Reading.{Gives};
 ghost use Rattle.mg_selector.specs.View.{operator_of};
-ghost use Rattle.mg_selector.specs.Word.{operator_with};
 
 use crate::error::SelError;
 use crate::json_type::JsonType;

@@ -1,9 +1,8 @@
 ghost use Rattle.std.specs.Prelude.{◌≡◌};
 ghost use Rattle.std.specs.Result.{result_err};
 ghost use Rattle.mg_value.specs.View.{view, items_view, members_view};
-ghost use Rattle.mg_selector.specs.Argument.{array_of};
-ghost use Rattle.mg_selector.specs.Reading.{reading, of_object, of_arms, of_items, of_members, named, path_named, argument};
-ghost use Rattle.mg_selector.specs.Word.{by_word, operator_with};
+ghost use Rattle.mg_selector.specs.Argument.{array_of, operator_with};
+ghost use Rattle.mg_selector.specs.Reading.{reading, of_object, of_arms, of_items, of_members, by_word, named, path_named, argument};
 
 use crate::argument::{read_exists, read_mod, read_size, read_type};
 use crate::error::SelError;

@@ -1,9 +1,8 @@
 ghost use Rattle.std.specs.Prelude.{◌≡◌, Ok, Err};
 ghost use Rattle.mg_value.specs.View.{view, items_view, members_view};
-ghost use Rattle.mg_selector.specs.Reading.{Gives, IsObject, reading, of_object, of_arms, of_items, of_members, named, path_named, argument};
+ghost use Rattle.mg_selector.specs.Reading.{Gives, IsObject, reading, of_object, of_arms, of_items, of_members, by_word, named, path_named, argument};
 ghost use Rattle.mg_selector.specs.Selector.{asks, equal};
 ghost use Rattle.mg_selector.specs.View.{selector_of, arms_view};
-ghost use Rattle.mg_selector.specs.Word.{by_word};
 
 use crate::argument::read_operator;
 use crate::error::SelError;

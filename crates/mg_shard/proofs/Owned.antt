@@ -13,11 +13,11 @@ use Rattle.mg_path.specs.Part.{part_of}
 use Rattle.mg_revtree.specs.History.{Leaf}
 use Rattle.mg_revtree.specs.Revision.{revision_text}
 use Rattle.mg_value.specs.Value.{Value, null, flag, whole, text, list, object, Members, no_members, member, no_items, item, get_member, member_of, put, with_member}
-use Rattle.mg_value.specs.View.{view}
+use Rattle.mg_value.specs.View.{items_of, view}
 use Rattle.mg_value.specs.declared.value.Json.{Json}
 use Rattle.mg_shard.specs.Documents.{Kept, kept_entry, form_at, form_of, id_of, kept_of, shown}
 use Rattle.mg_shard.specs.Own.{HasOwnId, IsServedOwn, all_columns}
-use Rattle.mg_shard.specs.Rows.{key_of}
+use Rattle.mg_shard.specs.Rows.{row_key}
 use Rattle.mg_shard.specs.declared.document.Document.{Document}
 use Rattle.mg_shard.specs.declared.served.Served.{Served}
 use Rattle.mg_shard.proofs.Shown.{bytes_cmp, bytes_exact}
@@ -64,11 +64,11 @@ none_made id = λ s is. absurd cc
 
 -- ---- its `_id`
 
-one_part : (o : Option Value) → option_and_then (λ part. option_map (item part) (Some no_items)) (option_and_then (part_of []) o) ≡ option_map (λ part. item part no_items) o
+one_part : (o : Option Value) → option_map items_of (option_and_then (λ part. option_map (λ parts. part ∷ parts) (Some [])) (option_and_then (part_of []) o)) ≡ option_map (λ part. item part no_items) o
 one_part None = refl
 one_part (Some v) = refl
 
-pub key-member : (form : Value) → key_of all_columns form ≡ option_map (λ part. item part no_items) (member_of (codes "_id") form)
+pub key-member : (form : Value) → row_key all_columns form ≡ option_map (λ part. item part no_items) (member_of (codes "_id") form)
 key-member null = refl
 key-member (flag b) = refl
 key-member (whole z) = refl

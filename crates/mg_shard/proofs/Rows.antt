@@ -22,7 +22,7 @@ use Rattle.mg_pages.specs.Order.{Ascends, above, below, inserted, removed}
 use Rattle.mg_shard.specs.Documents.{Kept, KeptDocuments, doc_entry, docs_of}
 use Rattle.mg_shard.specs.Histories.{ServedDocument}
 use Rattle.mg_shard.specs.Mended.{own_row, with_row, without_row}
-use Rattle.mg_shard.specs.Rows.{key_of, row_of, rows_of}
+use Rattle.mg_shard.specs.Rows.{row_key, row_of, rows_of}
 use Rattle.mg_shard.proofs.Shown.{bytes_cmp}
 use Rattle.mg_shard.proofs.Standing.{same_id, tied}
 
@@ -176,7 +176,7 @@ other_key z id (Some key) apart = not_tied z (key, id) (is_eq (row_value_order z
 other_form : (columns : List Steps) (z : RowValue) (id : List ℕ) (o : Option Value) → eq_by_cmp bytes_cmp z.1 id ≡ false
     → count_one z (option_and_then (row_of columns) (option_map (λ form. (id, form)) o)) ≡ 0
 other_form columns z id None apart = refl
-other_form columns z id (Some form) apart = other_key z id (key_of columns form) apart
+other_form columns z id (Some form) apart = other_key z id (row_key columns form) apart
 
 -- a row of another id is not there
 other_id : (columns : List Steps) (z : RowValue) (id : List ℕ) (o : Option Kept) → eq_by_cmp bytes_cmp z.1 id ≡ false → count_one z (row_at columns id o) ≡ 0

@@ -77,7 +77,7 @@ impl Document {
     ghost use Rattle.mg_revtree.specs.Tree.{StandsFor};
     ghost use Rattle.mg_doc.specs.Served.{served_of};
     ghost use Rattle.mg_shard.specs.Documents.{form_of, id_of, kept_of};
-    ghost use Rattle.mg_shard.specs.Rows.{key_of};
+    ghost use Rattle.mg_shard.specs.Rows.{row_key};
     ghost use Rattle.mg_shard.specs.Own.{all_columns};
 
     /// The document of an id whose revision tree this is.
@@ -129,7 +129,7 @@ impl Document {
     /// The key of its row among all documents, by id: the `_id` of that form alone, which is lent. Takes no memory.
     /// Cost: one look-up of a member.
     pub fn id_key(&self) -> Option<&[Json]>
-        ensures { option_map (λ key. items_view key.now) result ≡ option_and_then (key_of all_columns) (form_of self.now) }
+        ensures { option_map (λ key. items_view key.now) result ≡ option_and_then (row_key all_columns) (form_of self.now) }
     {
         let id = self.form()?.member("_id")?;
         Some(slice::from_ref(id))

@@ -9,7 +9,7 @@ ghost use Rattle.mg_collate.proofs.Sorting.{times};
 ghost use Rattle.mg_pages.specs.Parts.{values};
 ghost use Rattle.mg_shard.specs.Documents.{Kept, KeptDocuments, docs_of, form_at};
 ghost use Rattle.mg_shard.specs.Mended.{own_row, with_row, without_row};
-ghost use Rattle.mg_shard.specs.Rows.{key_of, row_of, rows_of};
+ghost use Rattle.mg_shard.specs.Rows.{row_key, row_of, rows_of};
 
 use mg_collate::Row;
 use mg_index::IndexDef;
@@ -28,7 +28,7 @@ pub(crate) struct IndexRows {
 
 // Copies of the parts of a document at the columns, if each is there.
 fn key_in(alloc: Global, columns: &[Path], form: &Json) -> Result<Option<Vec<Json>>, NoMemory>
-    ensures { IfOk result (λ key. option_map (λ k. items_view k.items) key ≡ key_of columns.now (view form.now)) }
+    ensures { IfOk result (λ key. option_map (λ k. items_view k.items) key ≡ row_key columns.now (view form.now)) }
 {
     let mut key = Vec::with_capacity(alloc, columns.len())?;
     for column in columns {

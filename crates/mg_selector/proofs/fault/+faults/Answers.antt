@@ -3,17 +3,15 @@ use Rattle.std.specs.Result.{result_err}
 use Rattle.mg_path.specs.Part.{steps_of}
 use Rattle.mg_value.specs.View.{view, members_view}
 use Rattle.mg_value.proofs.Views.{Entry}
-use Rattle.mg_selector.specs.Reading.{of_object, of_arms, of_members, named, argument}
-use Rattle.mg_selector.specs.Word.{by_word}
+use Rattle.mg_selector.specs.Reading.{by_word, of_object, of_arms, of_members, named, argument}
 use Rattle.mg_selector.proofs.Faults.{fault_here, fault_later, fault_at_path, none_unless_some}
-use Rattle.mg_selector.proofs.Names.{named-by_word}
 use Rattle.mg_selector.proofs.fault.+faults.Goals as goal
 
 pub member_fault-returns : goal.member_fault-returns
 member_fault-returns t c =
     let v = view c.args.value.now in
     let k = c.args.name.now in
-    c.word_fault.ensures ∙ ap (λ w. result_err (by_word w k v (of_object v) (of_arms v))) c.word_of.ensures ∙ sym (ap result_err (named-by_word k v (of_object v) (of_arms v)))
+    c.word_fault.ensures ∙ ap (λ w. result_err (by_word w k v (of_object v) (of_arms v))) c.word_of.ensures
 
 pub members_fault-returns-then-is_some : goal.members_fault-returns-then-is_some
 members_fault-returns-then-is_some t c =

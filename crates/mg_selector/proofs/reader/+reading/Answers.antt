@@ -3,10 +3,8 @@ use Rattle.std.proofs.lemmas.List.{drop_more, drop_all}
 use Rattle.mg_value.specs.View.{view, items_view, members_view}
 use Rattle.mg_value.proofs.Views.{Entry, view-Object}
 use Rattle.mg_selector.specs.Fault.{fmap}
-use Rattle.mg_selector.specs.Reading.{Gives, of_object, of_arms, of_items, of_members, named, argument}
+use Rattle.mg_selector.specs.Reading.{Gives, by_word, of_object, of_arms, of_items, of_members, named, argument}
 use Rattle.mg_selector.specs.View.{selector_of}
-use Rattle.mg_selector.specs.Word.{by_word}
-use Rattle.mg_selector.proofs.Names.{named-by_word}
 use Rattle.mg_selector.proofs.Arms.{arms_before, one_more, all_before, argument-object}
 use Rattle.mg_selector.proofs.reader.+reading.Goals as goal
 
@@ -58,4 +56,4 @@ pub read_member-returns : goal.read_member-returns
 read_member-returns t c =
     let v = view c.args.value.now in
     let k = c.args.name.now in
-    subst (Gives selector_of c.read_by_word.result) (ap (λ w. by_word w k v (of_object v) (of_arms v)) c.word_of.ensures ∙ sym (named-by_word k v (of_object v) (of_arms v))) c.read_by_word.ensures
+    subst (Gives selector_of c.read_by_word.result) (ap (λ w. by_word w k v (of_object v) (of_arms v)) c.word_of.ensures) c.read_by_word.ensures
