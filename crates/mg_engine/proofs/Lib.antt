@@ -1,8 +1,10 @@
 pub mod Runs
 mod Collecting
+pub mod Counter
 mod Editing
 mod Indexes
 mod Numbers
+mod Old
 mod Reading
 mod Resharding
 mod Telling
