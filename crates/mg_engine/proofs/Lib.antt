@@ -4,7 +4,6 @@ pub mod Counter
 mod Editing
 mod Indexes
 mod Numbers
-mod Old
 mod Reading
 mod Resharding
 mod Telling
