@@ -1,10 +1,9 @@
 -- What was read of a bulk determines what it answers and leaves.
-use Rattle.std.proofs.Common.{◌≡◌, ℕ, List, Option, Some, None, Result, Ok, Err, IfOk, IfSome, length, unwrap_or, refl, sym, ap, ◌∙◌}
+use Rattle.std.proofs.Common.{◌≡◌, ℕ, Option, Some, None, Result, Ok, Err, IfOk, IfSome, length, unwrap_or, refl, sym, ap, ◌∙◌}
 use Rattle.mg_value.specs.Value.{Value}
-use Rattle.mg_doc.specs.Document.{Edit}
-use Rattle.mg_engine.specs.Bulk.{Bulk, bulk_of, edits_of, edits_or_refusal, edits_read}
+use Rattle.mg_engine.specs.Bulk.{Bulk, BulkEdits, bulk_of, edits_of, edits_or_refusal, edits_read}
 use Rattle.mg_shard.specs.Dealt.{Placing}
-use Rattle.mg_engine.specs.Commands.{Asked, bulk, bulk_answer, bulk_reply, next, reply_of, shards_after, world_with}
+use Rattle.mg_engine.specs.Commands.{Asked, bulk, bulk_effect, next, reply_of, shards_after}
 use Rattle.mg_engine.specs.Ahead.{Determines, Makes}
 use Rattle.mg_engine.specs.Run.{Answers}
 use Rattle.mg_engine.specs.Settled.{IsSettled, settled_of}
@@ -13,18 +12,22 @@ use Rattle.mg_engine.specs.View.{said}
 use Rattle.mg_engine.specs.World.{World}
 use Rattle.mg_engine.specs.declared.prepared.ReadBulk.{ReadBulk}
 use Rattle.mg_engine.specs.declared.prepared.ReadBulk.TheVariants.{Edits, Refused}
+use Rattle.mg_engine.specs.declared.refusal.Refusal.{Refusal}
 use Rattle.mg_engine.specs.declared.reply.Reply.{Reply}
 use Rattle.mg_engine.proofs.Runs.{answered}
 use Rattle.mg_engine.proofs.Whole.{read_whole}
 
 -- a bulk whose documents were all read
-pub all_read : (v : Value) (b : Bulk) (es : List Edit) → bulk_of v ≡ Some b → edits_or_refusal (edits_of b.new_edits b.documents) ≡ Ok es → Makes b.new_edits es (bulk v)
-all_read v b es is read = record {
-  objects = read_whole b.new_edits b.documents es read;
-  reply = λ w. ap (bulk_answer w) is ∙ ap (bulk_reply w b.new_edits) read;
-  world = λ w. ap (λ (o : Option Bulk). world_with w (edits_read o)) is ∙ ap (world_with w) read;
-  shards = λ n. refl;
-}
+pub all_read : (v : Value) (b : Bulk) (es : BulkEdits) → bulk_of v ≡ Some b → edits_or_refusal b.new_edits (edits_of b.new_edits b.documents) ≡ Ok es
+    → Makes es.new_edits es.edits (bulk v)
+all_read v b es is read =
+    let bulk_is : edits_read (bulk_of v) ≡ Ok es = ap edits_read is ∙ read in
+    record {
+      objects = read_whole b.new_edits b.documents es read;
+      reply = λ w. ap (λ (r : Result BulkEdits Refusal). (bulk_effect w r).answer) bulk_is;
+      world = λ w. ap (λ (r : Result BulkEdits Refusal). (bulk_effect w r).world) bulk_is;
+      shards = λ n. refl;
+    }
 
 -- ---- a bulk that was read, on a state
 

@@ -12,8 +12,8 @@ use Rattle.mg_shard.specs.Dealt.{Placing, ShardsStandFor, histories_on}
 use Rattle.mg_shard.specs.Documents.{StandFor}
 use Rattle.mg_shard.specs.Histories.{Histories}
 use Rattle.mg_shard.specs.Shard.{ShardView}
-use Rattle.mg_engine.specs.Commands.{created, refused, world_defined}
-use Rattle.mg_engine.specs.Faults.{of_index}
+use Rattle.mg_engine.specs.Commands.{created, refusal_of_index, refused, world_defined}
+use Rattle.mg_engine.specs.Faults.{fault_of}
 use Rattle.mg_engine.specs.World.{World}
 use Rattle.mg_engine.specs.declared.fault.Fault.{Fault}
 use Rattle.mg_engine.specs.declared.fault.Fault.TheVariants.{Refused, NoMemory as want}
@@ -143,7 +143,7 @@ none_dropped ddoc name (d ∷ ds) h = kept_if ddoc name d ds (none_dropped ddoc 
 
 -- ---- a definition that was not read
 
-pub not_read : (w : World) (e : IndexError) (r : Result IndexDefinition IndexError) (x : Refusal) → Gives (λ d. d) (Err e) r → of_index e ≡ Refused x
+pub not_read : (w : World) (e : IndexError) (r : Result IndexDefinition IndexError) (x : Refusal) → Gives (λ d. d) (Err e) r → fault_of (refusal_of_index e) ≡ Refused x
     → (created w r ≡ refused x) × (world_defined w r ≡ w)
 not_read w Shape r x g is = (ap (created w) g ∙ ap refused (refusal_is x is), ap (world_defined w) g)
   where

@@ -1,5 +1,6 @@
 pub mod Runs
 mod Collecting
+pub mod Counter
 mod Editing
 mod Indexes
 mod Numbers

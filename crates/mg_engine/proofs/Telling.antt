@@ -1,30 +1,17 @@
--- Refusals of a query that was not read, or is not answered, as they are told.
+-- Pages, and refusals of a query that is not answered, as they are told.
 use Rattle.std.proofs.Common.{◌≡◌, ℕ, List, [], ◌∷◌, ◌++◌, Result, Ok, Err, sym, ap, ◌∙◌}
 use Rattle.mg_value.specs.Value.{Value}
 use Rattle.mg_query.specs.Page.{Page, Unanswered, page_value}
 use Rattle.mg_query.specs.Paged.{text_of}
-use Rattle.mg_query.specs.Query.{Query}
-use Rattle.mg_query.specs.Seen.{Fails}
 use Rattle.mg_query.specs.Served.{Refuses}
 use Rattle.mg_query.specs.declared.error.PageError.{PageError}
 use Rattle.mg_query.specs.declared.error.PageError.TheVariants as page_fault
-use Rattle.mg_query.specs.declared.error.QueryError.{QueryError}
-use Rattle.mg_query.specs.declared.error.QueryError.TheVariants as query_fault
-use Rattle.mg_engine.specs.Commands.{Answer, refusal_of_query, refused, told_or_refused}
-use Rattle.mg_engine.specs.Faults.{of_page, of_query}
+use Rattle.mg_engine.specs.Commands.{told_or_refused}
+use Rattle.mg_engine.specs.Faults.{fault_of, refusal_of_page}
 use Rattle.mg_engine.specs.Told.{Tells}
 
--- the refusal of a query that was not read
-pub not_read : (f : Result Query QueryError → Answer) → ((e : QueryError) → f (Err e) ≡ refused (refusal_of_query e)) → (e : QueryError) (r : Result Query QueryError) → Fails e r → Tells (Err (of_query e)) (f r)
-not_read f each query_fault.Shape r h = ap f h ∙ each query_fault.Shape
-not_read f each query_fault.InvalidOperator r h = ap f h ∙ each query_fault.InvalidOperator
-not_read f each query_fault.BadArg r h = ap f h ∙ each query_fault.BadArg
-not_read f each query_fault.BadBookmark r h = ap f h ∙ each query_fault.BadBookmark
-not_read f each query_fault.MixedSort r h = ap f h ∙ each query_fault.MixedSort
-not_read f each query_fault.NoMemory r h = tt
-
--- the refusal of one that is not answered
-not_answered : {A : Type 0} (value : A → Value) (e : PageError) (r : Result A Unanswered) → Refuses e r → Tells (Err (of_page e)) (told_or_refused value r)
+-- the refusal of a query that is not answered
+not_answered : {A : Type 0} (value : A → Value) (e : PageError) (r : Result A Unanswered) → Refuses e r → Tells (Err (fault_of (refusal_of_page e))) (told_or_refused value r)
 not_answered value page_fault.NoUsableIndex r h = ap (told_or_refused value) h
 not_answered value page_fault.BadBookmark r h = ap (told_or_refused value) h
 not_answered value page_fault.NoMemory r h = tt
@@ -46,7 +33,7 @@ no_text page_fault.BadBookmark (Err why) h = ap (λ r. as_page why r) h
 no_text page_fault.NoMemory r h = tt
 
 -- the refusal of a query that has no page
-pub no_page : (e : PageError) (r : Result Page Unanswered) → Refuses e (text_of r) → Tells (Err (of_page e)) (told_or_refused page_value r)
+pub no_page : (e : PageError) (r : Result Page Unanswered) → Refuses e (text_of r) → Tells (Err (fault_of (refusal_of_page e))) (told_or_refused page_value r)
 no_page e r h = not_answered page_value e r (no_text e r h)
 
 -- the line of a page

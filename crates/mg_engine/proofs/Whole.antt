@@ -26,9 +26,10 @@ use Rattle.mg_revtree.proofs.Winners.{winner_is_best}
 use Rattle.mg_shard.specs.Edits.{after_edit, after_edits, history_put, id_in, outcome_in}
 use Rattle.mg_shard.specs.Histories.{Histories, history_at}
 use Rattle.mg_shard.proofs.Shown.{bytes_cmp}
-use Rattle.mg_engine.specs.Bulk.{edits_of, edits_or_refusal, number_with, numbered}
+use Rattle.mg_engine.specs.Bulk.{BulkEdits, edits_of, edits_or_refusal, numbered}
 use Rattle.mg_engine.specs.declared.refusal.Refusal.{Refusal}
 use Rattle.mg_engine.specs.Objects.{BringObjects, HasObjects, HaveObjects}
+use Rattle.mg_engine.proofs.Counter.{last_after, numbered_cons}
 
 the_some : {X : Type 0} (x y : X) → Some x ≡ Some y → x ≡ y
 the_some x y e = ap (λ o. unwrap_or o x) e
@@ -80,17 +81,17 @@ read_objects new_edits (item v vs) es h =
     ok_or (Ok x) y = x
     ok_or (Err e) y = y
 
-not_refused : (r : Result (List Edit) DocError) (es : List Edit) → edits_or_refusal r ≡ Ok es → r ≡ Ok es
-not_refused (Ok x) es h = ap Ok (ap (λ r. ok_or r es) h)
+not_refused : (new_edits : Bool) (r : Result (List Edit) DocError) (es : BulkEdits) → edits_or_refusal new_edits r ≡ Ok es → r ≡ Ok es.edits
+not_refused new_edits (Ok x) es h = ap Ok (ap (λ r. edits_in r es.edits) h)
   where
-    ok_or : Result (List Edit) Refusal → List Edit → List Edit
-    ok_or (Ok x) y = x
-    ok_or (Err e) y = y
-not_refused (Err e) es h = absurd cc
+    edits_in : Result BulkEdits Refusal → List Edit → List Edit
+    edits_in (Ok x) y = x.edits
+    edits_in (Err e) y = y
+not_refused new_edits (Err e) es h = absurd cc
 
 -- the edits that are read of a bulk
-pub read_whole : (new_edits : Bool) (vs : Items) (es : List Edit) → edits_or_refusal (edits_of new_edits vs) ≡ Ok es → BringObjects es
-read_whole new_edits vs es h = read_objects new_edits vs es (not_refused (edits_of new_edits vs) es h)
+pub read_whole : (new_edits : Bool) (vs : Items) (es : BulkEdits) → edits_or_refusal new_edits (edits_of new_edits vs) ≡ Ok es → BringObjects es.edits
+read_whole new_edits vs es h = read_objects new_edits vs es.edits (not_refused new_edits (edits_of new_edits vs) es h)
 
 named_if : (n : ℕ) (e f : Edit) (b : Bool) → is_object e.body ≡ true → is_object f.body ≡ true → is_object (cond b e f).body ≡ true
 named_if n e f true h k = h
@@ -98,7 +99,8 @@ named_if n e f false h k = k
 
 numbered_objects : (n : ℕ) (es : List Edit) → BringObjects es → BringObjects (numbered n es)
 numbered_objects n [] h = tt
-numbered_objects n (e ∷ es) h = (named_if n e _ (is_some e.id) h.0 h.0, numbered_objects (number_with n e) es h.1)
+numbered_objects n (e ∷ es) h =
+    subst BringObjects (sym (numbered_cons n e es)) (named_if n e _ (is_some e.id) h.0 h.0, numbered_objects (last_after n e) es h.1)
 
 -- ---- histories
 

@@ -1,7 +1,7 @@
 -- For private clauses: what was read of a bulk before a state is asked.
-use Rattle.std.specs.Prelude.{◌≡◌, ℕ, Bool, List, Ok}
+use Rattle.std.specs.Prelude.{◌≡◌, ℕ, Bool, List}
 use Rattle.mg_doc.specs.Document.{Edit}
-use Rattle.mg_engine.specs.Commands.{Asked, bulk_reply, next, refused, reply_of, shards_after, world_with}
+use Rattle.mg_engine.specs.Commands.{Asked, edits_effect, next, refused, reply_of, shards_after}
 use Rattle.mg_engine.specs.Objects.{BringObjects}
 use Rattle.mg_engine.specs.World.{World}
 use Rattle.mg_engine.specs.declared.prepared.ReadBulk.{ReadBulk}
@@ -11,8 +11,8 @@ use Rattle.mg_engine.specs.declared.refusal.Refusal.{Refusal}
 -- a command is to make these edits, whatever the world is
 pub record Makes (new_edits : Bool) (es : List Edit) (c : Asked) : Type 0 where
   pub objects : BringObjects es
-  pub reply : (w : World) → reply_of w c ≡ bulk_reply w new_edits (Ok es)
-  pub world : (w : World) → next w c ≡ world_with w (Ok es)
+  pub reply : (w : World) → reply_of w c ≡ (edits_effect w new_edits es).answer
+  pub world : (w : World) → next w c ≡ (edits_effect w new_edits es).world
   pub shards : (n : ℕ) → shards_after n c ≡ n
 
 -- a command is refused, whatever the world is

@@ -1,6 +1,8 @@
 -- A bulk of edits, after CouchDB's `_bulk_docs`: how its body is read, what it does, and what it answers.
-use Rattle.std.specs.Prelude.{ℕ, ◌+◌, ◌%◌, ◌^◌, List, [], ◌∷◌, ◌++◌, Bool, true, false, ◌&&◌, codes, Option, Some, None, is_some, Result, Ok, Err, if◌then◌else◌}
+use Rattle.std.specs.Prelude.{ℕ, suc, ◌+◌, ◌%◌, ◌^◌, List, [], ◌∷◌, ◌++◌, Bool, true, false, ◌&&◌, codes, filter, length, map, take, Option, Some, None, is_none, is_some, Result, Ok, Err, if◌then◌else◌}
+use Rattle.std.specs.Fn.{iterate}
 use Rattle.std.specs.Int.{to_be_bytes, w64}
+use Rattle.std.specs.List.{enumerate_from}
 use Rattle.hex.specs.Hex.{encode_lower}
 use Rattle.mg_value.specs.Value.{Value, flag, text, list, object, Items, no_items, item, no_members, member, member_of}
 use Rattle.mg_revtree.specs.Revision.{Revision, revision_text}
@@ -51,43 +53,58 @@ refusal_of_document document_fault.BadId = BadId
 refusal_of_document document_fault.BadRev = BadRev
 refusal_of_document document_fault.NoMemory = OutOfMemory
 
--- the edits, or the first fault as a refusal
-abbrev pub edits_or_refusal : Result (List Edit) DocError → Result (List Edit) Refusal
-edits_or_refusal (Ok es) = Ok es
-edits_or_refusal (Err e) = Err (refusal_of_document e)
+-- the edits of a bulk, in the order of its documents, and whether they are new
+pub record BulkEdits : Type 0 where
+  pub new_edits : Bool
+  pub edits : List Edit
 
--- the edits of a body that is read whole, or why the bulk is refused: its shape first, then its documents in order
-abbrev pub edits_read : Option Bulk → Result (List Edit) Refusal
+-- the edits, or the first fault as a refusal
+abbrev pub edits_or_refusal : Bool → Result (List Edit) DocError → Result BulkEdits Refusal
+edits_or_refusal new_edits (Ok es) = Ok (record { new_edits = new_edits; edits = es })
+edits_or_refusal new_edits (Err e) = Err (refusal_of_document e)
+
+-- the edits of a bulk, or why it is refused: its shape first, then its documents in order
+abbrev pub edits_read : Option Bulk → Result BulkEdits Refusal
 edits_read None = Err WrongShape
-edits_read (Some b) = edits_or_refusal (edits_of b.new_edits b.documents)
+edits_read (Some b) = edits_or_refusal b.new_edits (edits_of b.new_edits b.documents)
+
+-- what a body is as a bulk: edits, or a refusal
+abbrev pub bulk_read : Value → Result BulkEdits Refusal
+bulk_read v = edits_read (bulk_of v)
 
 -- ---- ids for documents without one
 
--- the number after it, modulo 2^64
+-- the number after n, modulo 2^64
 abbrev pub number_after : ℕ → ℕ
 number_after n = (n + 1) % 2 ^ 64
+
+-- the k-th number after n
+abbrev pub kth_after : ℕ → ℕ → ℕ
+kth_after n k = iterate number_after k n
 
 -- a number as an id: 32 lower hexadecimal digits, of which its own are the last 16
 abbrev pub number_text : ℕ → List ℕ
 number_text n = codes "0000000000000000" ++ encode_lower (to_be_bytes w64 n)
 
--- an edit without an id takes the number after the last one
-abbrev pub with_made_id : ℕ → Edit → Edit
-with_made_id n e = if is_some e.id then e else record e { id = Some (number_text (number_after n)) }
+-- an edit without an id takes this number as one
+abbrev pub with_number : ℕ → Edit → Edit
+with_number n e = if is_some e.id then e else record e { id = Some (number_text n) }
 
--- the number that was given last, after the edit
-abbrev pub number_with : ℕ → Edit → ℕ
-number_with n e = if is_some e.id then n else number_after n
+-- how many of the edits have no id
+abbrev pub count_without_id : List Edit → ℕ
+count_without_id es = length (filter (λ e. is_none e.id) es)
 
--- each edit without an id takes the counter's next number, in order
+-- the edit at a place, which counts from 0: the k-th edit without an id takes the k-th number after the counter n
+abbrev pub numbered_at : ℕ → List Edit → ℕ × Edit → Edit
+numbered_at n es p = with_number (kth_after n (count_without_id (take (suc p.0) es))) p.1
+
+-- the edits, each with an id
 abbrev pub numbered : ℕ → List Edit → List Edit
-numbered n [] = []
-numbered n (e ∷ es) = with_made_id n e ∷ numbered (number_with n e) es
+numbered n es = map (numbered_at n es) (enumerate_from 0 es)
 
--- the number that was given last, after all of them
-abbrev pub last_number : ℕ → List Edit → ℕ
-last_number n [] = n
-last_number n (e ∷ es) = last_number (number_with n e) es
+-- the counter after them: as many numbers further as there are edits without an id
+abbrev pub counter_after : ℕ → List Edit → ℕ
+counter_after n es = kth_after n (count_without_id es)
 
 -- ---- the reply
 

@@ -1,8 +1,16 @@
--- The bulk that the code's `Bulk` stands for.
+-- The bulk that the code's `Bulk` stands for, and the edits that are read of it.
+use Rattle.std.specs.Prelude.{Bool}
+use Rattle.std.specs.declared.alloc.Global.{Global}
+use Rattle.std.specs.declared.vec.Vec.{Vec}
 use Rattle.mg_value.specs.View.{items_view}
-use Rattle.mg_engine.specs.Bulk.{Bulk}
+use Rattle.mg_doc.specs.Document.{Edit}
+use Rattle.mg_engine.specs.Bulk.{Bulk, BulkEdits}
 use Rattle.mg_engine.specs.declared.bulk.Bulk as code
 
 -- the bulk that the code's stands for
 abbrev pub bulk_seen : code.Bulk → Bulk
 bulk_seen b = record { new_edits = b.new_edits; documents = items_view b.documents.now }
+
+-- the edits that were read, and whether they are new
+abbrev pub edits_seen : Bool → Vec Edit Global → BulkEdits
+edits_seen new_edits edits = record { new_edits = new_edits; edits = edits.items }

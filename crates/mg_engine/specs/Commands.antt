@@ -22,7 +22,7 @@ use Rattle.mg_engine.specs.declared.refusal.Refusal.{Refusal}
 use Rattle.mg_engine.specs.declared.refusal.Refusal.TheVariants.{WrongShape, InvalidOperator, BadArg, BadBookmark, MixedSort, NoUsableIndex, OutOfMemory, Missing, Deleted}
 use Rattle.mg_engine.specs.Refusals.{status_of, refusal_body}
 use Rattle.mg_engine.specs.World.{World}
-use Rattle.mg_engine.specs.Bulk.{Bulk, bulk_of, edits_read, numbered, last_number, entries_of}
+use Rattle.mg_engine.specs.Bulk.{BulkEdits, bulk_read, counter_after, entries_of, numbered}
 use Rattle.mg_engine.specs.Reshard.{shards_asked}
 use Rattle.mg_engine.specs.Bodies.{line_of, done_value, index_value, indexes_value}
 
@@ -69,20 +69,23 @@ done v = record { status = 200; body = line_of v }
 abbrev pub edits_answer : World → Bool → List Edit → Answer
 edits_answer w new_edits es = record { status = 201; body = line_of (list (entries_of new_edits es (outcomes w.docs es))) }
 
--- the answer to a bulk whose documents were read, or refused
-abbrev pub bulk_reply : World → Bool → Result (List Edit) Refusal → Answer
-bulk_reply w new_edits (Ok es) = edits_answer w new_edits (numbered w.counter es)
-bulk_reply w new_edits (Err r) = refused r
+-- what a command comes to: its answer, and the world that it leaves
+pub record Effect : Type 0 where
+  pub answer : Answer
+  pub world : World
 
--- the answer to a bulk; a body of another shape is refused
-abbrev pub bulk_answer : World → Option Bulk → Answer
-bulk_answer w None = refused WrongShape
-bulk_answer w (Some b) = bulk_reply w b.new_edits (edits_read (Some b))
+-- what edits come to: an answer that tells of each, and the world with those that are accepted. The counter moves for each edit
+-- without an id, whatever becomes of it
+abbrev pub edits_effect : World → Bool → List Edit → Effect
+edits_effect w new_edits es = record {
+  answer = edits_answer w new_edits (numbered w.counter es);
+  world = record w { docs = after_edits w.docs (numbered w.counter es); counter = counter_after w.counter es };
+}
 
--- the world after the edits of a bulk, or as it was where the bulk is refused
-abbrev pub world_with : World → Result (List Edit) Refusal → World
-world_with w (Ok es) = record w { docs = after_edits w.docs (numbered w.counter es); counter = last_number w.counter es }
-world_with w (Err r) = w
+-- what a bulk comes to: that of its edits, or a refusal, which leaves the world as it is
+abbrev pub bulk_effect : World → Result BulkEdits Refusal → Effect
+bulk_effect w (Ok b) = edits_effect w b.new_edits b.edits
+bulk_effect w (Err r) = record { answer = refused r; world = w }
 
 -- ---- `_index`
 
@@ -171,7 +174,7 @@ shards_after n c = n
 
 -- what a command answers
 abbrev pub reply_of : World → Asked → Answer
-reply_of w (bulk v) = bulk_answer w (bulk_of v)
+reply_of w (bulk v) = (bulk_effect w (bulk_read v)).answer
 reply_of w (create_index v) = created w (definition_of v)
 reply_of w (drop_index ddoc name) = dropped (is_some (definition_at (design_document ddoc) name w.indexes))
 reply_of w list_indexes = done (indexes_value w.indexes)
@@ -182,7 +185,7 @@ reply_of w (reshard v) = resharded (shards_asked v)
 
 -- the world that a command leaves: one that is refused, that reads, or that asks for other shards leaves it as it is
 abbrev pub next : World → Asked → World
-next w (bulk v) = world_with w (edits_read (bulk_of v))
+next w (bulk v) = (bulk_effect w (bulk_read v)).world
 next w (create_index v) = world_defined w (definition_of v)
 next w (drop_index ddoc name) = record w { indexes = without_definition (design_document ddoc) name w.indexes }
 next w list_indexes = w

@@ -1,9 +1,9 @@
 //! How the body of a bulk is read.
-ghost use Rattle.std.specs.Prelude.{◌≡◌, codes, IfOk, is_some, option_map, string_bytes, true};
+ghost use Rattle.std.specs.Prelude.{◌≡◌, codes, IfOk, is_some, option_map, string_bytes, true, if◌then◌else◌};
 ghost use Rattle.mg_value.specs.View.{view, items_view};
 ghost use Rattle.mg_doc.specs.Document.{is_object};
-ghost use Rattle.mg_engine.specs.Bulk.{are_objects, bulk_of, edits_of, edits_or_refusal, last_number, with_made_id, number_text, number_with, numbered, of_objects, shaped};
-ghost use Rattle.mg_engine.specs.BulkView.{bulk_seen};
+ghost use Rattle.mg_engine.specs.Bulk.{are_objects, bulk_of, counter_after, edits_of, edits_or_refusal, number_after, number_text, numbered, of_objects, shaped, with_number};
+ghost use Rattle.mg_engine.specs.BulkView.{bulk_seen, edits_seen};
 ghost use Rattle.mg_engine.specs.Faults.{Gives};
 
 use crate::fault::Fault;
@@ -77,7 +77,8 @@ pub(crate) fn read_edits(
     documents: &[Json],
 ) -> Result<Vec<Edit>, Fault>
     requires { are_objects (items_view documents.now) ≡ true }
-    ensures { Gives (λ v. v.items) result (edits_or_refusal (edits_of new_edits (items_view documents.now))) }
+    ensures { Gives (edits_seen new_edits) result
+        (edits_or_refusal new_edits (edits_of new_edits (items_view documents.now))) }
 {
     let mut edits = Vec::with_capacity(alloc, documents.len())?;
     for document in documents {
@@ -87,14 +88,14 @@ pub(crate) fn read_edits(
     Ok(edits)
 }
 
-/// The edits, of which each without an id takes the number after `last`, and the number that was given last.
+/// The edits, of which the k-th without an id takes the k-th number after `last`, and the number that was given last.
 pub(crate) fn numbered(
     alloc: Global,
     edits: Vec<Edit>,
     last: u64,
 ) -> Result<(Vec<Edit>, u64), NoMemory>
     ensures edits { IfOk result (λ r. r.0.items ≡ numbered last edits.items) }
-    ensures last { IfOk result (λ r. r.1 ≡ last_number last edits.items) }
+    ensures last { IfOk result (λ r. r.1 ≡ counter_after last edits.items) }
 {
     let mut found = Vec::with_capacity(alloc, edits.len())?;
     let mut number = last;
@@ -106,10 +107,10 @@ pub(crate) fn numbered(
     Ok((found, number))
 }
 
-// The edit with an id, and the number that was given last.
+// The edit, with the number after `last` for an id where it has none, and the number that was given last.
 fn named(alloc: Global, edit: Edit, last: u64) -> Result<(Edit, u64), NoMemory>
-    ensures edit { IfOk result (λ r. r.0 ≡ with_made_id last edit) }
-    ensures last { IfOk result (λ r. r.1 ≡ number_with last edit) }
+    ensures edit { IfOk result (λ r. r.0 ≡ with_number (number_after last) edit) }
+    ensures last { IfOk result (λ r. r.1 ≡ (if is_some edit.id then last else number_after last)) }
 {
     if edit.id().is_some() {
         return Ok((edit, last));

@@ -47,9 +47,10 @@ impl<T: Drop> From<AllocFailed<T>> for Fault {
 
 impl From<DocError> for Fault {
     ghost use Rattle.std.specs.Prelude.{◌≡◌};
-    ghost use Rattle.mg_engine.specs.Faults.{of_document};
+    ghost use Rattle.mg_engine.specs.Bulk.{refusal_of_document};
+    ghost use Rattle.mg_engine.specs.Faults.{fault_of};
 
-    ghost from_gives = { λ d e. e ≡ of_document d };
+    ghost from_gives = { λ d e. e ≡ fault_of (refusal_of_document d) };
 
     fn from(fault: DocError) -> Fault {
         match fault {
@@ -63,9 +64,10 @@ impl From<DocError> for Fault {
 
 impl From<QueryError> for Fault {
     ghost use Rattle.std.specs.Prelude.{◌≡◌};
-    ghost use Rattle.mg_engine.specs.Faults.{of_query};
+    ghost use Rattle.mg_engine.specs.Commands.{refusal_of_query};
+    ghost use Rattle.mg_engine.specs.Faults.{fault_of};
 
-    ghost from_gives = { λ q e. e ≡ of_query q };
+    ghost from_gives = { λ q e. e ≡ fault_of (refusal_of_query q) };
 
     fn from(fault: QueryError) -> Fault {
         match fault {
@@ -81,9 +83,10 @@ impl From<QueryError> for Fault {
 
 impl From<IndexError> for Fault {
     ghost use Rattle.std.specs.Prelude.{◌≡◌};
-    ghost use Rattle.mg_engine.specs.Faults.{of_index};
+    ghost use Rattle.mg_engine.specs.Commands.{refusal_of_index};
+    ghost use Rattle.mg_engine.specs.Faults.{fault_of};
 
-    ghost from_gives = { λ i e. e ≡ of_index i };
+    ghost from_gives = { λ i e. e ≡ fault_of (refusal_of_index i) };
 
     fn from(fault: IndexError) -> Fault {
         match fault {
@@ -96,9 +99,9 @@ impl From<IndexError> for Fault {
 
 impl From<PageError> for Fault {
     ghost use Rattle.std.specs.Prelude.{◌≡◌};
-    ghost use Rattle.mg_engine.specs.Faults.{of_page};
+    ghost use Rattle.mg_engine.specs.Faults.{fault_of, refusal_of_page};
 
-    ghost from_gives = { λ p e. e ≡ of_page p };
+    ghost from_gives = { λ p e. e ≡ fault_of (refusal_of_page p) };
 
     fn from(fault: PageError) -> Fault {
         match fault {

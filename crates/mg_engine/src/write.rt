@@ -1,7 +1,7 @@
 //! Bulks of edits, each with the state that it leaves.
-ghost use Rattle.std.specs.Prelude.{◌≡◌, IfOk, Ok, Some, true, length, unwrap_or};
+ghost use Rattle.std.specs.Prelude.{◌≡◌, IfOk, Some, true, length, unwrap_or};
 ghost use Rattle.mg_value.specs.View.{view};
-ghost use Rattle.mg_engine.specs.Commands.{Asked, bulk, bulk_reply, next, reply_of, world_with};
+ghost use Rattle.mg_engine.specs.Commands.{Asked, bulk, edits_effect, next, reply_of};
 ghost use Rattle.mg_engine.specs.Objects.{BringObjects};
 ghost use Rattle.mg_engine.specs.Ahead.{Determines};
 ghost use Rattle.mg_engine.specs.Settled.{IsSettled, accepts};
@@ -68,9 +68,9 @@ impl State {
         edits: Vec<Edit>,
     ) -> Result<(Reply, State), NoMemory>
         ensures reply { IfOk result (λ r. (w : World) → Holds (P.place placement.now) self.now w
-            → said r.0 ≡ Some (bulk_reply w new_edits (Ok edits.items))) }
+            → said r.0 ≡ Some (edits_effect w new_edits edits.items).answer) }
         ensures holds { IfOk result (λ r. (w : World) → BringObjects edits.items → Holds (P.place placement.now) self.now w
-            → Holds (P.place placement.now) r.1 (world_with w (Ok edits.items))) }
+            → Holds (P.place placement.now) r.1 (edits_effect w new_edits edits.items).world) }
         ensures accepted { IfOk result (λ r. accepts r.0 ≡ true) }
         ensures number { IfOk result (λ r. length r.1.shards ≡ length self.now.shards) }
     {

@@ -3,7 +3,7 @@ use Rattle.mg_index.specs.Definition.{IndexDefinition}
 use Rattle.mg_query.specs.Page.{answer_of, candidates_of, page_value}
 use Rattle.mg_query.specs.Seen.{query_seen}
 use Rattle.mg_engine.specs.Commands.{told_or_refused}
-use Rattle.mg_engine.specs.Faults.{of_page}
+use Rattle.mg_engine.specs.Faults.{fault_of, refusal_of_page}
 use Rattle.mg_engine.specs.Told.{Tells}
 use Rattle.mg_engine.specs.declared.fault.Fault.{Fault}
 use Rattle.mg_engine.proofs.Telling.{no_page, page_told}
@@ -23,5 +23,5 @@ returns-in-Err g c = λ place w st whole ix.
     let cs = candidates_of w.docs in
     let fault = c.in-Err.fault in
     subst (λ (f : Fault). Tells (Err f) (told_or_refused page_value (answer_of w.indexes q cs))) (sym c.from.ensures)
-    (subst (λ (ds : List IndexDefinition). Tells (Err (of_page fault)) (told_or_refused page_value (answer_of ds q cs))) (sym ix)
+    (subst (λ (ds : List IndexDefinition). Tells (Err (fault_of (refusal_of_page fault))) (told_or_refused page_value (answer_of ds q cs))) (sym ix)
     (no_page fault (answer_of c.args.catalog.now q cs) (c.in-Err.ensures.answers place w.docs st whole)))

@@ -6,7 +6,7 @@ use Rattle.mg_shard.specs.Edits.{after_edits, id_in, outcomes}
 use Rattle.mg_shard.specs.Histories.{Histories}
 use Rattle.mg_shard.specs.Shard.{ShardView, shards_seen}
 use Rattle.mg_engine.specs.Bodies.{line_of}
-use Rattle.mg_engine.specs.Bulk.{entries_of, last_number, numbered}
+use Rattle.mg_engine.specs.Bulk.{counter_after, entries_of, numbered}
 use Rattle.mg_engine.specs.Commands.{Answer}
 use Rattle.mg_engine.specs.Outcomes.{entries_told, reply_in, told_id}
 use Rattle.mg_engine.specs.Stands.{Holds, Shown, definitions_of}
@@ -28,13 +28,13 @@ returns-clause-holds g c = λ w bring h.
     let shards : shards_seen c.deref.result.now ≡ c.args.self.now.shards = ap shards_seen c.deref.ensures.value ∙ ap (λ (s : Shown). s.shards) c.self.view_is in
     let edits = c.in_ok-edits.ensures.edits ∙ ap (λ n. numbered n given) counter in
     let before = subst (λ (ss : List ShardView). ShardsStandFor place ss w.docs) (sym shards) h.documents in
-    subst (λ (s : Shown). Holds place s (record w { docs = after_edits w.docs (numbered w.counter given); counter = last_number w.counter given })) (sym c.in_ok-next.ensures)
+    subst (λ (s : Shown). Holds place s (record w { docs = after_edits w.docs (numbered w.counter given); counter = counter_after w.counter given })) (sym c.in_ok-next.ensures)
     (record {
       name = h.name;
       documents = subst (λ (hs : Histories). ShardsStandFor place made hs) (ap (after_edits w.docs) edits) (c.in_ok-outcomes.ensures.stands w.docs before);
       indexes = h.indexes;
       rows = have_same w.indexes made c.args.self.now.shards (c.in_ok-outcomes.ensures.definitions ∙ ap definitions_of shards) h.rows;
-      counter = c.in_ok-edits.ensures.last ∙ ap (λ n. last_number n given) counter;
+      counter = c.in_ok-edits.ensures.last ∙ ap (λ n. counter_after n given) counter;
       objects = still_objects w.docs w.counter given h.objects bring;
     })
 
