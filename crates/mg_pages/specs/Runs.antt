@@ -1,6 +1,6 @@
 -- Words of the iterators: what is left where they hold a run, a piece of a sorted list.
 use Rattle.mg_pages.specs.Order.{above, below}
-use Rattle.std.specs.Prelude.{◌≡◌, length, List, [], ◌∷◌, ◌++◌}
+use Rattle.std.specs.Prelude.{◌≡◌, ◌<◌, ◌+◌, ℕ, length, List, [], ◌∷◌, ◌++◌}
 use Rattle.std.specs.declared.cmp.Ordering.{Ordering}
 
 -- a run begins a list, and is empty only where the list is
@@ -14,6 +14,14 @@ pub record IsEndRun {X : Type 0} (run xs : List X) : Type 0 where
   pub rest : List X
   pub is : xs ≡ rest ++ run
   pub some : length run ≡ 0 → xs ≡ []
+
+-- a page is a piece of a list, and what stands at a place in the page stands at i in the list
+pub record IsPageAt {X : Type 0} (page : List X) (place i : ℕ) (xs : List X) : Type 0 where
+  pub front : List X
+  pub rest : List X
+  pub is : xs ≡ front ++ (page ++ rest)
+  pub at : i ≡ length front + place
+  pub within : place < length page
 
 -- what is left of a run whose last was x, and then what is above the last of the run
 abbrev pub continued_after : {T : Type 0} → (T → T → Ordering) → List T → T → List T → List T

@@ -1,5 +1,5 @@
 //! The elements of a collection from the last to the first.
-ghost use Rattle.std.specs.Prelude.{◌≡◌, ◌<◌, ◌∷◌, ◌++◌, [], length, reverse};
+ghost use Rattle.std.specs.Prelude.{◌≡◌, ◌<◌, ◌∷◌, ◌++◌, [], drop, length, reverse};
 ghost use Rattle.std.specs.Arc.{arc_value};
 ghost use Rattle.std.specs.Iterator.{at_most};
 ghost use Rattle.std.specs.Map.Iter.{TakesFirst, deref};
@@ -40,11 +40,35 @@ fn run_to<'a, T: Keyed>(pages: &'a Pages<T>, run: &'a [Arc<T>], last: &'a Arc<T>
     pages.run_before(last)
 }
 
+// What is left of a run before its last so many elements, or the run that comes before them.
+fn run_ahead<'a, T: Keyed>(pages: &'a Pages<T>, run: &'a [Arc<T>], count: usize) -> &'a [Arc<T>]
+    ensures { reverse (ended T.order pages.now (values result.now))
+        ≡ drop count (reverse (ended T.order pages.now (values run.now))) }
+{
+    if count < run.len() {
+        let left = run.len() - count;
+        return &run[..left];
+    }
+    if run.len() > 0 {
+        let more = count - run.len();
+        return pages.run_before_some(&run[0], more);
+    }
+    run
+}
+
 impl<'a, T: Keyed> Back<'a, T> {
     pub(crate) fn at(pages: &'a Pages<T>, run: &'a [Arc<T>]) -> Back<'a, T>
         ensures { result ≡ reverse (ended T.order pages.now (values run.now)) }
     {
         Back { pages, run }
+    }
+
+    /// Passes over so many elements. Cost: as of `Iter::advance`. Takes no memory.
+    pub fn advance(&mut self, count: usize)
+        ensures { self.new ≡ drop count self.old }
+    {
+        let run = self.run;
+        self.run = run_ahead(self.pages, run, count);
     }
 }
 

@@ -1,5 +1,5 @@
 //! The elements of a collection one after another.
-ghost use Rattle.std.specs.Prelude.{◌≡◌, ◌<◌, ◌∷◌, List, length};
+ghost use Rattle.std.specs.Prelude.{◌≡◌, ◌<◌, ◌∷◌, List, drop, length};
 ghost use Rattle.std.specs.Iterator.{at_most};
 ghost use Rattle.std.specs.Map.Iter.{TakesFirst, deref};
 ghost use Rattle.mg_pages.specs.Runs.{continued, continued_after};
@@ -40,11 +40,36 @@ fn rest_of<'a, T: Keyed>(pages: &'a Pages<T>, run: &'a [Arc<T>]) -> &'a [Arc<T>]
     pages.run_after(&run[0])
 }
 
+// What is left of a run behind its first so many elements, or the run that comes behind them.
+fn run_behind<'a, T: Keyed>(pages: &'a Pages<T>, run: &'a [Arc<T>], count: usize) -> &'a [Arc<T>]
+    ensures { continued T.order pages.now (values result.now)
+        ≡ drop count (continued T.order pages.now (values run.now)) }
+{
+    if count < run.len() {
+        return &run[count..];
+    }
+    if run.len() > 0 {
+        let last = run.len() - 1;
+        let more = count - run.len();
+        return pages.run_after_some(&run[last], more);
+    }
+    run
+}
+
 impl<'a, T: Keyed> Iter<'a, T> {
     pub(crate) fn at(pages: &'a Pages<T>, run: &'a [Arc<T>]) -> Iter<'a, T>
         ensures { result ≡ continued T.order pages.now (values run.now) }
     {
         Iter { pages, run }
+    }
+
+    /// Passes over so many elements. Cost: none within a page, and else the logarithm of the number of elements and a read of the
+    /// count of each part before the place, at most 64 a level. Takes no memory.
+    pub fn advance(&mut self, count: usize)
+        ensures { self.new ≡ drop count self.old }
+    {
+        let run = self.run;
+        self.run = run_behind(self.pages, run, count);
     }
 
     /// The next element as the collection shares it, for a caller that shares it too. Takes no memory.

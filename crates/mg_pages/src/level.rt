@@ -4,7 +4,7 @@ ghost use Rattle.std.specs.Arc.{arc_value};
 ghost use Rattle.std.specs.List.{flat_map};
 ghost use Rattle.mg_pages.specs.Order.{Ascends, found, inserted, removed};
 ghost use Rattle.mg_pages.specs.Search.{AllBelow, AllAbove};
-ghost use Rattle.mg_pages.specs.Runs.{IsRun, IsEndRun};
+ghost use Rattle.mg_pages.specs.Runs.{IsRun, IsEndRun, IsPageAt};
 ghost use Rattle.mg_pages.specs.Parts.{values, children, child_seen, child_value, child_whole, level_whole, AreWhole};
 
 use crate::child::{
@@ -127,6 +127,25 @@ fn run_upto<T: Keyed, P: Part<T>>(parts: &[Child<T, P>], i: usize) -> &[Arc<T>]
         return node.part.last_run();
     }
     &[]
+}
+
+/// The page of the element at a place among those of the parts, and where it stands there. Cost: for each part before it a read of
+/// its count.
+pub fn page_among<T: Keyed, P: Part<T>>(parts: &[Child<T, P>], place: usize) -> (&[Arc<T>], usize)
+    requires whole { AreWhole (child_whole P.is_whole P.seen) (children parts.now) }
+    requires within { place < length (flat_map (child_seen P.seen) (children parts.now)) }
+    ensures { IsPageAt (values result.0.now) result.1 place (flat_map (child_seen P.seen) (children parts.now)) }
+{
+    let mut left = place;
+    for child in parts {
+        let node: &Node<T, P> = &child.node;
+        let count = node.part.count();
+        if left < count {
+            return node.part.page_at(left);
+        }
+        left -= count;
+    }
+    (&[], 0)
 }
 
 /// Takes the element that ties with a key out of the parts, and a part of which nothing is left.
@@ -294,6 +313,10 @@ impl<T: Keyed, P: Part<T>> Part<T> for Level<T, P> {
             return run;
         }
         run_upto::<T, P>(&self.parts, i)
+    }
+
+    fn page_at(&self, place: usize) -> (&[Arc<T>], usize) {
+        page_among::<T, P>(&self.parts, place)
     }
 
     fn copy(&self, alloc: Global) -> Result<Level<T, P>, AllocError> {

@@ -123,6 +123,10 @@ impl<T: Keyed> Part<T> for Page<T> {
         }
     }
 
+    fn page_at(&self, place: usize) -> (&[Arc<T>], usize) {
+        (self.elements.as_slice(), place)
+    }
+
     fn copy(&self, alloc: Global) -> Result<Page<T>, AllocError> {
         let elements = copied(alloc, &self.elements)?;
         let hints = self.hints.copied(alloc)?;

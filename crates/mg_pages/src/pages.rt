@@ -1,5 +1,5 @@
 //! Ordered collections in shared pages.
-ghost use Rattle.std.specs.Prelude.{◌≡◌, ◌↔◌, [], ◌∷◌, None, Ok, Some, false, length, IfOk, IfSome, IsSome, IsTrue, OnOk, OnErr, is_some, option_map, reverse};
+ghost use Rattle.std.specs.Prelude.{◌≡◌, ◌↔◌, ◌-◌, [], ◌∷◌, None, Ok, Some, false, drop, length, take, IfOk, IfSome, IsSome, IsTrue, OnOk, OnErr, is_some, option_map, reverse};
 ghost use Rattle.std.specs.Arc.{arc_value};
 ghost use Rattle.mg_pages.specs.Order.{Ascends, above, below, found, from, inserted, removed, upto};
 ghost use Rattle.mg_pages.specs.Runs.{IsRun, IsEndRun};
@@ -11,7 +11,7 @@ use crate::child::{child_of, copied_children};
 use crate::hint::{Hints, number_of};
 use crate::iter::Iter;
 use crate::keyed::{Keyed, Probe};
-use crate::level::{Level, take_out_of_parts};
+use crate::level::{Level, page_among, take_out_of_parts};
 use crate::page::Page;
 use crate::part::Part;
 use crate::sides::{Over, Under};
@@ -234,6 +234,27 @@ impl<T: Keyed> Pages<T> {
         self.root.run_after(key)
     }
 
+    // The elements above a key behind the first so many, as many as one page has.
+    pub(crate) fn run_after_some<Q: Probe<T>>(&self, key: &Q, count: usize) -> &[Arc<T>]
+        ensures run { IsRun (values result.now) (drop count (above (Q.against key.now) self.now)) }
+        ensures ascends { Ascends T.order self.now }
+    {
+        let next = self.run_after(key);
+        if count < next.len() {
+            return &next[count..];
+        }
+        let left = self.count_above(key).saturating_sub(count);
+        if left > 0 {
+            let first = self.len() - left;
+            let (page, place) = page_among::<T, Level<T, Level<T, Page<T>>>>(
+                &self.root.parts,
+                first,
+            );
+            return &page[place..];
+        }
+        &[]
+    }
+
     /// The elements in their order. Cost: the logarithm of the number of elements, and then a step an element.
     pub fn iter(&self) -> Iter<'_, T>
         ensures { result ≡ self.now }
@@ -277,6 +298,29 @@ impl<T: Keyed> Pages<T> {
             return &[];
         }
         self.root.run_before(key)
+    }
+
+    // The elements below a key before the last so many, as many as one page has.
+    pub(crate) fn run_before_some<Q: Probe<T>>(&self, key: &Q, count: usize) -> &[Arc<T>]
+        ensures run { IsEndRun (values result.now)
+            (take (length (below (Q.against key.now) self.now) - count) (below (Q.against key.now) self.now)) }
+        ensures ascends { Ascends T.order self.now }
+    {
+        let next = self.run_before(key);
+        if count < next.len() {
+            let end = next.len() - count;
+            return &next[..end];
+        }
+        let left = self.count_below(key).saturating_sub(count);
+        if left > 0 {
+            let last = left - 1;
+            let (page, place) = page_among::<T, Level<T, Level<T, Page<T>>>>(
+                &self.root.parts,
+                last,
+            );
+            return &page[..place + 1];
+        }
+        &[]
     }
 
     /// The elements from the last to the first. Cost: as of `iter`.

@@ -2,7 +2,7 @@
 ghost use Rattle.std.specs.Prelude.{◌≡◌, ◌<◌, [], true, false, is_some, length, List, IfOk, OnOk, OnErr, IfSome, IsSome, option_map};
 ghost use Rattle.std.specs.Arc.{arc_value};
 ghost use Rattle.mg_pages.specs.Order.{inserted, removed, found, above, below, Ascends};
-ghost use Rattle.mg_pages.specs.Runs.{IsRun, IsEndRun};
+ghost use Rattle.mg_pages.specs.Runs.{IsRun, IsEndRun, IsPageAt};
 ghost use Rattle.mg_pages.specs.Search.{IsAmong};
 ghost use Rattle.mg_pages.specs.Parts.{values, IsLast, IsCopy, AreHalves};
 
@@ -71,6 +71,12 @@ pub trait Part<T: Keyed>: Drop + Sized {
         requires whole { is_whole self.now }
         requires sorted { Ascends T.order (seen self.now) }
         ensures { IsEndRun (values result.now) (below (Q.against key.now) (seen self.now)) };
+
+    /// The page of the element at a place, and where it stands there.
+    fn page_at(&self, place: usize) -> (&[Arc<T>], usize)
+        requires whole { is_whole self.now }
+        requires within { place < length (seen self.now) }
+        ensures { IsPageAt (values result.0.now) result.1 place (seen self.now) };
 
     /// A part of its own that shares what is below.
     fn copy(&self, alloc: Global) -> Result<Self, AllocError>

@@ -1,5 +1,5 @@
 //! Things in order that are read in either direction.
-ghost use Rattle.std.specs.Prelude.{◌≡◌, length};
+ghost use Rattle.std.specs.Prelude.{◌≡◌, drop, length};
 ghost use Rattle.std.specs.Iterator.{at_most};
 ghost use Rattle.std.specs.Map.Iter.{TakesFirst, deref};
 ghost use Rattle.mg_shard.specs.Left.{left_on};
@@ -64,6 +64,17 @@ impl<'a, T: Keyed> Walk<'a, T> {
             Direction::Desc => Way::Down(pages.before(key)),
         };
         Walk { way }
+    }
+
+    /// Passes over so many things. Cost: none within a page of 64, and else one look-up and a read of the count of each part before the
+    /// place, at most 64 a level. Takes no memory.
+    pub fn advance(&mut self, count: usize)
+        ensures { self.new ≡ drop count self.old }
+    {
+        match &mut self.way {
+            Way::Up(things) => things.advance(count),
+            Way::Down(things) => things.advance(count),
+        }
     }
 }
 
