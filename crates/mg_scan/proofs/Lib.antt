@@ -13,4 +13,5 @@ pub mod Lent
 pub mod Begun
 pub mod Decided
 pub mod Leads
+pub mod Behind
 pub mod AddedUp

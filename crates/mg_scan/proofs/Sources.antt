@@ -1,6 +1,5 @@
 -- Sources of hits: one step of each, and what all of them give.
-use Rattle.std.proofs.Common.{◌≡◌, ℕ, zero, suc, ◌+◌, ◌<◌, Bool, true, false, List, [], ◌∷◌, ◌++◌, Option, Some, None, IfNone, IfSome, All, get_or, is_some, length, map, option_map, slice_get, take, if◌then◌else◌, refl, add-one, ap, ap₂, sym, ◌∙◌, subst, arith}
-use denote.Ref.{Bor}
+use Rattle.std.proofs.Common.{◌≡◌, ℕ, zero, suc, ◌+◌, ◌<◌, Bool, true, false, List, [], ◌∷◌, ◌++◌, Option, Some, None, IfSome, All, get_or, is_some, length, map, option_map, slice_get, take, if◌then◌else◌, refl, add-one, ap, ap₂, sym, ◌∙◌, subst, arith}
 use Rattle.std.proofs.Math.Seq.{take-nil}
 use Rattle.std.proofs.lemmas.List.Elements.{All-from_recursion, recursion_from_All}
 use Rattle.std.specs.Arc.{arc_value}
@@ -13,8 +12,7 @@ use Rattle.mg_collate.proofs.Directed.{directed_total}
 use Rattle.mg_collate.proofs.Sorting.{all_weaker, in_order, rises_sorted}
 use Rattle.mg_collate.specs.Row.{RowValue, directed_order}
 use Rattle.mg_collate.specs.Sorted.{IsInOrder, sorted_rows}
-use Rattle.mg_index.specs.Catalog.{definition_at}
-use Rattle.mg_index.specs.Definition.{IndexDefinition, Steps}
+use Rattle.mg_index.specs.Definition.{Steps}
 use Rattle.mg_merge.proofs.Cuts.{cut_lists}
 use Rattle.mg_merge.specs.Merged.{merged}
 use Rattle.mg_merge.specs.Pulled.{IsGivenBy}
@@ -118,7 +116,7 @@ cut_or n f None = sym (take-nil n)
 cut_or n f (Some columns) = refl
 
 -- all that a shard has is in order
-found_in_order : (s : Search) (shard : ShardView) → IsInOrder s.direction (all_found_by s shard)
+pub found_in_order : (s : Search) (shard : ShardView) → IsInOrder s.direction (all_found_by s shard)
 found_in_order s shard = ordered_or s shard.documents (columns_of s.target shard.definitions)
 
 all_in_order : (s : Search) (shards : List ShardView) → AllByRecursion (IsInOrder s.direction) (map (all_found_by s) shards)
@@ -130,6 +128,12 @@ cut_found : (s : Search) (shards : List ShardView) → map (take s.take) (map (a
 cut_found s [] = refl
 cut_found s (shard ∷ shards) =
     ap₂ (λ rows lists. rows ∷ lists) (sym (cut_or s.take (λ columns. all_scanned (asked_by s columns) (docs_of shard.documents)) (columns_of s.target shard.definitions))) (cut_found s shards)
+
+-- the merge of all that there is is the merge of what is found, so much at most in each shard
+pub found_merged : (s : Search) (shards : List ShardView) → merged s.direction s.take (map (all_found_by s) shards) ≡ merged s.direction s.take (map (found_by s) shards)
+found_merged s shards =
+    sym (cut_lists s.direction s.take (map (all_found_by s) shards) (All-from_recursion (IsInOrder s.direction) (map (all_found_by s) shards) (all_in_order s shards)))
+    ∙ ap (merged s.direction s.take) (cut_found s shards)
 
 -- ---- the sources of all shards
 
@@ -158,10 +162,7 @@ module _ {X : Type 0} (s : Search) (Is : ShardView → X → Type 0) (rows : X �
   -- the merge of what they have is the merge of what is found, so much at most in each shard
   pub sources_merged : (shards : List ShardView) (sources : List X) → AllZip Is shards sources
       → merged s.direction s.take (map rows sources) ≡ merged s.direction s.take (map (found_by s) shards)
-  sources_merged shards sources h =
-      ap (merged s.direction s.take) (zip_rests shards sources h)
-      ∙ sym (cut_lists s.direction s.take (map (all_found_by s) shards) (All-from_recursion (IsInOrder s.direction) (map (all_found_by s) shards) (all_in_order s shards)))
-      ∙ ap (merged s.direction s.take) (cut_found s shards)
+  sources_merged shards sources h = ap (merged s.direction s.take) (zip_rests shards sources h) ∙ found_merged s shards
 
 module _ {X : Type 0} (Is : ShardView → X → Type 0) where
   -- the sources so far, and that of one shard more

@@ -1,6 +1,6 @@
 -- What a search finds on its way is what is asked: the rows that are reached, up to the first late one, are those in the range and after
 -- the row that is named.
-use Rattle.std.proofs.Common.{◌≡◌, ℕ, zero, suc, Bool, true, false, ◌&&◌, not, cond, List, [], ◌∷◌, ◌++◌, Option, Some, None, option_map, Less, Greater, is_gt, is_lt, take, reverse, if◌then◌else◌, refl, ap, ap₂, sym, ◌∙◌}
+use Rattle.std.proofs.Common.{◌≡◌, ℕ, zero, suc, Bool, true, false, ◌&&◌, not, cond, List, [], ◌∷◌, ◌++◌, Option, Some, None, option_map, Less, Greater, is_gt, is_lt, take, reverse, if◌then◌else◌, refl, ap, ap₂, sym, ◌∙◌, subst}
 use Rattle.std.proofs.lemmas.List.{reverse-append}
 use Rattle.std.proofs.lemmas.List.Elements.{filter-append}
 use Rattle.std.specs.List.{AllByRecursion, cons_option, filter, filter_map}
@@ -86,7 +86,8 @@ begun Desc range after xs =
 
 -- ---- late rows
 
-abbrev LateLast : (RowValue → Bool) → List RowValue → Type 0
+-- what comes after a late row is late
+abbrev pub LateLast : (RowValue → Bool) → List RowValue → Type 0
 LateLast late [] = Unit {0}
 LateLast late (r ∷ rows) = (late r ≡ true → AllByRecursion (λ x. late x ≡ true) rows) × LateLast late rows
 
@@ -220,6 +221,9 @@ module _ (q : Request) (ds : KeptDocuments) (rows : List RowValue) (own : AllByR
 
   late_ones : LateLast late (filter reach all)
   late_ones = late_last direction q.range (filter reach all) (rises_where (directed_order direction) reach all (rises_sorted (directed_order direction) (directed_total direction) unsorted))
+
+  pub late_rows : LateLast late rows
+  late_rows = subst (LateLast late) (sym begun_at) late_ones
 
   wanted_ones : filter holds (filter on_time (filter reach all)) ≡ all_scanned q (docs_of ds)
   wanted_ones =

@@ -1,5 +1,5 @@
 -- For private clauses: what a search has to read in a shard when it begins.
-use Rattle.std.specs.Prelude.{◌≡◌, ℕ, List, Option, Some, None, map}
+use Rattle.std.specs.Prelude.{◌≡◌, ℕ, List, Option, Some, None, drop, map}
 use Rattle.std.specs.FinMap.{entries}
 use Rattle.mg_collate.specs.Row.{rows_view}
 use Rattle.mg_index.specs.Definition.{Steps}
@@ -31,3 +31,9 @@ IsBegunIn at s shard left.Nothing = at ≡ None
 -- what is left is all from where the search begins in its target
 abbrev pub IsBegun : Search → ShardView → Left → Type 0
 IsBegun s shard = IsBegunIn (columns_of s.target shard.definitions) s shard
+
+-- it is behind the first so many rows of an index; documents stay as they are
+abbrev pub IsBehind : ℕ → Left → Left → Type 0
+IsBehind n (left.Rows rows) l = l ≡ left.Rows (drop n rows)
+IsBehind n (left.Documents documents) l = (n ≡ 0) × (l ≡ left.Documents documents)
+IsBehind n left.Nothing l = l ≡ left.Nothing

@@ -1,5 +1,5 @@
 -- For private clauses: rows that shards lend before their documents are looked up.
-use Rattle.std.specs.Prelude.{◌≡◌, ℕ, Bool, true, List, [], None, Some, is_some, map, slice_get}
+use Rattle.std.specs.Prelude.{◌≡◌, ℕ, true, List, [], Some, drop, is_some, slice_get}
 use Rattle.std.specs.List.{AllByRecursion}
 use Rattle.mg_collate.specs.Row.{RowValue, rows_view}
 use Rattle.mg_scan.specs.Decided.{everything}
@@ -62,4 +62,9 @@ IsLeadLeft shard left.Nothing l = IsLeadOf shard l
 -- a source of all rows in the search's range, whatever their documents
 pub record IsLeadSourceOf (search : Search) (s : ShardView) (source : LeadSource) : Type 0 where
   pub rows : lead_rows source.search source.left ≡ all_found_by (unasked search) s
+  pub leads : (l : Lead) → IsLeadLeft source.shard.now source.left l → IsLeadOf s l
+
+-- a source of these rows behind the first so many
+pub record IsLeadSourceBehind (n : ℕ) (search : Search) (s : ShardView) (source : LeadSource) : Type 0 where
+  pub rows : lead_rows source.search source.left ≡ drop n (all_found_by (unasked search) s)
   pub leads : (l : Lead) → IsLeadLeft source.shard.now source.left l → IsLeadOf s l

@@ -1,13 +1,13 @@
 //! Rows of a shard that are found as they are asked for, whatever their documents.
-ghost use Rattle.std.specs.Prelude.{◌≡◌, ◌∷◌, [], IfNone, IfSome};
+ghost use Rattle.std.specs.Prelude.{◌≡◌, ◌≤◌, ◌∷◌, [], IfNone, IfSome};
 ghost use Rattle.mg_collate.specs.Row.{rows_view};
 ghost use Rattle.mg_shard.specs.Documents.{KeptDocuments};
 ghost use Rattle.mg_shard.specs.Shard.{ShardView};
-ghost use Rattle.mg_scan.specs.Lead.{AreServed, IsLeadLeft, IsLeadOf, IsLeadSourceOf, lead_row, lead_rows, rows_on_way, unasked};
+ghost use Rattle.mg_scan.specs.Lead.{AreServed, IsLeadLeft, IsLeadOf, IsLeadSourceBehind, IsLeadSourceOf, lead_row, lead_rows, rows_on_way, unasked};
 ghost use Rattle.mg_scan.specs.Sourced.{AreKept, walked_documents};
 
 use crate::lead::Lead;
-use crate::left::{Left, left_of};
+use crate::left::{Left, left_behind, left_of};
 use crate::search::Search;
 use crate::source::is_past;
 use mg_merge::RowSource;
@@ -94,4 +94,22 @@ pub(crate) fn lead_source_of<'a, 'b>(shard: &'a Shard, search: Search<'b>) -> Le
         left: left_of(shard, search),
         search,
     }
+}
+
+// The same behind the first rows, and how many these are: as many as are named, or none. Cost: two look-ups.
+pub(crate) fn lead_source_behind<'a, 'b>(
+    shard: &'a Shard,
+    search: Search<'b>,
+    count: usize,
+) -> (LeadSource<'a, 'b>, usize)
+    ensures source { IsLeadSourceBehind result.1 search.entry shard.now result.0 }
+    ensures within { result.1 ≤ count }
+{
+    let (left, passed) = left_behind(left_of(shard, search), count);
+    let source = LeadSource {
+        shard,
+        left,
+        search,
+    };
+    (source, passed)
 }

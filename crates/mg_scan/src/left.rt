@@ -1,7 +1,7 @@
 //! What a search has still to read in a shard.
-ghost use Rattle.std.specs.Prelude.{◌≡◌, option_map};
+ghost use Rattle.std.specs.Prelude.{◌≡◌, ◌≤◌, option_map};
 ghost use Rattle.mg_index.specs.Catalog.{definition_at};
-ghost use Rattle.mg_scan.specs.Begun.{AreBegun, IsBegun, IsBegunIn};
+ghost use Rattle.mg_scan.specs.Begun.{AreBegun, IsBegun, IsBegunIn, IsBehind};
 
 use crate::begin::Begin;
 use crate::search::Search;
@@ -45,5 +45,21 @@ fn rows_of<'a>(shard: &'a Shard, ddoc: &str, name: &str, search: Search<'_>) -> 
     match shard.rows_beyond(ddoc, name, &Begin { search }, search.direction) {
         Some(rows) => Left::Rows(rows),
         None => Left::Nothing,
+    }
+}
+
+// What is left behind the first rows, and how many these are: as many as are named, where they are rows of an index, and none of
+// documents, of which some may be deleted.
+pub(crate) fn left_behind<'a>(left: Left<'a>, count: usize) -> (Left<'a>, usize)
+    ensures behind { IsBehind result.1 left.entry result.0 }
+    ensures within { result.1 ≤ count }
+{
+    match left {
+        Left::Rows(mut rows) => {
+            rows.advance(count);
+            (Left::Rows(rows), count)
+        }
+        Left::Documents(documents) => (Left::Documents(documents), 0),
+        Left::Nothing => (Left::Nothing, 0),
     }
 }

@@ -8,11 +8,12 @@ ghost use Rattle.mg_scan.specs.Decided.{IsDecidedIn};
 ghost use Rattle.mg_scan.specs.Found.{asked, found_in};
 ghost use Rattle.mg_scan.specs.Hit.{AreHitsIn, hit_rows};
 ghost use Rattle.mg_scan.specs.Lead.{IsLeadSourceOf};
+ghost use Rattle.mg_scan.specs.Search.{found_by};
 ghost use Rattle.mg_scan.specs.Sourced.{IsSourceOf};
 
 use crate::hit::Hit;
 use crate::lead::hits_after;
-use crate::lead_source::{LeadSource, lead_source_of};
+use crate::lead_source::{LeadSource, lead_source_behind, lead_source_of};
 use crate::search::Search;
 use crate::source::{HitSource, source_of};
 use crate::target::Target;
@@ -64,7 +65,8 @@ pub fn pull_lent<'a>(
 /// how many rows were looked for and found: at most `take`, and one more for each shard. All is done on the caller's thread.
 ///
 /// Errors: `NoMemory` where a growth was refused. Cost: in each shard one look-up of where to begin; then a step for each row that is
-/// read, until `take` are found, and the merge; a look-up of a document for each hit that is given.
+/// read, until `take` are found, and the merge; a look-up of a document for each hit that is given. Of one shard the first `skip` rows
+/// of an index are passed over at once, by their count.
 pub fn pull_rows<'a>(
     alloc: Global,
     shards: &'a [Arc<Shard>],
@@ -90,9 +92,37 @@ pub fn pull_rows<'a>(
         take,
         direction,
     };
+    if shards.len() == 1 {
+        return pull_rows_of_one(alloc, shards, search, skip);
+    }
     let mut sources = lead_sources_of(alloc, shards, search)?;
     let (leads, pulled) = merge_pulled(alloc, &mut sources, direction, take)?;
     let hits = hits_after(alloc, &leads, skip)?;
+    Ok((hits, pulled))
+}
+
+// The same of one shard, where rows of an index are passed over at once.
+fn pull_rows_of_one<'a>(
+    alloc: Global,
+    shards: &'a [Arc<Shard>],
+    search: Search<'_>,
+    skip: usize,
+) -> Result<(Vec<Hit<'a>>, u64), NoMemory>
+    requires one { length shards.now ≡ 1 }
+    requires decided { All (IsDecidedIn search.target search.normal.now search.range.now)
+        (shards_seen shards.now) }
+    ensures rows { IfOk result (λ made. hit_rows made.0.items ≡ drop skip
+        (merged search.entry.direction search.entry.take (map (found_by search.entry) (shards_seen shards.now)))) }
+    ensures hits { IfOk result (λ made. AreHitsIn (shards_seen shards.now) made.0.items) }
+    ensures pulled { IfOk result (λ made. made.1 ≤ search.entry.take + length shards.now) }
+{
+    let shard: &Shard = &shards[0];
+    let (source, passed) = lead_source_behind(shard, search, skip);
+    let mut sources = Vec::with_capacity(alloc, 1)?;
+    sources.push(source)?;
+    let wanted = search.take.saturating_sub(passed);
+    let (leads, pulled) = merge_pulled(alloc, &mut sources, search.direction, wanted)?;
+    let hits = hits_after(alloc, &leads, skip - passed)?;
     Ok((hits, pulled))
 }
 

@@ -26,6 +26,9 @@ use mg_shard::{Document, Documents, Rows, Shard};
 use mg_value::{Json, NoMemory};
 use std::alloc::Global;
 
+// Room for hits is taken for so many at first.
+const FIRST_ROOM: usize = 64;
+
 // The hit of a document at a key, if it is served and the selector holds of it.
 pub(crate) fn hit_of<'a>(
     key: &'a [Json],
@@ -85,7 +88,7 @@ fn hits_of_rows<'a>(
     ensures rows { IfOk result (λ v. hit_rows v.items ≡ walked_by search.entry shard.now.documents search.entry.take (rows_view rows.entry)) }
     ensures documents { IfOk result (λ v. AreHitsOf shard.now.documents v.items) }
 {
-    let mut hits = Vec::new(alloc);
+    let mut hits = Vec::with_capacity(alloc, search.take.min(FIRST_ROOM))?;
     for row in rows {
         if is_over(search, hits.len(), &row.key) {
             return Ok(hits);
@@ -107,7 +110,7 @@ fn hits_of_documents<'a>(
     ensures documents { IfOk result (λ v. AreHitsOf shard.now.documents v.items) }
 {
     let _ = shard;
-    let mut hits = Vec::new(alloc);
+    let mut hits = Vec::with_capacity(alloc, search.take.min(FIRST_ROOM))?;
     for document in documents {
         let Some(key) = document.id_key() else {
             continue;

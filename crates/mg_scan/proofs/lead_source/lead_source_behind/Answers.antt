@@ -1,0 +1,18 @@
+use Rattle.std.proofs.Common.{drop, ap, ◌∙◌}
+use Rattle.mg_scan.specs.Found.{columns_of}
+use Rattle.mg_scan.proofs.Begun.{begun_leads}
+use Rattle.mg_scan.proofs.Behind.{behind_led, behind_rows}
+use Rattle.mg_scan.proofs.lead_source.lead_source_behind.Goals as goal
+
+pub returns-clause-source : goal.returns-clause-source
+returns-clause-source c =
+    let s = c.args.search in
+    let shard = c.args.shard.now in
+    let at = columns_of s.target shard.definitions in
+    let all = c.left_of.result in
+    let left = c.left_behind-left.result.0 in
+    let n = c.left_behind-left.result.1 in
+    record {
+      rows = behind_rows at s shard n all left c.left_of.ensures c.left_behind-left.ensures.behind ∙ ap (drop n) (begun_leads at s shard all c.left_of.ensures);
+      leads = behind_led at s shard n all left c.left_of.ensures c.left_behind-left.ensures.behind;
+    }
