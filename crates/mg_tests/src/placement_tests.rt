@@ -60,6 +60,14 @@ const INDEX: Step = Step(
     "{\"id\":\"_design/x\",\"name\":\"k_idx\",\"result\":\"created\"}\n",
 );
 
+// An index that a query prefers to that one, by its name.
+const PREFERRED_INDEX: Step = Step(
+    Ask::CreateIndex,
+    r#"{"index":{"fields":["k"]},"ddoc":"x","name":"a_idx"}"#,
+    200,
+    "{\"id\":\"_design/x\",\"name\":\"a_idx\",\"result\":\"created\"}\n",
+);
+
 const FIRST_PAGE: Step = Step(
     Ask::Find,
     r#"{"selector":{"k":7},"limit":2,"fields":["_id"]}"#,
@@ -248,6 +256,7 @@ fn shows<R: Abort>(rt: &R, alloc: Global, page: Page, text: &str) -> bool {
     shown.as_slice() == text.as_bytes()
 }
 
+// The page over the engine's shards by its catalog without the preferred index, which the shards may have.
 fn has_page<R: Threads + Sync + Abort>(
     rt: &R,
     alloc: Global,
@@ -255,9 +264,10 @@ fn has_page<R: Threads + Sync + Abort>(
     query: &Query<'_>,
     paged: &Paged,
 ) -> bool {
-    let catalog = engine.catalog();
+    let mut catalog = engine.catalog().copy(alloc).expect(rt, "memory");
+    let _ = catalog.remove("_design/x", "a_idx");
     let shards = engine.shards();
-    let Ok((page, work)) = page(rt, alloc, query, catalog, shards, 2, &NoGate) else {
+    let Ok((page, work)) = page(rt, alloc, query, &catalog, shards, 2, &NoGate) else {
         return false;
     };
     work.handed() == paged.2 && work.taken() == paged.3 && shows(rt, alloc, page, paged.1)
@@ -287,4 +297,9 @@ fn are_paged<R: Threads + Sync + Abort>(rt: &R, alloc: Global, steps: &[Step], a
 fn rows_handed_over_by_each_shard(rt: HostRuntime) {
     are_paged(&rt, rt.alloc(), &[PUTS, INDEX], OVER_FOUR);
     are_paged(&rt, rt.alloc(), &[PUTS, INDEX, SEVEN], OVER_SEVEN);
+}
+
+#[test]
+fn page_over_shards_with_an_index_more_than_the_catalog(rt: HostRuntime) {
+    are_paged(&rt, rt.alloc(), &[PUTS, INDEX, PREFERRED_INDEX], OVER_FOUR);
 }
