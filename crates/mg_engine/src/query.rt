@@ -1,5 +1,5 @@
 //! Queries, and how they would be answered.
-ghost use Rattle.std.specs.Prelude.{◌≡◌, All, IfOk, Ok, Some};
+ghost use Rattle.std.specs.Prelude.{◌≡◌, IfOk, Ok, Some};
 ghost use Rattle.mg_value.specs.View.{view};
 ghost use Rattle.mg_shard.specs.Dealt.{Placing, ShardsStandFor};
 ghost use Rattle.mg_query.specs.Page.{candidates_of};
@@ -8,7 +8,7 @@ ghost use Rattle.mg_query.specs.Seen.{query_seen};
 ghost use Rattle.mg_query.specs.Served.{AreWhole};
 ghost use Rattle.mg_engine.specs.Commands.{Answer, explain as explain_command, explained as explained_of, find, answer_of_query, reply_of};
 ghost use Rattle.mg_engine.specs.Stands.{Holds};
-ghost use Rattle.mg_shard.specs.Shard.{shards_seen};
+ghost use Rattle.mg_shard.specs.Shard.{HaveIndexes, shards_seen};
 ghost use Rattle.mg_engine.specs.Told.{Tells};
 ghost use Rattle.mg_engine.specs.View.{said};
 ghost use Rattle.mg_engine.specs.World.{World};
@@ -72,7 +72,7 @@ fn page_line<R: Threads + Sync, G: Gate + Sync>(
     workers: Workers,
     gate: &G,
 ) -> Result<Vec<u8>, Fault>
-    requires indexes { All (λ s. s.definitions ≡ catalog.now) (shards_seen shards.now) }
+    requires indexes { HaveIndexes catalog.now (shards_seen shards.now) }
     ensures { (place : Placing) (w : World) → ShardsStandFor place (shards_seen shards.now) w.docs → AreWhole (candidates_of w.docs)
         → w.indexes ≡ catalog.now → Tells result (answer_of_query w (query_of (view body.now))) }
 {
@@ -90,7 +90,7 @@ fn answer_line<R: Threads + Sync, G: Gate + Sync>(
     workers: Workers,
     gate: &G,
 ) -> Result<Vec<u8>, Fault>
-    requires indexes { All (λ s. s.definitions ≡ catalog.now) (shards_seen shards.now) }
+    requires indexes { HaveIndexes catalog.now (shards_seen shards.now) }
     ensures { (place : Placing) (w : World) → ShardsStandFor place (shards_seen shards.now) w.docs → AreWhole (candidates_of w.docs)
         → w.indexes ≡ catalog.now → Tells result (answer_of_query w (Ok (query_seen query.now))) }
 {

@@ -13,6 +13,7 @@ pub mod Chained
 pub mod Marked
 pub mod Kept
 pub mod Listed
+pub mod Indexed
 pub mod Handed
 pub mod Counts
 pub mod Lent

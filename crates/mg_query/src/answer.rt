@@ -1,9 +1,9 @@
 //! The page that answers a query, as values and as text.
-ghost use Rattle.std.specs.Prelude.{◌≡◌, ◌+◌, ◌<◌, ◌≤◌, List, All, IfOk, length, map, string_bytes};
+ghost use Rattle.std.specs.Prelude.{◌≡◌, ◌+◌, ◌<◌, ◌≤◌, List, IfOk, length, map, string_bytes};
 ghost use Rattle.mg_value.specs.Text.{compact};
 ghost use Rattle.mg_value.specs.View.{view};
 ghost use Rattle.mg_index.specs.Definition.{Steps};
-ghost use Rattle.mg_shard.specs.Shard.{shards_seen};
+ghost use Rattle.mg_shard.specs.Shard.{HaveIndexes, shards_seen};
 ghost use Rattle.mg_shard.specs.Dealt.{Placing, ShardsStandFor};
 ghost use Rattle.mg_shard.specs.Histories.{Histories};
 ghost use Rattle.mg_query.specs.Page.{Candidate, answer_of, bookmark_after, candidates_of, columns_of, page_of, page_value, shown_of};
@@ -27,10 +27,11 @@ use std::alloc::Global;
 use std::sync::Arc;
 use std::thread::Threads;
 
-/// The page that answers a query over the indexes of the catalog, which each shard has to have, and how many rows each
-/// shard handed over for it: all that the query finds there, or as many as the page passes over and may have, together,
-/// where these are fewer. What it is does not rest on the number of workers, from 1 to 32, nor on how documents are
-/// placed on shards. The gate is passed before a shard's first row is read and after its last.
+/// The page that answers a query over the indexes of the catalog, and how many rows each shard handed over for it: all
+/// that the query finds there, or as many as the page passes over and may have, together, where these are fewer. Each
+/// shard has to have the indexes of the catalog; others that it has are not looked at. The page does not rest on the
+/// number of workers, from 1 to 32, nor on how documents are placed on shards. The gate is passed before a shard's first
+/// row is read and after its last.
 ///
 /// Errors: `NoUsableIndex` where no index serves the query, then `BadBookmark` where its bookmark is of another index
 /// or direction; `NoMemory` where a growth was refused.
@@ -47,7 +48,7 @@ pub fn page<R: Threads + Sync, G: Gate + Sync>(
     gate: &G,
 ) -> Result<(Page, Work), PageError>
     requires workers { (0 < workers) × (workers ≤ 32) }
-    requires indexes { All (λ s. s.definitions ≡ catalog.now) (shards_seen shards.now) }
+    requires indexes { HaveIndexes catalog.now (shards_seen shards.now) }
     ensures answers { (place : Placing) (hs : Histories)
         → ShardsStandFor place (shards_seen shards.now) hs → AreWhole (candidates_of hs)
         → PageAnswers (λ r. page_seen r.0) result
@@ -80,7 +81,7 @@ pub fn page_text<R: Threads + Sync, G: Gate + Sync>(
     gate: &G,
 ) -> Result<(Vec<u8>, Work), PageError>
     requires workers { (0 < workers) × (workers ≤ 32) }
-    requires indexes { All (λ s. s.definitions ≡ catalog.now) (shards_seen shards.now) }
+    requires indexes { HaveIndexes catalog.now (shards_seen shards.now) }
     ensures answers { (place : Placing) (hs : Histories)
         → ShardsStandFor place (shards_seen shards.now) hs → AreWhole (candidates_of hs)
         → PageAnswers (λ r. r.0.items) result
@@ -113,7 +114,7 @@ pub fn page_text_by<R: Threads + Sync, G: Gate + Sync>(
     workers: Workers,
     gate: &G,
 ) -> Result<Vec<u8>, PageError>
-    requires indexes { All (λ s. s.definitions ≡ catalog.now) (shards_seen shards.now) }
+    requires indexes { HaveIndexes catalog.now (shards_seen shards.now) }
     ensures answers { (place : Placing) (hs : Histories)
         → ShardsStandFor place (shards_seen shards.now) hs → AreWhole (candidates_of hs)
         → PageAnswers (λ text. text.items) result

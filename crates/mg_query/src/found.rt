@@ -2,7 +2,7 @@
 ghost use Rattle.std.specs.Prelude.{◌≡◌, ◌+◌, ◌<◌, ◌≤◌, true, All, IfOk, drop, length, map, option_map};
 ghost use Rattle.std.specs.List.{AllZip};
 ghost use Rattle.mg_collate.specs.Row.{row_view};
-ghost use Rattle.mg_shard.specs.Shard.{shards_seen};
+ghost use Rattle.mg_shard.specs.Shard.{HaveIndexes, shards_seen};
 ghost use Rattle.mg_scan.specs.Hit.{AreHitsOf, hit_rows};
 ghost use Rattle.mg_shard.specs.Dealt.{Placing, ShardsStandFor};
 ghost use Rattle.mg_shard.specs.Histories.{Histories};
@@ -24,6 +24,7 @@ use mg_range::KeyRange;
 use mg_range::laws::ranges_are_complete;
 use mg_scan::{Gate, Hit, Workers, pull_lent, pull_rows, reads_at_most, scan_lent};
 use mg_shard::Shard;
+use mg_shard::laws::definitions_are_catalogs;
 use mg_value::{NoMemory, copy_items};
 use std::alloc::Global;
 use std::sync::Arc;
@@ -57,8 +58,8 @@ pub(crate) struct Asked<'a> {
     pub(crate) is_decided: bool,
 }
 
-// What the query finds, over the indexes of the catalog, which each shard has: each shard hands over as many hits as a page
-// looks at.
+// What the query finds, over the indexes of the catalog, which each shard has and maybe others: each shard hands over as many
+// hits as a page looks at.
 pub(crate) fn find<'a, R: Threads + Sync, G: Gate + Sync>(
     rt: &R,
     alloc: Global,
@@ -69,7 +70,7 @@ pub(crate) fn find<'a, R: Threads + Sync, G: Gate + Sync>(
     gate: &G,
 ) -> Result<Found<'a>, PageError>
     requires workers { (0 < workers) × (workers ≤ 32) }
-    requires indexes { All (λ s. s.definitions ≡ catalog.now) (shards_seen shards.now) }
+    requires indexes { HaveIndexes catalog.now (shards_seen shards.now) }
     ensures source { PageAnswers (λ f. source_seen f.source) result
         (served_of catalog.now (query_seen query.now)) }
     ensures hits { IfOk result (λ f. (place : Placing) (hs : Histories)
@@ -84,6 +85,7 @@ pub(crate) fn find<'a, R: Threads + Sync, G: Gate + Sync>(
         place (length shards.now) hs) }
 {
     ranges_are_complete();
+    definitions_are_catalogs(shards);
     let asked = asked_of(alloc, query, catalog)?;
     let (hits, work) = gathered(rt, alloc, query, &asked, shards, workers, gate)?;
     Ok(Found {
@@ -93,7 +95,7 @@ pub(crate) fn find<'a, R: Threads + Sync, G: Gate + Sync>(
     })
 }
 
-// The hits of the query's page, over the indexes of the catalog, which each shard has. Where the workers are a most, and a
+// The hits of the query's page, over the indexes of the catalog, as of `find`. Where the workers are a most, and a
 // second thread is not worth its cost, or there is none, they are looked for on the caller's thread, as the merge asks for them.
 pub(crate) fn find_first<'a, R: Threads + Sync, G: Gate + Sync>(
     rt: &R,
@@ -104,7 +106,7 @@ pub(crate) fn find_first<'a, R: Threads + Sync, G: Gate + Sync>(
     workers: Workers,
     gate: &G,
 ) -> Result<FirstHits<'a>, PageError>
-    requires indexes { All (λ s. s.definitions ≡ catalog.now) (shards_seen shards.now) }
+    requires indexes { HaveIndexes catalog.now (shards_seen shards.now) }
     ensures source { PageAnswers (λ f. source_seen f.source) result
         (served_of catalog.now (query_seen query.now)) }
     ensures hits { IfOk result (λ f. (place : Placing) (hs : Histories)
@@ -113,6 +115,7 @@ pub(crate) fn find_first<'a, R: Threads + Sync, G: Gate + Sync>(
         (page_rows (columns_of (source_seen f.source)) (query_seen query.now) (candidates_of hs))) }
 {
     ranges_are_complete();
+    definitions_are_catalogs(shards);
     let asked = asked_of(alloc, query, catalog)?;
     let (hits, skip) = first_of(rt, alloc, query, &asked, shards, workers, gate)?;
     Ok(FirstHits {

@@ -1,4 +1,5 @@
 pub mod Lists
+pub mod Late
 pub mod Walking
 pub mod Entries
 pub mod Maps

@@ -20,7 +20,8 @@ use Rattle.mg_range.specs.declared.place.Place.{Place}
 use Rattle.mg_range.specs.declared.place.Place.TheVariants.{Before, Within, Past}
 use Rattle.mg_scan.specs.Scan.{Request, all_scanned, comes_after, is_wanted, scanned}
 use Rattle.mg_scan.specs.Walked.{begin_order, holds_at, is_beyond, is_early, is_late, is_late_row, walked, walked_all}
-use Rattle.mg_scan.specs.Begins.{late_rises, place_row, reached}
+use Rattle.mg_scan.specs.Begins.{place_row, reached}
+use Rattle.mg_scan.proofs.Late.{late_rises}
 use Rattle.mg_shard.specs.Documents.{KeptDocuments, docs_of, form_at}
 use Rattle.mg_shard.specs.Histories.{ServedDocument}
 use Rattle.mg_shard.specs.Rows.{key_of, row_of, rows_of}

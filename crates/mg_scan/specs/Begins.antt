@@ -1,5 +1,7 @@
--- Laws that the code cites: rows in a direction: those that a search passes over come first, then those that it looks at, then those that are late.
-use Rattle.std.proofs.Common.{◌≡◌, ℕ, ◌≤◌, Bool, true, false, ◌&&◌, not, List, Option, Some, None, option_map, Ordering, Less, Equal, Greater, is_gt, if◌then◌else◌, refl, ap, ap₂, sym, ◌∙◌, arith}
+-- Where a search begins is a place among rows and among documents: what it passes over comes first, then what it reaches.
+-- The proofs of both laws stand in specs/, since the code cites them, and code can cite nothing else of its own crate.
+use Rattle.std.proofs.Common.{◌≡◌, ℕ, ◌≤◌, Bool, true, false, not, List, Option, Some, None, option_map, Ordering, Less, Equal, Greater, is_gt, if◌then◌else◌, refl, ap, ap₂, sym, ◌∙◌, arith}
+use Rattle.std.proofs.lemmas.Bool.{and_from, and_parts}
 use Rattle.std.proofs.lemmas.Cmp.{upto}
 use Rattle.std.specs.Cmp.{IsTotalOrder}
 use Rattle.std.specs.Cmp.Lexicographic.{slice_cmp}
@@ -19,7 +21,7 @@ use Rattle.mg_range.specs.declared.place.Place.{Place}
 use Rattle.mg_range.specs.declared.place.Place.TheVariants.{Before, Within, Past}
 use Rattle.mg_range.proofs.Together.{rows_together}
 use Rattle.mg_scan.specs.Search.{after_of, begin_at}
-use Rattle.mg_scan.specs.Walked.{begin_order, id_row, is_beyond, is_early, is_late, is_late_row, reaches}
+use Rattle.mg_scan.specs.Walked.{begin_order, id_row, is_beyond, is_early, reaches}
 use Rattle.mg_scan.specs.declared.search.Search.{Search}
 use Rattle.mg_shard.specs.Documents.{id_of}
 use Rattle.mg_value.specs.Value.{Items, no_items, item, item_list, text}
@@ -43,33 +45,24 @@ not_gt-le Less e = refl
 not_gt-le Equal e = refl
 not_gt-le Greater e = absurd cc
 
+-- where the key of a row stands
 abbrev pub place_row : Range → RowValue → Place
 place_row range r = place_of range (item_list r.0)
 
-ranked : (range : Range) (x y : RowValue) → is_gt (row_value_order x y) ≡ false → place_rank (place_row range x) ≤ place_rank (place_row range y)
-ranked range x y e =
+-- the places of rows that are in order are in order
+places_rise : (range : Range) (x y : RowValue) → is_gt (row_value_order x y) ≡ false → place_rank (place_row range x) ≤ place_rank (place_row range y)
+places_rise range x y e =
     rows_together range (item_list x.0) (item_list y.0) x.1 y.1 (ap₂ (λ a b. is_le (row_value_order a b)) (same_row x) (same_row y) ∙ not_gt-le (row_value_order x y) e)
 
 -- the second place does not come before the first in a direction
-abbrev Follows : Direction → Place → Place → Type 0
+abbrev pub Follows : Direction → Place → Place → Type 0
 Follows Asc p q = place_rank p ≤ place_rank q
 Follows Desc p q = place_rank q ≤ place_rank p
 
-follows : (direction : Direction) (range : Range) (x y : RowValue) → NotAfter direction x y → Follows direction (place_row range x) (place_row range y)
-follows Asc range x y e = ranked range x y e
-follows Desc range x y e = ranked range y x (ap is_gt (row_value_order_total.antisymm y x) ∙ e)
-
-late_place : (direction : Direction) (p q : Place) → Follows direction p q → is_late direction p ≡ true → is_late direction q ≡ true
-late_place Asc Past Past h e = refl
-late_place Asc Past Before h e = absurd (omega (arith, h))
-late_place Asc Past Within h e = absurd (omega (arith, h))
-late_place Asc Before q h e = absurd cc
-late_place Asc Within q h e = absurd cc
-late_place Desc Before Before h e = refl
-late_place Desc Before Within h e = absurd (omega (arith, h))
-late_place Desc Before Past h e = absurd (omega (arith, h))
-late_place Desc Within q h e = absurd cc
-late_place Desc Past q h e = absurd cc
+-- nor does that of a row that comes later
+pub follows : (direction : Direction) (range : Range) (x y : RowValue) → NotAfter direction x y → Follows direction (place_row range x) (place_row range y)
+follows Asc range x y e = places_rise range x y e
+follows Desc range x y e = places_rise range y x (ap is_gt (row_value_order_total.antisymm y x) ∙ e)
 
 early_place : (direction : Direction) (p q : Place) → Follows direction p q → is_early direction q ≡ true → is_early direction p ≡ true
 early_place Asc Before q h e = refl
@@ -87,10 +80,6 @@ early_place Desc Before Within h e = absurd cc
 early_place Desc Within Before h e = absurd cc
 early_place Desc Within Within h e = absurd cc
 
--- what comes after a late row is late
-pub late_rises : (direction : Direction) (range : Range) (x y : RowValue) → NotAfter direction x y → is_late_row direction range x ≡ true → is_late_row direction range y ≡ true
-late_rises direction range x y h e = late_place direction (place_row range x) (place_row range y) (follows direction range x y h) e
-
 -- ---- what a search reaches
 
 beyond_at : (R : RowValue → RowValue → Ordering) → IsTotalOrder R → (x y p : RowValue) (b : Bool) → is_gt (R y p) ≡ b → is_gt (R x y) ≡ false → is_gt (R x p) ≡ true → b ≡ true
@@ -101,13 +90,6 @@ beyond_rises : (direction : Direction) (after : Option RowValue) (x y : RowValue
     → is_beyond direction (option_map (row_value_order x) after) ≡ true → is_beyond direction (option_map (row_value_order y) after) ≡ true
 beyond_rises direction None x y h e = refl
 beyond_rises direction (Some p) x y h e = beyond_at (directed_order direction) (directed_total direction) x y p (is_gt (directed_order direction y p)) refl h e
-
-both : (a b : Bool) → (a && b) ≡ true → (a ≡ true) × (b ≡ true)
-both true b e = (refl, e)
-both false b e = absurd cc
-
-rejoined : (a b : Bool) → a ≡ true → b ≡ true → (a && b) ≡ true
-rejoined a b e f = rw (e, f) refl
 
 not_up : (a b : Bool) → (b ≡ true → a ≡ true) → not a ≡ true → not b ≡ true
 not_up a false f e = refl
@@ -122,8 +104,8 @@ reached direction range after r = reaches direction (place_row range r) (option_
 reached_rises : (direction : Direction) (range : Range) (after : Option RowValue) (x y : RowValue) → NotAfter direction x y → reached direction range after x ≡ true → reached direction range after y ≡ true
 reached_rises direction range after x y h e =
     let place = place_row range in
-    let was = both (not (is_early direction (place x))) (is_beyond direction (option_map (row_value_order x) after)) e in
-    rejoined (not (is_early direction (place y))) (is_beyond direction (option_map (row_value_order y) after))
+    let was = and_parts (not (is_early direction (place x))) (is_beyond direction (option_map (row_value_order x) after)) e in
+    and_from (not (is_early direction (place y))) (is_beyond direction (option_map (row_value_order y) after))
     (not_up (is_early direction (place x)) (is_early direction (place y)) (early_place direction (place x) (place y) (follows direction range x y h)) was.0)
     (beyond_rises direction after x y h was.1)
 

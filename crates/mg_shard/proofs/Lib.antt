@@ -5,6 +5,7 @@ pub mod Dealing
 pub mod Redealing
 pub mod Rows
 pub mod Catalogued
+pub mod Catalogs
 pub mod Keys
 pub mod Keyed
 pub mod Walks

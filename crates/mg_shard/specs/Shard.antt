@@ -1,5 +1,5 @@
 -- What clauses see of a shard.
-use Rattle.std.specs.Prelude.{ℕ, List, Option, map, option_map, refl}
+use Rattle.std.specs.Prelude.{ℕ, List, Option, All, Contains, map, option_map, refl}
 use Rattle.std.specs.Arc.{arc_value}
 use Rattle.std.specs.Coded.{Coded, code_by, coded×, coded_ℕ, coded_list, coded_option}
 use Rattle.std.specs.FinMap as finite
@@ -36,3 +36,7 @@ rows_at ddoc name s = option_map (λ d. rows_of d.columns (docs_of s.documents))
 -- the shards that are shared
 abbrev pub shards_seen : List (Arc ShardView Global) → List ShardView
 shards_seen shards = map arc_value shards
+
+-- each of these definitions is among those of each shard, which may have others beside them
+abbrev pub HaveIndexes : List IndexDefinition → List ShardView → Type 0
+HaveIndexes ds shards = All (λ s. All (Contains s.definitions) ds) shards

@@ -1,5 +1,11 @@
 //! Laws of what shards stand for, each the contract of a function that does nothing.
+ghost use Rattle.std.specs.Prelude.{All};
+ghost use Rattle.mg_index.specs.Catalog.{IsCatalog};
 ghost use Rattle.mg_shard.specs.Laws.{DraftsBecomeShards, EachEditIsDecidedThere, EachEditIsMadeThere, EachIdHasItsShard, NothingIsDealt, ShardsBecomeDrafts, TheServedAreKept};
+ghost use Rattle.mg_shard.specs.Shard.{shards_seen};
+
+use crate::shard::Shard;
+use std::sync::Arc;
 
 /// The documents that are kept to be served are those that the histories serve.
 pub fn the_served_are_kept()
@@ -35,3 +41,13 @@ pub fn shards_become_drafts()
 pub fn drafts_become_shards()
     ensures { DraftsBecomeShards }
 {}
+
+/// The definitions of each shard are a catalog, so each of them is the one of its design document and name.
+pub fn definitions_are_catalogs(shards: &[Arc<Shard>])
+    ensures { All (λ s. IsCatalog s.definitions) (shards_seen shards.now) }
+{
+    for i in 0..shards.len() {
+        let shard: &Shard = &shards[i];
+        let _ = shard.indexes();
+    }
+}

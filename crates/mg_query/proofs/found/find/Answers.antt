@@ -9,10 +9,15 @@ use Rattle.mg_query.specs.Seen.{query_seen}
 use Rattle.mg_query.specs.Served.{source_seen}
 use Rattle.mg_query.proofs.Counts.{listed_counts}
 use Rattle.mg_query.proofs.Handed.{rows_handed}
+use Rattle.mg_query.proofs.Indexed.{listed_in_each}
 use Rattle.mg_query.proofs.Lent.{lend_first}
 use Rattle.mg_query.proofs.Serving.{choice_served}
 use Rattle.mg_query.proofs.Usable.{choice_usable}
 use Rattle.mg_query.proofs.found.find.Goals as goal
+
+pub gathered-requires-clause-indexes : goal.gathered-requires-clause-indexes
+gathered-requires-clause-indexes g c = λ κs within.
+    listed_in_each c.args.catalog.now (source_seen c.in_ok-asked.asked.source) (shards_seen c.args.shards.now) c.in_ok-asked.ensures.listed c.definitions_are_catalogs.ensures c.requires.indexes
 
 pub returns-clause-hits : goal.returns-clause-hits
 returns-clause-hits g c = λ place hs stands whole.
