@@ -6,4 +6,4 @@ use Rattle.mg_thread_tests.proofs.engine_tests.has_page.Goals as goal
 
 pub page-requires-clause-indexes : goal.page-requires-clause-indexes
 page-requires-clause-indexes g c = λ κs within.
-    subst (λ (ds : List IndexDefinition). HaveIndexes ds (shards_seen c.shards.result.now)) (sym c.catalog.ensures) (have_all _ (shards_seen c.shards.result.now) c.shards.ensures.rows)
+    subst (λ (ds : List IndexDefinition). HaveIndexes ds (shards_seen c.shards-shards.result.now)) (sym c.catalog-catalog.ensures) (have_all _ (shards_seen c.shards-shards.result.now) c.shards-shards.ensures.rows)
