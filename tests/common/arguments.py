@@ -3,7 +3,7 @@ import argparse
 from pathlib import Path
 
 
-def arguments(document, **more):
+def arguments(document, /, **more):
     """The program, whether all is to be tried, and further options with their defaults: a list takes any number of words, of
     the type of its first default."""
     parser = argparse.ArgumentParser(description=document.split("\n")[0])
