@@ -163,7 +163,7 @@ fn a_place_is_between_rows_and_never_on_one(rt: HostRuntime) {
 }
 
 // An id, and how many of the rows are below its row among all documents.
-const IDS: &[(&str, usize)] = &[("", 9), ("a", 9), ("aa", 10), ("b", 12), ("xx", 12), ("é", 13), ("êêê", 14)];
+const IDS: &[(&str, usize)] = &[("", 9), ("a", 9), ("aa", 11), ("b", 12), ("xx", 12), ("é", 13), ("êêê", 14)];
 
 // Whether exactly the first so many rows are below the row that the id has among all documents.
 fn parts_by_id(rows: &[RowBytes], id: &str, below: usize) -> bool {
