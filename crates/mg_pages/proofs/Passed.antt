@@ -101,12 +101,6 @@ end_none ys left e = end_whole [] (take left ys) (sym (ap (λ k. take k ys) e))
 
 -- ---- iterators behind so many elements
 
-pub last_mapped : {A X : Type 0} (f : A → X) (xs : List A) (i : ℕ) (a : A) → i + 1 ≡ length xs → a ≡ get_or xs i a → IsLast (f a) (map f xs)
-last_mapped f xs i a n e =
-    let m = mapped_length f xs in
-    let k : i ≡ length (map f xs) - 1 = omega (arith, n, m) in
-    last_at (map f xs) (f a) (omega (arith, n, m)) (subst (λ j. f a ≡ get_or (map f xs) j (f a)) k (mapped_at f xs i a (f a) (omega (arith, n)) e refl))
-
 reversed_short : {X : Type 0} (us : List X) (count : ℕ) → reverse (take (length us - count) us) ≡ drop count (reverse us)
 reversed_short us count =
     let left = length us - count in
