@@ -1,13 +1,12 @@
 -- Elements that are passed over: the page of an element, and what is left of a list behind so many.
-use Rattle.std.proofs.Common.{◌≡◌, ℕ, zero, suc, ◌+◌, ◌-◌, ◌<◌, ◌≤◌, List, [], ◌∷◌, ◌++◌, length, map, take, drop, get_or, min, reverse, Ordering, refl, sym, ap, ◌∙◌, subst, arith, append_assoc, append-nil}
+use Rattle.std.proofs.Common.{◌≡◌, ℕ, zero, suc, ◌+◌, ◌-◌, ◌<◌, ◌≤◌, List, [], ◌∷◌, ◌++◌, length, take, drop, get_or, min, reverse, Ordering, refl, sym, ap, ◌∙◌, subst, arith, append_assoc, append-nil}
 use Rattle.std.proofs.lemmas.List.{drop-append-le, drop-drop, drop_all, drop_at, drop_min, length-append, length-drop, length-reverse, length-take-le, reverse-append, take-append-drop, take-append-le, take_at}
 use Rattle.std.specs.Cmp.{IsTotalOrder}
 use Rattle.std.specs.List.{flat_map}
 use Rattle.mg_pages.specs.Order.{Ascends, IsProbe, above, below}
 use Rattle.mg_pages.specs.Parts.{IsLast}
 use Rattle.mg_pages.specs.Runs.{IsEndRun, IsPageAt, IsRun, continued, continued_after, ended}
-use Rattle.mg_pages.proofs.Children.{last_at}
-use Rattle.mg_pages.proofs.Parts.{end_whole, mapped_at, mapped_length, run_whole, seen_split}
+use Rattle.mg_pages.proofs.Parts.{end_whole, run_whole, seen_split}
 use Rattle.mg_pages.proofs.Sorted.{above_suffix, below_prefix, continued_is, ended_is}
 
 -- ---- the page of an element

@@ -11,10 +11,7 @@ use crate::part::{LIMIT, Part};
 use std::alloc::{AllocError, Global};
 
 /// Full pages of the elements, but for the last.
-pub fn paged<T: Keyed>(
-    alloc: Global,
-    elements: &[T],
-) -> Result<Vec<Child<T, Page<T>>>, AllocError>
+pub fn paged<T: Keyed>(alloc: Global, elements: &[T]) -> Result<Vec<Child<T, Page<T>>>, AllocError>
     ensures whole { IfOk result (λ v. AreWhole (child_whole page_whole page_seen) (children v.items)) }
     ensures seen { IfOk result (λ v. flat_map (child_seen page_seen) (children v.items) ≡ elements.now) }
 {

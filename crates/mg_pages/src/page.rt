@@ -3,8 +3,8 @@ ghost use Rattle.std.specs.Prelude.{is_some, ◌≡◌, ◌<◌, [], true, false
 ghost use Rattle.mg_pages.specs.Order.{Ascends, found, inserted, removed};
 ghost use Rattle.mg_pages.specs.Search.{IsTie, IsGap};
 
-use crate::hint::{Hints, next_guess, number_of};
 use crate::element::{Element, copied, owners_of};
+use crate::hint::{Hints, next_guess, number_of};
 use crate::keyed::{Keyed, Probe};
 use crate::part::{LIMIT, Part};
 use std::alloc::{AllocError, Global};
@@ -27,11 +27,7 @@ impl<T: Element> Drop for Page<T> {
 
 // Where the element is that ties with a key, or else where one would have its place.
 // Cost: a comparison each time the number of elements is halved.
-pub fn find<T: Keyed, Q: Probe<T>>(
-    elements: &[T],
-    key: &Q,
-    guess: usize,
-) -> Result<usize, usize>
+pub fn find<T: Keyed, Q: Probe<T>>(elements: &[T], key: &Q, guess: usize) -> Result<usize, usize>
     requires { Ascends T.order elements.now }
     ensures { MatchResult result (IsTie (Q.against key.now) elements.now) (IsGap (Q.against key.now) elements.now) }
 {
@@ -129,11 +125,7 @@ impl<T: Keyed> Part<T> for Page<T> {
         Ok(Page { elements, hints })
     }
 
-    fn halves(
-        &self,
-        alloc: Global,
-        element: &T,
-    ) -> Result<Option<(Page<T>, Page<T>)>, AllocError> {
+    fn halves(&self, alloc: Global, element: &T) -> Result<Option<(Page<T>, Page<T>)>, AllocError> {
         if self.elements.len() < LIMIT
             || find::<T, T>(
                 &self.elements,

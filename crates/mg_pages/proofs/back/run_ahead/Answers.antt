@@ -1,6 +1,5 @@
-use Rattle.std.proofs.Common.{◌-◌, length, reverse, arith, ap, refl, ◌∙◌}
+use Rattle.std.proofs.Common.{◌-◌, length, reverse, arith, ap, ◌∙◌}
 use Rattle.mg_pages.specs.Order.{below, probe_from_total}
-use Rattle.mg_pages.specs.Runs.{ended}
 use Rattle.mg_pages.proofs.Passed.{ended_before, ended_from, ended_none, ended_take}
 use Rattle.mg_pages.proofs.back.run_ahead.Goals as goal
 

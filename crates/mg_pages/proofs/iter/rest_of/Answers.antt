@@ -1,4 +1,4 @@
-use Rattle.std.proofs.Common.{arith, ap, sym, ◌∙◌, refl}
+use Rattle.std.proofs.Common.{arith, ap, sym, ◌∙◌}
 use Rattle.mg_pages.specs.Order.{above}
 use Rattle.mg_pages.specs.Runs.{continued_after}
 use Rattle.mg_pages.proofs.Parts.{only_one, continued_above}

@@ -1,4 +1,4 @@
-use Rattle.std.proofs.Common.{Some, ◌<◌, length, arith, ap, sym, ◌∙◌}
+use Rattle.std.proofs.Common.{Some, ap, sym, ◌∙◌}
 use Rattle.mg_pages.specs.Search.{IsTie, IsGap}
 use Rattle.mg_pages.proofs.Sorted.{found_gap, found_tie}
 use Rattle.mg_pages.proofs.Parts.{tie_at}

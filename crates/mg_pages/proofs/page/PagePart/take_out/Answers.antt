@@ -1,4 +1,4 @@
-use Rattle.std.proofs.Common.{ap, sym, ◌∙◌}
+use Rattle.std.proofs.Common.{sym, ◌∙◌}
 use Rattle.mg_pages.specs.Search.{IsTie, IsGap}
 use Rattle.mg_pages.proofs.Sorted.{removed_gap, removed_tie}
 use Rattle.mg_pages.proofs.Parts.{removed_one}

@@ -1,4 +1,4 @@
-use Rattle.std.proofs.Common.{◌≡◌, ◌-◌, ◌+◌, length, take, arith, ap, sym, ◌∙◌, subst}
+use Rattle.std.proofs.Common.{◌≡◌, ◌-◌, ◌+◌, length, take, arith, ap, ◌∙◌, subst}
 use Rattle.std.specs.List.{flat_map}
 use Rattle.mg_pages.specs.Order.{Ascends, below}
 use Rattle.mg_pages.specs.Runs.{IsEndRun, IsPageAt}
