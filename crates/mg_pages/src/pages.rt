@@ -141,7 +141,7 @@ impl<T: Keyed> Pages<T> {
         }
     }
 
-    /// The elements of a list that ascends, each of them shared, with no search for any.
+    /// The elements of a list that ascends, each of them once more, with no search for any.
     ///
     /// Errors: `NoMemory` where a growth was refused. Cost: a step an element. The pages are full, but for the last.
     pub fn from_sorted(alloc: Global, elements: &[T]) -> Result<Pages<T>, NoMemory>
