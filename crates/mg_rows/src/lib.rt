@@ -3,6 +3,7 @@
 
 mod bound;
 mod edge;
+mod element;
 mod error;
 mod hint;
 mod id_row;

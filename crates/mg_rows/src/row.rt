@@ -1,5 +1,4 @@
 use crate::error::DecodeError;
-use crate::hint::row_hint;
 use crate::id_row::against_id_row;
 use crate::read::read_key;
 use crate::split::SplitBytes;
@@ -142,9 +141,9 @@ impl RowBytes {
         Ok(Row { key, id })
     }
 
-    /// A number that rises with the order of rows, as far as a number can: that of the first value. Takes no memory.
-    pub fn hint(&self) -> u64 {
-        row_hint(self.as_bytes())
+    // How many copies share the row's block; 1 where it has none.
+    pub(crate) fn sharers(&self) -> usize {
+        self.bytes.sharers()
     }
 }
 

@@ -68,6 +68,18 @@ impl SplitBytes {
         let held = hold_again(&self.held)?;
         Ok(SplitBytes { held })
     }
+
+    /// How many copies share the memory; 1 where there is none.
+    pub(crate) fn sharers(&self) -> usize {
+        sharers_of(&self.held)
+    }
+}
+
+fn sharers_of(held: &Held) -> usize {
+    match held {
+        Held::Inline(_, _, _) => 1,
+        Held::Shared(all, _) => Arc::strong_count(all),
+    }
 }
 
 fn hold(alloc: Global, front: &[u8], last: u8, back: &[u8]) -> Result<Held, NoMemory>
