@@ -1,23 +1,20 @@
 -- A place among rows is found by its bytes.
-use Rattle.std.proofs.Common.{◌≡◌, ℕ, ◌<◌, List, [], ◌∷◌, ◌++◌, length, Ordering, Less, Greater, true, false, refl, sym, subst, ap, ap₂, ◌∙◌, arith}
+use Rattle.std.proofs.Common.{◌≡◌, ℕ, List, [], ◌∷◌, ◌++◌, length, Ordering, Less, Greater, refl, sym, ap, ap₂, ◌∙◌, arith}
 use Rattle.std.specs.Cmp.{nat_cmp_is}
 use Rattle.std.specs.Ordering.{ordering_then}
-use Rattle.std.specs.Prelude.{⊤}
-use Rattle.std.proofs.lemmas.Cmp.{nat_list_cmp_total, tied_itself}
 use Rattle.mg_collate.specs.Order.{value_order, items_order}
 use Rattle.mg_collate.specs.Row.{RowValue}
 use Rattle.mg_collate.proofs.Flat.{items_order-item, items_order-above}
-use Rattle.mg_collate.proofs.Ties.{both, same, same_rows, same_text}
-use Rattle.mg_value.specs.Value.{Value, null, flag, whole, text, list, object, Items, no_items, item}
-use Rattle.mg_rows.specs.Bound.{first_columns, edge_order, edge_bytes, bound_order, IsBound}
+use Rattle.mg_value.specs.Value.{Items, no_items, item}
+use Rattle.mg_rows.specs.Bound.{first_columns, edge_order, edge_bytes, bound_order}
 use Rattle.mg_rows.specs.Bytes.{bytes_order, text_before, value_before, items_before, columns_before, row_bytes}
 use Rattle.mg_rows.specs.Laws.{joined_items}
-use Rattle.mg_rows.specs.Stored.{IsStored, AreStored, IsStoredRow, IsKey, IsRow}
+use Rattle.mg_rows.specs.Stored.{AreStored, IsStoredRow}
 use Rattle.mg_rows.specs.declared.edge.Edge.{Edge}
 use Rattle.mg_rows.specs.declared.edge.Edge.TheVariants.{Before, After}
-use Rattle.mg_rows.proofs.Joined.{row_joined, columns_append}
+use Rattle.mg_rows.proofs.Joined.{columns_append}
 use Rattle.mg_rows.specs.Only.{PlaceOf, BeginsLow, value_low, below_value}
-use Rattle.mg_rows.specs.Ranked.{value_cmp, row_cmp, then_two, above_zero}
+use Rattle.mg_rows.specs.Ranked.{value_cmp, then_two, above_zero}
 
 -- ---- what follows a column
 

@@ -1,5 +1,5 @@
 -- How the logic stores keys, rows and places.
-use Rattle.std.specs.Prelude.{List, ℕ, refl}
+use Rattle.std.specs.Prelude.{refl}
 use Rattle.std.specs.Coded.{Coded, code_by, coded×, coded_ℕ, coded_list}
 use Rattle.mg_value.specs.Value.{Value, list, Items, no_items}
 use Rattle.mg_value.specs.Code.{value_code}

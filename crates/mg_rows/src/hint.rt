@@ -14,6 +14,9 @@ const ONES: u64 = 0x0101_0101_0101_0101;
 // How many numbers on each side of 0 have a number of their own.
 const NEAR: u64 = 1 << 59;
 
+// What the numbers of whole numbers end with that are at the upper end of these, or beyond.
+const FARTHEST: u64 = ((1 << 60) - 1) << 1;
+
 /// The number of a key: that of its first value.
 pub fn key_hint(key: &[Json]) -> u64 {
     value_hint(key.first())
@@ -38,7 +41,9 @@ pub fn value_hint(value: Option<&Json>) -> u64 {
 /// The number of a row, by its bytes: that of the first value of its key.
 pub(crate) fn row_hint(bytes: &[u8]) -> u64 {
     match bytes {
-        [4, a, b, c, d, e, f, g, h, ..] => turned_hint(u64::from_be_bytes([*a, *b, *c, *d, *e, *f, *g, *h])),
+        [4, a, b, c, d, e, f, g, h, ..] => turned_hint(u64::from_be_bytes([
+            *a, *b, *c, *d, *e, *f, *g, *h,
+        ])),
         [5, a, b, c, d, e, f, g, h, ..] => {
             encoded_hint(ended(u64::from_be_bytes([*a, *b, *c, *d, *e, *f, *g, *h])))
         }
@@ -48,31 +53,33 @@ pub(crate) fn row_hint(bytes: &[u8]) -> u64 {
     }
 }
 
-/// The number of a place, by its bytes: of one behind its first value alone, the odd number beside that value's.
+/// The number of a place, by its bytes: that of its first value. Where the number says all of this value, and the place
+/// has no other, it is the odd number below or above.
 pub(crate) fn place_hint(bytes: &[u8]) -> u64 {
     let number = row_hint(bytes);
-    match bytes.get(first_end(bytes)) {
+    match bytes.get(first_end(bytes, number)) {
         None => number.saturating_sub(1),
         Some(255) => number.saturating_add(1),
         Some(_) => number,
     }
 }
 
-// Where the first value ends, if its bytes are few; else a place before its end.
-fn first_end(bytes: &[u8]) -> usize {
+// Where the first value ends, if its number says all of it; else a place before its end.
+fn first_end(bytes: &[u8], number: u64) -> usize {
     match bytes.first() {
         None | Some(255) => 0,
-        Some(4) => 9,
+        Some(4) if number != typed(4) && number != typed(4) | FARTHEST => 9,
+        Some(4) => 0,
         Some(5) => text_end(bytes),
         Some(_) => 1,
     }
 }
 
-// Where the text ends whose type is the first byte.
+// Where the text ends whose type is the first byte, if it is of up to six bytes.
 fn text_end(bytes: &[u8]) -> usize {
     match bytes.iter().position(|byte| *byte == 0) {
-        Some(place) => place.saturating_add(1),
-        None => 0,
+        Some(place) if place < 8 => place + 1,
+        _ => 0,
     }
 }
 
@@ -100,7 +107,9 @@ fn encoded_front(text: &[u8]) -> u64 {
             u64::from_be_bytes([*a, *b, *c, *d, *e, *f, *g, *h]).wrapping_add(ONES)
         }
         short => {
-            let used = u64::MAX.checked_shr(8 * short.len().min(8) as u32).unwrap_or(0);
+            let used = u64::MAX
+                .checked_shr(8 * short.len().min(8) as u32)
+                .unwrap_or(0);
             front_of(short).wrapping_add(ONES & !used)
         }
     }

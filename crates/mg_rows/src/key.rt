@@ -1,3 +1,5 @@
+ghost use Rattle.mg_rows.specs.Only.{KeyOf, KeyOf-prop};
+
 use crate::bound::Bound;
 use crate::edge::Edge;
 use crate::row::RowBytes;
@@ -5,8 +7,6 @@ use crate::write::write_column;
 use mg_value::{Json, NoMemory};
 use std::alloc::Global;
 use std::marker::Model;
-
-ghost use Rattle.mg_rows.specs.Only.{KeyOf, KeyOf-prop};
 
 /// The bytes of a key that is put together, column by column, and made into rows. Contracts see its columns.
 ///

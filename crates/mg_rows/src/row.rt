@@ -1,3 +1,5 @@
+ghost use Rattle.mg_rows.specs.Only.{RowOf, RowOf-prop};
+
 use crate::error::DecodeError;
 use crate::id_row::against_id_row;
 use crate::read::read_key;
@@ -8,8 +10,6 @@ use mg_value::{Json, NoMemory};
 use std::alloc::Global;
 use std::cmp::Ordering;
 use std::marker::Model;
-
-ghost use Rattle.mg_rows.specs.Only.{RowOf, RowOf-prop};
 
 // The bytes that are asked for at first: those of most keys.
 const FIRST_ROOM: usize = 64;

@@ -38,7 +38,12 @@ impl Model for SplitBytes {
 
 impl SplitBytes {
     /// The front with a last byte, and the back.
-    pub(crate) fn of(alloc: Global, front: &[u8], last: u8, back: &[u8]) -> Result<SplitBytes, NoMemory>
+    pub(crate) fn of(
+        alloc: Global,
+        front: &[u8],
+        last: u8,
+        back: &[u8],
+    ) -> Result<SplitBytes, NoMemory>
         ensures { IfOk result (λ split. split ≡ (front.now ++ last ∷ [], back.now)) }
     {
         let held = hold(alloc, front, last, back)?;

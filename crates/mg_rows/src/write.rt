@@ -1,5 +1,5 @@
 // The bytes of values, added to a buffer. After an error some of them may stand there.
-ghost use Rattle.std.specs.Prelude.{◌≡◌, ◌++◌, [], ◌∷◌, OnOk, OnErr, IsUtf8};
+ghost use Rattle.std.specs.Prelude.{◌≡◌, ◌++◌, [], ◌∷◌, suc, map, OnOk, OnErr, IsUtf8};
 ghost use Rattle.mg_value.specs.Value.{Items};
 ghost use Rattle.mg_value.specs.View.{view, items_view, members_view};
 ghost use Rattle.mg_rows.specs.Bytes.{big_endian, sign_turned, text_before, value_before};
@@ -102,13 +102,24 @@ fn write_text(text: &str, out: &mut Vec<u8>) -> Result<(), NoMemory>
     ensures bytes { OnOk result (out.new.items ≡ out.old.items ++ 5 ∷ text_before text.now []) }
     ensures utf8 { IsUtf8 text.now }
 {
-    out.reserve(text.len().saturating_add(2))?;
+    let bytes = text.as_bytes();
+    out.reserve(bytes.len().saturating_add(2))?;
     out.push(5)?;
-    for byte in text.as_bytes() {
-        out.push(*byte + 1)?;
-    }
+    let start = out.len();
+    out.extend_from_slice(bytes)?;
+    raise(&mut out[start..]);
     out.push(TEXT_END)?;
     Ok(())
+}
+
+// Makes each byte one more.
+fn raise(bytes: &mut [u8])
+    requires { IsUtf8 bytes.old }
+    ensures { bytes.new ≡ map suc bytes.old }
+{
+    for byte in bytes.iter_mut() {
+        *byte += 1;
+    }
 }
 
 // A number with its type.

@@ -1,6 +1,7 @@
 //! Rows of an index as bytes. The bytes and their order were worked out by hand from what `RowBytes` and `Bound` say.
 use crate::given::{check, json};
-use mg_rows::{Bound, Edge, KeyBytes, RowBytes};
+use mg_pages::{Element, Keyed};
+use mg_rows::{Bound, Edge, KeyBytes, RowBytes, value_hint};
 use mg_value::Json;
 use std::alloc::Global;
 use std::cmp::Ordering;
@@ -163,7 +164,7 @@ fn a_place_is_between_rows_and_never_on_one(rt: HostRuntime) {
 }
 
 // An id, and how many of the rows are below its row among all documents.
-const IDS: &[(&str, usize)] = &[("", 9), ("a", 9), ("aa", 11), ("b", 12), ("xx", 12), ("é", 13), ("êêê", 14)];
+const IDS: &[(&str, usize)] = &[("", 9), ("a", 10), ("aa", 11), ("b", 12), ("xx", 12), ("é", 13), ("êêê", 14)];
 
 // Whether exactly the first so many rows are below the row that the id has among all documents.
 fn parts_by_id(rows: &[RowBytes], id: &str, below: usize) -> bool {
@@ -182,5 +183,90 @@ fn the_row_of_an_id_has_the_id_alone_as_its_key(rt: HostRuntime) {
     let rows = all_rows(&rt, rt.alloc());
     for (id, below) in IDS {
         check(&rt, parts_by_id(&rows, id, *below), id);
+    }
+}
+
+// Keys in their order, by which the numbers for searches are looked at.
+const KEYS: &[&str] = &[
+    "[]",
+    "[null,7]",
+    "[false]",
+    "[true]",
+    "[-9223372036854775808]",
+    "[-576460752303423489]",
+    "[-576460752303423488]",
+    "[-1]",
+    "[0,null]",
+    "[1]",
+    "[255]",
+    "[576460752303423487]",
+    "[576460752303423488]",
+    "[9223372036854775807]",
+    r#"[""]"#,
+    r#"["",1]"#,
+    r#"["a"]"#,
+    r#"["a\u0000"]"#,
+    r#"["a\u0000\u0000\u0000\u0000\u0000\u0000\u0000b"]"#,
+    r#"["abcdefg"]"#,
+    r#"["abcdefgh"]"#,
+    r#"["abcdefgh","x"]"#,
+    r#"["abcdefghi"]"#,
+    r#"["abcdefgp"]"#,
+    r#"["êêêêê"]"#,
+    "[[]]",
+    "[[1],2]",
+    "[{}]",
+];
+
+#[test]
+fn numbers_for_searches_rise_with_the_rows(rt: HostRuntime) {
+    let alloc = rt.alloc();
+    let mut last = 0;
+    for text in KEYS {
+        let key = values_of(&rt, alloc, text);
+        let row = RowBytes::of(alloc, &key, "b").expect(&rt, "memory");
+        check(&rt, row.hint() == value_hint(key.first()), text);
+        check(&rt, last <= row.hint(), text);
+        last = row.hint();
+    }
+}
+
+// Whether the numbers of the rows below the place are not above its own, and those of the others are not below it.
+fn parts_numbers(rows: &[RowBytes], bound: &Bound) -> bool {
+    for row in rows {
+        let wanted = match bound.against(row) {
+            Ordering::Greater => row.hint() <= bound.hint(),
+            _ => bound.hint() <= row.hint(),
+        };
+        if !wanted {
+            return false;
+        }
+    }
+    true
+}
+
+#[test]
+fn numbers_of_places_are_between_those_of_rows(rt: HostRuntime) {
+    let alloc = rt.alloc();
+    let mut rows = all_rows(&rt, alloc);
+    for text in KEYS {
+        let key = values_of(&rt, alloc, text);
+        rows.push(RowBytes::of(alloc, &key, "b").expect(&rt, "memory"))
+            .expect(&rt, "memory");
+    }
+    for text in KEYS {
+        let key = values_of(&rt, alloc, text);
+        for edge in [Edge::Before, Edge::After] {
+            let bound = Bound::at(alloc, &key, edge).expect(&rt, "memory");
+            check(&rt, parts_numbers(&rows, &bound), text);
+        }
+    }
+}
+
+#[test]
+fn an_element_once_more_is_the_same_row(rt: HostRuntime) {
+    for row in &all_rows(&rt, rt.alloc()) {
+        let again = Element::again(row).expect(&rt, "memory");
+        check(&rt, again == *row && row.order(&again) == Ordering::Equal, "a row");
     }
 }

@@ -1,4 +1,4 @@
-use Rattle.std.proofs.Common.{◌≡◌, ◌++◌, ap, ◌∙◌, rules}
+use Rattle.std.proofs.Common.{◌≡◌, ◌++◌, rules}
 use Rattle.mg_rows.specs.Bound.{edge_bytes}
 use Rattle.mg_rows.specs.Only.{the_place}
 use Rattle.mg_rows.proofs.Joined.{made_place}
