@@ -164,12 +164,24 @@ fn a_place_is_between_rows_and_never_on_one(rt: HostRuntime) {
 }
 
 // An id, and how many of the rows are below its row among all documents.
-const IDS: &[(&str, usize)] = &[("", 9), ("a", 10), ("aa", 11), ("b", 12), ("xx", 12), ("é", 13), ("êêê", 14)];
+const IDS: &[(&str, usize)] = &[
+    ("", 9),
+    ("a", 10),
+    ("aa", 11),
+    ("b", 12),
+    ("xx", 12),
+    ("é", 13),
+    ("êêê", 14),
+];
 
 // Whether exactly the first so many rows are below the row that the id has among all documents.
 fn parts_by_id(rows: &[RowBytes], id: &str, below: usize) -> bool {
     for (place, row) in rows.iter().enumerate() {
-        let wanted = if place < below { Ordering::Less } else { Ordering::Greater };
+        let wanted = if place < below {
+            Ordering::Less
+        } else {
+            Ordering::Greater
+        };
         let tied = row.id() == id && row.order_of_id(id) == Ordering::Equal;
         if row.order_of_id(id) != wanted && !tied {
             return false;
@@ -267,6 +279,10 @@ fn numbers_of_places_are_between_those_of_rows(rt: HostRuntime) {
 fn an_element_once_more_is_the_same_row(rt: HostRuntime) {
     for row in &all_rows(&rt, rt.alloc()) {
         let again = Element::again(row).expect(&rt, "memory");
-        check(&rt, again == *row && row.order(&again) == Ordering::Equal, "a row");
+        check(
+            &rt,
+            again == *row && row.order(&again) == Ordering::Equal,
+            "a row",
+        );
     }
 }
