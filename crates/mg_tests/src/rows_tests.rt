@@ -1,6 +1,7 @@
 //! Rows of an index as bytes. The bytes and their order were worked out by hand from what `RowBytes` and `Bound` say.
 use crate::given::{check, json};
-use mg_rows::{Bound, Edge, RowBytes};
+use mg_pages::{Element, Keyed};
+use mg_rows::{Bound, Edge, KeyBytes, RowBytes, value_hint};
 use mg_value::Json;
 use std::alloc::Global;
 use std::cmp::Ordering;
@@ -72,10 +73,18 @@ fn row_of<R: Abort>(rt: &R, alloc: Global, written: &Written) -> RowBytes {
     RowBytes::of(alloc, &key, written.1).expect(rt, "memory")
 }
 
-// The same row, by way of a buffer that earlier rows were written into.
-fn row_with<R: Abort>(rt: &R, alloc: Global, scratch: &mut Vec<u8>, written: &Written) -> RowBytes {
-    let key = values_of(rt, alloc, written.0);
-    RowBytes::of_with(alloc, scratch, &key, written.1).expect(rt, "memory")
+// The same columns, in a key that held those of earlier rows.
+fn put_columns<R: Abort>(rt: &R, alloc: Global, key: &mut KeyBytes, columns: &str) {
+    key.clear();
+    for column in &values_of(rt, alloc, columns) {
+        key.push(column).expect(rt, "memory");
+    }
+}
+
+// Whether the row has the row's key and id once they are read.
+fn reads_back<R: Abort>(rt: &R, alloc: Global, row: &RowBytes, written: &Written) -> bool {
+    let read = row.row(alloc).expect(rt, "memory");
+    read.key == values_of(rt, alloc, written.0) && read.id.as_str() == written.1
 }
 
 // Whether the row has the bytes, the id and the key.
@@ -119,12 +128,14 @@ fn parts_rows(rows: &[RowBytes], bound: &Bound, below: usize) -> bool {
 #[test]
 fn rows_have_the_bytes_that_their_key_and_id_ask_for(rt: HostRuntime) {
     let alloc = rt.alloc();
-    let mut scratch = Vec::new(alloc);
+    let mut key = KeyBytes::new(alloc);
     for written in ROWS {
         let row = row_of(&rt, alloc, written);
         let again = row.again().expect(&rt, "memory");
         check(&rt, is_written(&rt, alloc, &again, written), written.0);
-        let row = row_with(&rt, alloc, &mut scratch, written);
+        check(&rt, reads_back(&rt, alloc, &again, written), written.0);
+        put_columns(&rt, alloc, &mut key, written.0);
+        let row = key.row(alloc, written.1).expect(&rt, "memory");
         check(&rt, is_written(&rt, alloc, &row, written), written.0);
     }
 }
@@ -145,5 +156,133 @@ fn a_place_is_between_rows_and_never_on_one(rt: HostRuntime) {
         let key = values_of(&rt, alloc, values);
         let bound = Bound::at(alloc, &key, *edge).expect(&rt, "memory");
         check(&rt, parts_rows(&rows, &bound, *below), values);
+        let mut columns = KeyBytes::new(alloc);
+        put_columns(&rt, alloc, &mut columns, values);
+        let bound = columns.bound(alloc, *edge).expect(&rt, "memory");
+        check(&rt, parts_rows(&rows, &bound, *below), values);
+    }
+}
+
+// An id, and how many of the rows are below its row among all documents.
+const IDS: &[(&str, usize)] = &[
+    ("", 9),
+    ("a", 10),
+    ("aa", 11),
+    ("b", 12),
+    ("xx", 12),
+    ("é", 13),
+    ("êêê", 14),
+];
+
+// Whether exactly the first so many rows are below the row that the id has among all documents.
+fn parts_by_id(rows: &[RowBytes], id: &str, below: usize) -> bool {
+    for (place, row) in rows.iter().enumerate() {
+        let wanted = if place < below {
+            Ordering::Less
+        } else {
+            Ordering::Greater
+        };
+        let tied = row.id() == id && row.order_of_id(id) == Ordering::Equal;
+        if row.order_of_id(id) != wanted && !tied {
+            return false;
+        }
+    }
+    true
+}
+
+#[test]
+fn the_row_of_an_id_has_the_id_alone_as_its_key(rt: HostRuntime) {
+    let rows = all_rows(&rt, rt.alloc());
+    for (id, below) in IDS {
+        check(&rt, parts_by_id(&rows, id, *below), id);
+    }
+}
+
+// Keys in their order, by which the numbers for searches are looked at.
+const KEYS: &[&str] = &[
+    "[]",
+    "[null,7]",
+    "[false]",
+    "[true]",
+    "[-9223372036854775808]",
+    "[-576460752303423489]",
+    "[-576460752303423488]",
+    "[-1]",
+    "[0,null]",
+    "[1]",
+    "[255]",
+    "[576460752303423487]",
+    "[576460752303423488]",
+    "[9223372036854775807]",
+    r#"[""]"#,
+    r#"["",1]"#,
+    r#"["a"]"#,
+    r#"["a\u0000"]"#,
+    r#"["a\u0000\u0000\u0000\u0000\u0000\u0000\u0000b"]"#,
+    r#"["abcdefg"]"#,
+    r#"["abcdefgh"]"#,
+    r#"["abcdefgh","x"]"#,
+    r#"["abcdefghi"]"#,
+    r#"["abcdefgp"]"#,
+    r#"["êêêêê"]"#,
+    "[[]]",
+    "[[1],2]",
+    "[{}]",
+];
+
+#[test]
+fn numbers_for_searches_rise_with_the_rows(rt: HostRuntime) {
+    let alloc = rt.alloc();
+    let mut last = 0;
+    for text in KEYS {
+        let key = values_of(&rt, alloc, text);
+        let row = RowBytes::of(alloc, &key, "b").expect(&rt, "memory");
+        check(&rt, row.hint() == value_hint(key.first()), text);
+        check(&rt, last <= row.hint(), text);
+        last = row.hint();
+    }
+}
+
+// Whether the numbers of the rows below the place are not above its own, and those of the others are not below it.
+fn parts_numbers(rows: &[RowBytes], bound: &Bound) -> bool {
+    for row in rows {
+        let wanted = match bound.against(row) {
+            Ordering::Greater => row.hint() <= bound.hint(),
+            _ => bound.hint() <= row.hint(),
+        };
+        if !wanted {
+            return false;
+        }
+    }
+    true
+}
+
+#[test]
+fn numbers_of_places_are_between_those_of_rows(rt: HostRuntime) {
+    let alloc = rt.alloc();
+    let mut rows = all_rows(&rt, alloc);
+    for text in KEYS {
+        let key = values_of(&rt, alloc, text);
+        rows.push(RowBytes::of(alloc, &key, "b").expect(&rt, "memory"))
+            .expect(&rt, "memory");
+    }
+    for text in KEYS {
+        let key = values_of(&rt, alloc, text);
+        for edge in [Edge::Before, Edge::After] {
+            let bound = Bound::at(alloc, &key, edge).expect(&rt, "memory");
+            check(&rt, parts_numbers(&rows, &bound), text);
+        }
+    }
+}
+
+#[test]
+fn an_element_once_more_is_the_same_row(rt: HostRuntime) {
+    for row in &all_rows(&rt, rt.alloc()) {
+        let again = Element::again(row).expect(&rt, "memory");
+        check(
+            &rt,
+            again == *row && row.order(&again) == Ordering::Equal,
+            "a row",
+        );
     }
 }
