@@ -5,3 +5,4 @@ pub mod Bounded
 pub mod Complete
 pub mod Deciding
 pub mod Leading
+pub mod Ends

@@ -1,6 +1,7 @@
 pub mod Range
 pub mod Place
 pub mod Enter
+pub mod Ends
 pub mod Decided
 pub mod Listed
 pub mod Laws
