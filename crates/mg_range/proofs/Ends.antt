@@ -16,8 +16,8 @@ use Rattle.mg_range.specs.Place.{admits, is_before, is_past}
 use Rattle.mg_range.specs.Range.{Limit, Range, is_crossed, range_from, range_of, span_of, tightest, with_equal}
 use Rattle.mg_collate.specs.declared.direction.Direction.TheVariants.{Asc, Desc}
 use Rattle.mg_rows.specs.Bound.{bound_order, edge_order, first_columns}
-use Rattle.mg_rows.specs.declared.bound.Edge.{Edge}
-use Rattle.mg_rows.specs.declared.bound.Edge.TheVariants.{Before, After}
+use Rattle.mg_rows.specs.declared.edge.Edge.{Edge}
+use Rattle.mg_rows.specs.declared.edge.Edge.TheVariants.{Before, After}
 
 -- ---- one value
 

@@ -6,3 +6,5 @@ pub mod Complete
 pub mod Deciding
 pub mod Leading
 pub mod Ends
+pub mod InRows
+pub mod Pushed

@@ -2,8 +2,8 @@
 use Rattle.std.specs.Prelude.{◌≡◌, List, [], ◌∷◌, false, Option, Some, None, if◌then◌else◌}
 use Rattle.mg_value.specs.Value.{Value, Items, no_items, item}
 use Rattle.mg_range.specs.Range.{Limit, Range, Span, is_crossed}
-use Rattle.mg_rows.specs.declared.bound.Edge.{Edge}
-use Rattle.mg_rows.specs.declared.bound.Edge.TheVariants.{Before, After}
+use Rattle.mg_rows.specs.declared.edge.Edge.{Edge}
+use Rattle.mg_rows.specs.declared.edge.Edge.TheVariants.{Before, After}
 
 -- the values of an end: the fixed ones, and behind them that of the limit, if there is one
 abbrev pub end_values : List Value → Option Limit → Items

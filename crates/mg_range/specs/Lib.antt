@@ -6,4 +6,5 @@ pub mod Decided
 pub mod Listed
 pub mod Laws
 pub mod View
+pub mod InRows
 pub mod Edge

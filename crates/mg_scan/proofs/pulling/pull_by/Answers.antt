@@ -8,17 +8,17 @@ use Rattle.mg_scan.specs.declared.hit.Hit.{Hit}
 use Rattle.mg_scan.specs.declared.source.HitSource.{HitSource}
 use Rattle.mg_scan.proofs.Maps.{length-seen}
 use Rattle.mg_scan.proofs.Sources.{hits_given, hits_in_order, hits_merged, hits_size}
-use Rattle.mg_scan.proofs.pulling.pull_lent.Goals as goal
+use Rattle.mg_scan.proofs.pulling.pull_by.Goals as goal
 
 pub merge_pulled-requires : goal.merge_pulled-requires
 merge_pulled-requires c =
-    subst (λ (sources : List HitSource). All (IsInOrder c.args.direction) (map (λ (x : HitSource). left_rows x.search x.shard.now x.left) sources)) (sym c.deref_mut.ensures.value)
+    subst (λ (sources : List HitSource). All (IsInOrder c.args.search.direction) (map (λ (x : HitSource). left_rows x.search x.shard.now x.left) sources)) (sym c.deref_mut.ensures.value)
     (hits_in_order _ (shards_seen c.args.shards.now) c.in_ok-sources.sources.items c.in_ok-sources.ensures)
 
 pub returns-clause-rows : goal.returns-clause-rows
 returns-clause-rows c =
     c.in_ok-hits.ensures.rows
-    ∙ ap (λ (sources : List HitSource). merged c.args.direction c.args.take (map (λ (x : HitSource). left_rows x.search x.shard.now x.left) sources)) c.deref_mut.ensures.value
+    ∙ ap (λ (sources : List HitSource). merged c.args.search.direction c.args.search.take (map (λ (x : HitSource). left_rows x.search x.shard.now x.left) sources)) c.deref_mut.ensures.value
     ∙ hits_merged _ (shards_seen c.args.shards.now) c.in_ok-sources.sources.items c.in_ok-sources.ensures
 
 pub returns-clause-hits : goal.returns-clause-hits

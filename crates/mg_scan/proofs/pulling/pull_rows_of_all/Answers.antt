@@ -9,11 +9,11 @@ use Rattle.mg_scan.specs.declared.lead.Lead.{Lead}
 use Rattle.mg_scan.specs.declared.lead_source.LeadSource.{LeadSource}
 use Rattle.mg_scan.proofs.Leads.{lead_rests, leads_given, leads_in_order, leads_merged, leads_size}
 use Rattle.mg_scan.proofs.Maps.{length-seen}
-use Rattle.mg_scan.proofs.pulling.pull_rows.Goals as goal
+use Rattle.mg_scan.proofs.pulling.pull_rows_of_all.Goals as goal
 
 pub merge_pulled-requires : goal.merge_pulled-requires
 merge_pulled-requires c =
-    subst (λ (sources : List LeadSource). All (IsInOrder c.args.direction) (map lead_rests sources)) (sym c.deref_mut.ensures.value)
+    subst (λ (sources : List LeadSource). All (IsInOrder c.args.search.direction) (map lead_rests sources)) (sym c.deref_mut.ensures.value)
     (leads_in_order _ (shards_seen c.args.shards.now) c.in_ok-sources.sources.items c.in_ok-sources.ensures)
 
 pub returns-clause-rows : goal.returns-clause-rows
@@ -26,7 +26,7 @@ returns-clause-rows c =
     ∙ sym (drop-map lead_row c.args.skip c.deref.result.now)
     ∙ ap (λ (xs : List Lead). drop c.args.skip (map lead_row xs)) c.deref.ensures.value
     ∙ ap (drop c.args.skip) (c.in_ok-leads.ensures.rows
-    ∙ ap (λ (sources : List LeadSource). merged c.args.direction c.args.take (map lead_rests sources)) c.deref_mut.ensures.value
+    ∙ ap (λ (sources : List LeadSource). merged c.args.search.direction c.args.search.take (map lead_rests sources)) c.deref_mut.ensures.value
     ∙ leads_merged _ shards c.in_ok-sources.sources.items c.in_ok-sources.ensures c.requires.decided)
 
 pub returns-clause-hits : goal.returns-clause-hits
