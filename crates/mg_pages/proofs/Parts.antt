@@ -105,9 +105,6 @@ whole_set W ps i q l h w =
 pub mapped_set : {A X : Type 0} (f : A → X) (xs : List A) (i : ℕ) (a : A) → map f (set xs i a) ≡ set (map f xs) i (f a)
 mapped_set f xs i a = map-set f xs i a
 
-pub mapped_insert : {A X : Type 0} (f : A → X) (xs : List A) (i : ℕ) (a : A) → map f (take i xs ++ a ∷ drop i xs) ≡ take i (map f xs) ++ f a ∷ drop i (map f xs)
-mapped_insert f xs i a = map-append f (take i xs) (a ∷ drop i xs) ∙ ap₂ (λ us vs. us ++ f a ∷ vs) (sym (take-map f i xs)) (sym (drop-map f i xs))
-
 pub mapped_push : {A X : Type 0} (f : A → X) (xs : List A) (a : A) → map f (xs ++ a ∷ []) ≡ map f xs ++ f a ∷ []
 mapped_push f xs a = map-append f xs (a ∷ [])
 
@@ -212,6 +209,9 @@ pub mapped_remove : {A X : Type 0} (f : A → X) (xs : List A) (i : ℕ) → map
 mapped_remove f xs i =
     let e : suc i ≡ i + 1 = omega arith in
     map-append f (take i xs) (drop (suc i) xs) ∙ ap₂ (λ us vs. us ++ vs) (sym (take-map f i xs)) (sym (drop-map f (suc i) xs) ∙ ap (λ k. drop k (map f xs)) e)
+
+pub removed_one : {X : Type 0} (xs : List X) (i : ℕ) → take i xs ++ drop (suc i) xs ≡ take i xs ++ drop (i + 1) xs
+removed_one xs i = let e : suc i ≡ i + 1 = omega arith in ap (λ k. take i xs ++ drop k xs) e
 
 module _ {A P T : Type 0} (f : A → P) (seen : P → List T) where
   -- a removal in one part

@@ -1,13 +1,12 @@
 -- Elements that are passed over: the page of an element, and what is left of a list behind so many.
-use Rattle.std.proofs.Common.{◌≡◌, ℕ, zero, suc, ◌+◌, ◌-◌, ◌<◌, ◌≤◌, List, [], ◌∷◌, ◌++◌, length, map, take, drop, get_or, min, reverse, Ordering, refl, sym, ap, ◌∙◌, subst, arith, append_assoc, append-nil}
+use Rattle.std.proofs.Common.{◌≡◌, ℕ, zero, suc, ◌+◌, ◌-◌, ◌<◌, ◌≤◌, List, [], ◌∷◌, ◌++◌, length, take, drop, get_or, min, reverse, Ordering, refl, sym, ap, ◌∙◌, subst, arith, append_assoc, append-nil}
 use Rattle.std.proofs.lemmas.List.{drop-append-le, drop-drop, drop_all, drop_at, drop_min, length-append, length-drop, length-reverse, length-take-le, reverse-append, take-append-drop, take-append-le, take_at}
 use Rattle.std.specs.Cmp.{IsTotalOrder}
 use Rattle.std.specs.List.{flat_map}
 use Rattle.mg_pages.specs.Order.{Ascends, IsProbe, above, below}
 use Rattle.mg_pages.specs.Parts.{IsLast}
 use Rattle.mg_pages.specs.Runs.{IsEndRun, IsPageAt, IsRun, continued, continued_after, ended}
-use Rattle.mg_pages.proofs.Children.{last_at}
-use Rattle.mg_pages.proofs.Parts.{end_whole, mapped_at, mapped_length, run_whole, seen_split}
+use Rattle.mg_pages.proofs.Parts.{end_whole, run_whole, seen_split}
 use Rattle.mg_pages.proofs.Sorted.{above_suffix, below_prefix, continued_is, ended_is}
 
 -- ---- the page of an element
@@ -100,12 +99,6 @@ pub end_none : {X : Type 0} (ys : List X) (left : ℕ) → left ≡ 0 → IsEndR
 end_none ys left e = end_whole [] (take left ys) (sym (ap (λ k. take k ys) e))
 
 -- ---- iterators behind so many elements
-
-pub last_mapped : {A X : Type 0} (f : A → X) (xs : List A) (i : ℕ) (a : A) → i + 1 ≡ length xs → a ≡ get_or xs i a → IsLast (f a) (map f xs)
-last_mapped f xs i a n e =
-    let m = mapped_length f xs in
-    let k : i ≡ length (map f xs) - 1 = omega (arith, n, m) in
-    last_at (map f xs) (f a) (omega (arith, n, m)) (subst (λ j. f a ≡ get_or (map f xs) j (f a)) k (mapped_at f xs i a (f a) (omega (arith, n)) e refl))
 
 reversed_short : {X : Type 0} (us : List X) (count : ℕ) → reverse (take (length us - count) us) ≡ drop count (reverse us)
 reversed_short us count =

@@ -2,6 +2,5 @@ pub mod Finite
 pub mod Identified
 pub mod Order
 pub mod Parts
-pub mod Rows
 pub mod Runs
 pub mod Search

@@ -8,17 +8,6 @@ use Rattle.std.specs.declared.cmp.Ordering.{Ordering}
 use Rattle.std.specs.Prelude.{◌≡◌, ◌<◌, length, List, [], ◌∷◌, ◌++◌, map}
 use Rattle.std.specs.Arc.{arc_value}
 use Rattle.std.specs.List.{AllByRecursion, flat_map}
-use Rattle.std.specs.declared.alloc.Global.{Global}
-use Rattle.std.specs.declared.sync.Arc.{Arc}
-use denote.Ref.{Bor}
-
--- what shared things are, one after another
-abbrev pub values : {X : Type 0} → List (Arc X Global) → List X
-values xs = map arc_value xs
-
--- what a shared thing that is lent is
-abbrev pub shared : {X : Type 0} → Bor (Arc X Global) → X
-shared a = arc_value a.now
 
 -- x is the last of xs
 pub record IsLast {X : Type 0} (x : X) (xs : List X) : Type 0 where
@@ -31,7 +20,7 @@ AreWhole is_whole ps = AllByRecursion is_whole ps
 
 -- a node: the element that is said to be its last, and the part
 abbrev pub node_value : {T P : Type 0} → Node T P → T × P
-node_value n = (arc_value n.last, n.part)
+node_value n = (n.last, n.part)
 
 -- a child is a node that is shared
 abbrev pub child_value : {T P : Type 0} → Child T P → T × P
@@ -69,7 +58,7 @@ abbrev pub level_whole : {P T : Type 0} → (P → Type 0) → (P → List T) �
 level_whole is_whole seen l = (0 < length l.parts.items) × (AreWhole (child_whole is_whole seen) (children l.parts.items) × (l.count ≡ length (level_seen seen l)))
 
 abbrev pub page_seen : {T : Type 0} → Page T → List T
-page_seen p = values p.elements.items
+page_seen p = p.elements.items
 
 abbrev pub page_whole : {T : Type 0} → Page T → Type 0
 page_whole p = 0 < length p.elements.items

@@ -1,21 +1,18 @@
 //! The elements of a collection from the last to the first.
 ghost use Rattle.std.specs.Prelude.{◌≡◌, ◌<◌, ◌∷◌, ◌++◌, [], drop, length, reverse};
-ghost use Rattle.std.specs.Arc.{arc_value};
 ghost use Rattle.std.specs.Iterator.{at_most};
 ghost use Rattle.std.specs.Map.Iter.{TakesFirst, deref};
 ghost use Rattle.mg_pages.specs.Runs.{ended};
-ghost use Rattle.mg_pages.specs.Parts.{values};
 
 use crate::keyed::Keyed;
 use crate::pages::Pages;
 use std::marker::Model;
-use std::sync::Arc;
 
 /// The elements of a collection that are left, from the last to the first.
 #[derive(Drop)]
 pub struct Back<'a, T: Keyed> {
     pages: &'a Pages<T>,
-    run: &'a [Arc<T>],
+    run: &'a [T],
 }
 
 impl<'a, T: Keyed> Model for Back<'a, T> {
@@ -24,15 +21,14 @@ impl<'a, T: Keyed> Model for Back<'a, T> {
     ghost Value = { List T };
 
     ghost use Rattle.mg_pages.specs.Runs.{ended};
-    ghost use Rattle.mg_pages.specs.Parts.{values};
 
-    ghost view = { λ it. reverse (ended T.order it.pages.now (values it.run.now)) };
+    ghost view = { λ it. reverse (ended T.order it.pages.now it.run.now) };
 }
 
 // What is left of a run before its last element, or the run that comes before.
-fn run_to<'a, T: Keyed>(pages: &'a Pages<T>, run: &'a [Arc<T>], last: &'a Arc<T>) -> &'a [Arc<T>]
-    ensures { ended T.order pages.now (values run.now ++ arc_value last.now ∷ [])
-        ≡ ended T.order pages.now (values result.now) ++ arc_value last.now ∷ [] }
+fn run_to<'a, T: Keyed>(pages: &'a Pages<T>, run: &'a [T], last: &'a T) -> &'a [T]
+    ensures { ended T.order pages.now (run.now ++ last.now ∷ [])
+        ≡ ended T.order pages.now result.now ++ last.now ∷ [] }
 {
     if run.len() > 0 {
         return run;
@@ -41,9 +37,9 @@ fn run_to<'a, T: Keyed>(pages: &'a Pages<T>, run: &'a [Arc<T>], last: &'a Arc<T>
 }
 
 // What is left of a run before its last so many elements, or the run that comes before them.
-fn run_ahead<'a, T: Keyed>(pages: &'a Pages<T>, run: &'a [Arc<T>], count: usize) -> &'a [Arc<T>]
-    ensures { reverse (ended T.order pages.now (values result.now))
-        ≡ drop count (reverse (ended T.order pages.now (values run.now))) }
+fn run_ahead<'a, T: Keyed>(pages: &'a Pages<T>, run: &'a [T], count: usize) -> &'a [T]
+    ensures { reverse (ended T.order pages.now result.now)
+        ≡ drop count (reverse (ended T.order pages.now run.now)) }
 {
     if count < run.len() {
         let left = run.len() - count;
@@ -57,8 +53,8 @@ fn run_ahead<'a, T: Keyed>(pages: &'a Pages<T>, run: &'a [Arc<T>], count: usize)
 }
 
 impl<'a, T: Keyed> Back<'a, T> {
-    pub(crate) fn at(pages: &'a Pages<T>, run: &'a [Arc<T>]) -> Back<'a, T>
-        ensures { result ≡ reverse (ended T.order pages.now (values run.now)) }
+    pub(crate) fn at(pages: &'a Pages<T>, run: &'a [T]) -> Back<'a, T>
+        ensures { result ≡ reverse (ended T.order pages.now run.now) }
     {
         Back { pages, run }
     }

@@ -1,7 +1,7 @@
 //! Collections made of elements that are in order already.
 ghost use Rattle.std.specs.Prelude.{◌≡◌, ◌<◌, ◌^◌, length, IfOk};
 ghost use Rattle.std.specs.List.{flat_map};
-ghost use Rattle.mg_pages.specs.Parts.{values, children, child_seen, child_whole, page_seen, page_whole, level_seen, level_whole, AreWhole};
+ghost use Rattle.mg_pages.specs.Parts.{children, child_seen, child_whole, page_seen, page_whole, level_seen, level_whole, AreWhole};
 
 use crate::child::{Child, child_of, copied_children};
 use crate::keyed::Keyed;
@@ -9,15 +9,11 @@ use crate::level::{Level, count_of};
 use crate::page::{Page, page_of};
 use crate::part::{LIMIT, Part};
 use std::alloc::{AllocError, Global};
-use std::sync::Arc;
 
 /// Full pages of the elements, but for the last.
-pub fn paged<T: Keyed>(
-    alloc: Global,
-    elements: &[Arc<T>],
-) -> Result<Vec<Child<T, Page<T>>>, AllocError>
+pub fn paged<T: Keyed>(alloc: Global, elements: &[T]) -> Result<Vec<Child<T, Page<T>>>, AllocError>
     ensures whole { IfOk result (λ v. AreWhole (child_whole page_whole page_seen) (children v.items)) }
-    ensures seen { IfOk result (λ v. flat_map (child_seen page_seen) (children v.items) ≡ values elements.now) }
+    ensures seen { IfOk result (λ v. flat_map (child_seen page_seen) (children v.items) ≡ elements.now) }
 {
     let mut pages = Vec::new(alloc);
     let mut rest = elements;

@@ -13,7 +13,7 @@ use std::sync::Arc;
 /// A part with its last element beside it, so that a search need not look into the part.
 #[derive(Drop)]
 pub struct Node<T, P> {
-    pub(crate) last: Arc<T>,
+    pub(crate) last: T,
     pub(crate) part: P,
 }
 
@@ -30,7 +30,7 @@ fn node_of<T: Keyed, P: Part<T>>(part: P) -> Result<Node<T, P>, AllocError>
     ensures whole { IfOk result (λ n. child_whole P.is_whole P.seen (node_value n)) }
     ensures seen { IfOk result (λ n. child_seen P.seen (node_value n) ≡ P.seen part) }
 {
-    let last = part.last().clone()?;
+    let last = part.last().again()?;
     Ok(Node { last, part })
 }
 
@@ -81,42 +81,41 @@ pub fn copied_children<T: Drop, P: Drop>(
 }
 
 // The last of elements that end with `last`, once the element is among them.
-fn last_with<T: Keyed>(last: &Arc<T>, element: &Arc<T>) -> Result<Arc<T>, AllocError>
-    ensures { IfOk result (λ a. (xs : List T) → Ascends T.order xs → IsLast (arc_value last.now) xs
-        → IsLast (arc_value a) (inserted T.order (arc_value element.now) xs)) }
+fn last_with<T: Keyed>(last: &T, element: &T) -> Result<T, AllocError>
+    ensures { IfOk result (λ a. (xs : List T) → Ascends T.order xs → IsLast last.now xs
+        → IsLast a (inserted T.order element.now xs)) }
 {
-    let one: &T = element;
-    let kept = if one.order(last).is_lt() {
+    let kept = if element.order(last).is_lt() {
         last
     } else {
         element
     };
-    let kept = kept.clone()?;
+    let kept = kept.again()?;
     Ok(kept)
 }
 
 // The last of the elements of a part that ends with `last`, once the one that ties with a key is gone.
 fn last_without<T: Keyed, P: Part<T>, Q: Probe<T>>(
     part: &P,
-    last: &Arc<T>,
+    last: &T,
     key: &Q,
-) -> Result<Arc<T>, AllocError>
+) -> Result<T, AllocError>
     requires whole { P.is_whole part.now }
     requires sorted { Ascends T.order (P.seen part.now) }
-    requires last { IsLast (arc_value last.now) (P.seen part.now) }
+    requires last { IsLast last.now (P.seen part.now) }
     ensures { IfOk result (λ a. 0 < length (removed (Q.against key.now) (P.seen part.now))
-        → IsLast (arc_value a) (removed (Q.against key.now) (P.seen part.now))) }
+        → IsLast a (removed (Q.against key.now) (P.seen part.now))) }
 {
     if key.against(last).is_lt() {
-        let kept = last.clone()?;
+        let kept = last.again()?;
         return Ok(kept);
     }
     let run = part.run_before(key);
     if run.len() > 0 {
-        let kept = run[run.len() - 1].clone()?;
+        let kept = run[run.len() - 1].again()?;
         return Ok(kept);
     }
-    let kept = last.clone()?;
+    let kept = last.again()?;
     Ok(kept)
 }
 
@@ -130,7 +129,7 @@ fn own_node<T: Keyed, P: Part<T>>(
     ensures seen { IfOk result (λ n. child_seen P.seen (node_value n) ≡ child_seen P.seen (node_value node.now)) }
 {
     let part = node.part.copy(alloc)?;
-    let last = node.last.clone()?;
+    let last = node.last.again()?;
     Ok(Node { last, part })
 }
 
@@ -138,13 +137,13 @@ fn own_node<T: Keyed, P: Part<T>>(
 fn put_in_node<T: Keyed, P: Part<T>>(
     alloc: Global,
     node: &mut Node<T, P>,
-    element: Arc<T>,
+    element: T,
 ) -> Result<bool, AllocError>
     requires whole { child_whole P.is_whole P.seen (node_value node.old) }
     requires sorted { Ascends T.order (child_seen P.seen (node_value node.old)) }
     ensures whole { child_whole P.is_whole P.seen (node_value node.new) }
-    ensures had { IfOk result (λ had. had ≡ is_some (found (T.order (arc_value element)) (child_seen P.seen (node_value node.old)))) }
-    ensures ok { OnOk result (child_seen P.seen (node_value node.new) ≡ inserted T.order (arc_value element) (child_seen P.seen (node_value node.old))) }
+    ensures had { IfOk result (λ had. had ≡ is_some (found (T.order element) (child_seen P.seen (node_value node.old)))) }
+    ensures ok { OnOk result (child_seen P.seen (node_value node.new) ≡ inserted T.order element (child_seen P.seen (node_value node.old))) }
     ensures err { OnErr result (child_seen P.seen (node_value node.new) ≡ child_seen P.seen (node_value node.old)) }
 {
     let last = last_with(&node.last, &element)?;
@@ -178,13 +177,13 @@ fn take_out_of_node<T: Keyed, P: Part<T>, Q: Probe<T>>(
 fn put_shared<T: Keyed, P: Part<T>>(
     alloc: Global,
     node: &mut Arc<Node<T, P>>,
-    element: Arc<T>,
+    element: T,
 ) -> Result<bool, AllocError>
     requires whole { child_whole P.is_whole P.seen (node_value (arc_value node.old)) }
     requires sorted { Ascends T.order (child_seen P.seen (node_value (arc_value node.old))) }
     ensures whole { child_whole P.is_whole P.seen (node_value (arc_value node.new)) }
-    ensures had { IfOk result (λ had. had ≡ is_some (found (T.order (arc_value element)) (child_seen P.seen (node_value (arc_value node.old))))) }
-    ensures ok { OnOk result (child_seen P.seen (node_value (arc_value node.new)) ≡ inserted T.order (arc_value element) (child_seen P.seen (node_value (arc_value node.old)))) }
+    ensures had { IfOk result (λ had. had ≡ is_some (found (T.order element) (child_seen P.seen (node_value (arc_value node.old))))) }
+    ensures ok { OnOk result (child_seen P.seen (node_value (arc_value node.new)) ≡ inserted T.order element (child_seen P.seen (node_value (arc_value node.old)))) }
     ensures err { OnErr result (child_seen P.seen (node_value (arc_value node.new)) ≡ child_seen P.seen (node_value (arc_value node.old))) }
 {
     if let Some(own) = Arc::get_mut(node) {
@@ -224,13 +223,13 @@ fn take_out_shared<T: Keyed, P: Part<T>, Q: Probe<T>>(
 pub fn put_into<T: Keyed, P: Part<T>>(
     alloc: Global,
     child: &mut Child<T, P>,
-    element: Arc<T>,
+    element: T,
 ) -> Result<bool, AllocError>
     requires whole { child_whole P.is_whole P.seen (child_value child.old) }
     requires sorted { Ascends T.order (child_seen P.seen (child_value child.old)) }
     ensures whole { child_whole P.is_whole P.seen (child_value child.new) }
-    ensures had { IfOk result (λ had. had ≡ is_some (found (T.order (arc_value element)) (child_seen P.seen (child_value child.old)))) }
-    ensures ok { OnOk result (child_seen P.seen (child_value child.new) ≡ inserted T.order (arc_value element) (child_seen P.seen (child_value child.old))) }
+    ensures had { IfOk result (λ had. had ≡ is_some (found (T.order element) (child_seen P.seen (child_value child.old)))) }
+    ensures ok { OnOk result (child_seen P.seen (child_value child.new) ≡ inserted T.order element (child_seen P.seen (child_value child.old))) }
     ensures err { OnErr result (child_seen P.seen (child_value child.new) ≡ child_seen P.seen (child_value child.old)) }
 {
     let had = put_shared::<T, P>(alloc, &mut child.node, element)?;

@@ -2,14 +2,11 @@
 ghost use Rattle.std.specs.Prelude.{◌<◌, ◌≤◌};
 
 use crate::keyed::Keyed;
-use mg_value::Json;
 use std::alloc::{AllocError, Global};
-use std::sync::Arc;
 
 /// The number of an element.
-pub fn number_of<T: Keyed>(element: &Arc<T>) -> u64 {
-    let one: &T = element;
-    one.hint()
+pub fn number_of<T: Keyed>(element: &T) -> u64 {
+    <T as Keyed>::hint(element)
 }
 
 /// The number of a text: its first eight bytes, the first of them highest.
@@ -28,31 +25,6 @@ fn short_hint(bytes: &[u8]) -> u64 {
         hint = (hint << 8) | u64::from(byte);
     }
     hint
-}
-
-/// The number of a key: that of its first value.
-pub fn key_hint(key: &[Json]) -> u64 {
-    value_hint(key.first())
-}
-
-/// The number of a value, by type and then by what begins the value. It is even: where a search stands before or behind all that have
-/// the value, it begins by the odd number below or above.
-pub fn value_hint(value: Option<&Json>) -> u64 {
-    match value {
-        None | Some(Json::Null) => 0,
-        Some(Json::Flag(false)) => 1 << 61,
-        Some(Json::Flag(true)) => 2 << 61,
-        Some(Json::Whole(number)) => (3 << 61) | whole_hint(*number),
-        Some(Json::Text(text)) => (4 << 61) | ((text_hint(text.as_str()) >> 4) << 1),
-        Some(Json::List(_)) => 5 << 61,
-        Some(Json::Object(_)) => 6 << 61,
-    }
-}
-
-// The number of a whole number: all of it, unless it is beyond 2^59.
-fn whole_hint(number: i64) -> u64 {
-    let near = number.max(-(1 << 59)).min((1 << 59) - 1);
-    u64::from_be_bytes(near.to_be_bytes()).wrapping_add(1 << 59) << 1
 }
 
 /// Where a search goes on: at the guess, then beside it, and then in the middle.

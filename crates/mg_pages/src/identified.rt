@@ -1,6 +1,11 @@
 //! Elements that are ordered by an id.
 ghost use Rattle.std.specs.Prelude.{◌≡◌, ℕ, List};
 
+use crate::element::Shared;
+use crate::hint::text_hint;
+use crate::keyed::{Keyed, Probe};
+use std::cmp::Ordering;
+
 /// Elements that have an id.
 pub trait Identified: Drop {
     // the bytes of the id
@@ -9,4 +14,36 @@ pub trait Identified: Drop {
     /// The id. Takes no memory.
     fn id(&self) -> &str
         ensures { result.now ≡ id self.now };
+}
+
+impl<X: Identified> Keyed for Shared<X> {
+    ghost use Rattle.mg_pages.specs.Identified.{id_order, id_order_total};
+
+    ghost order = { id_order X.id };
+
+    ghost total = { id_order_total X.id };
+
+    fn hint(&self) -> u64 {
+        text_hint(self.get().id())
+    }
+
+    fn order(&self, other: &Shared<X>) -> Ordering {
+        self.get().id().cmp(other.get().id())
+    }
+}
+
+impl<'a, X: Identified> Probe<Shared<X>> for &'a str {
+    ghost use Rattle.mg_pages.specs.Identified.{id_against, id_probes};
+
+    ghost against = { λ key x. id_against X.id key.now x };
+
+    ghost probes = { λ key. id_probes X.id key.now };
+
+    fn hint(&self) -> u64 {
+        text_hint(self)
+    }
+
+    fn against(&self, element: &Shared<X>) -> Ordering {
+        (*self).cmp(element.get().id())
+    }
 }

@@ -3,18 +3,16 @@ ghost use Rattle.std.specs.Prelude.{◌≡◌, ◌<◌, ◌∷◌, List, drop, l
 ghost use Rattle.std.specs.Iterator.{at_most};
 ghost use Rattle.std.specs.Map.Iter.{TakesFirst, deref};
 ghost use Rattle.mg_pages.specs.Runs.{continued, continued_after};
-ghost use Rattle.mg_pages.specs.Parts.{shared, values};
 
 use crate::keyed::Keyed;
 use crate::pages::Pages;
 use std::marker::Model;
-use std::sync::Arc;
 
 /// The elements of a collection that are left, in their order.
 #[derive(Drop)]
 pub struct Iter<'a, T: Keyed> {
     pages: &'a Pages<T>,
-    run: &'a [Arc<T>],
+    run: &'a [T],
 }
 
 impl<'a, T: Keyed> Model for Iter<'a, T> {
@@ -23,16 +21,15 @@ impl<'a, T: Keyed> Model for Iter<'a, T> {
     ghost Value = { List T };
 
     ghost use Rattle.mg_pages.specs.Runs.{continued};
-    ghost use Rattle.mg_pages.specs.Parts.{values};
 
-    ghost view = { λ it. continued T.order it.pages.now (values it.run.now) };
+    ghost view = { λ it. continued T.order it.pages.now it.run.now };
 }
 
 // What is left of a run after its first element, or the run that comes next.
-fn rest_of<'a, T: Keyed>(pages: &'a Pages<T>, run: &'a [Arc<T>]) -> &'a [Arc<T>]
+fn rest_of<'a, T: Keyed>(pages: &'a Pages<T>, run: &'a [T]) -> &'a [T]
     requires { 0 < length run.now }
-    ensures { (x : T) (xs : List T) → values run.now ≡ x ∷ xs
-        → continued T.order pages.now (values result.now) ≡ continued_after T.order pages.now x xs }
+    ensures { (x : T) (xs : List T) → run.now ≡ x ∷ xs
+        → continued T.order pages.now result.now ≡ continued_after T.order pages.now x xs }
 {
     if run.len() > 1 {
         return &run[1..];
@@ -41,9 +38,9 @@ fn rest_of<'a, T: Keyed>(pages: &'a Pages<T>, run: &'a [Arc<T>]) -> &'a [Arc<T>]
 }
 
 // What is left of a run behind its first so many elements, or the run that comes behind them.
-fn run_behind<'a, T: Keyed>(pages: &'a Pages<T>, run: &'a [Arc<T>], count: usize) -> &'a [Arc<T>]
-    ensures { continued T.order pages.now (values result.now)
-        ≡ drop count (continued T.order pages.now (values run.now)) }
+fn run_behind<'a, T: Keyed>(pages: &'a Pages<T>, run: &'a [T], count: usize) -> &'a [T]
+    ensures { continued T.order pages.now result.now
+        ≡ drop count (continued T.order pages.now run.now) }
 {
     if count < run.len() {
         return &run[count..];
@@ -57,8 +54,8 @@ fn run_behind<'a, T: Keyed>(pages: &'a Pages<T>, run: &'a [Arc<T>], count: usize
 }
 
 impl<'a, T: Keyed> Iter<'a, T> {
-    pub(crate) fn at(pages: &'a Pages<T>, run: &'a [Arc<T>]) -> Iter<'a, T>
-        ensures { result ≡ continued T.order pages.now (values run.now) }
+    pub(crate) fn at(pages: &'a Pages<T>, run: &'a [T]) -> Iter<'a, T>
+        ensures { result ≡ continued T.order pages.now run.now }
     {
         Iter { pages, run }
     }
@@ -71,18 +68,6 @@ impl<'a, T: Keyed> Iter<'a, T> {
         let run = self.run;
         self.run = run_behind(self.pages, run, count);
     }
-
-    /// The next element as the collection shares it, for a caller that shares it too. Takes no memory.
-    pub fn next_shared(&mut self) -> Option<&'a Arc<T>>
-        ensures { TakesFirst shared self.old result self.new }
-    {
-        let run = self.run;
-        if run.len() > 0 {
-            self.run = rest_of(self.pages, run);
-            return Some(&run[0]);
-        }
-        None
-    }
 }
 
 impl<'a, T: Keyed> Iterator for Iter<'a, T> {
@@ -93,9 +78,11 @@ impl<'a, T: Keyed> Iterator for Iter<'a, T> {
     ghost remaining = { λ s. at_most (length s) };
 
     fn next(&mut self) -> Option<&'a T> {
-        match self.next_shared() {
-            Some(element) => Some(element),
-            None => None,
+        let run = self.run;
+        if run.len() > 0 {
+            self.run = rest_of(self.pages, run);
+            return Some(&run[0]);
         }
+        None
     }
 }

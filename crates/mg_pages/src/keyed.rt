@@ -4,11 +4,11 @@ ghost use Rattle.std.specs.Cmp.{IsTotalOrder};
 ghost use Rattle.std.specs.declared.cmp.Ordering.{Ordering};
 ghost use Rattle.mg_pages.specs.Order.{IsProbe};
 
+use crate::element::Element;
 use std::cmp::Ordering;
-use std::sync::Arc;
 
 /// Elements with a total order. Elements that tie take each other's place.
-pub trait Keyed: Drop {
+pub trait Keyed: Element {
     // the order
     ghost order: { Self → Self → Ordering };
 
@@ -44,18 +44,19 @@ pub trait Probe<T: Keyed> {
     ghost probes: { (key : Self) → IsProbe T.order (against key) };
 }
 
-impl<T: Keyed> Probe<T> for Arc<T> {
+/// An element is a key too.
+impl<T: Keyed> Probe<T> for T {
     ghost use Rattle.mg_pages.specs.Order.{probe_from_total};
 
-    ghost against = { λ a t. T.order a.value t };
+    ghost against = { T.order };
 
-    ghost probes = { λ a. probe_from_total T.total a.value };
+    ghost probes = { probe_from_total T.total };
 
     fn hint(&self) -> u64 {
-        (**self).hint()
+        <T as Keyed>::hint(self)
     }
 
     fn against(&self, element: &T) -> Ordering {
-        (**self).order(element)
+        self.order(element)
     }
 }

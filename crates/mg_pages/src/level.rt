@@ -1,11 +1,10 @@
 //! Levels of parts.
 ghost use Rattle.std.specs.Prelude.{◌≡◌, ◌<◌, ◌≤◌, ◌+◌, ◌^◌, ◌∷◌, ◌++◌, [], true, false, is_some, length, take, drop, IfOk, IsSome, OnOk, OnErr};
-ghost use Rattle.std.specs.Arc.{arc_value};
 ghost use Rattle.std.specs.List.{flat_map};
 ghost use Rattle.mg_pages.specs.Order.{Ascends, found, inserted, removed};
 ghost use Rattle.mg_pages.specs.Search.{AllBelow, AllAbove};
 ghost use Rattle.mg_pages.specs.Runs.{IsRun, IsEndRun, IsPageAt};
-ghost use Rattle.mg_pages.specs.Parts.{values, children, child_seen, child_value, child_whole, level_whole, AreWhole};
+ghost use Rattle.mg_pages.specs.Parts.{children, child_seen, child_value, child_whole, level_whole, AreWhole};
 
 use crate::child::{
     Child, Node, child_of, copied_children, owners_of_nodes, put_into, take_out_of,
@@ -14,7 +13,6 @@ use crate::hint::next_guess;
 use crate::keyed::{Keyed, Probe};
 use crate::part::{LIMIT, Part};
 use std::alloc::{AllocError, Global};
-use std::sync::Arc;
 
 /// Parts one after another, each with its last element beside it, and how many elements they have in all.
 pub struct Level<T, P> {
@@ -66,8 +64,7 @@ fn place<T: Keyed, P: Part<T>, Q: Probe<T>>(parts: &[Child<T, P>], key: &Q) -> u
         let middle = next_guess(low, high, guess);
         let child = &parts[middle];
         let node: &Node<T, P> = &child.node;
-        let last: &T = &node.last;
-        if key.against(last).is_gt() {
+        if key.against(&node.last).is_gt() {
             low = middle + 1;
         } else {
             high = middle;
@@ -100,9 +97,9 @@ fn count_after_put(more: usize, had: bool) -> usize
 }
 
 // The first elements of the parts from one on, as many as one page has; none where there are no more parts.
-fn run_from<T: Keyed, P: Part<T>>(parts: &[Child<T, P>], i: usize) -> &[Arc<T>]
+fn run_from<T: Keyed, P: Part<T>>(parts: &[Child<T, P>], i: usize) -> &[T]
     requires { AreWhole (child_whole P.is_whole P.seen) (children parts.now) }
-    ensures run { IsRun (values result.now) (flat_map (child_seen P.seen) (drop i (children parts.now))) }
+    ensures run { IsRun result.now (flat_map (child_seen P.seen) (drop i (children parts.now))) }
     ensures some { i < length parts.now → 0 < length result.now }
 {
     if i < parts.len() {
@@ -114,10 +111,10 @@ fn run_from<T: Keyed, P: Part<T>>(parts: &[Child<T, P>], i: usize) -> &[Arc<T>]
 }
 
 // The last elements of the parts before one, as many as one page has; none where there is no part before it.
-fn run_upto<T: Keyed, P: Part<T>>(parts: &[Child<T, P>], i: usize) -> &[Arc<T>]
+fn run_upto<T: Keyed, P: Part<T>>(parts: &[Child<T, P>], i: usize) -> &[T]
     requires whole { AreWhole (child_whole P.is_whole P.seen) (children parts.now) }
     requires within { i ≤ length parts.now }
-    ensures run { IsEndRun (values result.now) (flat_map (child_seen P.seen) (take i (children parts.now))) }
+    ensures run { IsEndRun result.now (flat_map (child_seen P.seen) (take i (children parts.now))) }
     ensures some { 0 < i → 0 < length result.now }
 {
     if i > 0 {
@@ -131,10 +128,10 @@ fn run_upto<T: Keyed, P: Part<T>>(parts: &[Child<T, P>], i: usize) -> &[Arc<T>]
 
 /// The page of the element at a place among those of the parts, and where it stands there. Cost: for each part before it a read of
 /// its count.
-pub fn page_among<T: Keyed, P: Part<T>>(parts: &[Child<T, P>], place: usize) -> (&[Arc<T>], usize)
+pub fn page_among<T: Keyed, P: Part<T>>(parts: &[Child<T, P>], place: usize) -> (&[T], usize)
     requires whole { AreWhole (child_whole P.is_whole P.seen) (children parts.now) }
     requires within { place < length (flat_map (child_seen P.seen) (children parts.now)) }
-    ensures { IsPageAt (values result.0.now) result.1 place (flat_map (child_seen P.seen) (children parts.now)) }
+    ensures { IsPageAt result.0.now result.1 place (flat_map (child_seen P.seen) (children parts.now)) }
 {
     let mut left = place;
     for child in parts {
@@ -194,7 +191,7 @@ fn make_room<T: Keyed, P: Part<T>>(
     alloc: Global,
     parts: &mut Vec<Child<T, P>>,
     i: usize,
-    element: &Arc<T>,
+    element: &T,
 ) -> Result<bool, AllocError>
     requires within { i < length parts.old.items }
     requires whole { AreWhole (child_whole P.is_whole P.seen) (children parts.old.items) }
@@ -221,7 +218,7 @@ fn make_room<T: Keyed, P: Part<T>>(
 fn with_room<T: Keyed, P: Part<T>>(
     alloc: Global,
     parts: &mut Vec<Child<T, P>>,
-    element: &Arc<T>,
+    element: &T,
 ) -> Result<usize, AllocError>
     requires some { 0 < length parts.old.items }
     requires whole { AreWhole (child_whole P.is_whole P.seen) (children parts.old.items) }
@@ -230,13 +227,13 @@ fn with_room<T: Keyed, P: Part<T>>(
     ensures whole { AreWhole (child_whole P.is_whole P.seen) (children parts.new.items) }
     ensures seen { flat_map (child_seen P.seen) (children parts.new.items) ≡ flat_map (child_seen P.seen) (children parts.old.items) }
     ensures within { IfOk result (λ i. i < length parts.new.items) }
-    ensures below { IfOk result (λ i. AllBelow (T.order (arc_value element.now)) (flat_map (child_seen P.seen) (take i (children parts.new.items)))) }
-    ensures above { IfOk result (λ i. AllAbove (T.order (arc_value element.now)) (flat_map (child_seen P.seen) (drop (i + 1) (children parts.new.items)))) }
+    ensures below { IfOk result (λ i. AllBelow (T.order element.now) (flat_map (child_seen P.seen) (take i (children parts.new.items)))) }
+    ensures above { IfOk result (λ i. AllAbove (T.order element.now) (flat_map (child_seen P.seen) (drop (i + 1) (children parts.new.items)))) }
 {
-    let i = place::<T, P, Arc<T>>(parts, element);
+    let i = place::<T, P, T>(parts, element);
     let split = make_room::<T, P>(alloc, parts, i, element)?;
     if split {
-        let moved = place::<T, P, Arc<T>>(parts, element);
+        let moved = place::<T, P, T>(parts, element);
         return Ok(moved);
     }
     Ok(i)
@@ -263,7 +260,7 @@ impl<T: Keyed, P: Part<T>> Part<T> for Level<T, P> {
         before + node.part.count_below(key)
     }
 
-    fn last(&self) -> &Arc<T> {
+    fn last(&self) -> &T {
         let child = &self.parts[self.parts.len() - 1];
         let node: &Node<T, P> = &child.node;
         &node.last
@@ -285,11 +282,11 @@ impl<T: Keyed, P: Part<T>> Part<T> for Level<T, P> {
         None
     }
 
-    fn first_run(&self) -> &[Arc<T>] {
+    fn first_run(&self) -> &[T] {
         run_from::<T, P>(&self.parts, 0)
     }
 
-    fn run_after<Q: Probe<T>>(&self, key: &Q) -> &[Arc<T>] {
+    fn run_after<Q: Probe<T>>(&self, key: &Q) -> &[T] {
         let i = place::<T, P, Q>(&self.parts, key);
         let child = &self.parts[i];
         let node: &Node<T, P> = &child.node;
@@ -300,11 +297,11 @@ impl<T: Keyed, P: Part<T>> Part<T> for Level<T, P> {
         run_from::<T, P>(&self.parts, i + 1)
     }
 
-    fn last_run(&self) -> &[Arc<T>] {
+    fn last_run(&self) -> &[T] {
         run_upto::<T, P>(&self.parts, self.parts.len())
     }
 
-    fn run_before<Q: Probe<T>>(&self, key: &Q) -> &[Arc<T>] {
+    fn run_before<Q: Probe<T>>(&self, key: &Q) -> &[T] {
         let i = place::<T, P, Q>(&self.parts, key);
         let child = &self.parts[i];
         let node: &Node<T, P> = &child.node;
@@ -315,7 +312,7 @@ impl<T: Keyed, P: Part<T>> Part<T> for Level<T, P> {
         run_upto::<T, P>(&self.parts, i)
     }
 
-    fn page_at(&self, place: usize) -> (&[Arc<T>], usize) {
+    fn page_at(&self, place: usize) -> (&[T], usize) {
         page_among::<T, P>(&self.parts, place)
     }
 
@@ -328,7 +325,7 @@ impl<T: Keyed, P: Part<T>> Part<T> for Level<T, P> {
     fn halves(
         &self,
         alloc: Global,
-        _element: &Arc<T>,
+        _element: &T,
     ) -> Result<Option<(Level<T, P>, Level<T, P>)>, AllocError> {
         if self.parts.len() < LIMIT {
             return Ok(None);
@@ -349,12 +346,12 @@ impl<T: Keyed, P: Part<T>> Part<T> for Level<T, P> {
         Ok(Some((front, back)))
     }
 
-    fn put(&mut self, alloc: Global, element: Arc<T>) -> Result<bool, AllocError>
+    fn put(&mut self, alloc: Global, element: T) -> Result<bool, AllocError>
         requires whole { level_whole P.is_whole P.seen self.old }
         requires sorted { Ascends T.order (flat_map (child_seen P.seen) (children self.old.parts.items)) }
         ensures whole { level_whole P.is_whole P.seen self.new }
-        ensures had { IfOk result (λ had. had ≡ is_some (found (T.order (arc_value element)) (flat_map (child_seen P.seen) (children self.old.parts.items)))) }
-        ensures ok { OnOk result (flat_map (child_seen P.seen) (children self.new.parts.items) ≡ inserted T.order (arc_value element) (flat_map (child_seen P.seen) (children self.old.parts.items))) }
+        ensures had { IfOk result (λ had. had ≡ is_some (found (T.order element) (flat_map (child_seen P.seen) (children self.old.parts.items)))) }
+        ensures ok { OnOk result (flat_map (child_seen P.seen) (children self.new.parts.items) ≡ inserted T.order element (flat_map (child_seen P.seen) (children self.old.parts.items))) }
         ensures err { OnErr result (flat_map (child_seen P.seen) (children self.new.parts.items) ≡ flat_map (child_seen P.seen) (children self.old.parts.items)) }
     {
         let Some(more) = self.count.checked_add(1) else {

@@ -4,6 +4,7 @@
 mod back;
 mod build;
 mod child;
+mod element;
 mod hint;
 mod identified;
 mod iter;
@@ -13,13 +14,12 @@ mod level;
 mod page;
 mod pages;
 mod part;
-mod row;
 mod sides;
 
 pub use back::Back;
-pub use hint::{text_hint, value_hint};
+pub use element::{Element, Shared};
+pub use hint::text_hint;
 pub use identified::Identified;
 pub use iter::Iter;
 pub use keyed::{Keyed, Probe};
 pub use pages::Pages;
-pub use row::RowPlace;

@@ -1,24 +1,22 @@
 //! Pages of elements.
 ghost use Rattle.std.specs.Prelude.{is_some, ◌≡◌, ◌<◌, [], true, false, length, IfOk, IsSome, MatchResult, OnOk, OnErr};
-ghost use Rattle.std.specs.Arc.{arc_value};
 ghost use Rattle.mg_pages.specs.Order.{Ascends, found, inserted, removed};
 ghost use Rattle.mg_pages.specs.Search.{IsTie, IsGap};
-ghost use Rattle.mg_pages.specs.Parts.{values};
 
+use crate::element::{Element, copied, owners_of};
 use crate::hint::{Hints, next_guess, number_of};
 use crate::keyed::{Keyed, Probe};
-use crate::part::{LIMIT, Part, copied, owners_of};
+use crate::part::{LIMIT, Part};
 use std::alloc::{AllocError, Global};
 use std::cmp::Ordering;
-use std::sync::Arc;
 
-/// Some elements, each of them shared, and their numbers.
-pub struct Page<T> {
-    pub(crate) elements: Vec<Arc<T>>,
+/// Some elements and their numbers.
+pub struct Page<T: Element> {
+    pub(crate) elements: Vec<T>,
     pub(crate) hints: Hints,
 }
 
-impl<T: Drop> Drop for Page<T> {
+impl<T: Element> Drop for Page<T> {
     fn drop(self) {
         let Page { elements, hints } = self;
         let _ = owners_of(&elements);
@@ -29,20 +27,15 @@ impl<T: Drop> Drop for Page<T> {
 
 // Where the element is that ties with a key, or else where one would have its place.
 // Cost: a comparison each time the number of elements is halved.
-pub fn find<T: Keyed, Q: Probe<T>>(
-    elements: &[Arc<T>],
-    key: &Q,
-    guess: usize,
-) -> Result<usize, usize>
-    requires { Ascends T.order (values elements.now) }
-    ensures { MatchResult result (IsTie (Q.against key.now) (values elements.now)) (IsGap (Q.against key.now) (values elements.now)) }
+pub fn find<T: Keyed, Q: Probe<T>>(elements: &[T], key: &Q, guess: usize) -> Result<usize, usize>
+    requires { Ascends T.order elements.now }
+    ensures { MatchResult result (IsTie (Q.against key.now) elements.now) (IsGap (Q.against key.now) elements.now) }
 {
     let mut low = 0;
     let mut high = elements.len();
     while low < high {
         let middle = next_guess(low, high, guess);
-        let element: &T = &elements[middle];
-        match key.against(element) {
+        match key.against(&elements[middle]) {
             Ordering::Greater => low = middle + 1,
             Ordering::Less => high = middle,
             Ordering::Equal => return Ok(middle),
@@ -51,9 +44,9 @@ pub fn find<T: Keyed, Q: Probe<T>>(
     Err(low)
 }
 
-/// A page of the elements, each of them shared, with room for one more.
-pub fn page_of<T: Keyed>(alloc: Global, elements: &[Arc<T>]) -> Result<Page<T>, AllocError>
-    ensures { IfOk result (λ p. values p.elements.items ≡ values elements.now) }
+/// A page of the same elements once more, with room for one more.
+pub fn page_of<T: Keyed>(alloc: Global, elements: &[T]) -> Result<Page<T>, AllocError>
+    ensures { IfOk result (λ p. p.elements.items ≡ elements.now) }
 {
     let mut hints = Hints::with_room(alloc, elements.len())?;
     for element in elements {
@@ -65,9 +58,8 @@ pub fn page_of<T: Keyed>(alloc: Global, elements: &[Arc<T>]) -> Result<Page<T>, 
 
 impl<T: Keyed> Part<T> for Page<T> {
     ghost use Rattle.std.specs.Prelude.{is_some, ◌<◌, length};
-    ghost use Rattle.mg_pages.specs.Parts.{values};
 
-    ghost seen = { λ p. values p.elements.items };
+    ghost seen = { λ p. p.elements.items };
 
     ghost is_whole = { λ p. 0 < length p.elements.items };
 
@@ -82,7 +74,7 @@ impl<T: Keyed> Part<T> for Page<T> {
         }
     }
 
-    fn last(&self) -> &Arc<T> {
+    fn last(&self) -> &T {
         &self.elements[self.elements.len() - 1]
     }
 
@@ -101,29 +93,29 @@ impl<T: Keyed> Part<T> for Page<T> {
         None
     }
 
-    fn first_run(&self) -> &[Arc<T>] {
+    fn first_run(&self) -> &[T] {
         &self.elements
     }
 
-    fn run_after<Q: Probe<T>>(&self, key: &Q) -> &[Arc<T>] {
+    fn run_after<Q: Probe<T>>(&self, key: &Q) -> &[T] {
         match find::<T, Q>(&self.elements, key, self.hints.guess(key.hint())) {
             Ok(i) => &self.elements[i + 1..],
             Err(i) => &self.elements[i..],
         }
     }
 
-    fn last_run(&self) -> &[Arc<T>] {
+    fn last_run(&self) -> &[T] {
         &self.elements
     }
 
-    fn run_before<Q: Probe<T>>(&self, key: &Q) -> &[Arc<T>] {
+    fn run_before<Q: Probe<T>>(&self, key: &Q) -> &[T] {
         match find::<T, Q>(&self.elements, key, self.hints.guess(key.hint())) {
             Ok(i) => &self.elements[..i],
             Err(i) => &self.elements[..i],
         }
     }
 
-    fn page_at(&self, place: usize) -> (&[Arc<T>], usize) {
+    fn page_at(&self, place: usize) -> (&[T], usize) {
         (self.elements.as_slice(), place)
     }
 
@@ -133,13 +125,9 @@ impl<T: Keyed> Part<T> for Page<T> {
         Ok(Page { elements, hints })
     }
 
-    fn halves(
-        &self,
-        alloc: Global,
-        element: &Arc<T>,
-    ) -> Result<Option<(Page<T>, Page<T>)>, AllocError> {
+    fn halves(&self, alloc: Global, element: &T) -> Result<Option<(Page<T>, Page<T>)>, AllocError> {
         if self.elements.len() < LIMIT
-            || find::<T, Arc<T>>(
+            || find::<T, T>(
                 &self.elements,
                 element,
                 self.hints.guess(number_of(element)),
@@ -162,17 +150,17 @@ impl<T: Keyed> Part<T> for Page<T> {
         Ok(Some((front, back)))
     }
 
-    fn put(&mut self, _alloc: Global, element: Arc<T>) -> Result<bool, AllocError>
+    fn put(&mut self, _alloc: Global, element: T) -> Result<bool, AllocError>
         requires whole { 0 < length self.old.elements.items }
-        requires sorted { Ascends T.order (values self.old.elements.items) }
+        requires sorted { Ascends T.order self.old.elements.items }
         ensures whole { 0 < length self.new.elements.items }
-        ensures had { IfOk result (λ had. had ≡ is_some (found (T.order (arc_value element)) (values self.old.elements.items))) }
-        ensures ok { OnOk result (values self.new.elements.items ≡ inserted T.order (arc_value element) (values self.old.elements.items)) }
-        ensures err { OnErr result (values self.new.elements.items ≡ values self.old.elements.items) }
+        ensures had { IfOk result (λ had. had ≡ is_some (found (T.order element) self.old.elements.items)) }
+        ensures ok { OnOk result (self.new.elements.items ≡ inserted T.order element self.old.elements.items) }
+        ensures err { OnErr result (self.new.elements.items ≡ self.old.elements.items) }
     {
         let hint = number_of(&element);
         let guess = self.hints.guess(hint);
-        match find::<T, Arc<T>>(&self.elements, &element, guess) {
+        match find::<T, T>(&self.elements, &element, guess) {
             Ok(i) => {
                 self.elements[i] = element;
                 Ok(true)
@@ -187,13 +175,13 @@ impl<T: Keyed> Part<T> for Page<T> {
 
     fn take_out<Q: Probe<T>>(&mut self, _alloc: Global, key: &Q) -> Result<bool, AllocError>
         requires whole { 0 < length self.old.elements.items }
-        requires sorted { Ascends T.order (values self.old.elements.items) }
-        requires there { IsSome (found (Q.against key.now) (values self.old.elements.items)) }
+        requires sorted { Ascends T.order self.old.elements.items }
+        requires there { IsSome (found (Q.against key.now) self.old.elements.items) }
         ensures whole { IfOk result (λ emptied. emptied ≡ false → 0 < length self.new.elements.items) }
-        ensures some { IfOk result (λ emptied. emptied ≡ false → 0 < length (values self.new.elements.items)) }
-        ensures emptied { IfOk result (λ emptied. emptied ≡ true → values self.new.elements.items ≡ []) }
-        ensures ok { OnOk result (values self.new.elements.items ≡ removed (Q.against key.now) (values self.old.elements.items)) }
-        ensures err { OnErr result (values self.new.elements.items ≡ values self.old.elements.items) }
+        ensures some { IfOk result (λ emptied. emptied ≡ false → 0 < length self.new.elements.items) }
+        ensures emptied { IfOk result (λ emptied. emptied ≡ true → self.new.elements.items ≡ []) }
+        ensures ok { OnOk result (self.new.elements.items ≡ removed (Q.against key.now) self.old.elements.items) }
+        ensures err { OnErr result (self.new.elements.items ≡ self.old.elements.items) }
         ensures err_whole { OnErr result (0 < length self.new.elements.items) }
     {
         match find::<T, Q>(&self.elements, key, self.hints.guess(key.hint())) {

@@ -1,9 +1,8 @@
 //! Ordered collections in shared pages.
 ghost use Rattle.std.specs.Prelude.{◌≡◌, ◌↔◌, ◌-◌, [], ◌∷◌, None, Ok, Some, false, drop, length, take, IfOk, IfSome, IsSome, IsTrue, OnOk, OnErr, is_some, option_map, reverse};
-ghost use Rattle.std.specs.Arc.{arc_value};
 ghost use Rattle.mg_pages.specs.Order.{Ascends, above, below, found, from, inserted, removed, upto};
 ghost use Rattle.mg_pages.specs.Runs.{IsRun, IsEndRun};
-ghost use Rattle.mg_pages.specs.Parts.{values, level_seen, level_whole, high_seen, high_whole, root_seen, IsSound};
+ghost use Rattle.mg_pages.specs.Parts.{level_seen, level_whole, high_seen, high_whole, root_seen, IsSound};
 
 use crate::back::Back;
 use crate::build::{grouped, paged};
@@ -18,7 +17,6 @@ use crate::sides::{Over, Under};
 use mg_value::NoMemory;
 use std::alloc::{AllocError, Global};
 use std::marker::Model;
-use std::sync::Arc;
 
 // The top: levels of levels of pages.
 type Root<T> = Level<T, Level<T, Level<T, Page<T>>>>;
@@ -36,9 +34,9 @@ fn level_of<T: Keyed, P: Part<T>>(alloc: Global, part: P) -> Result<Level<T, P>,
 }
 
 // A root with one element.
-fn root_of<T: Keyed>(alloc: Global, element: Arc<T>) -> Result<Root<T>, AllocError>
+fn root_of<T: Keyed>(alloc: Global, element: T) -> Result<Root<T>, AllocError>
     ensures whole { IfOk result (λ r. level_whole high_whole high_seen r) }
-    ensures seen { IfOk result (λ r. root_seen r ≡ arc_value element ∷ []) }
+    ensures seen { IfOk result (λ r. root_seen r ≡ element ∷ []) }
 {
     let mut hints = Hints::with_room(alloc, 1)?;
     hints.push(number_of(&element))?;
@@ -50,11 +48,11 @@ fn root_of<T: Keyed>(alloc: Global, element: Arc<T>) -> Result<Root<T>, AllocErr
 }
 
 // Puts an element under a root that may be empty, and says whether one that ties gave way.
-fn put<T: Keyed>(alloc: Global, root: &mut Root<T>, element: Arc<T>) -> Result<bool, AllocError>
+fn put<T: Keyed>(alloc: Global, root: &mut Root<T>, element: T) -> Result<bool, AllocError>
     requires { IsSound T.order root.old }
     ensures sound { IsSound T.order root.new }
-    ensures had { IfOk result (λ had. had ≡ is_some (found (T.order (arc_value element)) (root_seen root.old))) }
-    ensures ok { OnOk result (root_seen root.new ≡ inserted T.order (arc_value element) (root_seen root.old)) }
+    ensures had { IfOk result (λ had. had ≡ is_some (found (T.order element) (root_seen root.old))) }
+    ensures ok { OnOk result (root_seen root.new ≡ inserted T.order element (root_seen root.old)) }
     ensures err { OnErr result (root_seen root.new ≡ root_seen root.old) }
 {
     if root.parts.is_empty() {
@@ -143,12 +141,12 @@ impl<T: Keyed> Pages<T> {
         }
     }
 
-    /// The elements of a list that ascends, each of them shared, with no search for any.
+    /// The elements of a list that ascends, each of them once more, with no search for any.
     ///
     /// Errors: `NoMemory` where a growth was refused. Cost: a step an element. The pages are full, but for the last.
-    pub fn from_sorted(alloc: Global, elements: &[Arc<T>]) -> Result<Pages<T>, NoMemory>
-        requires { Ascends T.order (values elements.now) }
-        ensures { IfOk result (λ p. p ≡ values elements.now) }
+    pub fn from_sorted(alloc: Global, elements: &[T]) -> Result<Pages<T>, NoMemory>
+        requires { Ascends T.order elements.now }
+        ensures { IfOk result (λ p. p ≡ elements.now) }
     {
         let pages = paged(alloc, elements)?;
         let lows = grouped::<T, Page<T>>(alloc, &pages)?;
@@ -213,8 +211,8 @@ impl<T: Keyed> Pages<T> {
     }
 
     // The first elements, as many as one page has.
-    pub(crate) fn first_run(&self) -> &[Arc<T>]
-        ensures run { IsRun (values result.now) self.now }
+    pub(crate) fn first_run(&self) -> &[T]
+        ensures run { IsRun result.now self.now }
         ensures ascends { Ascends T.order self.now }
     {
         if self.root.parts.is_empty() {
@@ -224,8 +222,8 @@ impl<T: Keyed> Pages<T> {
     }
 
     // The first elements above a key, as many as one page has.
-    pub(crate) fn run_after<Q: Probe<T>>(&self, key: &Q) -> &[Arc<T>]
-        ensures run { IsRun (values result.now) (above (Q.against key.now) self.now) }
+    pub(crate) fn run_after<Q: Probe<T>>(&self, key: &Q) -> &[T]
+        ensures run { IsRun result.now (above (Q.against key.now) self.now) }
         ensures ascends { Ascends T.order self.now }
     {
         if self.root.parts.is_empty() {
@@ -235,8 +233,8 @@ impl<T: Keyed> Pages<T> {
     }
 
     // The elements above a key behind the first so many, as many as one page has.
-    pub(crate) fn run_after_some<Q: Probe<T>>(&self, key: &Q, count: usize) -> &[Arc<T>]
-        ensures run { IsRun (values result.now) (drop count (above (Q.against key.now) self.now)) }
+    pub(crate) fn run_after_some<Q: Probe<T>>(&self, key: &Q, count: usize) -> &[T]
+        ensures run { IsRun result.now (drop count (above (Q.against key.now) self.now)) }
         ensures ascends { Ascends T.order self.now }
     {
         let next = self.run_after(key);
@@ -279,8 +277,8 @@ impl<T: Keyed> Pages<T> {
     }
 
     // The last elements, as many as one page has.
-    pub(crate) fn last_run(&self) -> &[Arc<T>]
-        ensures run { IsEndRun (values result.now) self.now }
+    pub(crate) fn last_run(&self) -> &[T]
+        ensures run { IsEndRun result.now self.now }
         ensures ascends { Ascends T.order self.now }
     {
         if self.root.parts.is_empty() {
@@ -290,8 +288,8 @@ impl<T: Keyed> Pages<T> {
     }
 
     // The last elements below a key, as many as one page has.
-    pub(crate) fn run_before<Q: Probe<T>>(&self, key: &Q) -> &[Arc<T>]
-        ensures run { IsEndRun (values result.now) (below (Q.against key.now) self.now) }
+    pub(crate) fn run_before<Q: Probe<T>>(&self, key: &Q) -> &[T]
+        ensures run { IsEndRun result.now (below (Q.against key.now) self.now) }
         ensures ascends { Ascends T.order self.now }
     {
         if self.root.parts.is_empty() {
@@ -301,8 +299,8 @@ impl<T: Keyed> Pages<T> {
     }
 
     // The elements below a key before the last so many, as many as one page has.
-    pub(crate) fn run_before_some<Q: Probe<T>>(&self, key: &Q, count: usize) -> &[Arc<T>]
-        ensures run { IsEndRun (values result.now)
+    pub(crate) fn run_before_some<Q: Probe<T>>(&self, key: &Q, count: usize) -> &[T]
+        ensures run { IsEndRun result.now
             (take (length (below (Q.against key.now) self.now) - count) (below (Q.against key.now) self.now)) }
         ensures ascends { Ascends T.order self.now }
     {
@@ -364,9 +362,9 @@ impl<T: Keyed> Pages<T> {
     ///
     /// Errors: `NoMemory` where a growth was refused, or where there are 2^64 - 1 elements; then nothing has changed.
     /// Cost: the logarithm of the number of elements, and a copy of each part on the way that others share.
-    pub fn insert(&mut self, alloc: Global, element: Arc<T>) -> Result<bool, NoMemory>
-        ensures had { IfOk result (λ had. had ≡ is_some (found (T.order (arc_value element)) self.old)) }
-        ensures ok { OnOk result (self.new ≡ inserted T.order (arc_value element) self.old) }
+    pub fn insert(&mut self, alloc: Global, element: T) -> Result<bool, NoMemory>
+        ensures had { IfOk result (λ had. had ≡ is_some (found (T.order element) self.old)) }
+        ensures ok { OnOk result (self.new ≡ inserted T.order element self.old) }
         ensures err { OnErr result (self.new ≡ self.old) }
     {
         let had = put(alloc, &mut self.root, element)?;

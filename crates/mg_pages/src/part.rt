@@ -1,14 +1,12 @@
 //! What a collection is made of: pages of elements, and levels of parts above them.
 ghost use Rattle.std.specs.Prelude.{◌≡◌, ◌<◌, [], true, false, is_some, length, List, IfOk, OnOk, OnErr, IfSome, IsSome, option_map};
-ghost use Rattle.std.specs.Arc.{arc_value};
 ghost use Rattle.mg_pages.specs.Order.{inserted, removed, found, above, below, Ascends};
 ghost use Rattle.mg_pages.specs.Runs.{IsRun, IsEndRun, IsPageAt};
 ghost use Rattle.mg_pages.specs.Search.{IsAmong};
-ghost use Rattle.mg_pages.specs.Parts.{values, IsLast, IsCopy, AreHalves};
+ghost use Rattle.mg_pages.specs.Parts.{IsLast, IsCopy, AreHalves};
 
 use crate::keyed::{Keyed, Probe};
 use std::alloc::{AllocError, Global};
-use std::sync::Arc;
 
 /// How many elements a page has at most, and how many parts a level has below another.
 pub const LIMIT: usize = 64;
@@ -33,9 +31,9 @@ pub trait Part<T: Keyed>: Drop + Sized {
         ensures { result ≡ length (below (Q.against key.now) (seen self.now)) };
 
     /// The last element.
-    fn last(&self) -> &Arc<T>
+    fn last(&self) -> &T
         requires { is_whole self.now }
-        ensures { IsLast (arc_value result.now) (seen self.now) };
+        ensures { IsLast result.now (seen self.now) };
 
     /// The element that ties with a key.
     fn get<Q: Probe<T>>(&self, key: &Q) -> Option<&T>
@@ -49,34 +47,34 @@ pub trait Part<T: Keyed>: Drop + Sized {
         ensures { IfSome result (λ t. IsAmong (seen self.now) t.now) };
 
     /// The first elements, as many as one page has.
-    fn first_run(&self) -> &[Arc<T>]
+    fn first_run(&self) -> &[T]
         requires { is_whole self.now }
-        ensures run { IsRun (values result.now) (seen self.now) }
+        ensures run { IsRun result.now (seen self.now) }
         ensures some { 0 < length result.now };
 
     /// The first elements above a key, as many as one page has.
-    fn run_after<Q: Probe<T>>(&self, key: &Q) -> &[Arc<T>]
+    fn run_after<Q: Probe<T>>(&self, key: &Q) -> &[T]
         requires whole { is_whole self.now }
         requires sorted { Ascends T.order (seen self.now) }
-        ensures { IsRun (values result.now) (above (Q.against key.now) (seen self.now)) };
+        ensures { IsRun result.now (above (Q.against key.now) (seen self.now)) };
 
     /// The last elements, as many as one page has.
-    fn last_run(&self) -> &[Arc<T>]
+    fn last_run(&self) -> &[T]
         requires { is_whole self.now }
-        ensures run { IsEndRun (values result.now) (seen self.now) }
+        ensures run { IsEndRun result.now (seen self.now) }
         ensures some { 0 < length result.now };
 
     /// The last elements below a key, as many as one page has.
-    fn run_before<Q: Probe<T>>(&self, key: &Q) -> &[Arc<T>]
+    fn run_before<Q: Probe<T>>(&self, key: &Q) -> &[T]
         requires whole { is_whole self.now }
         requires sorted { Ascends T.order (seen self.now) }
-        ensures { IsEndRun (values result.now) (below (Q.against key.now) (seen self.now)) };
+        ensures { IsEndRun result.now (below (Q.against key.now) (seen self.now)) };
 
     /// The page of the element at a place, and where it stands there.
-    fn page_at(&self, place: usize) -> (&[Arc<T>], usize)
+    fn page_at(&self, place: usize) -> (&[T], usize)
         requires whole { is_whole self.now }
         requires within { place < length (seen self.now) }
-        ensures { IsPageAt (values result.0.now) result.1 place (seen self.now) };
+        ensures { IsPageAt result.0.now result.1 place (seen self.now) };
 
     /// A part of its own that shares what is below.
     fn copy(&self, alloc: Global) -> Result<Self, AllocError>
@@ -84,18 +82,18 @@ pub trait Part<T: Keyed>: Drop + Sized {
         ensures { IfOk result (IsCopy is_whole seen self.now) };
 
     /// Two halves, where the part has no room for the element.
-    fn halves(&self, alloc: Global, element: &Arc<T>) -> Result<Option<(Self, Self)>, AllocError>
+    fn halves(&self, alloc: Global, element: &T) -> Result<Option<(Self, Self)>, AllocError>
         requires whole { is_whole self.now }
         requires sorted { Ascends T.order (seen self.now) }
         ensures { IfOk result (λ o. IfSome o (AreHalves is_whole seen self.now)) };
 
     /// Puts an element in its place, and says whether one that ties gave way.
-    fn put(&mut self, alloc: Global, element: Arc<T>) -> Result<bool, AllocError>
+    fn put(&mut self, alloc: Global, element: T) -> Result<bool, AllocError>
         requires whole { is_whole self.old }
         requires sorted { Ascends T.order (seen self.old) }
         ensures whole { is_whole self.new }
-        ensures had { IfOk result (λ had. had ≡ is_some (found (T.order (arc_value element)) (seen self.old))) }
-        ensures ok { OnOk result (seen self.new ≡ inserted T.order (arc_value element) (seen self.old)) }
+        ensures had { IfOk result (λ had. had ≡ is_some (found (T.order element) (seen self.old))) }
+        ensures ok { OnOk result (seen self.new ≡ inserted T.order element (seen self.old)) }
         ensures err { OnErr result (seen self.new ≡ seen self.old) };
 
     /// Takes out the element that ties with a key, and says whether nothing is left.
@@ -109,28 +107,4 @@ pub trait Part<T: Keyed>: Drop + Sized {
         ensures ok { OnOk result (seen self.new ≡ removed (Q.against key.now) (seen self.old)) }
         ensures err { OnErr result (seen self.new ≡ seen self.old) }
         ensures err_whole { OnErr result (is_whole self.new) };
-}
-
-/// How many owners shared things have in all, wrapped at 64 bits. A count that goes up or down waits until its block has come
-/// from memory, and the next one waits for it; counts that are only read are fetched side by side. So what is copied or dropped
-/// is looked at first.
-pub fn owners_of<X: Drop>(things: &[Arc<X>]) -> usize {
-    let mut owners = 0usize;
-    for thing in things {
-        owners = owners.wrapping_add(Arc::strong_count(thing));
-    }
-    owners
-}
-
-/// The same elements, each of them shared, with room for one more.
-pub fn copied<X: Drop>(alloc: Global, things: &[Arc<X>]) -> Result<Vec<Arc<X>>, AllocError>
-    ensures { IfOk result (λ v. values v.items ≡ values things.now) }
-{
-    let mut copies = Vec::with_capacity(alloc, things.len().saturating_add(1))?;
-    let _ = owners_of(things);
-    for thing in things {
-        let copy = thing.clone()?;
-        copies.push(copy)?;
-    }
-    Ok(copies)
 }

@@ -1,5 +1,5 @@
--- A place among rows is found by its bytes, and the bytes of a row give the row.
-use Rattle.std.proofs.Common.{◌≡◌, ℕ, ◌<◌, List, [], ◌∷◌, ◌++◌, Ordering, Less, Greater, true, false, refl, sym, ap, ◌∙◌, arith}
+-- A place among rows is found by its bytes.
+use Rattle.std.proofs.Common.{◌≡◌, ℕ, ◌<◌, List, [], ◌∷◌, ◌++◌, length, Ordering, Less, Greater, true, false, refl, sym, subst, ap, ap₂, ◌∙◌, arith}
 use Rattle.std.specs.Cmp.{nat_cmp_is}
 use Rattle.std.specs.Ordering.{ordering_then}
 use Rattle.std.specs.Prelude.{⊤}
@@ -10,29 +10,16 @@ use Rattle.mg_collate.proofs.Flat.{items_order-item, items_order-above}
 use Rattle.mg_collate.proofs.Ties.{both, same, same_rows, same_text}
 use Rattle.mg_value.specs.Value.{Value, null, flag, whole, text, list, object, Items, no_items, item}
 use Rattle.mg_rows.specs.Bound.{first_columns, edge_order, edge_bytes, bound_order, IsBound}
-use Rattle.mg_rows.specs.Bytes.{bytes_order, value_before, items_before, columns_before, row_bytes}
+use Rattle.mg_rows.specs.Bytes.{bytes_order, text_before, value_before, items_before, columns_before, row_bytes}
 use Rattle.mg_rows.specs.Laws.{joined_items}
-use Rattle.mg_rows.specs.Stored.{IsStored, AreStored, IsStoredRow, IsRow}
-use Rattle.mg_rows.specs.declared.bound.Edge.{Edge}
-use Rattle.mg_rows.specs.declared.bound.Edge.TheVariants.{Before, After}
+use Rattle.mg_rows.specs.Stored.{IsStored, AreStored, IsStoredRow, IsKey, IsRow}
+use Rattle.mg_rows.specs.declared.edge.Edge.{Edge}
+use Rattle.mg_rows.specs.declared.edge.Edge.TheVariants.{Before, After}
 use Rattle.mg_rows.proofs.Joined.{row_joined, columns_append}
-use Rattle.mg_rows.proofs.Ranked.{value_cmp, row_cmp, then_two, above_zero}
+use Rattle.mg_rows.specs.Only.{PlaceOf, BeginsLow, value_low, below_value}
+use Rattle.mg_rows.specs.Ranked.{value_cmp, row_cmp, then_two, above_zero}
 
 -- ---- what follows a column
-
--- the first byte, if there is one, is below 255
-abbrev BeginsLow : List ℕ → Type 0
-BeginsLow [] = ⊤
-BeginsLow (b ∷ bs) = b < 255
-
-value_low : (v : Value) (rest : List ℕ) → BeginsLow (value_before v rest)
-value_low null rest = omega arith
-value_low (flag false) rest = omega arith
-value_low (flag true) rest = omega arith
-value_low (whole z) rest = omega arith
-value_low (text s) rest = omega arith
-value_low (list vs) rest = omega arith
-value_low (object ms) rest = omega arith
 
 above_low : (xs : List ℕ) → BeginsLow xs → bytes_order (255 ∷ []) xs ≡ Greater
 above_low [] h = refl
@@ -42,16 +29,6 @@ above_low (b ∷ xs) h = ap (λ o. ordering_then o (bytes_order [] xs)) (sym (na
 above_items : (ws : Items) (id : List ℕ) → bytes_order (255 ∷ []) (items_before ws id) ≡ Greater
 above_items no_items id = refl
 above_items (item w ws) id = above_low (value_before w (items_before ws id)) (value_low w (items_before ws id))
-
--- no bytes are below each column and below the end of a key
-below_value : (v : Value) (rest : List ℕ) → bytes_order [] (value_before v rest) ≡ Less
-below_value null rest = refl
-below_value (flag false) rest = refl
-below_value (flag true) rest = refl
-below_value (whole z) rest = refl
-below_value (text s) rest = refl
-below_value (list vs) rest = refl
-below_value (object ms) rest = refl
 
 below_items : (ws : Items) (id : List ℕ) → bytes_order [] (items_before ws id) ≡ Less
 below_items no_items id = refl
@@ -73,25 +50,17 @@ front_cmp edge (item v vs) (item w ws) id f g =
     ∙ then_two (value_order v w) (items_order vs (first_columns vs ws)) (edge_order edge) _ (front_cmp edge vs ws id f.1 g.1)
     ∙ ap (λ o. ordering_then o (edge_order edge)) (sym (items_order-item v w vs (first_columns vs ws)))
 
-pub bound_rows : (o : Ordering) (x y : List ℕ) (p : List ℕ × List ℕ) → o ≡ bytes_order x y → y ≡ p.0 ++ p.1
-    → (edge : Edge) (values : Items) (a : RowValue) → IsBound edge x values → IsRow p a → o ≡ bound_order edge values a
-bound_rows o x y p h e edge values a b r =
-    h ∙ ap (λ s. bytes_order s y) b.1 ∙ ap (bytes_order (columns_before values (edge_bytes edge))) (row_joined y p a e r) ∙ front_cmp edge values a.0 a.1 b.0 r.0.0
+pub bound_rows : (o : Ordering) (x y : List ℕ) (kept : PlaceOf x) (place : Edge × Items) (a : RowValue) → kept.0 ≡ place → o ≡ bytes_order x y → y ≡ row_bytes a → IsStoredRow a → o ≡ bound_order place.0 place.1 a
+bound_rows o x y kept place a is h e f =
+    h ∙ ap₂ bytes_order kept.1.1 e ∙ front_cmp kept.0.0 kept.0.1 a.0 a.1 kept.1.0 f.0 ∙ ap (λ (p : Edge × Items). bound_order p.0 p.1 a) is
+
+-- no bytes are below a text
+pub below_text : (none s rest : List ℕ) → length none ≡ 0 → bytes_order none (text_before s rest) ≡ Less
+below_text [] [] rest h = refl
+below_text [] (b ∷ s) rest h = refl
+below_text (x ∷ none) s rest h = absurd (omega (arith, h))
 
 -- ---- laws
-
--- the bytes of a value, with what comes after, give the value
-pub one_value : (a b : Value) (s t : List ℕ) → IsStored a → IsStored b → value_before a s ≡ value_before b t → (a ≡ b) × (s ≡ t)
-one_value a b s t f g e =
-    let p = both (value_order a b) (bytes_order s t) (sym (value_cmp a b s t f g) ∙ ap (bytes_order (value_before a s)) (sym e) ∙ tied_itself nat_list_cmp_total (value_before a s)) in
-    (same a b p.0, same_text s t p.1)
-
--- and those of a row give the row
-pub one_row : (a b : RowValue) → IsStoredRow a → IsStoredRow b → row_bytes a ≡ row_bytes b → a ≡ b
-one_row a b f g e = same_rows a b (sym (row_cmp a b f g) ∙ ap (bytes_order (row_bytes a)) (sym e) ∙ tied_itself nat_list_cmp_total (row_bytes a))
-
-pub one_row_of_parts : (p : List ℕ × List ℕ) (a b : RowValue) → IsRow p a → IsRow p b → a ≡ b
-one_row_of_parts p a b f g = one_row a b f.0 g.0 (sym (row_joined (p.0 ++ p.1) p a refl f) ∙ row_joined (p.0 ++ p.1) p b refl g)
 
 columns_joined : (vs ws : Items) (rest : List ℕ) → items_before (joined_items vs ws) rest ≡ columns_before vs (items_before ws rest)
 columns_joined no_items ws rest = refl

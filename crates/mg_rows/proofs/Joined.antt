@@ -1,5 +1,5 @@
 -- The bytes of things one after another.
-use Rattle.std.proofs.Common.{◌≡◌, ℕ, zero, suc, ◌+◌, ◌/◌, ◌%◌, ◌<◌, ◌≤◌, arith, List, [], ◌∷◌, ◌++◌, drop, take, get_or, length, IsUtf8, Ordering, Less, string_bytes, String, Global, true, false, refl, sym, ap, ap₂, ◌∙◌, append_assoc}
+use Rattle.std.proofs.Common.{Result, Ok, Err, OnErr, ◌≡◌, ℕ, zero, suc, ◌+◌, ◌/◌, ◌%◌, ◌<◌, ◌≤◌, arith, List, [], ◌∷◌, ◌++◌, drop, take, get_or, length, IsUtf8, Ordering, Less, string_bytes, String, Global, true, false, refl, sym, ap, ap₂, ◌∙◌, append_assoc}
 use Rattle.std.proofs.lemmas.List.{drop_at, drop_more, take_at}
 use Rattle.std.specs.List.{AllByRecursion}
 use Rattle.std.specs.List.Sorted.{IsStrictlySortedBy}
@@ -12,8 +12,11 @@ use Rattle.mg_value.specs.declared.value.Json.{Json}
 use Rattle.mg_value.proofs.Views.{Entry}
 use Rattle.mg_collate.specs.Row.{RowValue, row_value_order}
 use Rattle.mg_rows.specs.Bytes.{bytes_order, big_endian, sign_turned, text_before, value_before, items_before, members_before, columns_before, row_bytes}
-use Rattle.mg_rows.specs.Stored.{AreStored, IsRow}
-use Rattle.mg_rows.proofs.Ranked.{row_cmp}
+use Rattle.mg_rows.specs.Stored.{IsStored, AreStored, IsKey, IsRow}
+use Rattle.mg_rows.specs.Bound.{IsBound, edge_bytes}
+use Rattle.mg_rows.specs.Laws.{joined_items}
+use Rattle.mg_rows.specs.declared.edge.Edge.{Edge}
+use Rattle.mg_rows.specs.Ranked.{row_cmp}
 
 -- ---- what comes after may be joined on
 
@@ -95,22 +98,43 @@ unfolding IsStrictlySortedBy
 above_middle [] e more h = all_after e.0 more h.0
 above_middle (first ∷ done) e more h = above_middle done e more h.1
 
+-- ---- keys and places
+
+pub on_err_when : {T E P : Type 0} (r : Result T E) → P → OnErr r P
+on_err_when (Ok x) p = tt
+on_err_when (Err e) p = p
+
+-- a column more is one more item
+columns_more : (vs : Items) (v : Value) (rest : List ℕ) → columns_before (joined_items vs (item v no_items)) rest ≡ columns_before vs (value_before v rest)
+columns_more no_items v rest = refl
+columns_more (item w vs) v rest = ap (value_before w) (columns_more vs v rest)
+
+more_stored : (vs : Items) (v : Value) → AreStored vs → IsStored v → AreStored (joined_items vs (item v no_items))
+more_stored no_items v h k = (k, tt)
+more_stored (item w vs) v h k = (h.0, more_stored vs v h.1 k)
+
+pub made_key : (old new : List ℕ) (key : Items) (v : Value) → IsKey old key → IsStored v → new ≡ old ++ value_before v [] → IsKey new (joined_items key (item v no_items))
+made_key old new key v h k e = (more_stored key v h.0 k, e ∙ ap (λ s. s ++ value_before v []) h.1 ∙ sym (columns_append key [] (value_before v [])) ∙ sym (columns_more key v []))
+
+pub made_place : (bytes columns : List ℕ) (edge : Edge) (key : Items) → IsKey columns key → bytes ≡ columns ++ edge_bytes edge → IsBound edge bytes key
+made_place bytes columns edge key h e = (h.0, e ∙ ap (λ s. s ++ edge_bytes edge) h.1 ∙ sym (columns_append key [] (edge_bytes edge)))
+
 -- ---- rows
 
 pub row_joined : (x : List ℕ) (p : List ℕ × List ℕ) (a : RowValue) → x ≡ p.0 ++ p.1 → IsRow p a → x ≡ row_bytes a
 row_joined x p a e h = e ∙ ap (λ (q : List ℕ × List ℕ). q.0 ++ q.1) h.1 ∙ sym (items_append a.0 [] a.1)
 
-pub rows_order : (x y : List ℕ) (p q : List ℕ × List ℕ) (o : Ordering) → o ≡ bytes_order x y → x ≡ p.0 ++ p.1 → y ≡ q.0 ++ q.1
-    → (a b : RowValue) → IsRow p a → IsRow q b → o ≡ row_value_order a b
-rows_order x y p q o h e f a b ra rb =
-    h ∙ ap (λ s. bytes_order s y) (row_joined x p a e ra) ∙ ap (bytes_order (row_bytes a)) (row_joined y q b f rb) ∙ row_cmp a b ra.0 rb.0
+pub rows_bytes : (x y : List ℕ) (a b : RowValue) (o : Ordering) → o ≡ bytes_order x y → x ≡ row_bytes a → y ≡ row_bytes b → o ≡ bytes_order (row_bytes a) (row_bytes b)
+rows_bytes x y a b o h e f = h ∙ ap (λ s. bytes_order s y) e ∙ ap (bytes_order (row_bytes a)) f
 
--- bytes that are split behind those of a key are the parts of its row
-pub made_row : (parts : List ℕ × List ℕ) (start keyed all lent : List ℕ) (end : ℕ) (key : Items) (id : List ℕ) → AreStored key → IsUtf8 id
-    → start ≡ [] → keyed ≡ start ++ items_before key [] → end ≡ length keyed → all ≡ keyed ++ id → lent ≡ all → parts ≡ (take end lent, drop end lent) → IsRow parts (key, id)
-made_row parts start keyed all lent end key id stored utf8 none written at joined same split =
-    let key_bytes : keyed ≡ items_before key [] = written ∙ ap (λ s. s ++ items_before key []) none in
-    let whole : lent ≡ keyed ++ id = same ∙ joined in (
-      (stored, utf8),
-      split ∙ ap (λ s. (take end s, drop end s)) whole ∙ ap₂ (λ x y. (x, y)) (take_at keyed id end (sym at) ∙ key_bytes) (drop_at keyed id end (sym at)),
-    )
+-- a key's columns with an end are its items with theirs
+columns_end : (vs : Items) (rest : List ℕ) → items_before vs rest ≡ columns_before vs (0 ∷ rest)
+columns_end no_items rest = refl
+columns_end (item v vs) rest = ap (value_before v) (columns_end vs rest)
+
+-- the bytes of columns with an end, and those of an id, are the parts of a row
+pub made_row : (parts : List ℕ × List ℕ) (columns : List ℕ) (key : Items) (id : List ℕ) → IsKey columns key → IsUtf8 id → parts ≡ (columns ++ 0 ∷ [], id) → IsRow parts (key, id)
+made_row parts columns key id h utf8 split = (
+  (h.0, utf8),
+  split ∙ ap (λ x. (x, id)) (ap (λ x. x ++ 0 ∷ []) h.1 ∙ sym (columns_append key [] (0 ∷ [])) ∙ sym (columns_end key [])),
+)

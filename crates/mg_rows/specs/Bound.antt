@@ -8,8 +8,8 @@ use Rattle.mg_collate.specs.Order.{items_order}
 use Rattle.mg_collate.specs.Row.{RowValue}
 use Rattle.mg_rows.specs.Bytes.{columns_before}
 use Rattle.mg_rows.specs.Stored.{AreStored}
-use Rattle.mg_rows.specs.declared.bound.Edge.{Edge}
-use Rattle.mg_rows.specs.declared.bound.Edge.TheVariants.{Before, After}
+use Rattle.mg_rows.specs.declared.edge.Edge.{Edge}
+use Rattle.mg_rows.specs.declared.edge.Edge.TheVariants.{Before, After}
 
 -- the first of the columns, as many as there are values, or all where there are fewer
 abbrev pub first_columns : Items → Items → Items

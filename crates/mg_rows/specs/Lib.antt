@@ -1,6 +1,9 @@
 pub mod Bytes
 pub mod Stored
 pub mod Bound
+pub mod Code
+pub mod Only
 pub mod Split
 pub mod Order
+pub mod Ranked
 pub mod Laws

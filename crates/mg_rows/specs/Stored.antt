@@ -1,10 +1,10 @@
 -- What a `Json` can hold: each number is of 64 bits, texts and names are UTF-8, and the names of an object ascend.
-use Rattle.std.specs.Prelude.{◌≡◌, ℕ, List, FitsSigned, IsUtf8, ⊤}
+use Rattle.std.specs.Prelude.{◌≡◌, ℕ, List, [], FitsSigned, IsUtf8, ⊤}
 use Rattle.std.specs.Int.{w64}
 use Rattle.mg_value.specs.Held.{AllAfter}
 use Rattle.mg_value.specs.Value.{Value, null, flag, whole, text, list, object, Items, no_items, item, Members, no_members, member}
 use Rattle.mg_collate.specs.Row.{RowValue}
-use Rattle.mg_rows.specs.Bytes.{row_parts}
+use Rattle.mg_rows.specs.Bytes.{columns_before, row_parts}
 
 abbrev mutual
   -- a `Json` can hold the value
@@ -33,3 +33,7 @@ IsStoredRow row = AreStored row.0 × IsUtf8 row.1
 -- these are the bytes of the row's key, and those of its id
 abbrev pub IsRow : List ℕ × List ℕ → RowValue → Type 0
 IsRow parts row = IsStoredRow row × (parts ≡ row_parts row)
+
+-- these are the bytes of the columns of a key, with no end
+abbrev pub IsKey : List ℕ → Items → Type 0
+IsKey bytes key = AreStored key × (bytes ≡ columns_before key [])

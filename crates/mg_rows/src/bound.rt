@@ -1,11 +1,5 @@
-ghost use Rattle.std.specs.Prelude.{◌≡◌, ◌++◌, List, ℕ, IfOk, OnOk};
-ghost use Rattle.mg_value.specs.Value.{Items};
-ghost use Rattle.mg_value.specs.View.{items_view};
-ghost use Rattle.mg_collate.specs.Row.{RowValue};
-ghost use Rattle.mg_rows.specs.Bytes.{bytes_order};
-ghost use Rattle.mg_rows.specs.Stored.{IsRow};
-ghost use Rattle.mg_rows.specs.Bound.{IsBound, bound_order, edge_bytes};
-
+use crate::edge::Edge;
+use crate::hint::place_hint;
 use crate::row::RowBytes;
 use crate::write::write_columns;
 use mg_value::{Json, NoMemory};
@@ -13,46 +7,61 @@ use std::alloc::Global;
 use std::cmp::Ordering;
 use std::marker::Model;
 
-// The bytes that are asked for at first: those of most places.
-const FIRST_ROOM: usize = 32;
-
 // A byte above each that stands after a column: a type is at most 7, and the end of a key is 0.
 const ABOVE_ALL: u8 = 255;
 
-/// On which side of the rows that begin with some values a place is.
-#[derive(Clone, Copy, PartialEq, Eq, Debug)]
-pub enum Edge {
-    /// Below all of them: a range that begins here has them, and one that ends here has none of them.
-    Before,
-    /// Above all of them: a range that begins here has none of them, and one that ends here has them.
-    After,
-}
+ghost use Rattle.std.specs.Prelude.{◌≡◌, ◌++◌, OnOk};
+ghost use Rattle.mg_rows.specs.Bound.{edge_bytes};
+ghost use Rattle.mg_rows.specs.Only.{PlaceOf, PlaceOf-prop};
 
-/// A place among rows: before or after all rows whose key begins with some values.
+/// A place among rows: before or after all rows whose key begins with some values. Contracts see the side and the
+/// values.
 #[derive(Drop)]
 pub struct Bound {
     bytes: Vec<u8>,
+    ghost place: { PlaceOf bytes.items } by { PlaceOf-prop bytes.items },
 }
 
 impl Model for Bound {
-    // the bytes that are compared with those of rows
-    ghost Value = { List ℕ };
+    ghost use Rattle.mg_value.specs.Value.{Items};
+    ghost use Rattle.mg_rows.specs.declared.edge.Edge.{Edge as Side};
+    ghost use Rattle.mg_rows.specs.Code.{place_code};
 
-    ghost view = { λ bound. bound.bytes.items };
+    ghost Value = { Side × Items };
+
+    ghost coded = { place_code };
+
+    ghost view = { λ bound. bound.place.0 };
 }
 
 impl Bound {
-    ghost use Rattle.mg_rows.specs.declared.bound.Edge.{Edge as Side};
+    ghost use Rattle.std.specs.Prelude.{IfOk};
+    ghost use Rattle.mg_value.specs.Value.{Items};
+    ghost use Rattle.mg_value.specs.View.{items_view};
+    ghost use Rattle.mg_rows.specs.Bytes.{bytes_order, columns_before, row_bytes};
+    ghost use Rattle.mg_rows.specs.Bound.{bound_order};
+    ghost use Rattle.mg_rows.specs.Stored.{IsKey};
 
     /// The place before or after all rows whose key begins with these values. With no values it is before or
     /// after all rows.
     ///
     /// Errors: `NoMemory` where a growth was refused. Cost: the size of the values.
     pub fn at(alloc: Global, values: &[Json], edge: Edge) -> Result<Bound, NoMemory>
-        ensures { IfOk result (λ bound. IsBound edge bound (items_view values.now)) }
+        ensures { IfOk result (λ bound. bound ≡ (edge, items_view values.now)) }
     {
-        let mut bytes = Vec::with_capacity(alloc, FIRST_ROOM)?;
-        write_columns(values, &mut bytes)?;
+        let mut columns = Vec::new(alloc);
+        write_columns(values, &mut columns)?;
+        Bound::of_columns(alloc, &columns, edge)
+    }
+
+    // The place at the values whose bytes these are.
+    pub(crate) fn of_columns(alloc: Global, columns: &[u8], edge: Edge) -> Result<Bound, NoMemory>
+        requires { (values : Items) × IsKey columns.now values }
+        ensures { (values : Items) → IsKey columns.now values
+            → IfOk result (λ bound. bound ≡ (edge, values)) }
+    {
+        let mut bytes = Vec::with_capacity(alloc, columns.len() + 1)?;
+        bytes.extend_from_slice(columns)?;
         write_edge(edge, &mut bytes)?;
         Ok(Bound { bytes })
     }
@@ -60,12 +69,16 @@ impl Bound {
     /// The order of the place and a row: `Less` where the row is after it, `Greater` where it is before it. It
     /// compares bytes. Takes no memory.
     pub fn against(&self, row: &RowBytes) -> Ordering
-        ensures bytes { result ≡ bytes_order self.now (row.now.0 ++ row.now.1) }
-        ensures rows { (edge : Side) (values : Items) (a : RowValue)
-            → IsBound edge self.now values → IsRow row.now a
-            → result ≡ bound_order edge values a }
+        ensures bytes { result
+            ≡ bytes_order (columns_before self.now.1 (edge_bytes self.now.0)) (row_bytes row.now) }
+        ensures rows { result ≡ bound_order self.now.0 self.now.1 row.now }
     {
         self.bytes.as_slice().cmp(row.as_bytes())
+    }
+
+    /// The number of the place among those of rows: where a search for it begins. Takes no memory.
+    pub fn hint(&self) -> u64 {
+        place_hint(self.bytes.as_slice())
     }
 }
 

@@ -2,12 +2,20 @@
 #![tactic(auto)]
 
 mod bound;
+mod edge;
+mod element;
 mod error;
+mod hint;
+mod id_row;
+mod key;
 pub mod laws;
 mod read;
 mod row;
 mod split;
 mod write;
 
-pub use bound::{Bound, Edge};
+pub use bound::Bound;
+pub use edge::Edge;
+pub use hint::{key_hint, value_hint};
+pub use key::KeyBytes;
 pub use row::RowBytes;

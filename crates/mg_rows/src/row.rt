@@ -1,22 +1,24 @@
-ghost use Rattle.std.specs.Prelude.{◌≡◌, ◌++◌, IfOk};
-ghost use Rattle.mg_value.specs.View.{items_view};
-ghost use Rattle.mg_collate.specs.Row.{RowValue, row_value_order};
-ghost use Rattle.mg_rows.specs.Bytes.{bytes_order};
-ghost use Rattle.mg_rows.specs.Stored.{IsRow};
-
 use crate::error::DecodeError;
+use crate::id_row::against_id_row;
 use crate::read::read_key;
 use crate::split::SplitBytes;
-use crate::write::write_items;
+use crate::write::write_columns;
+use mg_collate::Row;
 use mg_value::{Json, NoMemory};
 use std::alloc::Global;
 use std::cmp::Ordering;
 use std::marker::Model;
 
-// The bytes that are asked for at first: those of most rows.
+ghost use Rattle.mg_rows.specs.Only.{RowOf, RowOf-prop};
+
+// The bytes that are asked for at first: those of most keys.
 const FIRST_ROOM: usize = 64;
 
-/// A row of an index as one string of bytes: the values of its columns, and then the id of its document.
+// The byte behind the columns of a key.
+const KEY_END: u8 = 0;
+
+/// A row of an index as one string of bytes: the values of its columns, and then the id of its document. Contracts
+/// see the row.
 ///
 /// Rows are in the order of their bytes, which is by key, as `mg_collate::compare_keys` orders keys, and where
 /// keys tie by the bytes of the id. A row of up to 45 bytes takes 48 bytes and no block of memory of its own; a
@@ -28,49 +30,47 @@ const FIRST_ROOM: usize = 64;
 #[derive(Drop)]
 pub struct RowBytes {
     bytes: SplitBytes,
+    ghost row: { RowOf bytes } by { RowOf-prop bytes },
 }
 
 impl Model for RowBytes {
-    ghost use Rattle.std.specs.Prelude.{List, ℕ};
     ghost use Rattle.mg_collate.specs.Row.{RowValue};
-    ghost use Rattle.mg_rows.specs.Stored.{IsRow};
+    ghost use Rattle.mg_rows.specs.Code.{row_code};
 
-    // the bytes of the key, and those of the id
-    ghost Value = { List ℕ × List ℕ };
+    ghost Value = { RowValue };
 
-    ghost view = { λ r. r.bytes };
+    ghost coded = { row_code };
 
-    ghost invariant = { λ r. (row : RowValue) × IsRow r.bytes row };
+    ghost view = { λ r. r.row.0 };
 }
 
 impl RowBytes {
+    ghost use Rattle.std.specs.Prelude.{◌≡◌, IfOk};
+    ghost use Rattle.mg_value.specs.Value.{Items, no_items, item, text};
+    ghost use Rattle.mg_value.specs.View.{items_view};
+    ghost use Rattle.mg_collate.specs.Row.{row_view, row_value_order};
+    ghost use Rattle.mg_rows.specs.Bytes.{bytes_order, row_bytes};
+    ghost use Rattle.mg_rows.specs.Stored.{IsKey, IsStoredRow};
+
     /// The row of a key, one value for each column, and the id of its document.
     ///
-    /// Errors: `NoMemory` where a growth was refused. Cost: the size of the key and the id.
+    /// Errors: `NoMemory` where a growth was refused. Cost: the size of the key and the id; `KeyBytes` makes many
+    /// rows by one buffer.
     pub fn of(alloc: Global, key: &[Json], id: &str) -> Result<RowBytes, NoMemory>
-        ensures { IfOk result (λ row. IsRow row (items_view key.now, id.now)) }
+        ensures { IfOk result (λ row. row ≡ (items_view key.now, id.now)) }
     {
-        let mut scratch = Vec::with_capacity(alloc, FIRST_ROOM)?;
-        RowBytes::of_with(alloc, &mut scratch, key, id)
+        let mut columns = Vec::with_capacity(alloc, FIRST_ROOM)?;
+        write_columns(key, &mut columns)?;
+        RowBytes::of_columns(alloc, &columns, id)
     }
 
-    /// The same as `of`, which writes the bytes into `scratch` first: a row of up to 45 bytes takes no memory
-    /// where `scratch` has the room from an earlier one. What `scratch` held before does not matter.
-    ///
-    /// Errors: `NoMemory` where a growth was refused. Cost: the size of the key and the id.
-    pub fn of_with(
-        alloc: Global,
-        scratch: &mut Vec<u8>,
-        key: &[Json],
-        id: &str,
-    ) -> Result<RowBytes, NoMemory>
-        ensures { IfOk result (λ row. IsRow row (items_view key.now, id.now)) }
+    // The row of the columns whose bytes these are.
+    pub(crate) fn of_columns(alloc: Global, columns: &[u8], id: &str) -> Result<RowBytes, NoMemory>
+        requires { (key : Items) × IsKey columns.now key }
+        ensures { (key : Items) → IsKey columns.now key
+            → IfOk result (λ row. row ≡ (key, id.now)) }
     {
-        scratch.clear();
-        write_items(key, scratch)?;
-        let end = scratch.len();
-        scratch.extend_from_slice(id.as_bytes())?;
-        let bytes = SplitBytes::of(alloc, scratch, end)?;
+        let bytes = SplitBytes::of(alloc, columns, KEY_END, id.as_bytes())?;
         Ok(RowBytes { bytes })
     }
 
@@ -86,17 +86,24 @@ impl RowBytes {
 
     /// The order of two rows: by key, and where keys tie by id. It compares bytes. Takes no memory.
     pub fn compare(&self, other: &RowBytes) -> Ordering
-        ensures bytes { result
-            ≡ bytes_order (self.now.0 ++ self.now.1) (other.now.0 ++ other.now.1) }
-        ensures rows { (a b : RowValue) → IsRow self.now a → IsRow other.now b
-            → result ≡ row_value_order a b }
+        ensures bytes { result ≡ bytes_order (row_bytes self.now) (row_bytes other.now) }
+        ensures rows { result ≡ row_value_order self.now other.now }
     {
         self.as_bytes().cmp(other.as_bytes())
     }
 
+    /// The order of the row and the one that an id has among all documents, whose key is the id alone. Takes no
+    /// memory. Cost: up to the first difference.
+    pub fn order_of_id(&self, id: &str) -> Ordering
+        ensures { result ≡ row_value_order self.now (item (text id.now) no_items, id.now) }
+    {
+        against_id_row(self.as_bytes(), id)
+    }
+
     /// The bytes of the row. Takes no memory.
     pub fn as_bytes(&self) -> &[u8]
-        ensures { result.now ≡ self.now.0 ++ self.now.1 }
+        ensures bytes { result.now ≡ row_bytes self.now }
+        ensures stored { IsStoredRow self.now }
     {
         self.bytes.bytes()
     }
@@ -113,8 +120,7 @@ impl RowBytes {
     ///
     /// Errors: `NoMemory` where a growth was refused. Cost: the size of the key.
     pub fn key(&self, alloc: Global) -> Result<Vec<Json>, NoMemory>
-        ensures { (row : RowValue) → IsRow self.now row
-            → IfOk result (λ key. items_view key.items ≡ row.0) }
+        ensures { IfOk result (λ key. items_view key.items ≡ self.now.0) }
     {
         let (key, _) = self.bytes.parts();
         match read_key(alloc, key) {
@@ -123,15 +129,32 @@ impl RowBytes {
             Err(DecodeError::NotStored) => unreachable!(),
         }
     }
+
+    /// The row with its values.
+    ///
+    /// Errors: `NoMemory` where a growth was refused. Cost: the size of the row.
+    pub fn row(&self, alloc: Global) -> Result<Row, NoMemory>
+        ensures { IfOk result (λ row. row_view row ≡ self.now) }
+    {
+        let key = self.key(alloc)?;
+        let id = String::from_str(alloc, self.id())?;
+        Ok(Row { key, id })
+    }
+
+    // How many copies share the row's block; 1 where it has none.
+    pub(crate) fn sharers(&self) -> usize {
+        self.bytes.sharers()
+    }
 }
 
 impl PartialEq for RowBytes {
     ghost use Rattle.std.specs.Ordering.{eq_by_cmp};
-    ghost use Rattle.mg_rows.specs.Order.{parts_order, parts_eq_laws};
+    ghost use Rattle.mg_collate.specs.Row.{row_value_order};
+    ghost use Rattle.mg_rows.specs.Order.{row_value_eq_laws};
 
-    ghost eq = { eq_by_cmp parts_order };
+    ghost eq = { eq_by_cmp row_value_order };
 
-    ghost laws = { parts_eq_laws };
+    ghost laws = { row_value_eq_laws };
 
     fn eq(&self, other: &RowBytes) -> bool {
         self.cmp(other) == Ordering::Equal
@@ -139,18 +162,19 @@ impl PartialEq for RowBytes {
 }
 
 impl Eq for RowBytes {
-    ghost use Rattle.mg_rows.specs.Order.{parts_equivalence};
+    ghost use Rattle.mg_rows.specs.Order.{row_value_equivalence};
 
-    ghost laws = { parts_equivalence };
+    ghost laws = { row_value_equivalence };
 }
 
 impl PartialOrd for RowBytes {
     ghost use Rattle.std.specs.Ordering.{as_partial_cmp};
-    ghost use Rattle.mg_rows.specs.Order.{parts_order, parts_partial_laws};
+    ghost use Rattle.mg_collate.specs.Row.{row_value_order};
+    ghost use Rattle.mg_rows.specs.Order.{row_value_partial_laws};
 
-    ghost partial_cmp = { as_partial_cmp parts_order };
+    ghost partial_cmp = { as_partial_cmp row_value_order };
 
-    ghost laws = { parts_partial_laws };
+    ghost laws = { row_value_partial_laws };
 
     fn partial_cmp(&self, other: &RowBytes) -> Option<Ordering> {
         Some(self.cmp(other))
@@ -159,11 +183,11 @@ impl PartialOrd for RowBytes {
 
 impl Ord for RowBytes {
     ghost use Rattle.std.proofs.Common.{refl};
-    ghost use Rattle.mg_rows.specs.Order.{parts_order, parts_order_total};
+    ghost use Rattle.mg_collate.specs.Row.{row_value_order, row_value_order_total};
 
-    ghost cmp = { parts_order };
+    ghost cmp = { row_value_order };
 
-    ghost total = { parts_order_total };
+    ghost total = { row_value_order_total };
 
     ghost matches_partial_cmp = { λ _ _. refl };
 

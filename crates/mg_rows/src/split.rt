@@ -1,5 +1,5 @@
 // Bytes in two parts that do not change: few of them stand in the value itself, more in memory that copies share.
-ghost use Rattle.std.specs.Prelude.{◌≡◌, ◌≤◌, ◌++◌, IfOk, length, take, drop};
+ghost use Rattle.std.specs.Prelude.{◌≡◌, ◌≤◌, ◌+◌, ◌++◌, [], ◌∷◌, IfOk, length, take};
 ghost use Rattle.mg_rows.specs.Split.{held_bytes, held_end, held_parts, IsSound};
 
 use mg_value::NoMemory;
@@ -37,12 +37,11 @@ impl Model for SplitBytes {
 }
 
 impl SplitBytes {
-    /// These bytes, in two parts at `end`.
-    pub(crate) fn of(alloc: Global, bytes: &[u8], end: usize) -> Result<SplitBytes, NoMemory>
-        requires { end ≤ length bytes.now }
-        ensures { IfOk result (λ split. split ≡ (take end bytes.now, drop end bytes.now)) }
+    /// The front with a last byte, and the back.
+    pub(crate) fn of(alloc: Global, front: &[u8], last: u8, back: &[u8]) -> Result<SplitBytes, NoMemory>
+        ensures { IfOk result (λ split. split ≡ (front.now ++ last ∷ [], back.now)) }
     {
-        let held = hold(alloc, bytes, end)?;
+        let held = hold(alloc, front, last, back)?;
         Ok(SplitBytes { held })
     }
 
@@ -69,22 +68,50 @@ impl SplitBytes {
         let held = hold_again(&self.held)?;
         Ok(SplitBytes { held })
     }
+
+    /// How many copies share the memory; 1 where there is none.
+    pub(crate) fn sharers(&self) -> usize {
+        sharers_of(&self.held)
+    }
 }
 
-fn hold(alloc: Global, bytes: &[u8], end: usize) -> Result<Held, NoMemory>
-    requires { end ≤ length bytes.now }
-    ensures bytes { IfOk result (λ held. held_bytes held ≡ bytes.now) }
-    ensures end { IfOk result (λ held. held_end held ≡ end) }
+fn sharers_of(held: &Held) -> usize {
+    match held {
+        Held::Inline(_, _, _) => 1,
+        Held::Shared(all, _) => Arc::strong_count(all),
+    }
+}
+
+fn hold(alloc: Global, front: &[u8], last: u8, back: &[u8]) -> Result<Held, NoMemory>
+    ensures bytes { IfOk result (λ held. held_bytes held ≡ front.now ++ last ∷ [] ++ back.now) }
+    ensures end { IfOk result (λ held. held_end held ≡ length front.now + 1) }
     ensures sound { IfOk result (λ held. IsSound held) }
 {
-    let count = bytes.len();
-    if count > INLINE {
-        let all = Vec::from_slice(alloc, bytes)?;
-        return Ok(Held::Shared(Arc::new(alloc, all)?, end));
+    let end = front.len() + 1;
+    let count = end + back.len();
+    if count <= INLINE {
+        return Ok(Held::Inline(count as u8, end as u8, inside(front, last, back)));
     }
+    let mut all = Vec::with_capacity(alloc, count)?;
+    all.extend_from_slice(front)?;
+    all.push(last)?;
+    all.extend_from_slice(back)?;
+    Ok(Held::Shared(Arc::new(alloc, all)?, end))
+}
+
+// The bytes one after another, and zeros.
+fn inside(front: &[u8], last: u8, back: &[u8]) -> [u8; 45]
+    requires { length front.now + 1 + length back.now ≤ 45 }
+    ensures bytes { take (length front.now + 1 + length back.now) result
+        ≡ front.now ++ last ∷ [] ++ back.now }
+{
+    let end = front.len() + 1;
+    let count = end + back.len();
     let mut inside = [0u8; 45];
-    inside[..count].copy_from_slice(bytes);
-    Ok(Held::Inline(count as u8, end as u8, inside))
+    inside[..front.len()].copy_from_slice(front);
+    inside[front.len()] = last;
+    inside[end..count].copy_from_slice(back);
+    inside
 }
 
 fn lend(held: &Held) -> &[u8]

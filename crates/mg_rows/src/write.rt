@@ -1,9 +1,11 @@
 // The bytes of values, added to a buffer. After an error some of them may stand there.
-ghost use Rattle.std.specs.Prelude.{◌≡◌, ◌++◌, [], ◌∷◌, OnOk, IsUtf8};
+ghost use Rattle.std.specs.Prelude.{◌≡◌, ◌++◌, [], ◌∷◌, OnOk, OnErr, IsUtf8};
+ghost use Rattle.mg_value.specs.Value.{Items};
 ghost use Rattle.mg_value.specs.View.{view, items_view, members_view};
 ghost use Rattle.mg_rows.specs.Bytes.{big_endian, sign_turned, text_before, value_before};
 ghost use Rattle.mg_rows.specs.Bytes.{columns_before, items_before, members_before};
-ghost use Rattle.mg_rows.specs.Stored.{IsStored, AreStored, MembersAreStored};
+ghost use Rattle.mg_rows.specs.Stored.{IsStored, AreStored, MembersAreStored, IsKey};
+ghost use Rattle.mg_rows.specs.Only.{KeyOf};
 
 use mg_value::{Json, NoMemory};
 use std::collections::BTreeMap;
@@ -13,6 +15,23 @@ const TEXT_END: u8 = 0;
 
 // The byte behind the items of an array, the members of an object, and the columns of a key: below each type.
 const LIST_END: u8 = 0;
+
+// A column more of a key. After an error there are none.
+pub(crate) fn write_column(column: &Json, out: &mut Vec<u8>) -> Result<(), NoMemory>
+    ensures bytes { OnOk result
+        (out.new.items ≡ out.old.items ++ value_before (view column.now) []) }
+    ensures stored { OnOk result (IsStored (view column.now)) }
+    ensures refused { OnErr result (out.new.items ≡ []) }
+    ensures key { (key : Items) → IsKey out.old.items key → KeyOf out.new.items }
+{
+    match write_value(column, out) {
+        Ok(()) => Ok(()),
+        Err(NoMemory) => {
+            out.clear();
+            Err(NoMemory)
+        }
+    }
+}
 
 // The first columns of a key, with no end.
 pub(crate) fn write_columns(columns: &[Json], out: &mut Vec<u8>) -> Result<(), NoMemory>
@@ -26,9 +45,9 @@ pub(crate) fn write_columns(columns: &[Json], out: &mut Vec<u8>) -> Result<(), N
     Ok(())
 }
 
-// A whole key, or the items of an array, with their end.
+// The items of an array, with their end.
 #[cycle(write_value)]
-pub(crate) fn write_items(items: &[Json], out: &mut Vec<u8>) -> Result<(), NoMemory>
+fn write_items(items: &[Json], out: &mut Vec<u8>) -> Result<(), NoMemory>
     ensures bytes { OnOk result
         (out.new.items ≡ out.old.items ++ items_before (items_view items.now) []) }
     ensures stored { OnOk result (AreStored (items_view items.now)) }
@@ -83,6 +102,7 @@ fn write_text(text: &str, out: &mut Vec<u8>) -> Result<(), NoMemory>
     ensures bytes { OnOk result (out.new.items ≡ out.old.items ++ 5 ∷ text_before text.now []) }
     ensures utf8 { IsUtf8 text.now }
 {
+    out.reserve(text.len().saturating_add(2))?;
     out.push(5)?;
     for byte in text.as_bytes() {
         out.push(*byte + 1)?;

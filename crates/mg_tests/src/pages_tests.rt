@@ -1,8 +1,6 @@
-use mg_pages::{Keyed, Pages, Probe, text_hint};
+use mg_pages::{Identified, Pages, Shared};
 use std::alloc::Global;
-use std::cmp::Ordering;
 use std::process::Abort;
-use std::sync::Arc;
 
 // A note: an id, and which version of the note it is.
 #[derive(Drop)]
@@ -11,57 +9,36 @@ struct Note {
     version: u64,
 }
 
-impl Keyed for Note {
+impl Identified for Note {
     ghost use Rattle.std.specs.Prelude.{string_bytes};
-    ghost use Rattle.mg_pages.specs.Identified.{id_order, id_order_total};
 
-    ghost order = { id_order (λ n. string_bytes n.id) };
+    ghost id = { λ n. string_bytes n.id };
 
-    ghost total = { id_order_total (λ n. string_bytes n.id) };
-
-    fn hint(&self) -> u64 {
-        text_hint(self.id.as_str())
-    }
-
-    fn order(&self, other: &Note) -> Ordering {
-        self.id.as_str().cmp(other.id.as_str())
+    fn id(&self) -> &str {
+        self.id.as_str()
     }
 }
 
-impl<'a> Probe<Note> for &'a str {
-    ghost use Rattle.std.specs.Prelude.{string_bytes};
-    ghost use Rattle.mg_pages.specs.Identified.{id_against, id_probes};
-
-    ghost against = { λ key n. id_against (λ m. string_bytes m.id) key.now n };
-
-    ghost probes = { λ key. id_probes (λ m. string_bytes m.id) key.now };
-
-    fn hint(&self) -> u64 {
-        text_hint(*self)
-    }
-
-    fn against(&self, element: &Note) -> Ordering {
-        (*self).cmp(element.id.as_str())
-    }
-}
+// Notes in pages, each in a block that pages share.
+type Notes = Pages<Shared<Note>>;
 
 fn id_of<R: Abort>(rt: &R, alloc: Global, number: u64) -> String {
     format!(in alloc; "n{number:05}").expect(rt, "memory")
 }
 
-fn put<R: Abort>(rt: &R, alloc: Global, notes: &mut Pages<Note>, number: u64, version: u64) {
+fn put<R: Abort>(rt: &R, alloc: Global, notes: &mut Notes, number: u64, version: u64) {
     let id = id_of(rt, alloc, number);
-    let note = Arc::new(alloc, Note { id, version }).expect(rt, "memory");
+    let note = Shared::new(alloc, Note { id, version }).expect(rt, "memory");
     let _ = notes.insert(alloc, note).expect(rt, "memory");
 }
 
-fn take_out<R: Abort>(rt: &R, alloc: Global, notes: &mut Pages<Note>, number: u64) {
+fn take_out<R: Abort>(rt: &R, alloc: Global, notes: &mut Notes, number: u64) {
     let id = id_of(rt, alloc, number);
     let _ = notes.remove(alloc, &id.as_str()).expect(rt, "memory");
 }
 
 // Notes with every second number below a limit, put in from the middle outwards.
-fn even_notes<R: Abort>(rt: &R, alloc: Global, limit: u64) -> Pages<Note> {
+fn even_notes<R: Abort>(rt: &R, alloc: Global, limit: u64) -> Notes {
     let mut notes = Pages::new(alloc);
     for k in 0..limit {
         let number = k.wrapping_mul(7919) % limit.max(1);
@@ -73,7 +50,7 @@ fn even_notes<R: Abort>(rt: &R, alloc: Global, limit: u64) -> Pages<Note> {
 }
 
 // Puts in each note, the odd ones too, and takes every fourth out.
-fn change_all<R: Abort>(rt: &R, alloc: Global, notes: &mut Pages<Note>, limit: u64) {
+fn change_all<R: Abort>(rt: &R, alloc: Global, notes: &mut Notes, limit: u64) {
     for number in 0..limit {
         put(rt, alloc, notes, number, 2);
         if number % 4 == 0 {
@@ -83,7 +60,7 @@ fn change_all<R: Abort>(rt: &R, alloc: Global, notes: &mut Pages<Note>, limit: u
 }
 
 // Whether the notes are so many, all of one version.
-fn are_all(notes: &Pages<Note>, count: usize, version: u64) -> bool {
+fn are_all(notes: &Notes, count: usize, version: u64) -> bool {
     for one in notes.iter() {
         if one.version != version {
             return false;
@@ -93,7 +70,7 @@ fn are_all(notes: &Pages<Note>, count: usize, version: u64) -> bool {
 }
 
 // The last id up to an id.
-fn last_id<'a>(notes: &'a Pages<Note>, id: &str) -> &'a str {
+fn last_id<'a>(notes: &'a Notes, id: &str) -> &'a str {
     match notes.upto(&id).next() {
         Some(one) => one.id.as_str(),
         None => "none",
@@ -101,7 +78,7 @@ fn last_id<'a>(notes: &'a Pages<Note>, id: &str) -> &'a str {
 }
 
 // Whether the notes are those of every second number below a limit, in order, of the first version.
-fn are_as_they_were<R: Abort>(rt: &R, alloc: Global, notes: &Pages<Note>, limit: u64) -> bool {
+fn are_as_they_were<R: Abort>(rt: &R, alloc: Global, notes: &Notes, limit: u64) -> bool {
     let mut number = 0u64;
     for one in notes.iter() {
         if one.id.as_str() != id_of(rt, alloc, number).as_str() {
@@ -113,14 +90,14 @@ fn are_as_they_were<R: Abort>(rt: &R, alloc: Global, notes: &Pages<Note>, limit:
 }
 
 // A state that shares its pages with these notes, and in which all is changed.
-fn changed<R: Abort>(rt: &R, alloc: Global, notes: &Pages<Note>) -> Pages<Note> {
+fn changed<R: Abort>(rt: &R, alloc: Global, notes: &Notes) -> Notes {
     let mut other = notes.share(alloc).expect(rt, "memory");
     change_all(rt, alloc, &mut other, 6000);
     other
 }
 
 // A state that shares its pages with one that is gone; it is as that was, and then all is changed in it.
-fn left_over<R: Abort>(rt: &R, alloc: Global, gone: Pages<Note>) -> Pages<Note> {
+fn left_over<R: Abort>(rt: &R, alloc: Global, gone: Notes) -> Notes {
     let mut left = gone.share(alloc).expect(rt, "memory");
     drop(gone);
     assert!(rt; are_as_they_were(rt, alloc, &left, 6000));

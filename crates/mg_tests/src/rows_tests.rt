@@ -1,6 +1,6 @@
 //! Rows of an index as bytes. The bytes and their order were worked out by hand from what `RowBytes` and `Bound` say.
 use crate::given::{check, json};
-use mg_rows::{Bound, Edge, RowBytes};
+use mg_rows::{Bound, Edge, KeyBytes, RowBytes};
 use mg_value::Json;
 use std::alloc::Global;
 use std::cmp::Ordering;
@@ -72,10 +72,18 @@ fn row_of<R: Abort>(rt: &R, alloc: Global, written: &Written) -> RowBytes {
     RowBytes::of(alloc, &key, written.1).expect(rt, "memory")
 }
 
-// The same row, by way of a buffer that earlier rows were written into.
-fn row_with<R: Abort>(rt: &R, alloc: Global, scratch: &mut Vec<u8>, written: &Written) -> RowBytes {
-    let key = values_of(rt, alloc, written.0);
-    RowBytes::of_with(alloc, scratch, &key, written.1).expect(rt, "memory")
+// The same columns, in a key that held those of earlier rows.
+fn put_columns<R: Abort>(rt: &R, alloc: Global, key: &mut KeyBytes, columns: &str) {
+    key.clear();
+    for column in &values_of(rt, alloc, columns) {
+        key.push(column).expect(rt, "memory");
+    }
+}
+
+// Whether the row has the row's key and id once they are read.
+fn reads_back<R: Abort>(rt: &R, alloc: Global, row: &RowBytes, written: &Written) -> bool {
+    let read = row.row(alloc).expect(rt, "memory");
+    read.key == values_of(rt, alloc, written.0) && read.id.as_str() == written.1
 }
 
 // Whether the row has the bytes, the id and the key.
@@ -119,12 +127,14 @@ fn parts_rows(rows: &[RowBytes], bound: &Bound, below: usize) -> bool {
 #[test]
 fn rows_have_the_bytes_that_their_key_and_id_ask_for(rt: HostRuntime) {
     let alloc = rt.alloc();
-    let mut scratch = Vec::new(alloc);
+    let mut key = KeyBytes::new(alloc);
     for written in ROWS {
         let row = row_of(&rt, alloc, written);
         let again = row.again().expect(&rt, "memory");
         check(&rt, is_written(&rt, alloc, &again, written), written.0);
-        let row = row_with(&rt, alloc, &mut scratch, written);
+        check(&rt, reads_back(&rt, alloc, &again, written), written.0);
+        put_columns(&rt, alloc, &mut key, written.0);
+        let row = key.row(alloc, written.1).expect(&rt, "memory");
         check(&rt, is_written(&rt, alloc, &row, written), written.0);
     }
 }
@@ -145,5 +155,32 @@ fn a_place_is_between_rows_and_never_on_one(rt: HostRuntime) {
         let key = values_of(&rt, alloc, values);
         let bound = Bound::at(alloc, &key, *edge).expect(&rt, "memory");
         check(&rt, parts_rows(&rows, &bound, *below), values);
+        let mut columns = KeyBytes::new(alloc);
+        put_columns(&rt, alloc, &mut columns, values);
+        let bound = columns.bound(alloc, *edge).expect(&rt, "memory");
+        check(&rt, parts_rows(&rows, &bound, *below), values);
+    }
+}
+
+// An id, and how many of the rows are below its row among all documents.
+const IDS: &[(&str, usize)] = &[("", 9), ("a", 9), ("aa", 11), ("b", 12), ("xx", 12), ("é", 13), ("êêê", 14)];
+
+// Whether exactly the first so many rows are below the row that the id has among all documents.
+fn parts_by_id(rows: &[RowBytes], id: &str, below: usize) -> bool {
+    for (place, row) in rows.iter().enumerate() {
+        let wanted = if place < below { Ordering::Less } else { Ordering::Greater };
+        let tied = row.id() == id && row.order_of_id(id) == Ordering::Equal;
+        if row.order_of_id(id) != wanted && !tied {
+            return false;
+        }
+    }
+    true
+}
+
+#[test]
+fn the_row_of_an_id_has_the_id_alone_as_its_key(rt: HostRuntime) {
+    let rows = all_rows(&rt, rt.alloc());
+    for (id, below) in IDS {
+        check(&rt, parts_by_id(&rows, id, *below), id);
     }
 }

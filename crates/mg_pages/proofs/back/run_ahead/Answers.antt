@@ -1,9 +1,5 @@
-use Rattle.std.proofs.Common.{◌-◌, length, reverse, arith, ap, refl, ◌∙◌}
-use Rattle.std.specs.Arc.{arc_value}
+use Rattle.std.proofs.Common.{◌-◌, length, reverse, arith, ap, ◌∙◌}
 use Rattle.mg_pages.specs.Order.{below, probe_from_total}
-use Rattle.mg_pages.specs.Runs.{ended}
-use Rattle.mg_pages.specs.Parts.{values}
-use Rattle.mg_pages.proofs.Parts.{mapped_at, mapped_length, mapped_take}
 use Rattle.mg_pages.proofs.Passed.{ended_before, ended_from, ended_none, ended_take}
 use Rattle.mg_pages.proofs.back.run_ahead.Goals as goal
 
@@ -13,8 +9,7 @@ returns-then-count-run g c =
     let order = g.T.Keyed.order in
     let pages = c.args.pages.now in
     let left = length run - c.args.count in
-    let n = mapped_length arc_value run in
-    ap (λ us. reverse (ended order pages us)) (mapped_take arc_value left run) ∙ ended_take order pages (values run) left c.args.count (omega (arith, n)) (omega arith)
+    ended_take order pages run left c.args.count (omega arith) (omega arith)
 
 pub returns-then-run-gt0 : goal.returns-then-run-gt0
 returns-then-run-gt0 g c =
@@ -22,15 +17,12 @@ returns-then-run-gt0 g c =
     let order = g.T.Keyed.order in
     let pages = c.args.pages.now in
     let total = g.met.T.Keyed.total in
-    let a = arc_value c.index-run-0.result in
-    let n = mapped_length arc_value run in
+    let a = c.index-run-0.result in
     let more = c.args.count - length run in
     let left = length (below (order a) pages) - more in
-    let at = mapped_at arc_value run 0 c.index-run-0.result a (omega arith) c.index-run-0.is refl in
-    ap reverse (ended_from order pages total (order a) (probe_from_total total a) (values c.run_before_some.result.now) left c.run_before_some.ensures.run c.run_before_some.ensures.ascends)
-    ∙ ended_before order pages (values run) a c.args.count more (omega (arith, n)) at (omega (arith, n))
+    ap reverse (ended_from order pages total (order a) (probe_from_total total a) c.run_before_some.result.now left c.run_before_some.ensures.run c.run_before_some.ensures.ascends)
+    ∙ ended_before order pages run a c.args.count more (omega arith) c.index-run-0.is (omega arith)
 
 pub returns : goal.returns
 returns g c =
-    let n = mapped_length arc_value c.args.run.now in
-    ended_none g.T.Keyed.order c.args.pages.now (values c.args.run.now) c.args.count (omega (arith, n))
+    ended_none g.T.Keyed.order c.args.pages.now c.args.run.now c.args.count (omega arith)

@@ -1,17 +1,14 @@
 use Rattle.std.proofs.Common.{◌≡◌, ◌∷◌, ◌++◌, [], arith, ap, sym, ◌∙◌}
-use Rattle.std.specs.Arc.{arc_value}
 use Rattle.mg_pages.specs.Order.{probe_from_total}
 use Rattle.mg_pages.specs.Runs.{ended}
-use Rattle.mg_pages.specs.Parts.{values}
-use Rattle.mg_pages.proofs.Parts.{mapped_length, nothing, ended_below}
+use Rattle.mg_pages.proofs.Parts.{nothing, ended_below}
 use Rattle.mg_pages.proofs.back.run_to.Goals as goal
 
 pub returns : goal.returns
 returns g c =
     let order = g.T.Keyed.order in
-    let y = arc_value c.args.last.now in
+    let y = c.args.last.now in
     let pages = c.args.pages.now in
-    let n = mapped_length arc_value c.args.run.now in
-    let none : values c.args.run.now ≡ [] = nothing (values c.args.run.now) (omega (arith, c.if-run-gt0.false)) in
+    let none : c.args.run.now ≡ [] = nothing c.args.run.now (omega (arith, c.if-run-gt0.false)) in
     ap (λ us. ended order pages (us ++ y ∷ [])) none
-    ∙ sym (ap (λ us. us ++ y ∷ []) (ended_below order g.met.T.Keyed.total (order y) (probe_from_total g.met.T.Keyed.total y) (values c.run_before.result.now) pages c.run_before.ensures.run c.run_before.ensures.ascends))
+    ∙ sym (ap (λ us. us ++ y ∷ []) (ended_below order g.met.T.Keyed.total (order y) (probe_from_total g.met.T.Keyed.total y) c.run_before.result.now pages c.run_before.ensures.run c.run_before.ensures.ascends))

@@ -1,9 +1,7 @@
-use Rattle.std.proofs.Common.{arith, ap, sym, ◌∙◌, refl}
-use Rattle.std.specs.Arc.{arc_value}
+use Rattle.std.proofs.Common.{arith, ap, sym, ◌∙◌}
 use Rattle.mg_pages.specs.Order.{above}
 use Rattle.mg_pages.specs.Runs.{continued_after}
-use Rattle.mg_pages.specs.Parts.{values}
-use Rattle.mg_pages.proofs.Parts.{mapped_at, mapped_length, only_one, continued_above}
+use Rattle.mg_pages.proofs.Parts.{only_one, continued_above}
 use Rattle.mg_pages.specs.Order.{probe_from_total}
 use Rattle.mg_pages.proofs.iter.rest_of.Goals as goal
 
@@ -11,9 +9,7 @@ pub returns : goal.returns
 returns g c = λ x xs e.
     let run = c.args.run.now in
     let order = g.T.Keyed.order in
-    let a = arc_value c.index-run-0.result in
-    let n = mapped_length arc_value run in
-    let at = mapped_at arc_value run 0 c.index-run-0.result a c.requires c.index-run-0.is refl in
-    let one = only_one order (values run) x a xs e (omega (arith, c.if-run-gt1.false)) at in
-    continued_above order g.met.T.Keyed.total (order a) (probe_from_total g.met.T.Keyed.total a) (values c.run_after.result.now) c.args.pages.now c.run_after.ensures.run c.run_after.ensures.ascends
+    let a = c.index-run-0.result in
+    let one = only_one order run x a xs e (omega (arith, c.if-run-gt1.false)) c.index-run-0.is in
+    continued_above order g.met.T.Keyed.total (order a) (probe_from_total g.met.T.Keyed.total a) c.run_after.result.now c.args.pages.now c.run_after.ensures.run c.run_after.ensures.ascends
     ∙ ap (λ b. above (order b) c.args.pages.now) one.1 ∙ sym (ap (continued_after order c.args.pages.now x) one.0)

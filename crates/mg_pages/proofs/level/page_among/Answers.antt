@@ -1,7 +1,7 @@
 use Rattle.std.proofs.Common.{◌≡◌, length, take, arith, ap}
 use Rattle.std.proofs.lemmas.List.{take_all}
 use Rattle.std.specs.List.{flat_map}
-use Rattle.mg_pages.specs.Parts.{child_seen, child_value, children, node_value, values}
+use Rattle.mg_pages.specs.Parts.{child_seen, child_value, children, node_value}
 use Rattle.mg_pages.proofs.Children.{child_at, part_at, within_children}
 use Rattle.mg_pages.proofs.Counts.{count_more}
 use Rattle.mg_pages.proofs.Parts.{mapped_length}
@@ -22,7 +22,7 @@ returns-then-left-count g c =
     let i = c.loop-child.child-index in
     let node = c.deref-node.result.now in
     let at = part_at xs i c.child-item.result node c.loop-child-test.true c.child-item.is c.deref-node.ensures in
-    page_part (child_seen g.P.Part.seen) (children xs) i (node_value node) (values c.page_at.result.0.now) c.page_at.result.1 c.loop-child.left c.args.place (within_children xs i c.loop-child-test.true) at
+    page_part (child_seen g.P.Part.seen) (children xs) i (node_value node) c.page_at.result.0.now c.page_at.result.1 c.loop-child.left c.args.place (within_children xs i c.loop-child-test.true) at
     c.loop-child.invariant c.page_at.ensures
 
 pub loop-child-preserved : goal.loop-child-preserved

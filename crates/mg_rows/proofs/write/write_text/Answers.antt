@@ -15,4 +15,4 @@ returns-clause-bytes c =
     let l = c.loop-byte in
     let last : length c.args.text.now ≤ l.byte-index = omega (arith, c.as_bytes-byte-items.ensures.len) in
     c.in_ok-push-3.ensures.items ∙ sym (text_end c.args.text.now l.byte-index c.push.new.self.items l.out.items last l.invariant)
-    ∙ ap (λ y. y ++ text_before c.args.text.now []) c.in_ok-push.ensures.items ∙ append_assoc c.args.out.now.items (5 ∷ []) (text_before c.args.text.now [])
+    ∙ ap (λ y. y ++ text_before c.args.text.now []) (c.in_ok-push.ensures.items ∙ ap (λ y. y ++ 5 ∷ []) c.reserve.ensures.items) ∙ append_assoc c.args.out.now.items (5 ∷ []) (text_before c.args.text.now [])

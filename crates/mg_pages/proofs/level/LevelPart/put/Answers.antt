@@ -1,5 +1,4 @@
 use Rattle.std.proofs.Common.{◌≡◌, ◌+◌, ◌<◌, length, is_some, arith, refl, ap, sym, ◌∙◌, subst}
-use Rattle.std.specs.Arc.{arc_value}
 use Rattle.std.specs.List.{flat_map}
 use Rattle.mg_pages.specs.Order.{Ascends, found, inserted}
 use Rattle.mg_pages.specs.Parts.{children, child_seen, child_value, child_whole}
@@ -36,7 +35,7 @@ returns-in_err-had-clause-whole g c =
 pub returns-clause-whole : goal.returns-clause-whole
 returns-clause-whole g c =
     let order = g.T.Keyed.order in
-    let x = arc_value c.args.element in
+    let x = c.args.element in
     let xs = c.with_room.new.parts.items in
     let i = c.in_ok-i.i in
     let n = mapped_length child_value xs in
@@ -59,9 +58,9 @@ returns-in_err-had-clause-err g c =
 
 pub returns-clause-ok : goal.returns-clause-ok
 returns-clause-ok g c =
-    put_seen child_value (child_seen g.P.Part.seen) g.T.Keyed.order (arc_value c.args.element) c.with_room.new.parts.items c.in_ok-i.i c.index_mut.result.now c.put_into.new.child c.in_ok-i.ensures.within c.index_mut.ensures.value
+    put_seen child_value (child_seen g.P.Part.seen) g.T.Keyed.order c.args.element c.with_room.new.parts.items c.in_ok-i.i c.index_mut.result.now c.put_into.new.child c.in_ok-i.ensures.within c.index_mut.ensures.value
     c.in_ok-i.ensures.below c.in_ok-i.ensures.above c.in_ok-had.ensures.ok
-    ∙ ap (inserted g.T.Keyed.order (arc_value c.args.element)) c.in_ok-i.ensures.seen
+    ∙ ap (inserted g.T.Keyed.order c.args.element) c.in_ok-i.ensures.seen
 
 pub returns-clause-had : goal.returns-clause-had
 returns-clause-had g c =
@@ -70,7 +69,7 @@ returns-clause-had g c =
     let n = mapped_length child_value xs in
     let l : i < length xs = c.in_ok-i.ensures.within in
     let at = mapped_at child_value xs i c.index_mut.result.now (child_value c.index_mut.result.now) l c.index_mut.ensures.value refl in
-    let key = g.T.Keyed.order (arc_value c.args.element) in
+    let key = g.T.Keyed.order c.args.element in
     c.in_ok-had.ensures.had
     ∙ ap is_some (seen_found (child_seen g.P.Part.seen) key (children xs) i (child_value c.index_mut.result.now) (omega arith) at c.in_ok-i.ensures.below c.in_ok-i.ensures.above
     ∙ ap (found key) c.in_ok-i.ensures.seen)

@@ -1,21 +1,19 @@
-use Rattle.std.proofs.Common.{ap, sym, ◌∙◌}
-use Rattle.std.specs.Arc.{arc_value}
+use Rattle.std.proofs.Common.{sym, ◌∙◌}
 use Rattle.mg_pages.specs.Search.{IsTie, IsGap}
-use Rattle.mg_pages.specs.Parts.{values}
 use Rattle.mg_pages.proofs.Sorted.{removed_gap, removed_tie}
-use Rattle.mg_pages.proofs.Parts.{mapped_remove}
+use Rattle.mg_pages.proofs.Parts.{removed_one}
 use Rattle.mg_pages.proofs.page.PagePart.take_out.Goals as goal
 
 pub returns-in-Ok-clause-ok : goal.returns-in-Ok-clause-ok
 returns-in-Ok-clause-ok g c =
     let xs = c.args.self.now.elements.items in
     let key = g.Q.Probe.against c.args.key.now in
-    let tie : IsTie key (values xs) c.in-Ok.i = rw c.deref.ensures.value at c.in-Ok.ensures in
-    ap values c.remove.ensures.items ∙ mapped_remove arc_value xs c.in-Ok.i ∙ sym (removed_tie key (values xs) c.in-Ok.i tie)
+    let tie : IsTie key xs c.in-Ok.i = rw c.deref.ensures.value at c.in-Ok.ensures in
+    c.remove.ensures.items ∙ removed_one xs c.in-Ok.i ∙ sym (removed_tie key xs c.in-Ok.i tie)
 
 pub returns-in-Err-clause-ok : goal.returns-in-Err-clause-ok
 returns-in-Err-clause-ok g c =
     let xs = c.args.self.now.elements.items in
     let key = g.Q.Probe.against c.args.key.now in
-    let gap : IsGap key (values xs) c.in-Err.field-0 = rw c.deref.ensures.value at c.in-Err.ensures in
-    sym (removed_gap key (values xs) c.in-Err.field-0 gap)
+    let gap : IsGap key xs c.in-Err.field-0 = rw c.deref.ensures.value at c.in-Err.ensures in
+    sym (removed_gap key xs c.in-Err.field-0 gap)

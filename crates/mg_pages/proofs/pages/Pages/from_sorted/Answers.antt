@@ -1,21 +1,19 @@
 use Rattle.std.proofs.Common.{◌≡◌, length, ap, sym, ◌∙◌, subst}
-use Rattle.std.specs.Arc.{arc_value}
 use Rattle.std.specs.List.{flat_map}
 use Rattle.mg_pages.specs.Order.{Ascends}
-use Rattle.mg_pages.specs.Parts.{values, children, child_seen, high_seen, level_seen, page_seen}
-use Rattle.mg_pages.proofs.Parts.{mapped_length}
+use Rattle.mg_pages.specs.Parts.{children, child_seen, high_seen, level_seen, page_seen}
 use Rattle.mg_pages.proofs.pages.Pages.from_sorted.Goals as goal
 
 pub invariant_of-result : goal.invariant_of-result
 invariant_of-result g c =
     let lows = ap (λ us. flat_map (child_seen page_seen) (children us)) c.deref.ensures.value in
     let highs = ap (λ us. flat_map (child_seen (level_seen page_seen)) (children us)) c.deref-2.ensures.value in
-    let all : flat_map (child_seen high_seen) (children c.in_ok-parts.parts.items) ≡ values c.args.elements.now =
+    let all : flat_map (child_seen high_seen) (children c.in_ok-parts.parts.items) ≡ c.args.elements.now =
     c.in_ok-parts.ensures.seen ∙ highs ∙ c.in_ok-lows.ensures.seen ∙ lows ∙ c.in_ok-pages.ensures.seen in
     record {
       whole = c.in_ok-parts.ensures.whole;
       sorted = subst (Ascends g.T.Keyed.order) (sym all) c.requires;
-      counted = sym (ap length all ∙ mapped_length arc_value c.args.elements.now);
+      counted = sym (ap length all);
     }
 
 pub returns : goal.returns

@@ -1,12 +1,10 @@
 use Rattle.std.proofs.Common.{◌-◌, drop, length, arith, ap, sym, ◌∙◌, subst}
 use Rattle.std.proofs.lemmas.List.{take_rest}
-use Rattle.std.specs.Arc.{arc_value}
 use Rattle.std.specs.List.{flat_map}
 use Rattle.mg_pages.specs.Order.{Ascends, above}
 use Rattle.mg_pages.specs.Runs.{IsPageAt, IsRun}
-use Rattle.mg_pages.specs.Parts.{child_seen, children, high_seen, values}
+use Rattle.mg_pages.specs.Parts.{child_seen, children, high_seen}
 use Rattle.mg_pages.proofs.Counts.{count_over}
-use Rattle.mg_pages.proofs.Parts.{mapped_drop, mapped_length}
 use Rattle.mg_pages.proofs.Passed.{run_none, run_passed, run_within}
 use Rattle.mg_pages.proofs.pages.Pages.run_after_some.Goals as goal
 
@@ -15,9 +13,8 @@ returns-then-count-next-clause-run g c =
     let key = g.Q.Probe.against c.args.key.now in
     let next = c.run_after-next.result.now in
     let ys = above key c.args.self.now in
-    let n = mapped_length arc_value next in
-    subst (λ us. IsRun us (drop c.args.count ys)) (sym (ap values (take_rest next c.args.count) ∙ mapped_drop arc_value c.args.count next))
-    (run_within (values next) ys c.args.count c.run_after-next.ensures.run (omega (arith, n, c.if-count-next.true)))
+    subst (λ us. IsRun us (drop c.args.count ys)) (sym (take_rest next c.args.count))
+    (run_within next ys c.args.count c.run_after-next.ensures.run (omega (arith, c.if-count-next.true)))
 
 pub overflow_sub-first : goal.overflow_sub-first
 overflow_sub-first g c =
@@ -40,10 +37,10 @@ returns-then-left-gt0-clause-run g c =
     let place = c.page_among-place.result.1 in
     let first = c.len.result - c.saturating_sub-left.result in
     let seen = ap (λ ps. flat_map (child_seen high_seen) (children ps)) c.deref.ensures.value ∙ c.self.view_is in
-    let it = subst (λ us. IsPageAt (values page) place first us) seen c.page_among-place.ensures in
+    let it = subst (λ us. IsPageAt page place first us) seen c.page_among-place.ensures in
     let n = count_over key xs in
-    subst (λ us. IsRun us (drop c.args.count (above key xs))) (sym (ap values (take_rest page place) ∙ mapped_drop arc_value place page))
-    (run_passed order key (g.met.Q.Probe.probes c.args.key.now) (values page) xs place c.args.count first (subst (Ascends order) c.self.view_is c.self.invariant.sorted)
+    subst (λ us. IsRun us (drop c.args.count (above key xs))) (sym (take_rest page place))
+    (run_passed order key (g.met.Q.Probe.probes c.args.key.now) page xs place c.args.count first (subst (Ascends order) c.self.view_is c.self.invariant.sorted)
     (omega (arith, n, c.len.ensures, c.count_above.ensures, c.saturating_sub-left.ensures)) (omega (arith, c.count_above.ensures, c.saturating_sub-left.ensures, c.if-left-gt0.true)) it)
 
 pub returns-clause-run : goal.returns-clause-run

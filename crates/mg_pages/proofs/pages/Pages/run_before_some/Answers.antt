@@ -1,11 +1,9 @@
-use Rattle.std.proofs.Common.{◌≡◌, ◌-◌, ◌+◌, length, take, arith, ap, sym, ◌∙◌, subst}
-use Rattle.std.specs.Arc.{arc_value}
+use Rattle.std.proofs.Common.{◌≡◌, ◌-◌, ◌+◌, length, take, arith, ap, ◌∙◌, subst}
 use Rattle.std.specs.List.{flat_map}
 use Rattle.mg_pages.specs.Order.{Ascends, below}
 use Rattle.mg_pages.specs.Runs.{IsEndRun, IsPageAt}
-use Rattle.mg_pages.specs.Parts.{child_seen, children, high_seen, values}
+use Rattle.mg_pages.specs.Parts.{child_seen, children, high_seen}
 use Rattle.mg_pages.proofs.Counts.{count_of_below}
-use Rattle.mg_pages.proofs.Parts.{mapped_length, mapped_take}
 use Rattle.mg_pages.proofs.Passed.{end_none, end_passed, end_within}
 use Rattle.mg_pages.proofs.pages.Pages.run_before_some.Goals as goal
 
@@ -13,10 +11,7 @@ pub returns-then-count-next-clause-run : goal.returns-then-count-next-clause-run
 returns-then-count-next-clause-run g c =
     let next = c.run_before-next.result.now in
     let ys = below (g.Q.Probe.against c.args.key.now) c.args.self.now in
-    let n = mapped_length arc_value next in
-    let k : length (values next) - c.args.count ≡ length next - c.args.count = omega (arith, n) in
-    subst (λ us. IsEndRun us (take (length ys - c.args.count) ys)) (ap (λ j. take j (values next)) k ∙ sym (mapped_take arc_value (length next - c.args.count) next))
-    (end_within (values next) ys c.args.count c.run_before-next.ensures.run (omega (arith, n, c.if-count-next.true)))
+    end_within next ys c.args.count c.run_before-next.ensures.run (omega (arith, c.if-count-next.true))
 
 pub page_among-place-requires-clause-within : goal.page_among-place-requires-clause-within
 page_among-place-requires-clause-within g c =
@@ -36,10 +31,9 @@ returns-then-left-gt0-clause-run g c =
     let left = c.saturating_sub-left.result in
     let is : left ≡ length low - c.args.count = omega (arith, c.count_below.ensures, c.saturating_sub-left.ensures) in
     let seen = ap (λ ps. flat_map (child_seen high_seen) (children ps)) c.deref.ensures.value ∙ c.self.view_is in
-    let it = subst (λ us. IsPageAt (values page) place (left - 1) us) seen c.page_among-place.ensures in
-    subst (λ k. IsEndRun (values (take (place + 1) page)) (take k low)) is
-    (subst (λ us. IsEndRun us (take left low)) (sym (mapped_take arc_value (place + 1) page))
-    (end_passed order key (g.met.Q.Probe.probes c.args.key.now) (values page) xs place left (subst (Ascends order) c.self.view_is c.self.invariant.sorted) c.if-left-gt0.true (omega (arith, is)) it))
+    let it = subst (λ us. IsPageAt page place (left - 1) us) seen c.page_among-place.ensures in
+    subst (λ k. IsEndRun (take (place + 1) page) (take k low)) is
+    (end_passed order key (g.met.Q.Probe.probes c.args.key.now) page xs place left (subst (Ascends order) c.self.view_is c.self.invariant.sorted) c.if-left-gt0.true (omega (arith, is)) it)
 
 pub returns-clause-run : goal.returns-clause-run
 returns-clause-run g c =

@@ -5,5 +5,5 @@ use Rattle.mg_rows.proofs.bound.Bound.against.Goals as goal
 
 pub returns-clause-rows : goal.returns-clause-rows
 returns-clause-rows c =
-    bound_rows c.cmp.result c.args.self.now c.as_bytes.result.now c.args.row.now
-    (c.cmp.ensures ∙ ap (λ s. bytes_order s c.as_bytes.result.now) (c.as_slice.ensures.value ∙ c.self.view_is)) c.as_bytes.ensures
+    bound_rows c.cmp.result c.self.inside.bytes.items c.as_bytes.result.now c.self.inside.place c.args.self.now c.args.row.now c.self.view_is
+    (c.cmp.ensures ∙ ap (λ s. bytes_order s c.as_bytes.result.now) c.as_slice.ensures.value) c.as_bytes.ensures.bytes c.as_bytes.ensures.stored

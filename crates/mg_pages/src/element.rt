@@ -1,0 +1,99 @@
+//! What a page holds: elements in themselves, or blocks of memory that several pages share.
+ghost use Rattle.std.specs.Prelude.{◌≡◌, IfOk};
+ghost use Rattle.std.specs.Arc.{arc_value};
+
+use mg_value::NoMemory;
+use std::alloc::{AllocError, Global};
+use std::marker::Model;
+use std::ops::Deref;
+use std::sync::Arc;
+
+/// What stands in a page and can stand in another one too.
+pub trait Element: Drop + Sized {
+    /// The same element once more: a copy of its bytes, or one more owner of its block. Takes no memory.
+    fn again(&self) -> Result<Self, AllocError>
+        ensures { IfOk result (λ e. e ≡ self.now) };
+
+    /// How many owners its block has, read from the block; 1 for an element that has none.
+    fn owners(&self) -> usize {
+        1
+    }
+}
+
+/// A value in a block of memory of its own, which all that have it share.
+#[derive(Drop)]
+pub struct Shared<X: Drop> {
+    arc: Arc<X>,
+}
+
+impl<X: Drop> Model for Shared<X> {
+    ghost use Rattle.std.specs.Arc.{arc_value};
+
+    ghost Value = { X };
+
+    ghost view = { λ s. arc_value s.arc };
+}
+
+impl<X: Drop> Shared<X> {
+    /// The value in a block of its own. Errors: `NoMemory` where the block was refused.
+    pub fn new(alloc: Global, value: X) -> Result<Shared<X>, NoMemory>
+        ensures { IfOk result (λ s. s ≡ value) }
+    {
+        let arc = Arc::new(alloc, value)?;
+        Ok(Shared { arc })
+    }
+
+    /// The value. Takes no memory.
+    pub fn get(&self) -> &X
+        ensures { result.now ≡ self.now }
+    {
+        &self.arc
+    }
+}
+
+impl<X: Drop> Element for Shared<X> {
+    fn again(&self) -> Result<Shared<X>, AllocError> {
+        let arc = self.arc.clone()?;
+        Ok(Shared { arc })
+    }
+
+    fn owners(&self) -> usize {
+        Arc::strong_count(&self.arc)
+    }
+}
+
+impl<X: Drop> Deref for Shared<X> {
+    type Target = X;
+
+    ghost deref_gives = { λ s x. x ≡ s };
+
+    fn deref(&self) -> &X
+        ensures { result.now ≡ self.now }
+    {
+        &self.arc
+    }
+}
+
+/// How many owners elements have in all, wrapped at 64 bits. A count that goes up or down waits until its block has come
+/// from memory, and the next one waits for it; counts that are only read are fetched side by side. So what is copied or dropped
+/// is looked at first.
+pub fn owners_of<T: Element>(elements: &[T]) -> usize {
+    let mut owners = 0usize;
+    for element in elements {
+        owners = owners.wrapping_add(element.owners());
+    }
+    owners
+}
+
+/// The same elements once more, with room for one more.
+pub fn copied<T: Element>(alloc: Global, elements: &[T]) -> Result<Vec<T>, AllocError>
+    ensures { IfOk result (λ v. v.items ≡ elements.now) }
+{
+    let mut copies = Vec::with_capacity(alloc, elements.len().saturating_add(1))?;
+    let _ = owners_of(elements);
+    for element in elements {
+        let own = element.again()?;
+        copies.push(own)?;
+    }
+    Ok(copies)
+}

@@ -1,0 +1,36 @@
+//! Rows as what pages hold.
+use crate::hint::row_hint;
+use crate::row::RowBytes;
+use mg_pages::{Element, Keyed};
+use mg_value::NoMemory;
+use std::alloc::AllocError;
+use std::cmp::Ordering;
+
+impl Element for RowBytes {
+    fn again(&self) -> Result<RowBytes, AllocError> {
+        match RowBytes::again(self) {
+            Ok(row) => Ok(row),
+            Err(NoMemory) => Err(AllocError),
+        }
+    }
+
+    fn owners(&self) -> usize {
+        self.sharers()
+    }
+}
+
+impl Keyed for RowBytes {
+    ghost use Rattle.mg_collate.specs.Row.{row_value_order, row_value_order_total};
+
+    ghost order = { row_value_order };
+
+    ghost total = { row_value_order_total };
+
+    fn hint(&self) -> u64 {
+        row_hint(self.as_bytes())
+    }
+
+    fn order(&self, other: &RowBytes) -> Ordering {
+        self.compare(other)
+    }
+}

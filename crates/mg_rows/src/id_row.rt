@@ -1,0 +1,59 @@
+// The row that an id has among all documents, against bytes: its key is the id alone.
+ghost use Rattle.std.specs.Prelude.{◌≡◌, ◌∷◌};
+ghost use Rattle.mg_value.specs.Value.{no_items, item, text as text_value};
+ghost use Rattle.mg_rows.specs.Bytes.{bytes_order, text_before, row_bytes};
+
+use std::cmp::Ordering;
+
+// The type of a string.
+const TEXT: u8 = 5;
+
+/// The order of bytes and those of the row that the id has. Takes no memory.
+pub(crate) fn against_id_row(bytes: &[u8], id: &str) -> Ordering
+    ensures { result ≡ bytes_order bytes.now (row_bytes (item (text_value id.now) no_items, id.now)) }
+{
+    let Some((tag, after)) = bytes.split_first() else {
+        return Ordering::Less;
+    };
+    match tag.cmp(&TEXT) {
+        Ordering::Equal => against_id(after, id),
+        order => order,
+    }
+}
+
+// The same from behind the type of the string.
+fn against_id(bytes: &[u8], id: &str) -> Ordering
+    ensures { result ≡ bytes_order bytes.now (text_before id.now (0 ∷ id.now)) }
+{
+    let mut left = bytes;
+    for byte in id.as_bytes() {
+        let Some((first, after)) = left.split_first() else {
+            return Ordering::Less;
+        };
+        let order = first.cmp(&(*byte + 1));
+        if order != Ordering::Equal {
+            return order;
+        }
+        left = after;
+    }
+    against_end(left, id)
+}
+
+// The same from behind the bytes of the string.
+fn against_end(bytes: &[u8], id: &str) -> Ordering
+    ensures { result ≡ bytes_order bytes.now (0 ∷ 0 ∷ id.now) }
+{
+    let Some((text_end, after)) = bytes.split_first() else {
+        return Ordering::Less;
+    };
+    if *text_end != 0 {
+        return Ordering::Greater;
+    }
+    let Some((key_end, rest)) = after.split_first() else {
+        return Ordering::Less;
+    };
+    if *key_end != 0 {
+        return Ordering::Greater;
+    }
+    rest.cmp(id.as_bytes())
+}

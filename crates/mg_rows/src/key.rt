@@ -1,0 +1,83 @@
+use crate::bound::Bound;
+use crate::edge::Edge;
+use crate::row::RowBytes;
+use crate::write::write_column;
+use mg_value::{Json, NoMemory};
+use std::alloc::Global;
+use std::marker::Model;
+
+ghost use Rattle.mg_rows.specs.Only.{KeyOf, KeyOf-prop};
+
+/// The bytes of a key that is put together, column by column, and made into rows. Contracts see its columns.
+///
+/// It is a scratch: it keeps its room when it is cleared, so that rows one after another take no memory for their
+/// keys.
+#[derive(Drop)]
+pub struct KeyBytes {
+    bytes: Vec<u8>,
+    ghost key: { KeyOf bytes.items } by { KeyOf-prop bytes.items },
+}
+
+impl Model for KeyBytes {
+    ghost use Rattle.mg_value.specs.Value.{Items};
+    ghost use Rattle.mg_rows.specs.Code.{items_code};
+
+    ghost Value = { Items };
+
+    ghost coded = { items_code };
+
+    ghost view = { λ k. k.key.0 };
+}
+
+impl KeyBytes {
+    ghost use Rattle.std.specs.Prelude.{◌≡◌, IfOk, OnOk, OnErr};
+    ghost use Rattle.mg_value.specs.Value.{no_items, item};
+    ghost use Rattle.mg_value.specs.View.{view};
+    ghost use Rattle.mg_rows.specs.Laws.{joined_items};
+
+    /// A key with no columns. Takes no memory.
+    pub fn new(alloc: Global) -> KeyBytes
+        ensures { result ≡ no_items }
+    {
+        KeyBytes {
+            bytes: Vec::new(alloc),
+        }
+    }
+
+    /// Takes out all columns. The room stays.
+    pub fn clear(&mut self)
+        ensures { self.new ≡ no_items }
+    {
+        self.bytes.clear();
+    }
+
+    /// Puts a column behind the others.
+    ///
+    /// Errors: `NoMemory` where a growth was refused; then the key has no columns. Cost: the size of the value.
+    pub fn push(&mut self, column: &Json) -> Result<(), NoMemory>
+        ensures pushed { OnOk result
+            (self.new ≡ joined_items self.old (item (view column.now) no_items)) }
+        ensures refused { OnErr result (self.new ≡ no_items) }
+    {
+        write_column(column, &mut self.bytes)?;
+        Ok(())
+    }
+
+    /// The row of the key and the id of its document. A row of up to 45 bytes takes no memory.
+    ///
+    /// Errors: `NoMemory` where a growth was refused. Cost: the size of the key and the id.
+    pub fn row(&self, alloc: Global, id: &str) -> Result<RowBytes, NoMemory>
+        ensures { IfOk result (λ row. row ≡ (self.now, id.now)) }
+    {
+        RowBytes::of_columns(alloc, self.bytes.as_slice(), id)
+    }
+
+    /// The place before or after all rows whose key begins with these columns.
+    ///
+    /// Errors: `NoMemory` where a growth was refused. Cost: the size of the key.
+    pub fn bound(&self, alloc: Global, edge: Edge) -> Result<Bound, NoMemory>
+        ensures { IfOk result (λ bound. bound ≡ (edge, self.now)) }
+    {
+        Bound::of_columns(alloc, self.bytes.as_slice(), edge)
+    }
+}
