@@ -7,7 +7,7 @@ use Rattle.mg_value.specs.Value.{Value, Items, no_items, item}
 use Rattle.mg_value.specs.View.{items_of, items_view, view}
 use Rattle.mg_value.specs.declared.value.Json.{Json}
 
-joined_none : (vs : Items) → joined_items vs no_items ≡ vs
+pub joined_none : (vs : Items) → joined_items vs no_items ≡ vs
 joined_none no_items = refl
 joined_none (item v vs) = ap (item v) (joined_none vs)
 
@@ -39,12 +39,7 @@ none_left (v ∷ values) (suc i) e = none_left values i (omega (arith, e))
 pub all_pushed : (all key : Items) (values : List Json) (i : ℕ) → i ≡ length values → joined_items key (items_view (drop i values)) ≡ all → key ≡ all
 all_pushed all key values i e sum = sym (joined_none key) ∙ ap (joined_items key) (sym (none_left values i e)) ∙ sum
 
--- the values of an end with no limit
-pub end_alone : (equal : List Value) → end_values equal None ≡ items_of equal
-end_alone [] = refl
-end_alone (e ∷ es) = ap (item e) (end_alone es)
-
--- and with one
-pub end_limit : (equal : List Value) (l : Limit) → end_values equal (Some l) ≡ joined_items (items_of equal) (item l.value no_items)
-end_limit [] l = refl
-end_limit (e ∷ es) l = ap (item e) (end_limit es l)
+-- the values of an end are the fixed ones and then that of the limit
+pub end_joined : (equal : List Value) (limit : Option Limit) → joined_items (items_of equal) (end_values [] limit) ≡ end_values equal limit
+end_joined [] limit = refl
+end_joined (e ∷ es) limit = ap (item e) (end_joined es limit)

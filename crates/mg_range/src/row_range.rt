@@ -1,5 +1,5 @@
 //! Key ranges against rows that stand as bytes.
-ghost use Rattle.std.specs.Prelude.{◌≡◌, IfOk, OnOk, map, option_map};
+ghost use Rattle.std.specs.Prelude.{◌≡◌, [], IfOk, OnOk, map, option_map};
 ghost use Rattle.std.specs.Ordering.{is_gt, is_lt};
 ghost use Rattle.mg_value.specs.Value.{item_list};
 ghost use Rattle.mg_value.specs.View.{items_view, view as json_view};
@@ -178,9 +178,7 @@ fn end_at(
 {
     let mut key = KeyBytes::new(alloc);
     push_all(&mut key, equal)?;
-    if let Some(limit) = limit {
-        key.push(&limit.value)?;
-    }
+    push_limit(&mut key, limit)?;
     Ok(key.bound(alloc, edge)?)
 }
 
@@ -194,12 +192,30 @@ fn push_all(key: &mut KeyBytes, values: &[Json]) -> Result<(), NoMemory>
     Ok(())
 }
 
+// Puts the value of a limit there, if there is one.
+fn push_limit(key: &mut KeyBytes, limit: Option<&Limit>) -> Result<(), NoMemory>
+    ensures { OnOk result (key.new
+        ≡ joined_items key.old (end_values [] (option_map (λ l. limit_seen l.now) limit.entry))) }
+{
+    match limit {
+        Some(limit) => {
+            key.push(&limit.value)?;
+            Ok(())
+        }
+        None => Ok(()),
+    }
+}
+
 // The side of the low end.
 fn low_edge(limit: Option<&Limit>) -> Edge
     ensures { result ≡ low_side (option_map (λ l. limit_seen l.now) limit.entry) }
 {
     match limit {
-        Some(limit) => if limit.inclusive { Edge::Before } else { Edge::After },
+        Some(limit) => if limit.inclusive {
+            Edge::Before
+        } else {
+            Edge::After
+        },
         None => Edge::Before,
     }
 }
@@ -209,7 +225,11 @@ fn high_edge(limit: Option<&Limit>) -> Edge
     ensures { result ≡ high_side (option_map (λ l. limit_seen l.now) limit.entry) }
 {
     match limit {
-        Some(limit) => if limit.inclusive { Edge::After } else { Edge::Before },
+        Some(limit) => if limit.inclusive {
+            Edge::After
+        } else {
+            Edge::Before
+        },
         None => Edge::After,
     }
 }
