@@ -14,7 +14,6 @@ use Rattle.mg_index.specs.Definition.{IndexDefinition}
 use Rattle.mg_index.proofs.Catalogs.{IsCatalog-with, IsCatalog-without}
 use Rattle.mg_pages.specs.Order.{above, below, inserted}
 use Rattle.mg_pages.proofs.Sorted.{above_of_above, below_of_above}
-use Rattle.mg_collate.specs.Row.{rows_view}
 use Rattle.mg_shard.specs.Documents.{KeptDocuments, docs_of}
 use Rattle.mg_shard.specs.Rows.{rows_of}
 use Rattle.mg_shard.proofs.Shown.{bytes_cmp, bytes_exact}
@@ -233,25 +232,25 @@ without_index_sound ds ddoc name xs a = record {
 -- ---- looked up by name
 
 found_here : (ds : KeptDocuments) (b : Bool) (x : Index) (o : Option Index) (p : Option IndexDefinition) → HasRows ds x
-    → option_map (λ y. rows_view y.1) o ≡ option_map (λ d. rows_of d.columns (docs_of ds)) p
-    → option_map (λ y. rows_view y.1) (cond b (Some x) o) ≡ option_map (λ d. rows_of d.columns (docs_of ds)) (cond b (Some x.0) p)
+    → option_map (λ y. y.1) o ≡ option_map (λ d. rows_of d.columns (docs_of ds)) p
+    → option_map (λ y. y.1) (cond b (Some x) o) ≡ option_map (λ d. rows_of d.columns (docs_of ds)) (cond b (Some x.0) p)
 found_here ds true x o p has e = ap Some has
 found_here ds false x o p has e = e
 
 -- the rows that are kept of the index of a name are those from scratch
 pub rows_found : (ds : KeptDocuments) (ddoc name : List ℕ) (xs : List Index) → AllByRecursion (HasRows ds) xs
-    → option_map (λ x. rows_view x.1) (find (λ x. is_at ddoc name x.0) xs) ≡ option_map (λ d. rows_of d.columns (docs_of ds)) (definition_at ddoc name (definitions_of xs))
+    → option_map (λ x. x.1) (find (λ x. is_at ddoc name x.0) xs) ≡ option_map (λ d. rows_of d.columns (docs_of ds)) (definition_at ddoc name (definitions_of xs))
 rows_found ds ddoc name [] h = refl
 rows_found ds ddoc name (x ∷ xs) h = found_here ds (is_at ddoc name x.0) x _ _ h.0 (rows_found ds ddoc name xs h.1)
 
-found_seen : (b : Bool) (x : IndexRows) (o : Option IndexRows) (p : Option Index) → option_map (λ y. rows_view (arc_value y.rows)) o ≡ option_map (λ y. rows_view y.1) p
-    → option_map (λ y. rows_view (arc_value y.rows)) (cond b (Some x) o) ≡ option_map (λ y. rows_view y.1) (cond b (Some (index_seen x)) p)
+found_seen : (b : Bool) (x : IndexRows) (o : Option IndexRows) (p : Option Index) → option_map (λ y. arc_value y.rows) o ≡ option_map (λ y. y.1) p
+    → option_map (λ y. arc_value y.rows) (cond b (Some x) o) ≡ option_map (λ y. y.1) (cond b (Some (index_seen x)) p)
 found_seen true x o p e = refl
 found_seen false x o p e = e
 
 -- what is found among the indexes of the code
 pub rows_seen : (ddoc name : List ℕ) (xs : List IndexRows)
-    → option_map (λ x. rows_view (arc_value x.rows)) (find (λ x. is_at ddoc name (arc_value x.definition)) xs) ≡ option_map (λ x. rows_view x.1) (find (λ x. is_at ddoc name x.0) (indexes_seen xs))
+    → option_map (λ x. arc_value x.rows) (find (λ x. is_at ddoc name (arc_value x.definition)) xs) ≡ option_map (λ x. x.1) (find (λ x. is_at ddoc name x.0) (indexes_seen xs))
 rows_seen ddoc name [] = refl
 rows_seen ddoc name (x ∷ xs) = found_seen (is_at ddoc name (arc_value x.definition)) x _ _ (rows_seen ddoc name xs)
 
@@ -283,7 +282,7 @@ twice_mapped f g (Some x) = refl
 
 -- the rows of the index of a name that is found among those of the code
 pub rows_named : (ds : KeptDocuments) (ddoc name : List ℕ) (xs ys : List IndexRows) → ys ≡ xs → AllByRecursion (HasRows ds) (indexes_seen xs)
-    → option_map (λ x. rows_view (arc_value x.rows)) (find (λ x. is_at ddoc name (arc_value x.definition)) ys) ≡ option_map (λ d. rows_of d.columns (docs_of ds)) (definition_at ddoc name (definitions_of (indexes_seen xs)))
+    → option_map (λ x. arc_value x.rows) (find (λ x. is_at ddoc name (arc_value x.definition)) ys) ≡ option_map (λ d. rows_of d.columns (docs_of ds)) (definition_at ddoc name (definitions_of (indexes_seen xs)))
 rows_named ds ddoc name xs ys same has =
-    ap (λ (zs : List IndexRows). option_map (λ (x : IndexRows). rows_view (arc_value x.rows)) (find (λ x. is_at ddoc name (arc_value x.definition)) zs)) same
+    ap (λ (zs : List IndexRows). option_map (λ (x : IndexRows). arc_value x.rows) (find (λ x. is_at ddoc name (arc_value x.definition)) zs)) same
     ∙ rows_seen ddoc name xs ∙ rows_found ds ddoc name (indexes_seen xs) has

@@ -1,26 +1,21 @@
 -- Keys of rows while they are made.
 use Rattle.std.proofs.Common.{◌≡◌, ℕ, zero, suc, arith, take, ◌+◌, ◌<◌, List, [], ◌∷◌, ◌++◌, Option, Some, None, option_map, length, get_or, drop, drop-cons, add-one, refl, ap, sym, ◌∙◌}
 use Rattle.mg_value.specs.Value.{Value, Items, no_items, item}
-use Rattle.mg_value.specs.View.{items_view, view}
-use Rattle.mg_value.specs.declared.value.Json.{Json}
+use Rattle.mg_rows.specs.Laws.{joined_items}
 
--- values before others
-abbrev pub key_before : List Json → Items → Items
-key_before [] vs = vs
-key_before (x ∷ xs) vs = item (view x) (key_before xs vs)
+-- one more item before others
+pub joined-more : (xs : Items) (w : Value) (vs : Items) → joined_items (joined_items xs (item w no_items)) vs ≡ joined_items xs (item w vs)
+joined-more no_items w vs = refl
+joined-more (item x xs) w vs = ap (item x) (joined-more xs w vs)
 
-pub key_before-push : (xs : List Json) (x : Json) (vs : Items) → key_before (xs ++ x ∷ []) vs ≡ key_before xs (item (view x) vs)
-key_before-push [] x vs = refl
-key_before-push (y ∷ xs) x vs = ap (item (view y)) (key_before-push xs x vs)
+pub joined-none : (xs : Items) → joined_items xs no_items ≡ xs
+joined-none no_items = refl
+joined-none (item x xs) = ap (item x) (joined-none xs)
 
-pub key_before-none : (xs : List Json) → key_before xs no_items ≡ items_view xs
-key_before-none [] = refl
-key_before-none (x ∷ xs) = ap (item (view x)) (key_before-none xs)
-
--- one more value before others
-pub key_more : (xs : List Json) (x : Json) (w : Value) (o : Option Items) → view x ≡ w → option_map (key_before xs) (option_map (item w) o) ≡ option_map (key_before (xs ++ x ∷ [])) o
-key_more xs x w None e = refl
-key_more xs x w (Some vs) e = ap Some (ap (λ v. key_before xs (item v vs)) (sym e) ∙ sym (key_before-push xs x vs))
+-- one more value before others that may be there
+pub key_more : (xs : Items) (w : Value) (o : Option Items) → option_map (joined_items xs) (option_map (item w) o) ≡ option_map (joined_items (joined_items xs (item w no_items))) o
+key_more xs w None = refl
+key_more xs w (Some vs) = ap Some (sym (joined-more xs w vs))
 
 -- what is left from an item on begins with the item
 pub drop_item : {A : Type 0} (xs : List A) (i : ℕ) (x : A) → i < length xs → x ≡ get_or xs i x → drop i xs ≡ x ∷ drop (i + 1) xs

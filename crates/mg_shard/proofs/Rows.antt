@@ -1,7 +1,5 @@
 -- Rows of an index: a list in order without ties is known by the rows that stand in it, and which these are is known id by id.
 use lib.Dec.{T}
-use Rattle.std.proofs.Common.{reverse}
-use Rattle.std.proofs.lemmas.List.{reverse-append}
 use Rattle.std.proofs.Common.{◌≡◌, ℕ, ◌+◌, ◌≤◌, Bool, true, false, ◌&&◌, List, [], ◌∷◌, ◌++◌, Ordering, Less, Equal, Greater, Option, Some, None, option_map, option_and_then, cond, is_eq, is_lt, is_gt, refl, ap, ap₂, sym, subst, ◌∙◌, arith}
 use Rattle.std.proofs.lemmas.Cmp.{nat_list_cmp_total, tied_itself}
 use Rattle.std.specs.List.{AllByRecursion, cons_option, filter, filter_map}
@@ -12,8 +10,7 @@ use Rattle.mg_value.specs.Value.{Items, Value}
 use Rattle.std.specs.List.Sorted.{IsPermutation, IsSorted}
 use Rattle.std.proofs.lemmas.List.Recursion.{is_count_by}
 use Rattle.std.proofs.lemmas.List.Sorted.{sum_by-IsPermutation}
-use Rattle.mg_collate.specs.Row.{RowValue, row_order, row_order_total, row_value_order, row_value_order_total, row_view, rows_view}
-use Rattle.mg_collate.specs.declared.row.Row.{Row}
+use Rattle.mg_collate.specs.Row.{RowValue, row_value_order, row_value_order_total}
 use Rattle.mg_collate.specs.Sorted.{sorted}
 use Rattle.mg_collate.proofs.Sorting.{NoneBelow, Rises, permutation_sorted, rises, rises_sorted, same_list, times, times_permutation}
 use Rattle.mg_collate.proofs.Ties.{same_rows}
@@ -99,38 +96,14 @@ count-removed z r rows =
     ∙ taken (row_value_order r z) (count z rows)
     ∙ ap (λ o. cond (is_eq o) 0 (count z rows)) (sym turned)
 
--- ---- rows of the code
-
-view_step : (b : Bool) (r : Row) (rows : List Row) → rows_view (cond b (r ∷ rows) rows) ≡ cond b (row_view r ∷ rows_view rows) (rows_view rows)
-view_step true r rows = refl
-view_step false r rows = refl
-
-pub view-where : (p : RowValue → Bool) (rows : List Row) → rows_view (filter (λ r. p (row_view r)) rows) ≡ filter p (rows_view rows)
-view-where p [] = refl
-view-where p (r ∷ rows) = view_step (p (row_view r)) r (filter (λ x. p (row_view x)) rows) ∙ ap (λ rs. cond (p (row_view r)) (row_view r ∷ rs) rs) (view-where p rows)
-
-pub view-append : (rows more : List Row) → rows_view (rows ++ more) ≡ rows_view rows ++ rows_view more
-view-append [] more = refl
-view-append (r ∷ rows) more = ap (λ rs. row_view r ∷ rs) (view-append rows more)
-
-pub view-inserted : (r : Row) (rows : List Row) → rows_view (inserted row_order r rows) ≡ inserted row_value_order (row_view r) (rows_view rows)
-view-inserted r rows =
-    view-append (below (row_order r) rows) (r ∷ above (row_order r) rows)
-    ∙ ap₂ (λ a b. a ++ row_view r ∷ b) (view-where (λ x. is_gt (row_value_order (row_view r) x)) rows) (view-where (λ x. is_lt (row_value_order (row_view r) x)) rows)
-
--- rows without one that ties with a place
-pub view-taken : (place : RowValue) (rows : List Row) → rows_view (removed (λ x. row_value_order place (row_view x)) rows) ≡ removed (row_value_order place) (rows_view rows)
-view-taken place rows =
-    view-append (below (λ x. row_value_order place (row_view x)) rows) (above (λ x. row_value_order place (row_view x)) rows)
-    ∙ ap₂ (λ a b. a ++ b) (view-where (λ x. is_gt (row_value_order place x)) rows) (view-where (λ x. is_lt (row_value_order place x)) rows)
-
-none_below : (r : Row) (rows : List Row) → AllByRecursion (λ x. row_order r x ≡ Less) rows → NoneBelow row_value_order (row_view r) (rows_view rows)
+none_below : (r : RowValue) (rows : List RowValue) → AllByRecursion (λ x. row_value_order r x ≡ Less) rows → NoneBelow row_value_order r rows
 none_below r [] h = tt
 none_below r (x ∷ rows) h = (ap is_gt h.0, none_below r rows h.1)
 
-pub view_rises : (rows : List Row) → Ascends row_order rows → Rises row_value_order (rows_view rows)
-view_rises [] h = tt
-view_rises (r ∷ rows) h = (none_below r rows h.0, view_rises rows h.1)
+-- rows each of which is below all that come after it are in order
+pub ascends_rises : (rows : List RowValue) → Ascends row_value_order rows → Rises row_value_order rows
+ascends_rises [] h = tt
+ascends_rises (r ∷ rows) h = (none_below r rows h.0, ascends_rises rows h.1)
 
 -- ---- the rows of documents
 
@@ -326,12 +299,6 @@ pub own_at : (columns : List Steps) (id : List ℕ) (o : Option Kept) → own_ro
 own_at columns id None = refl
 own_at columns id (Some d) = refl
 
--- rows from the last to the first
-pub view-reverse : (rows : List Row) → rows_view (reverse rows) ≡ reverse (rows_view rows)
-view-reverse [] = refl
-view-reverse (r ∷ rows) =
-    ap rows_view (reverse-append (r ∷ []) rows) ∙ view-append (reverse rows) (r ∷ []) ∙ ap (λ xs. xs ++ row_view r ∷ []) (view-reverse rows) ∙ sym (reverse-append (row_view r ∷ []) (rows_view rows))
-
 -- ---- rows of which some are left out
 
 all_where : {X : Type 0} (P : X → Type 0) (p : X → Bool) (xs : List X) → AllByRecursion P xs → AllByRecursion P (filter p xs)
@@ -357,21 +324,14 @@ sorted-where p rows =
     (λ z. count-where p z (sorted row_value_order rows)
     ∙ ap (λ n. cond (p z) n 0) (times_permutation row_value_order z rows (sorted row_value_order rows) (permutation_sorted row_value_order rows)) ∙ sym (count-where p z rows)))
 
--- ---- rows of the code that are sorted
+-- ---- rows that are sorted
 
-sorted_rises : (rows : List Row) → Rises row_order rows → Rises row_value_order (rows_view rows)
-sorted_rises [] h = tt
-sorted_rises (r ∷ rows) h = (none rows h.0, sorted_rises rows h.1)
-  where
-    none : (xs : List Row) → NoneBelow row_order r xs → NoneBelow row_value_order (row_view r) (rows_view xs)
-    none [] k = tt
-    none (x ∷ xs) k = (k.0, none xs k.1)
-
-pub sorted_code : (old new : List Row) → IsPermutation old new → IsSorted row_order new → rows_view new ≡ sorted row_value_order (rows_view old)
-sorted_code old new same order =
-    sorted_is (rows_view new) (rows_view old) (sorted_rises new (rises row_order row_order_total new order)) (λ z.
-    let counted = is_count_by (λ (rows : List Row). count z (rows_view rows)) (λ r. is_eq (row_value_order z (row_view r))) refl (λ _ _. refl) in
-    counted new ∙ sum_by-IsPermutation (λ r. cond (is_eq (row_value_order z (row_view r))) 1 0) old new same ∙ sym (counted old))
+-- what is in order and has the same rows is the list sorted
+pub put_in_order : (old new : List RowValue) → IsPermutation old new → IsSorted row_value_order new → new ≡ sorted row_value_order old
+put_in_order old new same order =
+    sorted_is new old (rises row_value_order row_value_order_total new order) (λ z.
+    let counted = is_count_by (λ (rows : List RowValue). count z rows) (λ r. is_eq (row_value_order z r)) refl (λ _ _. refl) in
+    counted new ∙ sum_by-IsPermutation (λ r. cond (is_eq (row_value_order z r)) 1 0) old new same ∙ sym (counted old))
 
 -- ---- rows in order of which each stands once
 
@@ -381,27 +341,26 @@ strictly Less n h e = (refl, e)
 strictly Equal n h e = absurd (omega (arith, e))
 strictly Greater n h e = absurd cc
 
-below_others : (z : RowValue) (rows : List Row) → NoneBelow row_value_order z (rows_view rows) → count z (rows_view rows) ≡ 0 → AllByRecursion (λ x. row_value_order z (row_view x) ≡ Less) rows
+below_others : (z : RowValue) (rows : List RowValue) → NoneBelow row_value_order z rows → count z rows ≡ 0 → AllByRecursion (λ x. row_value_order z x ≡ Less) rows
 below_others z [] h e = tt
-below_others z (x ∷ rows) h e = let both = strictly (row_value_order z (row_view x)) (count z (rows_view rows)) h.0 e in (both.0, below_others z rows h.1 both.1)
+below_others z (x ∷ rows) h e = let both = strictly (row_value_order z x) (count z rows) h.0 e in (both.0, below_others z rows h.1 both.1)
 
 no_other : (o : Ordering) (n : ℕ) → o ≡ Equal → cond (is_eq o) (1 + n) n ≤ 1 → n ≡ 0
 no_other Less n e h = absurd cc
 no_other Equal n e h = omega (arith, h)
 no_other Greater n e h = absurd cc
 
-rises_strictly : (rows : List Row) → Rises row_value_order (rows_view rows) → ((z : RowValue) → count z (rows_view rows) ≤ 1) → Ascends row_order rows
+rises_strictly : (rows : List RowValue) → Rises row_value_order rows → ((z : RowValue) → count z rows ≤ 1) → Ascends row_value_order rows
 rises_strictly [] h once = tt
 rises_strictly (r ∷ rows) h once = (
-  below_others (row_view r) rows h.0
-      (no_other (row_value_order (row_view r) (row_view r)) (count (row_view r) (rows_view rows)) (tied_itself row_value_order_total (row_view r)) (once (row_view r))),
-  rises_strictly rows h.1 (λ z. let all = once z in let one = count-cons z (row_view r) (rows_view rows) in omega (arith, all, one)),
+  below_others r rows h.0 (no_other (row_value_order r r) (count r rows) (tied_itself row_value_order_total r) (once r)),
+  rises_strictly rows h.1 (λ z. let all = once z in let one = count-cons z r rows in omega (arith, all, one)),
 )
 
 -- rows that stand once each ascend when they are sorted
-pub sorted_ascends : (old new : List Row) → rows_view new ≡ sorted row_value_order (rows_view old) → ((z : RowValue) → count z (rows_view old) ≤ 1) → Ascends row_order new
+pub sorted_ascends : (old new : List RowValue) → new ≡ sorted row_value_order old → ((z : RowValue) → count z old ≤ 1) → Ascends row_value_order new
 sorted_ascends old new is once =
-    rises_strictly new (subst (Rises row_value_order) (sym is) (rises_sorted row_value_order row_value_order_total (rows_view old))) (λ z.
-    let same : count z (rows_view new) ≡ count z (rows_view old) =
-    ap (count z) is ∙ times_permutation row_value_order z (rows_view old) (sorted row_value_order (rows_view old)) (permutation_sorted row_value_order (rows_view old)) in
+    rises_strictly new (subst (Rises row_value_order) (sym is) (rises_sorted row_value_order row_value_order_total old)) (λ z.
+    let same : count z new ≡ count z old =
+    ap (count z) is ∙ times_permutation row_value_order z old (sorted row_value_order old) (permutation_sorted row_value_order old) in
     let few = once z in omega (arith, same, few))

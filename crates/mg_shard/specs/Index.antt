@@ -2,8 +2,7 @@
 use Rattle.std.specs.Prelude.{◌≡◌, List, map}
 use Rattle.std.specs.Arc.{arc_value}
 use Rattle.std.specs.List.{AllByRecursion}
-use Rattle.mg_collate.specs.Row.{rows_view}
-use Rattle.mg_collate.specs.declared.row.Row.{Row}
+use Rattle.mg_collate.specs.Row.{RowValue}
 use Rattle.mg_index.specs.Catalog.{IsCatalog}
 use Rattle.mg_index.specs.Definition.{IndexDefinition}
 use Rattle.mg_shard.specs.Documents.{KeptDocuments, docs_of}
@@ -12,7 +11,7 @@ use Rattle.mg_shard.specs.declared.index.IndexRows.{IndexRows}
 
 -- an index: its definition, and the rows that are kept
 abbrev pub Index : Type 0
-Index = IndexDefinition × List Row
+Index = IndexDefinition × List RowValue
 
 -- an index of the code
 abbrev pub index_seen : IndexRows → Index
@@ -28,7 +27,7 @@ definitions_of xs = map (λ x. x.0) xs
 
 -- the rows that are kept are the rows from scratch of the served documents
 abbrev pub HasRows : KeptDocuments → Index → Type 0
-HasRows ds x = rows_view x.1 ≡ rows_of x.0.columns (docs_of ds)
+HasRows ds x = x.1 ≡ rows_of x.0.columns (docs_of ds)
 
 -- each index has its rows, and each design document and name stands once, in the order of a catalog
 pub record AreIndexes (ds : KeptDocuments) (xs : List Index) : Type 0 where

@@ -1,5 +1,5 @@
 -- For private clauses: how the rows of an index are mended where a document changes.
-use Rattle.std.specs.Prelude.{ℕ, List, Option, Some, None, option_and_then, option_map}
+use Rattle.std.specs.Prelude.{◌≡◌, ℕ, List, Option, Some, None, option_and_then, option_map}
 use Rattle.mg_value.specs.Value.{Value}
 use Rattle.mg_collate.specs.Row.{RowValue, row_value_order}
 use Rattle.mg_index.specs.Definition.{Steps}
@@ -9,6 +9,10 @@ use Rattle.mg_shard.specs.Rows.{row_of}
 -- the row of an id and the form in which its document is served, if it is and has every column
 abbrev pub own_row : List Steps → List ℕ → Option Value → Option RowValue
 own_row columns id form = option_and_then (row_of columns) (option_map (λ v. (id, v)) form)
+
+-- a document has the same row with both forms, or none with either
+abbrev pub HaveSameRow : List Steps → Option Value → Option Value → Type 0
+HaveSameRow columns form other = (id : List ℕ) → own_row columns id form ≡ own_row columns id other
 
 -- rows without one of them, if one is to be taken
 abbrev pub without_row : Option RowValue → List RowValue → List RowValue

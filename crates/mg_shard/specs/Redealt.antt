@@ -1,10 +1,7 @@
 -- The documents of some shards, dealt to others by a placement of their ids.
 use denote.Ref.{Bor}
 use Rattle.std.specs.Prelude.{◌≡◌, ℕ, ◌<◌, ◌==◌, List, [], ◌∷◌, length, map, cond, Option, Some, None, slice_get}
-use Rattle.std.specs.Arc.{arc_value}
 use Rattle.std.specs.Cmp.Lexicographic.{slice_cmp}
-use Rattle.std.specs.declared.alloc.Global.{Global}
-use Rattle.std.specs.declared.sync.Arc.{Arc}
 use Rattle.std.specs.FinMap.{get}
 use Rattle.std.specs.List.{AllZip}
 use Rattle.std.specs.Option.{option_or}
@@ -34,8 +31,8 @@ pub record AreRedealt (place : Placing) (from to : List KeptDocuments) : Type 0 
 -- ---- for private clauses
 
 -- documents that are lent
-abbrev pub documents_seen : List (Bor (Arc Document Global)) → List Document
-documents_seen documents = map (λ d. arc_value d.now) documents
+abbrev pub documents_seen : List (Bor Document) → List Document
+documents_seen documents = map (λ d. d.now) documents
 
 -- what is kept of an id by these documents: where several have it, by the last
 abbrev pub last_kept : List Document → List ℕ → Option Kept

@@ -8,11 +8,10 @@ ghost use Rattle.mg_shard.specs.Own.{IsServedOwn, IsServedOwn-prop};
 
 use crate::served::Served;
 use mg_doc::served;
-use mg_pages::{Keyed, Probe, text_hint};
+use mg_pages::Identified;
 use mg_revtree::RevTree;
 use mg_value::{Json, NoMemory};
 use std::alloc::Global;
-use std::cmp::Ordering;
 use std::slice;
 
 /// A document: its id, its revision tree, and the form in which it is served, if it is not deleted.
@@ -24,37 +23,13 @@ pub struct Document {
     ghost own_id: { IsServedOwn (string_bytes id) served } by { IsServedOwn-prop (string_bytes id) served },
 }
 
-impl Keyed for Document {
-    ghost use Rattle.mg_pages.specs.Identified.{id_order, id_order_total};
+impl Identified for Document {
     ghost use Rattle.mg_shard.specs.Documents.{id_of};
 
-    ghost order = { id_order id_of };
+    ghost id = { id_of };
 
-    ghost total = { id_order_total id_of };
-
-    fn hint(&self) -> u64 {
-        text_hint(self.id.as_str())
-    }
-
-    fn order(&self, other: &Document) -> Ordering {
-        self.id.as_str().cmp(other.id.as_str())
-    }
-}
-
-impl<'a> Probe<Document> for &'a str {
-    ghost use Rattle.mg_pages.specs.Identified.{id_against, id_probes};
-    ghost use Rattle.mg_shard.specs.Documents.{id_of};
-
-    ghost against = { λ key d. id_against id_of key.now d };
-
-    ghost probes = { λ key. id_probes id_of key.now };
-
-    fn hint(&self) -> u64 {
-        text_hint(self)
-    }
-
-    fn against(&self, element: &Document) -> Ordering {
-        (*self).cmp(element.id.as_str())
+    fn id(&self) -> &str {
+        &self.id
     }
 }
 

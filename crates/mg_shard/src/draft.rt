@@ -18,13 +18,13 @@ use crate::indexes::{mend_all, shared};
 use crate::reply::EditReply;
 use crate::shard::Shard;
 use mg_doc::{Edit, EditError};
-use mg_pages::Pages;
+use mg_pages::{Pages, Shared};
 use mg_revtree::RevTree;
+use mg_rows::KeyBytes;
 use mg_value::NoMemory;
 use std::alloc::Global;
 use std::collections::BTreeMap;
 use std::marker::Model;
-use std::sync::Arc;
 
 /// A shard while a bulk is applied: the shard as it was, lent, and the trees of the documents that the bulk has touched.
 #[derive(Drop)]
@@ -222,18 +222,19 @@ fn kept(alloc: Global, shard: &Shard, touched: BTreeMap<String, RevTree>) -> Res
 // Keeps each of these trees under its id, with the form in which it is served, and mends the rows of the indexes.
 fn keep_all(
     alloc: Global,
-    mut documents: Pages<Document>,
+    mut documents: Pages<Shared<Document>>,
     mut indexes: Vec<IndexRows>,
     mut touched: BTreeMap<String, RevTree>,
-) -> Result<(Pages<Document>, Vec<IndexRows>), NoMemory>
+) -> Result<(Pages<Shared<Document>>, Vec<IndexRows>), NoMemory>
     ensures stands { IfOk result (λ r. (hs : Histories) → TouchedStandFor (shown documents) (touched_of touched.entries) hs → StandFor (shown r.0) hs) }
     ensures definitions { IfOk result (λ r. definitions_of (indexes_seen r.1.items) ≡ definitions_of (indexes_seen indexes.items)) }
     ensures rows { IfOk result (λ r. AllByRecursion (HasRows (shown documents)) (indexes_seen indexes.items) → AllByRecursion (HasRows (shown r.0)) (indexes_seen r.1.items)) }
 {
+    let mut scratch = KeyBytes::new(alloc);
     while let Some((id, tree)) = touched.pop_first() {
         let document = Document::of(alloc, id, tree)?;
-        mend_all(alloc, &mut indexes, &documents, &document)?;
-        documents.insert(alloc, Arc::new(alloc, document)?)?;
+        mend_all(alloc, &mut scratch, &mut indexes, &documents, &document)?;
+        documents.insert(alloc, Shared::new(alloc, document)?)?;
     }
     Ok((documents, indexes))
 }

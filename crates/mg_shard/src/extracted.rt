@@ -1,16 +1,19 @@
 //! Rows of an index that several threads extract from documents.
-ghost use Rattle.std.specs.Prelude.{◌≡◌, map, IfOk};
+ghost use Rattle.std.specs.Prelude.{◌≡◌, IfOk};
 ghost use Rattle.std.specs.List.{filter_map};
 ghost use Rattle.std.specs.List.Sorted.{IsPermutation, IsSorted};
-ghost use Rattle.mg_collate.specs.Row.{row_order, rows_view};
-ghost use Rattle.mg_shard.specs.Documents.{lent};
+ghost use Rattle.mg_collate.specs.Row.{row_value_order};
+ghost use Rattle.mg_shard.specs.Documents.{served_docs};
 ghost use Rattle.mg_shard.specs.Extracted.{IsRowOf};
+ghost use Rattle.mg_shard.specs.Redealt.{documents_seen};
 ghost use Rattle.mg_shard.specs.Rows.{row_of};
 
+use crate::document::Document;
 use crate::index::row_in;
-use mg_collate::Row;
+use mg_pages::{Pages, Shared};
 use mg_path::Path;
-use mg_value::{Json, NoMemory};
+use mg_rows::{KeyBytes, RowBytes};
+use mg_value::NoMemory;
 use rayon::prelude::*;
 use std::alloc::Global;
 use std::thread::Threads;
@@ -21,39 +24,64 @@ pub(crate) const MANY_DOCUMENTS: usize = 1_000;
 /// The least number of documents that one thread takes.
 const LEAST_PIECE: usize = 128;
 
-// The row of a document, if it has every column, or a refusal of memory.
+/// These documents, deleted ones too, lent in their order. None of them is looked into.
+///
+/// Errors: `NoMemory` where a growth was refused. Cost: a step a document.
+pub(crate) fn listed<'a>(
+    alloc: Global,
+    documents: &'a Pages<Shared<Document>>,
+) -> Result<Vec<&'a Shared<Document>>, NoMemory>
+    ensures { IfOk result (λ v. documents_seen v.items ≡ documents.now) }
+{
+    let mut all = Vec::with_capacity(alloc, documents.len())?;
+    for document in documents.iter() {
+        all.push(document)?;
+    }
+    Ok(all)
+}
+
+// The row of a document, if it is served and has every column, or a refusal of memory.
 fn row_or_refusal(
     alloc: Global,
+    scratch: &mut KeyBytes,
     columns: &[Path],
-    document: &(&str, &Json),
-) -> Option<Result<Row, NoMemory>>
-    ensures { IsRowOf columns.now (lent document.now) result }
+    document: &Document,
+) -> Option<Result<RowBytes, NoMemory>>
+    ensures { IsRowOf columns.now document.now result }
 {
-    match row_in(alloc, columns, document.0, document.1) {
+    let form = document.form()?;
+    match row_in(alloc, scratch, columns, document.id(), form) {
         Ok(Some(row)) => Some(Ok(row)),
         Ok(None) => None,
         Err(refusal) => Some(Err(refusal)),
     }
 }
 
-/// The rows of these documents that have every column, in the order of the documents, extracted by a thread for each piece.
+/// The rows of these documents that are served and have every column, in the order of the documents, extracted by a thread for each
+/// piece, which has a scratch of its own.
 ///
-/// Errors: `NoMemory` where a growth was refused. Cost: a copy of each key, shared among as many threads as there are processors.
+/// Errors: `NoMemory` where a growth was refused. Cost: the bytes of each row, shared among as many threads as there are processors.
 pub(crate) fn rows_by_threads<R: Threads + Sync>(
     rt: &R,
     alloc: Global,
     columns: &[Path],
-    documents: &[(&str, &Json)],
-) -> Result<Vec<Row>, NoMemory>
-    ensures { IfOk result (λ rows. rows_view rows.items ≡ filter_map (row_of columns.now) (map lent documents.now)) }
+    documents: &[&Shared<Document>],
+) -> Result<Vec<RowBytes>, NoMemory>
+    ensures { IfOk result (λ rows. rows.items ≡ filter_map (row_of columns.now) (served_docs (documents_seen documents.now))) }
 {
-    let rows: Result<Vec<Row>, NoMemory> = documents
+    let rows: Result<Vec<RowBytes>, NoMemory> = documents
         .par_iter()
         .with_min_len(LEAST_PIECE)
+        .map_init(
+            || KeyBytes::new(alloc),
+            |scratch: &mut KeyBytes, document: &&Shared<Document>| -> Option<Result<RowBytes, NoMemory>>
+                ensures { IsRowOf columns.entry.now document.now.now result }
+            { row_or_refusal(alloc, scratch, columns, document.get()) },
+        )
         .filter_map(
-            |document: &(&str, &Json)| -> Option<Result<Row, NoMemory>>
-                ensures { IsRowOf columns.entry.now (lent document.now) result }
-            { row_or_refusal(alloc, columns, document) },
+            |given: Option<Result<RowBytes, NoMemory>>| -> Option<Result<RowBytes, NoMemory>>
+                ensures { result ≡ given }
+            { given },
         )
         .collect(rt, alloc)?;
     rows
@@ -61,9 +89,9 @@ pub(crate) fn rows_by_threads<R: Threads + Sync>(
 
 /// The rows sorted by key and id, by several threads. Takes no memory. Cost: as of a sort, shared among as many threads as there are
 /// processors.
-pub(crate) fn sorted_by_threads<R: Threads + Sync>(rt: &R, mut rows: Vec<Row>) -> Vec<Row>
+pub(crate) fn sorted_by_threads<R: Threads + Sync>(rt: &R, mut rows: Vec<RowBytes>) -> Vec<RowBytes>
     ensures permutation { IsPermutation rows.items result.items }
-    ensures sorted { IsSorted row_order result.items }
+    ensures sorted { IsSorted row_value_order result.items }
 {
     par_sort_unstable(rt, rows.as_mut_slice());
     rows

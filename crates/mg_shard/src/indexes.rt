@@ -6,16 +6,15 @@ ghost use Rattle.std.specs.List.{filter, find, AllByRecursion};
 ghost use Rattle.std.specs.Ordering.{is_gt, is_lt};
 ghost use Rattle.mg_index.specs.Catalog.{definition_order, is_at};
 ghost use Rattle.mg_value.specs.View.{view};
-ghost use Rattle.mg_collate.specs.Row.{rows_view};
 ghost use Rattle.mg_shard.specs.Documents.{form_at, kept_of, shown};
 ghost use Rattle.mg_shard.specs.Index.{HasRows, definitions_of, index_seen, indexes_seen};
 ghost use Rattle.mg_pages.specs.Order.{inserted};
 
 use crate::document::Document;
 use crate::index::IndexRows;
-use mg_collate::Row;
 use mg_index::IndexDef;
-use mg_pages::Pages;
+use mg_pages::{Pages, Shared};
+use mg_rows::{KeyBytes, RowBytes};
 use mg_value::{Json, NoMemory};
 use std::alloc::Global;
 use std::cmp::Ordering;
@@ -60,9 +59,9 @@ pub(crate) fn rows_there<'a>(
     indexes: &'a [IndexRows],
     ddoc: &str,
     name: &str,
-) -> Option<&'a Pages<Row>>
-    ensures { option_map (λ rows. rows_view rows.now) result
-        ≡ option_map (λ x. rows_view (arc_value x.rows)) (find (λ x. is_at ddoc.now name.now (arc_value x.definition)) indexes.now) }
+) -> Option<&'a Pages<RowBytes>>
+    ensures { option_map (λ rows. rows.now) result
+        ≡ option_map (λ x. arc_value x.rows) (find (λ x. is_at ddoc.now name.now (arc_value x.definition)) indexes.now) }
 {
     match index_at(indexes, ddoc, name) {
         Some(index) => Some(&index.rows),
@@ -142,11 +141,11 @@ pub(crate) fn without(
 }
 
 // The form in which the document of an id is served, if there is one and it is.
-fn form_in<'a>(documents: &'a Pages<Document>, id: &str) -> Option<&'a Json>
+fn form_in<'a>(documents: &'a Pages<Shared<Document>>, id: &str) -> Option<&'a Json>
     ensures { option_map (λ v. view v.now) result ≡ form_at (shown documents.now) id.now }
 {
     match documents.get(&id) {
-        Some(document) => document.form(),
+        Some(document) => document.get().form(),
         None => None,
     }
 }
@@ -154,11 +153,13 @@ fn form_in<'a>(documents: &'a Pages<Document>, id: &str) -> Option<&'a Json>
 /// Mends the rows of all indexes for a document that comes among others, instead of one of the same id.
 ///
 /// Errors: `NoMemory` where a growth was refused; the indexes are then of no more use.
-/// Cost: for each index copies of the keys that the document had and has, and the way to both rows.
+/// Cost: for each index a look at the parts that the document had and has at its columns, and where these differ both rows, put together
+/// in the scratch that is lent, and the ways to them. An index whose row stays costs no memory.
 pub(crate) fn mend_all(
     alloc: Global,
+    scratch: &mut KeyBytes,
     indexes: &mut [IndexRows],
-    documents: &Pages<Document>,
+    documents: &Pages<Shared<Document>>,
     document: &Document,
 ) -> Result<(), NoMemory>
     ensures definitions { OnOk result (definitions_of (indexes_seen indexes.new) ≡ definitions_of (indexes_seen indexes.old)) }
@@ -169,7 +170,7 @@ pub(crate) fn mend_all(
     let after = document.form();
     for i in 0..indexes.len() {
         let index = &mut indexes[i];
-        index.mend(alloc, &document.id, before, after)?;
+        index.mend(alloc, scratch, &document.id, before, after)?;
     }
     Ok(())
 }

@@ -1,6 +1,5 @@
 //! Documents of several shards with the places that a placement gives them.
 ghost use Rattle.std.specs.Prelude.{◌≡◌, ◌<◌, ◌==◌, ℕ, IfOk, List, OnOk, false, length, true};
-ghost use Rattle.std.specs.Arc.{arc_value};
 ghost use Rattle.std.specs.FinMap.{get};
 ghost use Rattle.std.specs.Option.{option_or};
 ghost use Rattle.mg_pages.specs.Identified.{id_order};
@@ -12,7 +11,7 @@ ghost use Rattle.mg_shard.specs.Shard.{shards_seen};
 use crate::document::Document;
 use crate::placement::Placement;
 use crate::shard::Shard;
-use mg_pages::Pages;
+use mg_pages::{Element, Pages, Shared};
 use mg_value::NoMemory;
 use std::alloc::Global;
 use std::sync::Arc;
@@ -23,7 +22,7 @@ use std::sync::Arc;
 pub(crate) fn all_documents<'a>(
     alloc: Global,
     shards: &'a [Arc<Shard>],
-) -> Result<Vec<&'a Arc<Document>>, NoMemory>
+) -> Result<Vec<&'a Shared<Document>>, NoMemory>
     ensures { IfOk result (λ v. (id : List ℕ) → last_kept (documents_seen v.items) id ≡ kept_in (documents_in (shards_seen shards.now)) id) }
 {
     let mut all = Vec::new(alloc);
@@ -34,13 +33,12 @@ pub(crate) fn all_documents<'a>(
 }
 
 // Adds the documents of one more shard.
-fn add_documents<'a>(shard: &'a Shard, all: &mut Vec<&'a Arc<Document>>) -> Result<(), NoMemory>
+fn add_documents<'a>(shard: &'a Shard, all: &mut Vec<&'a Shared<Document>>) -> Result<(), NoMemory>
     ensures { OnOk result ((id : List ℕ) → last_kept (documents_seen all.new.items) id
         ≡ option_or (get shard.now.documents id) (last_kept (documents_seen all.old.items) id)) }
 {
     shard.documents.ascends();
-    let mut documents = shard.documents.iter();
-    while let Some(document) = documents.next_shared() {
+    for document in shard.documents.iter() {
         all.push(document)?;
     }
     Ok(())
@@ -52,7 +50,7 @@ fn add_documents<'a>(shard: &'a Shard, all: &mut Vec<&'a Arc<Document>>) -> Resu
 pub(crate) fn places_of<P: Placement>(
     alloc: Global,
     placement: &P,
-    documents: &[&Arc<Document>],
+    documents: &[&Shared<Document>],
     count: usize,
 ) -> Result<Vec<usize>, NoMemory>
     requires { 0 < count }
@@ -60,7 +58,7 @@ pub(crate) fn places_of<P: Placement>(
 {
     let mut places = Vec::with_capacity(alloc, documents.len())?;
     for document in documents {
-        places.push(placement.shard_of(&document.id, count))?;
+        places.push(placement.shard_of(document.get().id(), count))?;
     }
     Ok(places)
 }
@@ -68,16 +66,16 @@ pub(crate) fn places_of<P: Placement>(
 // Puts a document among those of a shard, where that is the document's own.
 fn put_if(
     alloc: Global,
-    there: &mut Pages<Document>,
-    document: &Arc<Document>,
+    there: &mut Pages<Shared<Document>>,
+    document: &Shared<Document>,
     own: usize,
     place: usize,
 ) -> Result<(), NoMemory>
-    ensures here { OnOk result ((own == place) ≡ true → there.new ≡ inserted (id_order id_of) (arc_value document.now) there.old) }
+    ensures here { OnOk result ((own == place) ≡ true → there.new ≡ inserted (id_order id_of) document.now there.old) }
     ensures elsewhere { OnOk result ((own == place) ≡ false → there.new ≡ there.old) }
 {
     if own == place {
-        there.insert(alloc, document.clone()?)?;
+        there.insert(alloc, document.again()?)?;
     }
     Ok(())
 }
@@ -87,10 +85,10 @@ fn put_if(
 /// Errors: `NoMemory` where a growth was refused. Cost: a step a document, and for each that is placed there the way to its place.
 pub(crate) fn documents_at(
     alloc: Global,
-    documents: &[&Arc<Document>],
+    documents: &[&Shared<Document>],
     places: &[usize],
     place: usize,
-) -> Result<Pages<Document>, NoMemory>
+) -> Result<Pages<Shared<Document>>, NoMemory>
     requires { length places.now ≡ length documents.now }
     ensures { IfOk result (λ ds. KeepsThose (documents_seen documents.now) places.now place (shown ds)) }
 {

@@ -19,7 +19,7 @@ use crate::placed::{all_documents, documents_at, places_of};
 use crate::placement::Placement;
 use crate::shard::Shard;
 use mg_index::IndexDef;
-use mg_pages::Pages;
+use mg_pages::{Pages, Shared};
 use mg_value::NoMemory;
 use std::alloc::Global;
 use std::sync::Arc;
@@ -33,8 +33,8 @@ use std::thread::Threads;
 /// The shards are the same for every number of workers. One worker starts no thread, and nor do fewer than 1,000 documents; otherwise a thread
 /// for each shard makes it. Where there are twice as many workers as shards, further threads extract and sort the rows of each.
 ///
-/// Errors: `NoMemory` where a growth was refused. Cost: for each document its placement and the way to its place, and for each index a
-/// copy of its key, and each shard's rows sorted.
+/// Errors: `NoMemory` where a growth was refused. Cost: for each document its placement and the way to its place, and for each index the
+/// bytes of its row, and each shard's rows sorted.
 pub fn redeal<P: Placement, R: Threads + Sync>(
     rt: &R,
     alloc: Global,
@@ -54,7 +54,7 @@ pub fn redeal<P: Placement, R: Threads + Sync>(
         → All (λ s. s.definitions ≡ ds) (shards_seen shards.now) → All (λ s. s.definitions ≡ ds) v.items) }
 {
     let listed = all_documents(alloc, shards)?;
-    let documents: &[&Arc<Document>] = &listed;
+    let documents: &[&Shared<Document>] = &listed;
     let workers = if documents.len() < MANY_DOCUMENTS {
         1
     } else {
@@ -118,7 +118,7 @@ fn indexes_over<R: Threads + Sync>(
 fn indexed<R: Threads + Sync>(
     rt: &R,
     alloc: Global,
-    documents: Pages<Document>,
+    documents: Pages<Shared<Document>>,
     indexes: &[IndexRows],
     workers: usize,
 ) -> Result<Shard, NoMemory>
@@ -138,7 +138,7 @@ fn indexed<R: Threads + Sync>(
 fn made<R: Threads + Sync>(
     rt: &R,
     alloc: Global,
-    documents: &[&Arc<Document>],
+    documents: &[&Shared<Document>],
     places: &[usize],
     indexes: &[IndexRows],
     place: usize,
@@ -156,7 +156,7 @@ fn made<R: Threads + Sync>(
 fn made_in_turn<R: Threads + Sync>(
     rt: &R,
     alloc: Global,
-    documents: &[&Arc<Document>],
+    documents: &[&Shared<Document>],
     places: &[usize],
     indexes: &[IndexRows],
     count: usize,
@@ -189,7 +189,7 @@ fn all_of(alloc: Global, results: Vec<Result<Shard, NoMemory>>) -> Result<Vec<Sh
 fn made_at_once<R: Threads + Sync>(
     rt: &R,
     alloc: Global,
-    documents: &[&Arc<Document>],
+    documents: &[&Shared<Document>],
     places: &[usize],
     indexes: &[IndexRows],
     count: usize,
@@ -217,7 +217,7 @@ fn made_at_once<R: Threads + Sync>(
 fn all_made<R: Threads + Sync>(
     rt: &R,
     alloc: Global,
-    documents: &[&Arc<Document>],
+    documents: &[&Shared<Document>],
     places: &[usize],
     indexes: &[IndexRows],
     count: usize,

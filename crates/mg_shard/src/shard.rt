@@ -6,18 +6,16 @@ ghost use Rattle.std.specs.FinMap.{entries, get};
 ghost use Rattle.std.specs.declared.cmp.Ordering.{Ordering};
 ghost use Rattle.mg_value.specs.View.{view};
 ghost use Rattle.mg_value.specs.Text.{compact};
-ghost use Rattle.mg_shard.specs.Documents.{Kept, docs_of, kept_entry, form_at, id_of, kept_of, lent, tree_at, StandFor};
+ghost use Rattle.mg_shard.specs.Documents.{Kept, docs_of, kept_entry, form_at, id_of, kept_of, tree_at, StandFor};
 ghost use Rattle.mg_shard.specs.Own.{HasOwnId};
 ghost use Rattle.mg_shard.specs.Walk.{beyond};
 ghost use Rattle.mg_shard.specs.declared.document.Document.{Document};
-ghost use Rattle.mg_collate.specs.declared.row.Row.{Row};
 ghost use Rattle.mg_value.specs.Value.{Value};
 ghost use Rattle.mg_shard.specs.Edits.{after_edits, outcome_seen, outcomes};
 ghost use Rattle.mg_shard.specs.Histories.{Histories};
 ghost use Rattle.mg_shard.specs.Rows.{row_of, rows_of};
 ghost use Rattle.mg_shard.specs.Shard.{rows_at};
-ghost use Rattle.mg_collate.specs.Row.{RowValue, row_value_order, row_view, rows_view};
-ghost use Rattle.mg_value.specs.View.{items_view};
+ghost use Rattle.mg_collate.specs.Row.{row_value_order};
 ghost use Rattle.mg_index.specs.Catalog.{IsCatalog, with_definition, without_definition};
 ghost use Rattle.mg_shard.specs.Index.{definitions_of, indexes_seen};
 ghost use Rattle.std.specs.List.{filter_map};
@@ -25,17 +23,18 @@ ghost use Rattle.std.specs.List.{filter_map};
 use crate::docs::Docs;
 use crate::document::Document;
 use crate::draft::Draft;
-use crate::extracted::{MANY_DOCUMENTS, rows_by_threads, sorted_by_threads};
+use crate::extracted::{MANY_DOCUMENTS, listed, rows_by_threads, sorted_by_threads};
 use crate::index::{IndexRows, pages_in_order, pages_of, row_in, sorted_rows};
 use crate::indexes::{rows_there, shared, with, without};
 use crate::reply::EditReply;
 use crate::walk::{Documents, Rows, Walk, count_beyond};
-use mg_collate::{Direction, Row};
+use mg_collate::Direction;
 use mg_doc::Edit;
 use mg_index::IndexDef;
-use mg_pages::{Pages, Probe, RowPlace};
+use mg_pages::{Pages, Probe, Shared};
 use mg_path::Path;
 use mg_revtree::RevTree;
+use mg_rows::{KeyBytes, RowBytes};
 use mg_value::{Json, NoMemory};
 use std::alloc::Global;
 use std::cmp::Ordering;
@@ -49,7 +48,7 @@ use std::thread::Threads;
 /// The rows of each index are those of the served documents from scratch, by key and id, after any edits.
 #[derive(Drop)]
 pub struct Shard {
-    pub(crate) documents: Pages<Document>,
+    pub(crate) documents: Pages<Shared<Document>>,
     pub(crate) indexes: Vec<IndexRows>,
 }
 
@@ -96,7 +95,10 @@ impl Shard {
         ensures kept { option_map (λ d. kept_of d.now) result ≡ get self.now.documents id.now }
         ensures id { IfSome result (λ d. id_of d.now ≡ id.now) }
     {
-        self.documents.get(&id)
+        match self.documents.get(&id) {
+            Some(document) => Some(document.get()),
+            None => None,
+        }
     }
 
     /// The form in which the document of an id is served, if it is there and not deleted. Takes no memory.
@@ -136,7 +138,7 @@ impl Shard {
         ensures { result ≡ docs_of self.now.documents }
     {
         self.documents.ascends();
-        let documents = Walk::over(&self.documents, Direction::Asc);
+        let documents = Documents::over(&self.documents, Direction::Asc);
         Docs::over(documents)
     }
 
@@ -145,13 +147,13 @@ impl Shard {
         ensures { result ≡ reverse (docs_of self.now.documents) }
     {
         self.documents.ascends();
-        let documents = Walk::over(&self.documents, Direction::Desc);
+        let documents = Documents::over(&self.documents, Direction::Desc);
         Docs::over(documents)
     }
 
     /// The documents that come after a place in a direction, deleted ones too: ascending those above it, descending those below it from
     /// the last to the first. A place need be no document. Takes no memory. Cost: one look-up, and then a step a document.
-    pub fn documents_beyond<Q: Probe<Document>>(
+    pub fn documents_beyond<Q: Probe<Shared<Document>>>(
         &self,
         place: &Q,
         direction: Direction,
@@ -160,12 +162,12 @@ impl Shard {
             → map kept_entry result ≡ beyond direction order (entries self.now.documents) }
     {
         self.documents.ascends();
-        Walk::beyond(&self.documents, place, direction)
+        Documents::beyond(&self.documents, place, direction)
     }
 
     /// How many documents, deleted ones too, `documents_beyond` gives of a place in a direction. No document is passed over one by one.
     /// Takes no memory. Cost: one look-up, and a read of the count of each part before the place, at most 64 a level.
-    pub fn count_documents_beyond<Q: Probe<Document>>(
+    pub fn count_documents_beyond<Q: Probe<Shared<Document>>>(
         &self,
         place: &Q,
         direction: Direction,
@@ -221,7 +223,7 @@ impl Shard {
     /// The rows of the index of this design document and name, by key and id, and none where there is no such index. They are those
     /// of the served documents from scratch. Takes no memory. Cost: each definition once, and then a step a row.
     pub fn rows(&self, ddoc: &str, name: &str) -> Option<Rows<'_>>
-        ensures { option_map (λ it. rows_view it) result ≡ rows_at ddoc.now name.now self.now }
+        ensures { result ≡ rows_at ddoc.now name.now self.now }
     {
         match rows_there(&self.indexes, ddoc, name) {
             Some(rows) => Some(Walk::over(rows, Direction::Asc)),
@@ -232,7 +234,7 @@ impl Shard {
     /// The rows of the index of this design document and name from the last to the first, and none where there is no such index.
     /// Takes no memory. Cost: as of `rows`.
     pub fn rows_back(&self, ddoc: &str, name: &str) -> Option<Rows<'_>>
-        ensures { option_map (λ it. rows_view it) result ≡ option_map reverse (rows_at ddoc.now name.now self.now) }
+        ensures { result ≡ option_map reverse (rows_at ddoc.now name.now self.now) }
     {
         match rows_there(&self.indexes, ddoc, name) {
             Some(rows) => Some(Walk::over(rows, Direction::Desc)),
@@ -243,15 +245,14 @@ impl Shard {
     /// The rows that come after a place in a direction, in the index of this design document and name, and none where there is no such
     /// index: ascending those above it, descending those below it from the last to the first. A place need be no row: the begin of a
     /// range of keys is one. Takes no memory. Cost: each definition once, one look-up, and then a step a row.
-    pub fn rows_beyond<Q: Probe<Row>>(
+    pub fn rows_beyond<Q: Probe<RowBytes>>(
         &self,
         ddoc: &str,
         name: &str,
         place: &Q,
         direction: Direction,
     ) -> Option<Rows<'_>>
-        ensures { (order : RowValue → Ordering) → ((r : Row) → Q.against place.now r ≡ order (row_view r))
-            → option_map (λ it. rows_view it) result ≡ option_map (beyond direction order) (rows_at ddoc.now name.now self.now) }
+        ensures { result ≡ option_map (beyond direction (Q.against place.now)) (rows_at ddoc.now name.now self.now) }
     {
         match rows_there(&self.indexes, ddoc, name) {
             Some(rows) => Some(Walk::beyond(rows, place, direction)),
@@ -262,15 +263,14 @@ impl Shard {
     /// How many rows `rows_beyond` gives of a place in a direction, and none where there is no such index. No row is passed over one by
     /// one. Takes no memory. Cost: each definition once, one look-up, and a read of the count of each part before the place, at most 64 a
     /// level.
-    pub fn count_rows_beyond<Q: Probe<Row>>(
+    pub fn count_rows_beyond<Q: Probe<RowBytes>>(
         &self,
         ddoc: &str,
         name: &str,
         place: &Q,
         direction: Direction,
     ) -> Option<usize>
-        ensures { (order : RowValue → Ordering) → ((r : Row) → Q.against place.now r ≡ order (row_view r))
-            → result ≡ option_map (λ rows. length (beyond direction order rows)) (rows_at ddoc.now name.now self.now) }
+        ensures { result ≡ option_map (λ rows. length (beyond direction (Q.against place.now) rows)) (rows_at ddoc.now name.now self.now) }
     {
         match rows_there(&self.indexes, ddoc, name) {
             Some(rows) => Some(count_beyond(rows, place, direction)),
@@ -284,58 +284,49 @@ impl Shard {
         &self,
         ddoc: &str,
         name: &str,
-        place: RowPlace<'_>,
+        row: &RowBytes,
         direction: Direction,
     ) -> Option<Rows<'_>>
-        ensures { option_map (λ it. rows_view it) result
-            ≡ option_map (beyond direction (row_value_order (items_view place.entry.key.now, place.entry.id.now))) (rows_at ddoc.now name.now self.now) }
+        ensures { result ≡ option_map (beyond direction (row_value_order row.now)) (rows_at ddoc.now name.now self.now) }
     {
-        self.rows_beyond(ddoc, name, &place, direction)
+        self.rows_beyond(ddoc, name, row, direction)
     }
 
     // The rows that an index with these columns has, in the order of the documents.
-    pub(crate) fn unsorted(&self, alloc: Global, columns: &[Path]) -> Result<Vec<Row>, NoMemory>
-        ensures { IfOk result (λ rows. rows_view rows.items ≡ filter_map (row_of columns.now) (docs_of self.now.documents)) }
+    pub(crate) fn unsorted(&self, alloc: Global, columns: &[Path]) -> Result<Vec<RowBytes>, NoMemory>
+        ensures { IfOk result (λ rows. rows.items ≡ filter_map (row_of columns.now) (docs_of self.now.documents)) }
     {
         let mut rows = Vec::new(alloc);
+        let mut scratch = KeyBytes::new(alloc);
         for (id, form) in self.docs() {
-            if let Some(row) = row_in(alloc, columns, id, form)? {
+            if let Some(row) = row_in(alloc, &mut scratch, columns, id, form)? {
                 rows.push(row)?;
             }
         }
         Ok(rows)
     }
 
-    // The served documents, lent in the order of their ids.
-    fn lent_docs(&self, alloc: Global) -> Result<Vec<(&str, &Json)>, NoMemory>
-        ensures { IfOk result (λ documents. map lent documents.items ≡ docs_of self.now.documents) }
-    {
-        let mut documents = Vec::with_capacity(alloc, self.documents.len())?;
-        for document in self.docs() {
-            documents.push(document)?;
-        }
-        Ok(documents)
-    }
-
     /// The rows that an index of this definition has in this shard, by key and id: what `with_rows` asks for, the same for every number
     /// of workers. One worker starts no thread, and nor does a shard of fewer than 1,000 documents; otherwise as many threads
     /// extract the rows and sort them as there are processors.
     ///
-    /// Errors: `NoMemory` where a growth was refused. Cost: each document once, a copy of its key, and the rows sorted.
+    /// Errors: `NoMemory` where a growth was refused. Cost: each document once, the bytes of its row, and the rows sorted. A row takes
+    /// memory of its own only where it is too long to stand in its own value.
     pub fn rows_for<R: Threads + Sync>(
         &self,
         rt: &R,
         alloc: Global,
         definition: &IndexDef,
         workers: usize,
-    ) -> Result<Vec<Row>, NoMemory>
-        ensures { IfOk result (λ rows. rows_view rows.items ≡ rows_of definition.now.columns (docs_of self.now.documents)) }
+    ) -> Result<Vec<RowBytes>, NoMemory>
+        ensures { IfOk result (λ rows. rows.items ≡ rows_of definition.now.columns (docs_of self.now.documents)) }
     {
         if workers < 2 || self.documents.len() < MANY_DOCUMENTS {
             let rows = self.unsorted(alloc, definition.columns())?;
             return Ok(sorted_rows(rows)?);
         }
-        let documents = self.lent_docs(alloc)?;
+        self.documents.ascends();
+        let documents = listed(alloc, &self.documents)?;
         let rows = rows_by_threads(rt, alloc, definition.columns(), &documents)?;
         Ok(sorted_by_threads(rt, rows))
     }
@@ -345,9 +336,9 @@ impl Shard {
         &self,
         alloc: Global,
         definition: Arc<IndexDef>,
-        rows: Pages<Row>,
+        rows: Pages<RowBytes>,
     ) -> Result<Shard, NoMemory>
-        requires { rows_view rows ≡ rows_of (arc_value definition).columns (docs_of self.now.documents) }
+        requires { rows ≡ rows_of (arc_value definition).columns (docs_of self.now.documents) }
         ensures { IfOk result (λ s. s ≡ record self.now { definitions = with_definition (arc_value definition) self.now.definitions }) }
     {
         let rows = Arc::new(alloc, rows)?;
@@ -358,7 +349,7 @@ impl Shard {
 
     /// The shard with an index of this definition, instead of one of its design document and name.
     ///
-    /// Errors: `NoMemory` where a growth was refused. Cost: each document once, a copy of its key, and the rows sorted.
+    /// Errors: `NoMemory` where a growth was refused. Cost: each document once, the bytes of its row, and the rows sorted.
     pub fn with_index(&self, alloc: Global, definition: &IndexDef) -> Result<Shard, NoMemory>
         ensures { IfOk result (λ s. s ≡ record self.now { definitions = with_definition definition.now self.now.definitions }) }
     {
@@ -376,9 +367,9 @@ impl Shard {
         &self,
         alloc: Global,
         definition: &Arc<IndexDef>,
-        rows: Vec<Row>,
+        rows: Vec<RowBytes>,
     ) -> Result<Shard, NoMemory>
-        requires { rows_view rows.items ≡ rows_of (arc_value definition.now).columns (docs_of self.now.documents) }
+        requires { rows.items ≡ rows_of (arc_value definition.now).columns (docs_of self.now.documents) }
         ensures { IfOk result (λ s. s ≡ record self.now { definitions = with_definition (arc_value definition.now) self.now.definitions }) }
     {
         let pages = pages_in_order(alloc, rows)?;

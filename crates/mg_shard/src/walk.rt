@@ -6,8 +6,9 @@ ghost use Rattle.mg_shard.specs.Left.{left_on};
 ghost use Rattle.mg_shard.specs.Walk.{beyond, in_direction};
 
 use crate::document::Document;
-use mg_collate::{Direction, Row};
-use mg_pages::{Back, Iter, Keyed, Pages, Probe};
+use mg_collate::Direction;
+use mg_pages::{Back, Iter, Keyed, Pages, Probe, Shared};
+use mg_rows::RowBytes;
 use std::marker::Model;
 
 // A way through things in order: up from the first that is left, or down from the last.
@@ -24,10 +25,7 @@ pub struct Walk<'a, T: Keyed> {
 }
 
 /// Rows of an index that are left, in the direction in which they are read.
-pub type Rows<'a> = Walk<'a, Row>;
-
-/// Documents that are left, deleted ones too, in the direction in which they are read.
-pub type Documents<'a> = Walk<'a, Document>;
+pub type Rows<'a> = Walk<'a, RowBytes>;
 
 impl<'a, T: Keyed> Model for Walk<'a, T> {
     ghost use Rattle.std.specs.Prelude.{List};
@@ -104,6 +102,73 @@ impl<'a, T: Keyed> Iterator for Walk<'a, T> {
         match &mut self.way {
             Way::Up(things) => things.next(),
             Way::Down(things) => things.next(),
+        }
+    }
+}
+
+/// Documents that are left, deleted ones too, in the direction in which they are read.
+#[derive(Drop)]
+pub struct Documents<'a> {
+    documents: Walk<'a, Shared<Document>>,
+}
+
+impl<'a> Model for Documents<'a> {
+    ghost use Rattle.std.specs.Prelude.{List};
+    ghost use Rattle.mg_shard.specs.declared.document.Document.{Document};
+
+    ghost Value = { List Document };
+
+    ghost use Rattle.std.specs.Coded.{coded_list};
+    ghost use Rattle.mg_shard.specs.contracts.document.Document as document;
+
+    ghost coded = { coded_list document.the_row.coded };
+
+    ghost view = { λ d. d.documents };
+}
+
+impl<'a> Documents<'a> {
+    // All documents of a collection.
+    pub(crate) fn over(
+        pages: &'a Pages<Shared<Document>>,
+        direction: Direction,
+    ) -> Documents<'a>
+        ensures { result ≡ in_direction direction pages.now }
+    {
+        let documents = Walk::over(pages, direction);
+        Documents { documents }
+    }
+
+    // Those that come after a key in the direction.
+    pub(crate) fn beyond<Q: Probe<Shared<Document>>>(
+        pages: &'a Pages<Shared<Document>>,
+        key: &Q,
+        direction: Direction,
+    ) -> Documents<'a>
+        ensures { result ≡ beyond direction (Q.against key.now) pages.now }
+    {
+        let documents = Walk::beyond(pages, key, direction);
+        Documents { documents }
+    }
+
+    /// Passes over so many documents. Cost: as of `Walk::advance`. Takes no memory.
+    pub fn advance(&mut self, count: usize)
+        ensures { self.new ≡ drop count self.old }
+    {
+        self.documents.advance(count);
+    }
+}
+
+impl<'a> Iterator for Documents<'a> {
+    type Item = &'a Document;
+
+    ghost next_gives = { TakesFirst deref };
+
+    ghost remaining = { λ s. at_most (length s) };
+
+    fn next(&mut self) -> Option<&'a Document> {
+        match self.documents.next() {
+            Some(document) => Some(document.get()),
+            None => None,
         }
     }
 }

@@ -1,5 +1,5 @@
-use Rattle.mg_shard.proofs.Rows.{sorted_code}
+use Rattle.mg_shard.proofs.Rows.{put_in_order}
 use Rattle.mg_shard.proofs.index.sorted_rows.Goals as goal
 
 pub returns : goal.returns
-returns c = sorted_code c.args.rows.items _ c.in_ok-sort.ensures.permutation c.in_ok-sort.ensures.sorted
+returns c = put_in_order c.args.rows.items _ c.in_ok-sort.ensures.permutation c.in_ok-sort.ensures.sorted

@@ -10,10 +10,10 @@ use Rattle.mg_shard.proofs.placed.add_documents.Given as goal
 -- the documents that are lent and those that are left are the shard's
 abbrev pub invariant-loop-document : goal.invariant-loop-document
 invariant-loop-document l = record {
-  ascends : Ascends (id_order id_of) l.documents;
-  goes_on : (id : List ℕ) → option_or (get (shown l.documents) id) (last_kept (documents_seen l.all.items) id)
+  ascends : Ascends (id_order id_of) l.document-iterator;
+  goes_on : (id : List ℕ) → option_or (get (shown l.document-iterator) id) (last_kept (documents_seen l.all.items) id)
       ≡ option_or (get l.shard.documents id) (last_kept (documents_seen l.fn.all.items) id);
 }
 
 abbrev pub decreases-loop-document : goal.decreases-loop-document
-decreases-loop-document l = length l.documents
+decreases-loop-document l = length l.document-iterator

@@ -1,5 +1,4 @@
 use Rattle.std.proofs.Common.{◌<◌, ◌≤◌, ℕ, get_or, length, arith, sym, subst}
-use Rattle.std.specs.Arc.{arc_value}
 use Rattle.mg_shard.specs.Documents.{shown}
 use Rattle.mg_shard.specs.Redealt.{documents_seen}
 use Rattle.mg_shard.specs.declared.document.Document.{Document}
@@ -15,7 +14,7 @@ loop-k-preserved c =
     let l = c.loop-k in
     let documents = c.args.documents.now in
     let x = c.index-documents-k.result in
-    let d : Document = arc_value x.now in
+    let d : Document = x.now in
     let places = c.args.places.now in
     let p : ℕ = get_or places l.k 0 in
     let less : l.k < length documents = omega arith in

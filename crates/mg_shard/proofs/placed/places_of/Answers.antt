@@ -1,7 +1,6 @@
 use Rattle.std.proofs.Common.{◌≡◌, ◌+◌, List, [], ◌∷◌, ◌++◌, arith, length, take, sym, ap, ◌∙◌, subst, add-one, string_bytes}
 use Rattle.std.proofs.Math.Seq.{take-length}
 use Rattle.std.proofs.lemmas.List.{map-append}
-use Rattle.std.specs.Arc.{arc_value}
 use Rattle.mg_shard.specs.Redealt.{ArePlaces, documents_seen}
 use Rattle.mg_shard.specs.declared.document.Document.{Document}
 use Rattle.mg_shard.proofs.Redealing.{place_more, take_one}
@@ -14,7 +13,7 @@ loop-document-preserved g c =
     let n = c.args.count in
     let xs = c.args.documents.now in
     let x = c.document-item.result in
-    let d : Document = arc_value x.now in
+    let d : Document = x.now in
     let more : documents_seen (take (l.document-index + 1) xs) ≡ documents_seen (take l.document-index xs) ++ d ∷ [] =
     ap (λ k. documents_seen (take k xs)) (add-one l.document-index) ∙ ap documents_seen (take_one xs l.document-index x c.loop-document-test.true c.document-item.is)
     ∙ map-append _ (take l.document-index xs) (x ∷ []) in

@@ -1,8 +1,7 @@
 use denote.Ref.{Bor}
-use Rattle.std.proofs.Common.{◌<◌, ℕ, Global, List, length, sym, ap, ◌∙◌, subst}
+use Rattle.std.proofs.Common.{◌<◌, ℕ, List, length, sym, ap, ◌∙◌, subst}
 use Rattle.std.proofs.lemmas.List.{length-map}
 use Rattle.std.specs.Arc.{arc_value}
-use Rattle.std.specs.declared.sync.Arc.{Arc}
 use Rattle.mg_index.specs.Definition.{IndexDefinition}
 use Rattle.mg_shard.specs.Index.{definitions_of, indexes_seen}
 use Rattle.mg_shard.specs.Redealt.{ArePlaces, documents_in, documents_seen, last_kept}
@@ -24,7 +23,7 @@ returns-clause-documents g c =
     let ds = c.deref-documents.result.now in
     let those : List IndexDefinition = definitions_of (indexes_seen c.first_indexes-indexes.result.now) in
     all_dealt place c.args.count (documents_seen ds) c.deref-places.result.now those (documents_in (shards_seen c.args.shards.now)) c.in_ok-made.made.items
-    (λ id. ap (λ (xs : List (Bor (Arc Document Global))). last_kept (documents_seen xs) id) c.deref-documents.ensures.value ∙ c.in_ok-listed.ensures id)
+    (λ id. ap (λ (xs : List (Bor Document)). last_kept (documents_seen xs) id) c.deref-documents.ensures.value ∙ c.in_ok-listed.ensures id)
     (subst (λ (ps : List ℕ). ArePlaces place c.args.count (documents_seen ds) ps) (sym c.deref-places.ensures.value) c.in_ok-found.ensures)
     c.in_ok-made.ensures.number c.in_ok-made.ensures.made
 
@@ -35,7 +34,7 @@ returns-clause-stands g c = λ before hs st.
     let those : List IndexDefinition = definitions_of (indexes_seen c.first_indexes-indexes.result.now) in
     redealt_stand before place (shards_seen c.args.shards.now) c.in_ok-made.made.items hs
     (all_dealt place c.args.count (documents_seen ds) c.deref-places.result.now those (documents_in (shards_seen c.args.shards.now)) c.in_ok-made.made.items
-    (λ id. ap (λ (xs : List (Bor (Arc Document Global))). last_kept (documents_seen xs) id) c.deref-documents.ensures.value ∙ c.in_ok-listed.ensures id)
+    (λ id. ap (λ (xs : List (Bor Document)). last_kept (documents_seen xs) id) c.deref-documents.ensures.value ∙ c.in_ok-listed.ensures id)
     (subst (λ (ps : List ℕ). ArePlaces place c.args.count (documents_seen ds) ps) (sym c.deref-places.ensures.value) c.in_ok-found.ensures)
     c.in_ok-made.ensures.number c.in_ok-made.ensures.made) st
 

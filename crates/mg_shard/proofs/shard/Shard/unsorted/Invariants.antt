@@ -1,10 +1,9 @@
 use Rattle.std.proofs.Common.{◌≡◌, ◌++◌}
 use Rattle.std.specs.List.{filter_map}
-use Rattle.mg_collate.specs.Row.{rows_view}
 use Rattle.mg_shard.specs.Documents.{docs_of}
 use Rattle.mg_shard.specs.Rows.{row_of}
 use Rattle.mg_shard.proofs.shard.Shard.unsorted.Given as goal
 
 -- what is left decides
 abbrev pub invariant-loop-id : goal.invariant-loop-id
-invariant-loop-id l = filter_map (row_of l.columns) (docs_of l.self.documents) ≡ rows_view l.rows.items ++ filter_map (row_of l.columns) l.id-iterator
+invariant-loop-id l = filter_map (row_of l.columns) (docs_of l.self.documents) ≡ l.rows.items ++ filter_map (row_of l.columns) l.id-iterator

@@ -1,6 +1,5 @@
 use Rattle.std.proofs.Common.{◌≡◌, List, sym, ap, ◌∙◌, subst}
 use Rattle.std.specs.Arc.{arc_value}
-use Rattle.mg_collate.specs.Row.{rows_view}
 use Rattle.mg_index.specs.Catalog.{with_definition}
 use Rattle.mg_pages.specs.Order.{inserted}
 use Rattle.mg_shard.specs.Documents.{docs_of, shown}
@@ -20,7 +19,7 @@ invariant_of-result c =
     let seen : indexes_seen c.in_ok-indexes.indexes.items ≡ inserted index_order index xs =
     c.in_ok-indexes.ensures ∙ ap (λ (ys : List IndexRows). inserted index_order index (indexes_seen ys)) c.deref.ensures.value in
     let has : HasRows ds index =
-    ap rows_view c.in_ok-rows.ensures.ok ∙ c.requires ∙ ap (λ (v : ShardView). rows_of (arc_value c.args.definition).columns (docs_of v.documents)) (sym c.self.view_is) in
+    c.in_ok-rows.ensures.ok ∙ c.requires ∙ ap (λ (v : ShardView). rows_of (arc_value c.args.definition).columns (docs_of v.documents)) (sym c.self.view_is) in
     subst (λ (documents : List Document). AreIndexes (shown documents) (indexes_seen c.in_ok-indexes.indexes.items)) (sym c.in_ok-documents.ensures)
     (subst (λ (ys : List Index). AreIndexes ds ys) (sym seen) (with_index_sound ds index xs has c.self.invariant))
 
