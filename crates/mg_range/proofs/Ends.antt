@@ -1,5 +1,5 @@
 -- A row is below a range exactly where it is before the low end, and above it exactly where it is behind the high end.
-use Rattle.std.proofs.Common.{◌≡◌, ℕ, Bool, true, false, not, ◌&&◌, List, [], ◌∷◌, Option, Some, None, Ordering, Less, Equal, Greater, refl, sym, ap, ap₂, ◌∙◌, if◌then◌else◌}
+use Rattle.std.proofs.Common.{◌≡◌, ℕ, Bool, true, false, not, ◌&&◌, List, [], ◌∷◌, Option, Some, None, Ordering, Less, Equal, Greater, refl, sym, ap, ◌∙◌, if◌then◌else◌}
 use Rattle.std.proofs.lemmas.Bool.{false≢true}
 use Rattle.std.specs.List.{find}
 use Rattle.std.specs.Ordering.{is_gt, is_lt, ordering_reverse, ordering_then, match_ordering}
@@ -7,7 +7,7 @@ use Rattle.mg_value.specs.Value.{Value, Items, no_items, item, item_list}
 use Rattle.mg_collate.specs.Order.{value_order, items_order}
 use Rattle.mg_collate.proofs.Flat.{items_order-item, items_order-above, then_equal}
 use Rattle.mg_collate.proofs.Ties.{value_order_total}
-use Rattle.mg_range.proofs.Limits.{above, order_from_total, same_value}
+use Rattle.mg_range.proofs.Limits.{above, same_value}
 use Rattle.mg_index.specs.Bound.{Bound, bounds_on, is_exact, meets_all}
 use Rattle.mg_index.specs.Definition.{Steps}
 use Rattle.mg_normal.specs.Atoms.{Atom}

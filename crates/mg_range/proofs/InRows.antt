@@ -1,17 +1,15 @@
 -- A row stands to a range as it stands to the ends of the range.
-use Rattle.std.proofs.Common.{◌≡◌, Bool, true, false, Option, Some, None, option_map, refl, sym, ap, ap₂, ◌∙◌, if◌then◌else◌}
+use Rattle.std.proofs.Common.{◌≡◌, Bool, true, false, Option, Some, None, refl, sym, ap, ap₂, ◌∙◌, if◌then◌else◌}
 use Rattle.std.specs.Ordering.{is_gt, is_lt}
 use Rattle.mg_collate.specs.Row.{RowValue}
 use Rattle.mg_range.proofs.Ends.{before_low, past_apart, past_high}
-use Rattle.mg_range.specs.Ends.{high_end, low_end}
 use Rattle.mg_range.specs.InRows.{BothEnds, HasEnds, ends_at, ends_of, place_at}
 use Rattle.mg_range.specs.Place.{is_before, is_past, is_place_before, is_place_past, place_of}
 use Rattle.mg_range.specs.Range.{Range, Span}
-use Rattle.mg_range.specs.declared.place.Place.{Place}
 use Rattle.mg_range.specs.declared.place.Place.TheVariants.{Before, Within, Past}
 use Rattle.mg_range.specs.declared.row_range.Ends.{Ends}
 use Rattle.mg_rows.specs.Bound.{bound_order}
-use Rattle.mg_value.specs.Value.{Items, item_list}
+use Rattle.mg_value.specs.Value.{item_list}
 
 -- the row is before the low of these ends
 abbrev is_below : BothEnds → RowValue → Bool

@@ -57,7 +57,8 @@ pub fn pull_lent<'a>(
         take,
         direction,
     };
-    pull_by(alloc, shards, search)
+    let (hits, pulled) = pull_by(alloc, shards, search)?;
+    Ok((hits, pulled))
 }
 
 // The first hits of a search.
@@ -110,13 +111,32 @@ pub fn pull_rows<'a>(
         take,
         direction,
     };
-    if shards.len() == 1 {
-        return pull_rows_of_one(alloc, shards, search, skip);
-    }
-    pull_rows_of_all(alloc, shards, search, skip)
+    let (hits, pulled) = pull_rows_by(alloc, shards, search, skip)?;
+    Ok((hits, pulled))
 }
 
-// The first hits of a search that are left without as many as are named, where the range decides.
+// The first hits of a search without the first so many of them, where the range decides.
+fn pull_rows_by<'a>(
+    alloc: Global,
+    shards: &'a [Arc<Shard>],
+    search: Search<'_>,
+    skip: usize,
+) -> Result<(Vec<Hit<'a>>, u64), NoMemory>
+    requires decided { All (IsDecidedIn search.target search.normal.now search.range.now)
+        (shards_seen shards.now) }
+    ensures rows { IfOk result (λ made. hit_rows made.0.items ≡ drop skip
+        (merged search.entry.direction search.entry.take (map (found_by search.entry) (shards_seen shards.now)))) }
+    ensures hits { IfOk result (λ made. AreHitsIn (shards_seen shards.now) made.0.items) }
+    ensures pulled { IfOk result (λ made. made.1 ≤ search.entry.take + length shards.now) }
+{
+    if shards.len() == 1 {
+        pull_rows_of_one(alloc, shards, search, skip)
+    } else {
+        pull_rows_of_all(alloc, shards, search, skip)
+    }
+}
+
+// The same of any number of shards.
 fn pull_rows_of_all<'a>(
     alloc: Global,
     shards: &'a [Arc<Shard>],

@@ -58,7 +58,8 @@ pub fn scan_lent<'a, R: Threads + Sync, G: Gate + Sync>(
         take,
         direction,
     };
-    scan_by(rt, alloc, shards, search, workers, gate)
+    let lists = scan_by(rt, alloc, shards, search, workers, gate)?;
+    Ok(lists)
 }
 
 // What the search finds in each shard.

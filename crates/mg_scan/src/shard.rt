@@ -52,11 +52,7 @@ pub(crate) fn hit_of<'a>(
 }
 
 // The hit of a row, if the selector holds of its document.
-pub(crate) fn hit_at<'a>(
-    shard: &'a Shard,
-    row: &'a RowBytes,
-    normal: &Normal,
-) -> Option<Hit<'a>>
+pub(crate) fn hit_at<'a>(shard: &'a Shard, row: &'a RowBytes, normal: &Normal) -> Option<Hit<'a>>
     ensures row { option_map hit_row result ≡ if holds_at normal.now shard.now.documents row.now.1 then Some row.now else None }
     ensures lent { IfSome result (IsHitOf shard.now.documents) }
 {

@@ -4,7 +4,6 @@ use Rattle.mg_value.specs.View.{items_view, view}
 use Rattle.mg_range.specs.Ends.{end_values}
 use Rattle.mg_range.specs.View.{limit_seen}
 use Rattle.mg_rows.specs.Laws.{joined_items}
-use Rattle.mg_rows.specs.declared.edge.Edge.{Edge}
 use Rattle.mg_range.proofs.Pushed.{end_joined}
 use Rattle.mg_range.proofs.row_range.end_at.Goals as goal
 
