@@ -2,11 +2,13 @@
 ghost use Rattle.std.specs.Prelude.{◌≡◌, ◌+◌, ◌<◌, ◌≤◌, List, IfOk, length, map, string_bytes};
 ghost use Rattle.mg_value.specs.Text.{compact};
 ghost use Rattle.mg_value.specs.View.{view};
+ghost use Rattle.mg_bookmark.specs.Bookmark.{spelled};
 ghost use Rattle.mg_index.specs.Definition.{Steps};
+ghost use Rattle.mg_scan.specs.Hit.{hit_row};
 ghost use Rattle.mg_shard.specs.Shard.{HaveIndexes, shards_seen};
 ghost use Rattle.mg_shard.specs.Dealt.{Placing, ShardsStandFor};
 ghost use Rattle.mg_shard.specs.Histories.{Histories};
-ghost use Rattle.mg_query.specs.Page.{Candidate, answer_of, bookmark_after, candidates_of, columns_of, page_of, page_value, shown_of};
+ghost use Rattle.mg_query.specs.Page.{Candidate, answer_of, bookmark_after, candidates_of, columns_of, ddoc_of, name_of, page_of, page_value, shown_of};
 ghost use Rattle.mg_query.specs.Paged.{IsWithin, handed_of, page_seen, text_of};
 ghost use Rattle.mg_query.specs.Lent.{LendEach};
 ghost use Rattle.mg_query.specs.Seen.{query_seen};
@@ -18,6 +20,7 @@ use crate::query::Query;
 use crate::shown::{Page, bookmark_of, shown};
 use crate::source::Source;
 use crate::text::text_with;
+use mg_collate::Direction;
 use mg_index::Catalog;
 use mg_merge::Work;
 use mg_scan::{Gate, Hit, Workers};
@@ -165,7 +168,27 @@ fn last_bookmark(
         → string_bytes t ≡ bookmark_after (source_seen source.entry) (query_seen query.now) cs) }
 {
     match hits.last() {
-        Some(hit) => bookmark_of(alloc, source, query.sort.direction, hit.key(), hit.id()),
+        Some(hit) => bookmark_at(alloc, source, query.sort.direction, hit),
         None => Ok(String::from_str(alloc, query.told_bookmark)?),
     }
+}
+
+// The bookmark of a hit.
+fn bookmark_at(
+    alloc: Global,
+    source: Source<'_>,
+    direction: Direction,
+    hit: &Hit<'_>,
+) -> Result<String, NoMemory>
+    ensures { IfOk result (λ t. string_bytes t ≡ spelled (record {
+      ddoc = ddoc_of (source_seen source.entry);
+      name = name_of (source_seen source.entry);
+      direction = direction;
+      key = (hit_row hit.now).0;
+      id = (hit_row hit.now).1;
+    })) }
+{
+    let key = hit.key(alloc)?;
+    let bookmark = bookmark_of(alloc, source, direction, &key, hit.id())?;
+    Ok(bookmark)
 }

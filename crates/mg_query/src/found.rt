@@ -173,7 +173,8 @@ fn first_of<'a, R: Threads + Sync, G: Gate + Sync>(
         (λ made. AreOfPage (query_seen query.now) asked.now (shards_seen shards.now) made.1 made.0.items) }
 {
     let is_one = workers.count() < 2 || shards.len() < 2;
-    if workers.is_alone(is_one || is_small(query, asked, shards)) {
+    let is_small = is_one || is_small(alloc, query, asked, shards)?;
+    if workers.is_alone(is_small) {
         return found_alone(alloc, query, asked, shards);
     }
     let (hits, _) = gathered(rt, alloc, query, asked, shards, workers.count(), gate)?;
@@ -321,17 +322,25 @@ const SMALL_ROWS: usize = 4000;
 const SMALL_SCAN: usize = 1000;
 
 // Whether a query is not worth a second thread: by its text, or since there is not much to read.
-fn is_small(query: &Query<'_>, asked: &Asked<'_>, shards: &[Arc<Shard>]) -> bool {
-    is_small_page(query, asked)
-        || reads_at_most(
-            shards,
-            asked.source.target(),
-            &asked.normal,
-            &asked.range,
-            asked.after.as_ref(),
-            query.sort.direction,
-            SMALL_SCAN,
-        )
+fn is_small(
+    alloc: Global,
+    query: &Query<'_>,
+    asked: &Asked<'_>,
+    shards: &[Arc<Shard>],
+) -> Result<bool, NoMemory> {
+    if is_small_page(query, asked) {
+        return Ok(true);
+    }
+    reads_at_most(
+        alloc,
+        shards,
+        asked.source.target(),
+        &asked.normal,
+        &asked.range,
+        asked.after.as_ref(),
+        query.sort.direction,
+        SMALL_SCAN,
+    )
 }
 
 // Whether its page is, by its text alone.

@@ -1,8 +1,10 @@
 pub mod Range
 pub mod Place
 pub mod Enter
+pub mod Ends
 pub mod Decided
 pub mod Listed
 pub mod Laws
 pub mod View
+pub mod InRows
 pub mod Edge

@@ -54,6 +54,26 @@ is_place_within place = false
 abbrev pub has_key : Range → List Value → Bool
 has_key range key = is_place_within (place_of range key)
 
+-- the place is before
+abbrev pub is_place_before : Place → Bool
+is_place_before Before = true
+is_place_before place = false
+
+-- the place is past
+abbrev pub is_place_past : Place → Bool
+is_place_past Past = true
+is_place_past place = false
+
+-- a key of this place comes before the range in a direction
+abbrev pub is_early : Direction → Place → Bool
+is_early Asc place = is_place_before place
+is_early Desc place = is_place_past place
+
+-- a key of this place comes after the range in a direction
+abbrev pub is_late : Direction → Place → Bool
+is_late Asc place = is_place_past place
+is_late Desc place = is_place_before place
+
 -- the places in their order
 abbrev pub place_rank : Place → ℕ
 place_rank Before = 0

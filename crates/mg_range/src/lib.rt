@@ -7,9 +7,11 @@ pub mod laws;
 mod listed;
 mod place;
 mod range;
+mod row_range;
 mod span;
 mod text;
 
 pub use decided::{decides, is_decided};
 pub use place::Place;
 pub use range::KeyRange;
+pub use row_range::RowRange;

@@ -21,7 +21,7 @@ use std::marker::Model;
 /// fixes them, and limits on that of the next column. A range may be empty.
 #[derive(Debug, Drop)]
 pub struct KeyRange {
-    span: Option<Span>,
+    pub(crate) span: Option<Span>,
 }
 
 impl Model for KeyRange {
@@ -32,9 +32,12 @@ impl Model for KeyRange {
 
     ghost coded = { range_code };
 
+    ghost use Rattle.mg_range.specs.Ends.{IsUncrossed};
     ghost use Rattle.mg_range.specs.View.{span_seen};
 
     ghost view = { λ r. option_map span_seen r.span };
+
+    ghost invariant = { λ r. IsUncrossed (option_map span_seen r.span) };
 }
 
 impl KeyRange {

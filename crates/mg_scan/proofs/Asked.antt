@@ -16,13 +16,15 @@ use Rattle.mg_normal.specs.contracts.atom.Atom as Atom
 use Rattle.mg_normal.specs.contracts.form.Form as Form
 use Rattle.mg_normal.specs.contracts.normal.Normal as Normal
 use Rattle.mg_path.proofs.path.Path.TheSendSync as path
+use Rattle.mg_range.proofs.row_range.Ends.TheSendSync as ends
 use Rattle.mg_range.specs.contracts.range.KeyRange as KeyRange
+use Rattle.mg_range.specs.contracts.row_range.RowRange as RowRange
 use Rattle.mg_range.specs.contracts.span.Limit as Limit
 use Rattle.mg_range.specs.contracts.span.Span as Span
 use Rattle.mg_scan.specs.contracts.search.Search as Search
 use Rattle.mg_scan.proofs.target.Target.TheSendSync as target
-use Rattle.mg_scan.proofs.Crossing.{row_sync}
 use Rattle.mg_scan.proofs.Values.{json_field_sync, json_sync}
+use Rattle.mg_rows.proofs.row.RowBytes.TheSendSync as rows
 use Rattle.mg_selector.specs.contracts.operator.Op as Op
 use Rattle.mg_selector.specs.contracts.selector.Sel as Sel
 
@@ -36,6 +38,9 @@ span_sync = search (sendable, crosses, maps, json_sync, limit_sync) depth 40
 
 pub range_sync : IsSync KeyRange.the_row
 range_sync = search (sendable, crosses, maps, span_sync) depth 40
+
+pub row_range_sync : (κs : _) → IsSync (RowRange.the_row κs)
+row_range_sync κs = search (sendable, crosses, maps, range_sync, ends.the_sync) depth 40
 
 -- ---- selectors and operators, which hold one another
 
@@ -85,7 +90,7 @@ normal_sync = search (sendable, crosses, maps, atom_sync, form_sync) depth 40
 -- ---- the whole search
 
 pub search_sync : (κs : _) → IsSync (Search.the_row κs)
-search_sync κs = search (sendable, crosses, maps, normal_sync, range_sync, row_sync, target.the_sync) depth 60
+search_sync κs = search (sendable, crosses, maps, normal_sync, row_range_sync, rows.the_sync, target.the_sync) depth 60
 
 -- ---- the definition of an index
 

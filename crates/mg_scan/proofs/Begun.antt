@@ -2,7 +2,7 @@
 use Rattle.std.proofs.Common.{◌≡◌, ℕ, Bool, true, false, cond, List, [], ◌∷◌, Option, Some, None, Ordering, is_gt, is_some, option_map, if◌then◌else◌, refl, ap, sym, ◌∙◌, subst}
 use Rattle.std.specs.List.{AllByRecursion, cons_option, filter_map}
 use Rattle.std.specs.Option.{option_map_or}
-use Rattle.mg_collate.specs.Row.{RowValue, row_value_order, rows_view}
+use Rattle.mg_collate.specs.Row.{RowValue, row_value_order}
 use Rattle.mg_collate.specs.Sorted.{sorted_with, sorted}
 use Rattle.mg_index.specs.Definition.{IndexDefinition, Steps}
 use Rattle.mg_scan.specs.Begun.{AreBegun, IsBegunIn}
@@ -47,7 +47,7 @@ pub begun_hits : (at : Option (List Steps)) (s : Search) (shard : ShardView) (l 
     → left_rows s shard l ≡ option_map_or (λ columns. all_scanned (asked_by s columns) (docs_of shard.documents)) at []
 begun_hits at s shard (left.Rows rows) b =
     let ds = shard.documents in
-    all_found_rows (asked_by s b.0) ds (rows_view rows) (all_forms ds) b.2 ∙ ap (λ o. option_map_or (λ columns. all_scanned (asked_by s columns) (docs_of ds)) o []) (sym b.1)
+    all_found_rows (asked_by s b.0) ds rows (all_forms ds) b.2 ∙ ap (λ o. option_map_or (λ columns. all_scanned (asked_by s columns) (docs_of ds)) o []) (sym b.1)
 begun_hits at s shard (left.Documents documents) b =
     let ds = shard.documents in
     source_rows s ds documents (all_owned ds s.direction (λ e. begin_at s (id_row e.0)) documents b.1.begun) b.1.own b.1.begun
@@ -109,12 +109,12 @@ on_way s ds (r ∷ rows) h =
 pub begun_leads : (at : Option (List Steps)) (s : Search) (shard : ShardView) (l : Left) → IsBegunIn at s shard l
     → lead_rows s l ≡ option_map_or (λ columns. all_scanned (asked_by (unasked s) columns) (docs_of shard.documents)) at []
 begun_leads at s shard (left.Rows rows) b =
-    on_way s shard.documents (rows_view rows) (served_begun s shard.documents b.0 (rows_view rows) b.2) ∙ begun_hits at (unasked s) shard (left.Rows rows) b
+    on_way s shard.documents rows (served_begun s shard.documents b.0 rows b.2) ∙ begun_hits at (unasked s) shard (left.Rows rows) b
 begun_leads at s shard (left.Documents documents) b =
     begun_hits at (unasked s) shard (left.Documents documents) (b.0, record { own = b.1.own; begun = b.1.begun })
 begun_leads at s shard left.Nothing b = begun_hits at (unasked s) shard left.Nothing b
 
 pub begun_led : (at : Option (List Steps)) (s : Search) (shard : ShardView) (l : Left) → IsBegunIn at s shard l → (lead : Lead) → IsLeadLeft shard l lead → IsLeadOf shard lead
-begun_led at s shard (left.Rows rows) b lead lent = lent (served_begun s shard.documents b.0 (rows_view rows) b.2)
+begun_led at s shard (left.Rows rows) b lead lent = lent (served_begun s shard.documents b.0 rows b.2)
 begun_led at s shard (left.Documents documents) b lead lent = lent (all_owned shard.documents s.direction (λ e. begin_at s (id_row e.0)) documents b.1.begun)
 begun_led at s shard left.Nothing b lead lent = lent

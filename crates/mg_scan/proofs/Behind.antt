@@ -1,7 +1,7 @@
 -- Rows of one shard behind the first so many: what is found there, and the merge of that alone.
 use Rattle.std.proofs.Common.{◌≡◌, ℕ, zero, suc, ◌+◌, ◌-◌, ◌≤◌, Bool, true, false, List, [], ◌∷◌, Option, All, append-nil, drop, get_or, if◌then◌else◌, length, map, take, refl, ap, sym, ◌∙◌, subst, arith}
 use Rattle.std.proofs.Math.Seq.{take-nil}
-use Rattle.std.proofs.lemmas.List.{drop-drop, drop-map}
+use Rattle.std.proofs.lemmas.List.{drop-drop}
 use Rattle.std.proofs.lemmas.List.Elements.{All-from_recursion}
 use Rattle.std.specs.Arc.{arc_value}
 use Rattle.std.specs.List.{AllByRecursion}
@@ -10,7 +10,7 @@ use Rattle.std.specs.declared.cmp.Ordering.{Ordering}
 use Rattle.std.specs.declared.sync.Arc.{Arc}
 use Rattle.mg_collate.proofs.Directed.{directed_total}
 use Rattle.mg_collate.proofs.Sorting.{Rises, all_weaker, in_order, rises, sorted_least}
-use Rattle.mg_collate.specs.Row.{RowValue, directed_order, row_view, rows_view}
+use Rattle.mg_collate.specs.Row.{RowValue, directed_order}
 use Rattle.mg_collate.specs.Sorted.{IsInOrder, sorted}
 use Rattle.mg_collate.specs.declared.direction.Direction.{Direction}
 use Rattle.mg_index.specs.Definition.{Steps}
@@ -87,17 +87,17 @@ nothing_behind (suc n) = refl
 pub behind_rows : (at : Option (List Steps)) (s : Search) (shard : ShardView) (n : ℕ) (l m : Left) → IsBegunIn at s shard l → IsBehind n l m → lead_rows s m ≡ drop n (lead_rows s l)
 behind_rows at s shard n (left.Rows rows) m b e =
     let ds = shard.documents in
-    ap (lead_rows s) e ∙ ap (rows_on_way s) (sym (drop-map row_view n rows))
-    ∙ on_way_behind (is_late_row s.direction s.range.now) n (rows_view rows) (late_rows (asked_by s b.0) ds (rows_view rows) (all_forms ds) b.2)
+    ap (lead_rows s) e
+    ∙ on_way_behind (is_late_row s.direction s.range.now) n rows (late_rows (asked_by s b.0) ds rows (all_forms ds) b.2)
 behind_rows at s shard n (left.Documents documents) m b e =
     ap (lead_rows s) e.1 ∙ sym (ap (λ k. drop k (lead_rows s (left.Documents documents))) e.0)
 behind_rows at s shard n left.Nothing m b e = ap (lead_rows s) e ∙ nothing_behind n
 
 pub behind_led : (at : Option (List Steps)) (s : Search) (shard : ShardView) (n : ℕ) (l m : Left) → IsBegunIn at s shard l → IsBehind n l m → (lead : Lead) → IsLeadLeft shard m lead → IsLeadOf shard lead
 behind_led at s shard n (left.Rows rows) m b e lead lent =
-    let served = served_begun s shard.documents b.0 (rows_view rows) b.2 in
-    let kept = all_dropped _ n (rows_view rows) served in
-    subst (λ (x : Left). IsLeadLeft shard x lead) e lent (subst (AreServed shard.documents) (drop-map row_view n rows) kept)
+    let served = served_begun s shard.documents b.0 rows b.2 in
+    let kept = all_dropped _ n rows served in
+    subst (λ (x : Left). IsLeadLeft shard x lead) e lent kept
 behind_led at s shard n (left.Documents documents) m b e lead lent = begun_led at s shard (left.Documents documents) b lead (subst (λ (x : Left). IsLeadLeft shard x lead) e.1 lent)
 behind_led at s shard n left.Nothing m b e lead lent = begun_led at s shard left.Nothing b lead (subst (λ (x : Left). IsLeadLeft shard x lead) e lent)
 

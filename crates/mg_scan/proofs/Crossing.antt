@@ -2,25 +2,20 @@
 use denote.Param.Send.{IsSend, IsSync, sendable}
 use Rattle.std.proofs.Crossing.{crosses}
 use Rattle.std.proofs.MapsCrossing.{crosses as maps}
-use Rattle.mg_scan.proofs.Values.{json_field_send, json_field_sync, json_send, json_sync}
-use Rattle.mg_collate.specs.contracts.row.Row as Row
+use Rattle.mg_scan.proofs.Values.{json_field_send, json_field_sync}
 use Rattle.mg_index.proofs.definition.IndexDef.TheSendSync as definition
+use Rattle.mg_pages.proofs.element.Shared.TheSendSync as lent
 use Rattle.mg_pages.proofs.pages.Pages.TheSendSync as pages
 use Rattle.mg_revtree.specs.contracts.leaf.Leaf as Leaf
 use Rattle.mg_revtree.specs.contracts.leaf.Shared as Shared
 use Rattle.mg_revtree.specs.contracts.tree.RevTree as RevTree
 use Rattle.mg_revtree.proofs.links.Links.TheSendSync as links
 use Rattle.mg_revtree.proofs.revision.Rev.TheSendSync as revision
+use Rattle.mg_rows.proofs.row.RowBytes.TheSendSync as rows
 use Rattle.mg_shard.specs.contracts.document.Document as Document
 use Rattle.mg_shard.specs.contracts.index.IndexRows as IndexRows
 use Rattle.mg_shard.specs.contracts.served.Served as Served
 use Rattle.mg_shard.specs.contracts.shard.Shard as Shard
-
-pub row_send : IsSend Row.the_row
-row_send = search (sendable, crosses, maps, json_send, json_sync) depth 40
-
-pub row_sync : IsSync Row.the_row
-row_sync = search (sendable, crosses, maps, json_send, json_sync) depth 40
 
 pub leaf_send : IsSend Leaf.the_row
 leaf_send = search (sendable, crosses, maps, json_field_send, json_field_sync, revision.the_send, revision.the_sync) depth 40
@@ -53,13 +48,13 @@ pub document_sync : IsSync Document.the_row
 document_sync = search (sendable, crosses, maps, tree_send, tree_sync, served_send, served_sync) depth 40
 
 pub index_send : IsSend IndexRows.the_row
-index_send = search (sendable, crosses, maps, row_send, row_sync, definition.the_send, definition.the_sync, pages.the_send, pages.the_sync) depth 40
+index_send = search (sendable, crosses, maps, rows.the_send, rows.the_sync, definition.the_send, definition.the_sync, pages.the_send, pages.the_sync) depth 40
 
 pub index_sync : IsSync IndexRows.the_row
-index_sync = search (sendable, crosses, maps, row_send, row_sync, definition.the_send, definition.the_sync, pages.the_send, pages.the_sync) depth 40
+index_sync = search (sendable, crosses, maps, rows.the_send, rows.the_sync, definition.the_send, definition.the_sync, pages.the_send, pages.the_sync) depth 40
 
 pub shard_send : IsSend Shard.the_row
-shard_send = search (sendable, crosses, maps, document_send, document_sync, index_send, index_sync, pages.the_send, pages.the_sync) depth 40
+shard_send = search (sendable, crosses, maps, document_send, document_sync, lent.the_send, lent.the_sync, index_send, index_sync, pages.the_send, pages.the_sync) depth 40
 
 pub shard_sync : IsSync Shard.the_row
-shard_sync = search (sendable, crosses, maps, document_send, document_sync, index_send, index_sync, pages.the_send, pages.the_sync) depth 40
+shard_sync = search (sendable, crosses, maps, document_send, document_sync, lent.the_send, lent.the_sync, index_send, index_sync, pages.the_send, pages.the_sync) depth 40

@@ -99,7 +99,7 @@ own_part : (id : List ℕ) (o : Option Value) (r : RowValue) → ((part : Value)
 own_part id None r own e = absurd cc
 own_part id (Some part) r own e = let same : ◌≡◌ {A = RowValue} (item part no_items, id) r = cc in sym same ∙ ap (λ v. (item v no_items, id)) (own part refl)
 
-own_form : (id : List ℕ) (o : Option Value) (r : RowValue) → ((form : Value) → o ≡ Some form → HasOwnId id form)
+pub own_form : (id : List ℕ) (o : Option Value) (r : RowValue) → ((form : Value) → o ≡ Some form → HasOwnId id form)
     → option_and_then (row_of all_columns) (option_map (λ form. (id, form)) o) ≡ Some r → r ≡ id_row id
 own_form id None r own e = absurd cc
 own_form id (Some form) r own e = own_part id (part_of (codes "_id" ∷ []) form) r (own form refl) e

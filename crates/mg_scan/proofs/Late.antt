@@ -7,7 +7,8 @@ use Rattle.mg_range.specs.Range.{Range}
 use Rattle.mg_range.specs.declared.place.Place.{Place}
 use Rattle.mg_range.specs.declared.place.Place.TheVariants.{Before, Within, Past}
 use Rattle.mg_scan.specs.Begins.{Follows, NotAfter, follows, place_row}
-use Rattle.mg_scan.specs.Walked.{is_late, is_late_row}
+use Rattle.mg_range.specs.Place.{is_late}
+use Rattle.mg_scan.specs.Walked.{is_late_row}
 
 late_place : (direction : Direction) (p q : Place) → Follows direction p q → is_late direction p ≡ true → is_late direction q ≡ true
 late_place Asc Past Past h e = refl

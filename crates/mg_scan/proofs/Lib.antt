@@ -6,6 +6,8 @@ pub mod Maps
 pub mod Found
 pub mod Steps
 pub mod Sources
+pub mod Own
+pub mod Made
 pub mod Builds
 pub mod Values
 pub mod Crossing

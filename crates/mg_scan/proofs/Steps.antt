@@ -2,16 +2,12 @@
 use Rattle.std.proofs.Common.{◌≡◌, ℕ, zero, suc, ◌+◌, ◌-◌, ◌<◌, ◌≤◌, Bool, true, false, ◌||◌, nat_le, List, [], ◌∷◌, ◌++◌, Option, Some, None, IfSome, option_map, map, length, if◌then◌else◌, refl, ap, ap₂, sym, ◌∙◌, subst, arith, append_assoc, append-nil}
 use Rattle.std.proofs.lemmas.Bool.{leb-false, leb-true}
 use Rattle.std.specs.List.{cons_option}
-use Rattle.mg_collate.specs.Row.{RowValue, row_view}
-use Rattle.mg_collate.specs.declared.row.Row.{Row}
+use Rattle.mg_collate.specs.Row.{RowValue}
 use Rattle.mg_scan.specs.Hit.{AreHitsOf, IsHitOf, hit_row, hit_rows}
 use Rattle.mg_scan.specs.Search.{entry_rows}
-use Rattle.mg_scan.specs.Walked.{holds_at, is_late, is_late_row, listed, walked}
-use Rattle.mg_scan.specs.declared.search.Search.{Search}
+use Rattle.mg_scan.specs.Walked.{holds_at, listed, walked}
 use Rattle.mg_scan.proofs.Entries.{entry_row}
-use Rattle.mg_scan.proofs.Lists.{list-items}
 use Rattle.mg_normal.specs.Normal.{NormalForm, normal_holds}
-use Rattle.mg_range.specs.Place.{place_of}
 use Rattle.std.specs.FinMap.{get}
 use Rattle.std.specs.Option.{option_and_then, option_map_or}
 use Rattle.mg_scan.specs.declared.hit.Hit.{Hit}
@@ -20,8 +16,6 @@ use Rattle.mg_shard.specs.Own.{all_columns}
 use Rattle.mg_shard.specs.Rows.{row_key, row_of}
 use Rattle.mg_shard.specs.declared.document.Document.{Document}
 use Rattle.mg_value.specs.Value.{Value, Items}
-use Rattle.mg_value.specs.View.{items_view, view}
-use Rattle.mg_value.specs.declared.value.Json.{Json}
 
 pub if_some : {X : Type 0} (b : Bool) (x y : X) → Some x ≡ (if b then Some y else None) → (b ≡ true) × (x ≡ y)
 if_some true x y e = (refl, cc)
@@ -119,15 +113,9 @@ pub hits_one : (ds : KeptDocuments) (hits : List Hit) (hit : Option Hit) → Are
 hits_one ds hits None h k = subst (λ (hs : List Hit). AreHitsOf ds hs) (sym (append-nil hits)) h
 hits_one ds hits (Some hit) h k = hits-push ds hits hit h k
 
-pub row_late : (s : Search) (row : Row) (key : List Json) → key ≡ row.key.items → is_late_row s.direction s.range.now (row_view row) ≡ is_late s.direction (place_of s.range.now (map view key))
-row_late s row key e = ap (λ vs. is_late s.direction (place_of s.range.now vs)) (list-items (map view row.key.items) ∙ ap (map view) (sym e))
-
-pub key_late : (s : Search) (key : List Json) (id : List ℕ) → is_late_row s.direction s.range.now (items_view key, id) ≡ is_late s.direction (place_of s.range.now (map view key))
-key_late s key id = ap (λ vs. is_late s.direction (place_of s.range.now vs)) (list-items (map view key))
-
 -- ---- documents
 
-keyed : (id : List ℕ) (o : Option Value) → option_and_then (row_of all_columns) (option_map (λ form. (id, form)) o) ≡ option_map (λ key. (key, id)) (option_and_then (row_key all_columns) o)
+pub keyed : (id : List ℕ) (o : Option Value) → option_and_then (row_of all_columns) (option_map (λ form. (id, form)) o) ≡ option_map (λ key. (key, id)) (option_and_then (row_key all_columns) o)
 keyed id None = refl
 keyed id (Some form) = refl
 
@@ -146,18 +134,9 @@ pub holds_of : (normal : NormalForm) (ds : KeptDocuments) (d : Document) → get
     → option_map_or (λ form. normal_holds normal (Some form)) (form_of d) false ≡ holds_at normal ds (id_of d)
 holds_of normal ds d e = ap (λ o. option_map_or (λ form. normal_holds normal (Some form)) (option_and_then (λ (k : Kept). k.1) o) false) (sym e)
 
--- the hit of a document, by the row that it has
-pub held : (normal : NormalForm) (ds : KeptDocuments) (d : Document) (r : RowValue) → get ds (id_of d) ≡ Some (kept_of d)
-    → ◌≡◌ {A = Option RowValue} (if option_map_or (λ form. normal_holds normal (Some form)) (form_of d) false then Some r else None) (if holds_at normal ds (id_of d) then Some r else None)
-held normal ds d r e = let shape : Bool → Option RowValue = λ b. if b then Some r else None in ap shape (holds_of normal ds d e)
-
--- ---- the hit of a row
-
-pub at_none : (normal : NormalForm) (ds : KeptDocuments) (id : List ℕ) (x : RowValue) → None ≡ get ds id → None ≡ (if holds_at normal ds id then Some x else None)
-at_none normal ds id x e = ap (λ o. if option_map_or (λ form. normal_holds normal (Some form)) (option_and_then (λ (k : Kept). k.1) o) false then Some x else None) e
-
-pub at_some : (normal : NormalForm) (ds : KeptDocuments) (d : Document) (id : List ℕ) (key : Items) → Some (kept_of d) ≡ get ds id → id_of d ≡ id
-    → ◌≡◌ {A = Option RowValue} (if option_map_or (λ form. normal_holds normal (Some form)) (form_of d) false then Some (key, id_of d) else None) (if holds_at normal ds id then Some (key, id) else None)
-at_some normal ds d id key e same =
-    let shape : Option Kept → List ℕ → Option RowValue = λ o i. if option_map_or (λ form. normal_holds normal (Some form)) (option_and_then (λ (k : Kept). k.1) o) false then Some (key, i) else None in
-    ap₂ shape e same
+-- the hit of a document, by the id and the row that it has
+pub held : (normal : NormalForm) (ds : KeptDocuments) (d : Document) (id : List ℕ) (r : RowValue) → id ≡ id_of d → get ds (id_of d) ≡ Some (kept_of d)
+    → ◌≡◌ {A = Option RowValue} (if option_map_or (λ form. normal_holds normal (Some form)) (form_of d) false then Some r else None) (if holds_at normal ds id then Some r else None)
+held normal ds d id r same e =
+    let shape : Bool → Option RowValue = λ b. if b then Some r else None in
+    ap shape (holds_of normal ds d e ∙ ap (holds_at normal ds) (sym same))

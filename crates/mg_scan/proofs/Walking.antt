@@ -14,12 +14,12 @@ use Rattle.mg_collate.proofs.Directed.{directed_total, sorted_descending}
 use Rattle.mg_collate.proofs.Sorting.{NoneBelow, Rises, rises_sorted}
 use Rattle.mg_index.specs.Definition.{Steps}
 use Rattle.mg_normal.specs.Normal.{NormalForm, normal_holds}
-use Rattle.mg_range.specs.Place.{is_place_within}
+use Rattle.mg_range.specs.Place.{is_early, is_late, is_place_within}
 use Rattle.mg_range.specs.Range.{Range}
 use Rattle.mg_range.specs.declared.place.Place.{Place}
 use Rattle.mg_range.specs.declared.place.Place.TheVariants.{Before, Within, Past}
 use Rattle.mg_scan.specs.Scan.{Request, all_scanned, comes_after, is_wanted, scanned}
-use Rattle.mg_scan.specs.Walked.{begin_order, holds_at, is_beyond, is_early, is_late, is_late_row, walked, walked_all}
+use Rattle.mg_scan.specs.Walked.{begin_order, holds_at, is_beyond, is_late_row, walked, walked_all}
 use Rattle.mg_scan.specs.Begins.{place_row, reached}
 use Rattle.mg_scan.proofs.Late.{late_rises}
 use Rattle.mg_shard.specs.Documents.{KeptDocuments, docs_of, form_at}

@@ -8,20 +8,20 @@ use Rattle.std.specs.Cmp.Lexicographic.{slice_cmp}
 use Rattle.std.specs.Ordering.{is_le, nat_cmp, ordering_reverse, ordering_then}
 use Rattle.mg_collate.specs.Direction.{directed}
 use Rattle.mg_collate.specs.Order.{value_order}
-use Rattle.mg_collate.specs.Row.{RowValue, directed_order, row_order, row_value_order, row_value_order_total, row_view}
+use Rattle.mg_collate.specs.Row.{RowValue, directed_order, row_value_order, row_value_order_total}
 use Rattle.mg_collate.specs.declared.direction.Direction.{Direction}
 use Rattle.mg_collate.specs.declared.direction.Direction.TheVariants.{Asc, Desc}
 use Rattle.mg_collate.proofs.Directed.{directed_total}
 use Rattle.mg_collate.proofs.Flat.{items_order-item, text_order, then_equal}
 use Rattle.mg_pages.specs.Identified.{id_order}
 use Rattle.mg_pages.specs.Order.{IsProbe}
-use Rattle.mg_range.specs.Place.{place_of, place_rank}
+use Rattle.mg_range.specs.Place.{is_early, place_of, place_rank}
 use Rattle.mg_range.specs.Range.{Range}
 use Rattle.mg_range.specs.declared.place.Place.{Place}
 use Rattle.mg_range.specs.declared.place.Place.TheVariants.{Before, Within, Past}
 use Rattle.mg_range.proofs.Together.{rows_together}
 use Rattle.mg_scan.specs.Search.{after_of, begin_at}
-use Rattle.mg_scan.specs.Walked.{begin_order, id_row, is_beyond, is_early, reaches}
+use Rattle.mg_scan.specs.Walked.{begin_order, id_row, is_beyond, reaches}
 use Rattle.mg_scan.specs.declared.search.Search.{Search}
 use Rattle.mg_shard.specs.Documents.{id_of}
 use Rattle.mg_value.specs.Value.{Items, no_items, item, item_list, text}
@@ -124,8 +124,8 @@ begin_probes Desc range after =
     λ x y l n. down_step (reached Desc range after x) (reached Desc range after y) (reached_rises Desc range after y x (ap (λ o. is_gt (ordering_reverse o)) (row_value_order_total.antisymm y x ∙ ap ordering_reverse l))) n
 
 -- where a search begins is a place among rows
-pub begin_probes_rows : (s : Search) → IsProbe row_order (λ r. begin_at s (row_view r))
-begin_probes_rows s = λ x y l n. begin_probes s.direction s.range.now (after_of s) (row_view x) (row_view y) l n
+pub begin_probes_rows : (s : Search) → IsProbe row_value_order (begin_at s)
+begin_probes_rows s = begin_probes s.direction s.range.now (after_of s)
 
 twice : (o : Ordering) → ordering_then o o ≡ o
 twice Less = refl

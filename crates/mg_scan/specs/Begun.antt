@@ -1,7 +1,6 @@
 -- For private clauses: what a search has to read in a shard when it begins.
 use Rattle.std.specs.Prelude.{◌≡◌, ℕ, List, Option, Some, None, drop, map}
 use Rattle.std.specs.FinMap.{entries}
-use Rattle.mg_collate.specs.Row.{rows_view}
 use Rattle.mg_index.specs.Definition.{Steps}
 use Rattle.mg_scan.specs.Found.{columns_of}
 use Rattle.mg_scan.specs.Search.{begin_at}
@@ -24,7 +23,7 @@ pub record AreBegun (s : Search) (ds : KeptDocuments) (documents : List Document
 
 -- what is left is all from where the search begins, in these columns, if the shard has them
 abbrev pub IsBegunIn : Option (List Steps) → Search → ShardView → Left → Type 0
-IsBegunIn at s shard (left.Rows rows) = (columns : List Steps) × (at ≡ Some columns) × (rows_view rows ≡ beyond s.direction (begin_at s) (rows_of columns (docs_of shard.documents)))
+IsBegunIn at s shard (left.Rows rows) = (columns : List Steps) × (at ≡ Some columns) × (rows ≡ beyond s.direction (begin_at s) (rows_of columns (docs_of shard.documents)))
 IsBegunIn at s shard (left.Documents documents) = (at ≡ Some all_columns) × AreBegun s shard.documents documents
 IsBegunIn at s shard left.Nothing = at ≡ None
 

@@ -9,15 +9,16 @@ use Rattle.std.specs.Ordering.{on, eq_by_cmp, as_partial_cmp}
 use Rattle.mg_collate.specs.Row.{RowValue, row_value_order, row_value_order_total}
 use Rattle.mg_value.specs.Text.{compact}
 use Rattle.mg_value.specs.Value.{Value}
-use Rattle.mg_value.specs.View.{items_view, view}
+use Rattle.mg_value.specs.View.{view}
+use Rattle.mg_scan.specs.HitRow.{lent_row}
 use Rattle.mg_scan.specs.declared.hit.Hit.{Hit}
-use Rattle.mg_shard.specs.Documents.{KeptDocuments, form_of, id_of, kept_of}
+use Rattle.mg_shard.specs.Documents.{KeptDocuments, form_of, kept_of}
 use Rattle.mg_shard.specs.Shard.{ShardView}
 use Rattle.mg_shard.specs.declared.document.Document.{Document}
 
 -- the row of a hit: its key, and the id of its document
 abbrev pub hit_row : Hit → RowValue
-hit_row h = (items_view h.key.now, id_of h.document.now)
+hit_row h = lent_row h.row
 
 -- the rows of hits
 abbrev pub hit_rows : List Hit → List RowValue

@@ -1,8 +1,9 @@
 -- For private clauses: rows that shards lend before their documents are looked up.
 use Rattle.std.specs.Prelude.{◌≡◌, ℕ, true, List, [], Some, drop, is_some, slice_get}
 use Rattle.std.specs.List.{AllByRecursion}
-use Rattle.mg_collate.specs.Row.{RowValue, rows_view}
+use Rattle.mg_collate.specs.Row.{RowValue}
 use Rattle.mg_scan.specs.Decided.{everything}
+use Rattle.mg_scan.specs.HitRow.{lent_row}
 use Rattle.mg_scan.specs.Search.{all_found_by}
 use Rattle.mg_scan.specs.Sourced.{AreKept, walked_documents}
 use Rattle.mg_scan.specs.Walked.{is_late_row, walked_all}
@@ -13,16 +14,15 @@ use Rattle.mg_scan.specs.declared.left.Left.TheVariants as left
 use Rattle.mg_scan.specs.declared.search.Search.{Search}
 use Rattle.mg_shard.specs.Documents.{KeptDocuments, form_at}
 use Rattle.mg_shard.specs.Shard.{ShardView}
-use Rattle.mg_value.specs.View.{items_view}
 
 -- the row of a lead
 abbrev pub lead_row : Lead → RowValue
-lead_row l = (items_view l.key.now, l.id.now)
+lead_row l = lent_row l.row
 
 -- the lead is a row of this shard, which serves its document
 pub record IsLeadOf (s : ShardView) (l : Lead) : Type 0 where
   pub shard : l.shard.now ≡ s
-  pub served : is_some (form_at s.documents l.id.now) ≡ true
+  pub served : is_some (form_at s.documents (lead_row l).1) ≡ true
 
 -- the lead is a row of one of the shards
 pub record IsLeadIn (shards : List ShardView) (l : Lead) : Type 0 where
@@ -49,13 +49,13 @@ rows_on_way s rows = walked_all (is_late_row s.direction s.range.now) (λ r. tru
 
 -- the rows of the leads that are still to come
 abbrev pub lead_rows : Search → Left → List RowValue
-lead_rows s (left.Rows rows) = rows_on_way s (rows_view rows)
+lead_rows s (left.Rows rows) = rows_on_way s rows
 lead_rows s (left.Documents ds) = walked_documents (unasked s) ds
 lead_rows s left.Nothing = []
 
 -- what each of these is: a lead of the shard, where what is left is of its served documents
 abbrev pub IsLeadLeft : ShardView → Left → Lead → Type 0
-IsLeadLeft shard (left.Rows rows) l = AreServed shard.documents (rows_view rows) → IsLeadOf shard l
+IsLeadLeft shard (left.Rows rows) l = AreServed shard.documents rows → IsLeadOf shard l
 IsLeadLeft shard (left.Documents ds) l = AreKept shard.documents ds → IsLeadOf shard l
 IsLeadLeft shard left.Nothing l = IsLeadOf shard l
 

@@ -1,5 +1,6 @@
 pub mod Scan
 pub mod Found
+pub mod HitRow
 pub mod Hit
 pub mod Built
 pub mod Building

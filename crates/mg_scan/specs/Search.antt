@@ -3,7 +3,7 @@ use Rattle.std.specs.Prelude.{ℕ, List, Option, option_map}
 use Rattle.std.specs.Option.{option_and_then}
 use Rattle.std.specs.List.{filter_map}
 use Rattle.std.specs.declared.cmp.Ordering.{Ordering}
-use Rattle.mg_collate.specs.Row.{RowValue, row_value_order, row_view}
+use Rattle.mg_collate.specs.Row.{RowValue, row_value_order}
 use Rattle.mg_index.specs.Definition.{Steps}
 use Rattle.mg_range.specs.Place.{place_of}
 use Rattle.mg_scan.specs.Found.{all_found_in, asked, found_in}
@@ -18,7 +18,7 @@ use Rattle.mg_value.specs.Value.{item_list}
 
 -- the row after which it begins, if there is one
 abbrev pub after_of : Search → Option RowValue
-after_of s = option_map (λ r. row_view r.now) s.after
+after_of s = option_map (λ r. r.now) s.after
 
 -- what it asks of columns
 abbrev pub asked_by : Search → List Steps → Request

@@ -3,7 +3,7 @@ use Rattle.std.specs.Prelude.{◌≡◌, Bool, true, false, List, [], ◌∷◌,
 use Rattle.std.specs.FinMap.{get}
 use Rattle.std.specs.List.{AllByRecursion}
 use Rattle.std.specs.Option.{option_and_then, option_map_or}
-use Rattle.mg_collate.specs.Row.{RowValue, rows_view}
+use Rattle.mg_collate.specs.Row.{RowValue}
 use Rattle.mg_normal.specs.Normal.{NormalForm, normal_holds}
 use Rattle.mg_scan.specs.Hit.{IsHitOf}
 use Rattle.mg_scan.specs.Search.{all_found_by, walked_all_by}
@@ -43,7 +43,7 @@ AreKept kept ds = AllByRecursion (λ d. get kept (id_of d) ≡ Some (kept_of d))
 
 -- the rows of the hits that are still to come
 abbrev pub left_rows : Search → ShardView → Left → List RowValue
-left_rows s shard (left.Rows rows) = walked_all_by s shard.documents (rows_view rows)
+left_rows s shard (left.Rows rows) = walked_all_by s shard.documents rows
 left_rows s shard (left.Documents ds) = walked_documents s ds
 left_rows s shard left.Nothing = []
 

@@ -6,29 +6,13 @@ use Rattle.std.specs.declared.cmp.Ordering.{Ordering}
 use Rattle.std.specs.declared.cmp.Ordering.TheVariants.{Less, Greater}
 use Rattle.mg_collate.specs.Direction.{directed}
 use Rattle.mg_collate.specs.declared.direction.Direction.{Direction}
-use Rattle.mg_collate.specs.declared.direction.Direction.TheVariants.{Asc, Desc}
 use Rattle.mg_collate.specs.Row.{RowValue}
 use Rattle.mg_normal.specs.Normal.{NormalForm, normal_holds}
-use Rattle.mg_range.specs.Place.{place_of}
+use Rattle.mg_range.specs.Place.{is_early, is_late, place_of}
 use Rattle.mg_range.specs.Range.{Range}
 use Rattle.mg_range.specs.declared.place.Place.{Place}
-use Rattle.mg_range.specs.declared.place.Place.TheVariants.{Before, Past}
 use Rattle.mg_shard.specs.Documents.{KeptDocuments, form_at}
 use Rattle.mg_value.specs.Value.{item, item_list, no_items, text}
-
--- a key of this place comes before the range in a direction
-abbrev pub is_early : Direction → Place → Bool
-is_early Asc Before = true
-is_early Asc place = false
-is_early Desc Past = true
-is_early Desc place = false
-
--- a key of this place comes after the range in a direction
-abbrev pub is_late : Direction → Place → Bool
-is_late Asc Past = true
-is_late Asc place = false
-is_late Desc Before = true
-is_late Desc place = false
 
 -- something that stands so to the row after which a search begins comes after it, if there is one
 abbrev pub is_beyond : Direction → Option Ordering → Bool

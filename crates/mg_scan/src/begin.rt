@@ -1,7 +1,8 @@
 //! Searches as places: where they begin among rows, and among documents.
 use crate::search::{Search, begin_at_id, begin_at_row};
-use mg_collate::{Direction, Row};
-use mg_pages::{Keyed, Probe, text_hint, value_hint};
+use mg_collate::Direction;
+use mg_pages::{Keyed, Probe, Shared, text_hint};
+use mg_rows::{RowBytes, value_hint};
 use mg_shard::Document;
 use mg_value::Json;
 use std::cmp::Ordering;
@@ -13,28 +14,27 @@ pub(crate) struct Begin<'a> {
     pub(crate) search: Search<'a>,
 }
 
-impl<'a> Probe<Row> for Begin<'a> {
-    ghost use Rattle.mg_collate.specs.Row.{row_view};
+impl<'a> Probe<RowBytes> for Begin<'a> {
     ghost use Rattle.mg_scan.specs.Begins.{begin_probes_rows};
     ghost use Rattle.mg_scan.specs.Search.{begin_at};
 
-    ghost against = { λ b row. begin_at b.search (row_view row) };
+    ghost against = { λ b row. begin_at b.search row };
 
     ghost probes = { λ b. begin_probes_rows b.search };
 
     fn hint(&self) -> u64 {
         match self.search.after {
-            Some(after) => after.hint(),
+            Some(after) => Keyed::hint(after),
             None => row_hint(self.search),
         }
     }
 
-    fn against(&self, element: &Row) -> Ordering {
+    fn against(&self, element: &RowBytes) -> Ordering {
         begin_at_row(self.search, element)
     }
 }
 
-impl<'a> Probe<Document> for Begin<'a> {
+impl<'a> Probe<Shared<Document>> for Begin<'a> {
     ghost use Rattle.mg_shard.specs.Documents.{id_of};
     ghost use Rattle.mg_scan.specs.Begins.{begin_probes_documents};
     ghost use Rattle.mg_scan.specs.Search.{begin_at};
@@ -46,13 +46,13 @@ impl<'a> Probe<Document> for Begin<'a> {
 
     fn hint(&self) -> u64 {
         match self.search.after {
-            Some(after) => text_hint(after.id.as_str()),
+            Some(after) => text_hint(after.id()),
             None => id_hint(self.search),
         }
     }
 
-    fn against(&self, element: &Document) -> Ordering {
-        begin_at_id(self.search, element.id())
+    fn against(&self, element: &Shared<Document>) -> Ordering {
+        begin_at_id(self.search, element.get().id())
     }
 }
 
@@ -60,7 +60,7 @@ impl<'a> Probe<Document> for Begin<'a> {
 // they may be in the range, and else on the other one.
 fn row_hint(search: Search<'_>) -> u64 {
     let is_up = search.direction == Direction::Asc;
-    match search.range.entered_at(search.direction) {
+    match search.range.keys().entered_at(search.direction) {
         Some((value, inclusive)) if is_up == inclusive => value_hint(Some(value)).saturating_sub(1),
         Some((value, _)) => value_hint(Some(value)).saturating_add(1),
         None if is_up => 0,
@@ -70,7 +70,7 @@ fn row_hint(search: Search<'_>) -> u64 {
 
 // The number of the id at which the range is entered.
 fn id_hint(search: Search<'_>) -> u64 {
-    match search.range.entered_at(search.direction) {
+    match search.range.keys().entered_at(search.direction) {
         Some((Json::Text(id), _)) => text_hint(id.as_str()),
         _ if search.direction == Direction::Asc => 0,
         _ => u64::MAX,

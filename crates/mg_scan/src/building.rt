@@ -7,8 +7,8 @@ ghost use Rattle.mg_shard.specs.Shard.{shards_seen};
 ghost use Rattle.std.specs.Thread.{IsSync};
 
 use crate::gate::{Gate, Place};
-use mg_collate::Row;
 use mg_index::IndexDef;
+use mg_rows::RowBytes;
 use mg_shard::Shard;
 use mg_value::NoMemory;
 use std::alloc::{AllocError, Global};
@@ -26,7 +26,7 @@ fn rows_at<R: Threads + Sync, G: Gate>(
     i: usize,
     workers: usize,
     gate: &G,
-) -> Result<Vec<Row>, NoMemory>
+) -> Result<Vec<RowBytes>, NoMemory>
     requires { i < length shards.now }
     ensures { HasRowsAt definition.now (shards_seen shards.now) i result }
 {
@@ -45,7 +45,7 @@ fn extracted_in_turn<R: Threads + Sync, G: Gate>(
     definition: &IndexDef,
     workers: usize,
     gate: &G,
-) -> Result<Vec<Result<Vec<Row>, NoMemory>>, NoMemory>
+) -> Result<Vec<Result<Vec<RowBytes>, NoMemory>>, NoMemory>
     ensures rows { IfOk result (λ v. AreRowsAt definition.now (shards_seen shards.now) v.items) }
     ensures len { IfOk result (λ v. vec_len v ≡ length shards.now) }
 {
@@ -67,7 +67,7 @@ fn extracted_at_once<R: Threads + Sync, G: Gate + Sync>(
     count: usize,
     workers: usize,
     gate: &G,
-) -> Result<Vec<Result<Vec<Row>, NoMemory>>, AllocError>
+) -> Result<Vec<Result<Vec<RowBytes>, NoMemory>>, AllocError>
     requires { from + count ≤ length shards.now }
     ensures rows { IfOk result (λ v. AreRowsFrom definition.now (shards_seen shards.now) from v.items) }
     ensures len { IfOk result (λ v. vec_len v ≡ count) }
@@ -76,7 +76,7 @@ fn extracted_at_once<R: Threads + Sync, G: Gate + Sync>(
         rt,
         alloc,
         count,
-        &|k: usize| -> Result<Vec<Row>, NoMemory>
+        &|k: usize| -> Result<Vec<RowBytes>, NoMemory>
             requires { IsSync R.row × (from + k < length shards.now) × (from + k < 2 ^ 64) }
             ensures { HasRowsAt definition.entry.now (shards_seen shards.entry.now) (from + k) result }
         { rows_at(rt, alloc, shards, definition, from + k, workers, gate) },
@@ -92,7 +92,7 @@ fn extracted_by_threads<R: Threads + Sync, G: Gate + Sync>(
     definition: &IndexDef,
     workers: usize,
     gate: &G,
-) -> Result<Vec<Result<Vec<Row>, NoMemory>>, NoMemory>
+) -> Result<Vec<Result<Vec<RowBytes>, NoMemory>>, NoMemory>
     requires { 0 < workers }
     ensures rows { IfOk result (λ v. AreRowsAt definition.now (shards_seen shards.now) v.items) }
     ensures len { IfOk result (λ v. vec_len v ≡ length shards.now) }
@@ -116,7 +116,7 @@ fn extracted<R: Threads + Sync, G: Gate + Sync>(
     definition: &IndexDef,
     workers: usize,
     gate: &G,
-) -> Result<Vec<Result<Vec<Row>, NoMemory>>, NoMemory>
+) -> Result<Vec<Result<Vec<RowBytes>, NoMemory>>, NoMemory>
     ensures rows { IfOk result (λ v. AreRowsAt definition.now (shards_seen shards.now) v.items) }
     ensures len { IfOk result (λ v. vec_len v ≡ length shards.now) }
 {
@@ -132,7 +132,7 @@ fn with_these(
     shards: &[Arc<Shard>],
     definition: &Arc<IndexDef>,
     i: usize,
-    rows: Result<Vec<Row>, NoMemory>,
+    rows: Result<Vec<RowBytes>, NoMemory>,
 ) -> Result<Shard, NoMemory>
     requires inside { i < length shards.now }
     requires rows { HasRowsAt (arc_value definition.now) (shards_seen shards.now) i rows }
@@ -144,11 +144,11 @@ fn with_these(
 
 // What was extracted of the i-th shard, which then gives way to a refusal.
 fn taken(
-    given: &mut Vec<Result<Vec<Row>, NoMemory>>,
+    given: &mut Vec<Result<Vec<RowBytes>, NoMemory>>,
     i: usize,
     shards: &[Arc<Shard>],
     definition: &Arc<IndexDef>,
-) -> Result<Vec<Row>, NoMemory>
+) -> Result<Vec<RowBytes>, NoMemory>
     requires inside { i < vec_len given.old }
     requires given { AreRowsAt (arc_value definition.now) (shards_seen shards.now) given.old.items }
     ensures rows { HasRowsAt (arc_value definition.now) (shards_seen shards.now) i result }
@@ -164,7 +164,7 @@ fn with_all(
     alloc: Global,
     shards: &[Arc<Shard>],
     definition: &Arc<IndexDef>,
-    given: Vec<Result<Vec<Row>, NoMemory>>,
+    given: Vec<Result<Vec<RowBytes>, NoMemory>>,
 ) -> Result<Vec<Shard>, NoMemory>
     requires rows { AreRowsAt (arc_value definition.now) (shards_seen shards.now) given.items }
     requires len { vec_len given ≡ length shards.now }

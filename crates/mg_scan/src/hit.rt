@@ -4,35 +4,36 @@ ghost use Rattle.mg_collate.specs.Row.{row_view};
 ghost use Rattle.mg_value.specs.View.{items_view, view};
 ghost use Rattle.mg_scan.specs.Hit.{hit_document, hit_form, hit_row, hit_text};
 
-use mg_collate::{Row, compare_keys};
+use crate::hit_row::HitRow;
+use mg_collate::Row;
 use mg_merge::Ranked;
 use mg_shard::Document;
-use mg_value::{Json, NoMemory, copy_items};
+use mg_value::{Json, NoMemory};
 use std::alloc::Global;
 use std::cmp::Ordering;
 
 /// A row that a scan found, and its document, lent by a shard. Hits are ordered by key, and at one key by the bytes of the id.
 #[derive(Clone, Copy, Drop)]
 pub struct Hit<'a> {
-    pub(crate) key: &'a [Json],
+    pub(crate) row: HitRow<'a>,
     pub(crate) document: &'a Document,
     pub(crate) form: &'a Json,
     pub(crate) text: &'a [u8],
 }
 
 impl<'a> Hit<'a> {
-    /// The row's key. Takes no memory.
-    pub fn key(&self) -> &'a [Json]
-        ensures { items_view result.now ≡ (hit_row self.now).0 }
+    /// The row's key. Errors: `NoMemory` where a growth was refused. Cost: the size of the key.
+    pub fn key(&self, alloc: Global) -> Result<Vec<Json>, NoMemory>
+        ensures { IfOk result (λ key. items_view key.items ≡ (hit_row self.now).0) }
     {
-        self.key
+        self.row.key(alloc)
     }
 
     /// The id of its document. Takes no memory.
     pub fn id(&self) -> &'a str
         ensures { result.now ≡ (hit_row self.now).1 }
     {
-        self.document.id()
+        self.row.id()
     }
 
     /// Its document. Takes no memory.
@@ -60,10 +61,7 @@ impl<'a> Hit<'a> {
     pub fn row(&self, alloc: Global) -> Result<Row, NoMemory>
         ensures { IfOk result (λ row. row_view row ≡ hit_row self.now) }
     {
-        Ok(Row {
-            key: copy_items(alloc, self.key)?,
-            id: String::from_str(alloc, self.document.id())?,
-        })
+        self.row.row(alloc)
     }
 }
 
@@ -112,7 +110,7 @@ impl<'a> Ord for Hit<'a> {
     ghost matches_eq = { λ _ _. refl };
 
     fn cmp(&self, other: &Hit<'a>) -> Ordering {
-        compare_keys(self.key, other.key).then(self.document.id().cmp(other.document.id()))
+        self.row.compare(&other.row)
     }
 }
 

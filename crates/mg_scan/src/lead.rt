@@ -6,11 +6,11 @@ ghost use Rattle.mg_shard.specs.Documents.{form_at};
 ghost use Rattle.mg_shard.specs.Shard.{ShardView};
 
 use crate::hit::Hit;
+use crate::hit_row::HitRow;
 use crate::shard::push_if;
-use mg_collate::compare_keys;
 use mg_merge::Ranked;
 use mg_shard::Shard;
-use mg_value::{Json, NoMemory};
+use mg_value::NoMemory;
 use std::alloc::Global;
 use std::cmp::Ordering;
 
@@ -18,29 +18,28 @@ use std::cmp::Ordering;
 #[derive(Clone, Copy, Drop)]
 pub(crate) struct Lead<'a> {
     pub(crate) shard: &'a Shard,
-    pub(crate) key: &'a [Json],
-    pub(crate) id: &'a str,
+    pub(crate) row: HitRow<'a>,
 }
 
 impl<'a> Ranked for Lead<'a> {
     ghost row_of = { lead_row };
 
     fn order(&self, other: &Lead<'a>) -> Ordering {
-        compare_keys(self.key, other.key).then(self.id.cmp(other.id))
+        self.row.compare(&other.row)
     }
 }
 
 // The hit of a lead. Cost: a look-up of its document.
 fn hit_of_lead<'a>(lead: Lead<'a>) -> Option<Hit<'a>>
-    ensures row { is_some (form_at lead.entry.shard.now.documents lead.entry.id.now) ≡ true
+    ensures row { is_some (form_at lead.entry.shard.now.documents (lead_row lead.entry).1) ≡ true
         → option_map hit_row result ≡ Some (lead_row lead.entry) }
     ensures lent { IfSome result (IsHitOf lead.entry.shard.now.documents) }
 {
-    let document = lead.shard.document(lead.id)?;
+    let document = lead.shard.document(lead.row.id())?;
     let form = document.form()?;
     let text = document.text()?;
     Some(Hit {
-        key: lead.key,
+        row: lead.row,
         document,
         form,
         text,

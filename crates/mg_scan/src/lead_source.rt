@@ -1,15 +1,14 @@
 //! Rows of a shard that are found as they are asked for, whatever their documents.
 ghost use Rattle.std.specs.Prelude.{◌≡◌, ◌≤◌, ◌∷◌, [], IfNone, IfSome};
-ghost use Rattle.mg_collate.specs.Row.{rows_view};
 ghost use Rattle.mg_shard.specs.Documents.{KeptDocuments};
 ghost use Rattle.mg_shard.specs.Shard.{ShardView};
 ghost use Rattle.mg_scan.specs.Lead.{AreServed, IsLeadLeft, IsLeadOf, IsLeadSourceBehind, IsLeadSourceOf, lead_row, lead_rows, rows_on_way, unasked};
 ghost use Rattle.mg_scan.specs.Sourced.{AreKept, walked_documents};
 
+use crate::hit_row::HitRow;
 use crate::lead::Lead;
 use crate::left::{Left, left_behind, left_of};
-use crate::search::Search;
-use crate::source::is_past;
+use crate::search::{Search, is_past_id, is_past_row};
 use mg_merge::RowSource;
 use mg_shard::{Documents, Rows, Shard};
 
@@ -37,23 +36,22 @@ impl<'a, 'b> RowSource<Lead<'a>> for LeadSource<'a, 'b> {
 
 // The next row of an index that is in the range.
 fn lead_of_rows<'a>(shard: &'a Shard, rows: &mut Rows<'a>, search: Search<'_>) -> Option<Lead<'a>>
-    ensures lead { IfSome result (λ l. rows_on_way search.entry (rows_view rows.old)
-        ≡ lead_row l ∷ rows_on_way search.entry (rows_view rows.new)) }
-    ensures end { IfNone result (rows_on_way search.entry (rows_view rows.old) ≡ []) }
-    ensures lent { AreServed shard.now.documents (rows_view rows.old) → IfSome result (IsLeadOf shard.now) }
-    ensures left { AreServed shard.now.documents (rows_view rows.old)
-        → AreServed shard.now.documents (rows_view rows.new) }
+    ensures lead { IfSome result (λ l. rows_on_way search.entry rows.old
+        ≡ lead_row l ∷ rows_on_way search.entry rows.new) }
+    ensures end { IfNone result (rows_on_way search.entry rows.old ≡ []) }
+    ensures lent { AreServed shard.now.documents rows.old → IfSome result (IsLeadOf shard.now) }
+    ensures left { AreServed shard.now.documents rows.old
+        → AreServed shard.now.documents rows.new }
 {
     let Some(row) = rows.next() else {
         return None;
     };
-    if is_past(search, &row.key) {
+    if is_past_row(search, row) {
         return None;
     }
     Some(Lead {
         shard,
-        key: &row.key,
-        id: &row.id,
+        row: HitRow::Bytes(row),
     })
 }
 
@@ -70,16 +68,16 @@ fn lead_of_documents<'a>(
     ensures left { AreKept shard.now.documents documents.old → AreKept shard.now.documents documents.new }
 {
     while let Some(document) = documents.next() {
-        let Some(key) = document.id_key() else {
+        let Some(_key) = document.id_key() else {
             continue;
         };
-        if is_past(search, key) {
+        let id = document.id();
+        if is_past_id(search, id) {
             return None;
         }
         return Some(Lead {
             shard,
-            key,
-            id: document.id(),
+            row: HitRow::Id(id),
         });
     }
     None

@@ -6,6 +6,7 @@ mod building;
 mod counting;
 mod gate;
 mod hit;
+mod hit_row;
 mod lead;
 mod lead_source;
 mod left;

@@ -14,7 +14,7 @@ ghost use Rattle.mg_scan.specs.Sourced.{IsSourceOf};
 use crate::hit::Hit;
 use crate::lead::hits_after;
 use crate::lead_source::{LeadSource, lead_source_behind, lead_source_of};
-use crate::search::Search;
+use crate::search::{Search, bytes_of};
 use crate::source::{HitSource, source_of};
 use crate::target::Target;
 use mg_collate::{Direction, Row};
@@ -47,16 +47,33 @@ pub fn pull_lent<'a>(
     ensures hits { IfOk result (λ made. AreHitsIn (shards_seen shards.now) made.0.items) }
     ensures pulled { IfOk result (λ made. made.1 ≤ take + length shards.now) }
 {
+    let row_range = range.in_rows(alloc)?;
+    let after_row = bytes_of(alloc, after)?;
     let search = Search {
         target,
         normal,
-        range,
-        after,
+        range: &row_range,
+        after: after_row.as_ref(),
         take,
         direction,
     };
+    let (hits, pulled) = pull_by(alloc, shards, search)?;
+    Ok((hits, pulled))
+}
+
+// The first hits of a search.
+fn pull_by<'a>(
+    alloc: Global,
+    shards: &'a [Arc<Shard>],
+    search: Search<'_>,
+) -> Result<(Vec<Hit<'a>>, u64), NoMemory>
+    ensures rows { IfOk result (λ made. hit_rows made.0.items ≡ merged search.entry.direction search.entry.take
+        (map (found_by search.entry) (shards_seen shards.now))) }
+    ensures hits { IfOk result (λ made. AreHitsIn (shards_seen shards.now) made.0.items) }
+    ensures pulled { IfOk result (λ made. made.1 ≤ search.entry.take + length shards.now) }
+{
     let mut sources = sources_of(alloc, shards, search)?;
-    let (hits, pulled) = merge_pulled(alloc, &mut sources, direction, take)?;
+    let (hits, pulled) = merge_pulled(alloc, &mut sources, search.direction, search.take)?;
     Ok((hits, pulled))
 }
 
@@ -84,19 +101,57 @@ pub fn pull_rows<'a>(
     ensures hits { IfOk result (λ made. AreHitsIn (shards_seen shards.now) made.0.items) }
     ensures pulled { IfOk result (λ made. made.1 ≤ take + length shards.now) }
 {
+    let row_range = range.in_rows(alloc)?;
+    let after_row = bytes_of(alloc, after)?;
     let search = Search {
         target,
         normal,
-        range,
-        after,
+        range: &row_range,
+        after: after_row.as_ref(),
         take,
         direction,
     };
+    let (hits, pulled) = pull_rows_by(alloc, shards, search, skip)?;
+    Ok((hits, pulled))
+}
+
+// The first hits of a search without the first so many of them, where the range decides.
+fn pull_rows_by<'a>(
+    alloc: Global,
+    shards: &'a [Arc<Shard>],
+    search: Search<'_>,
+    skip: usize,
+) -> Result<(Vec<Hit<'a>>, u64), NoMemory>
+    requires decided { All (IsDecidedIn search.target search.normal.now search.range.now)
+        (shards_seen shards.now) }
+    ensures rows { IfOk result (λ made. hit_rows made.0.items ≡ drop skip
+        (merged search.entry.direction search.entry.take (map (found_by search.entry) (shards_seen shards.now)))) }
+    ensures hits { IfOk result (λ made. AreHitsIn (shards_seen shards.now) made.0.items) }
+    ensures pulled { IfOk result (λ made. made.1 ≤ search.entry.take + length shards.now) }
+{
     if shards.len() == 1 {
-        return pull_rows_of_one(alloc, shards, search, skip);
+        pull_rows_of_one(alloc, shards, search, skip)
+    } else {
+        pull_rows_of_all(alloc, shards, search, skip)
     }
+}
+
+// The same of any number of shards.
+fn pull_rows_of_all<'a>(
+    alloc: Global,
+    shards: &'a [Arc<Shard>],
+    search: Search<'_>,
+    skip: usize,
+) -> Result<(Vec<Hit<'a>>, u64), NoMemory>
+    requires decided { All (IsDecidedIn search.target search.normal.now search.range.now)
+        (shards_seen shards.now) }
+    ensures rows { IfOk result (λ made. hit_rows made.0.items ≡ drop skip
+        (merged search.entry.direction search.entry.take (map (found_by search.entry) (shards_seen shards.now)))) }
+    ensures hits { IfOk result (λ made. AreHitsIn (shards_seen shards.now) made.0.items) }
+    ensures pulled { IfOk result (λ made. made.1 ≤ search.entry.take + length shards.now) }
+{
     let mut sources = lead_sources_of(alloc, shards, search)?;
-    let (leads, pulled) = merge_pulled(alloc, &mut sources, direction, take)?;
+    let (leads, pulled) = merge_pulled(alloc, &mut sources, search.direction, search.take)?;
     let hits = hits_after(alloc, &leads, skip)?;
     Ok((hits, pulled))
 }

@@ -3,12 +3,13 @@ ghost use Rattle.std.specs.Prelude.{◌≡◌, ◌<◌, ◌≤◌, map, option_m
 ghost use Rattle.std.specs.List.{AllZip};
 ghost use Rattle.mg_collate.specs.Row.{row_view, rows_view};
 ghost use Rattle.mg_scan.specs.Found.{asked, found_in};
+ghost use Rattle.mg_scan.specs.Search.{found_by};
 ghost use Rattle.mg_shard.specs.Shard.{shards_seen};
 ghost use Rattle.mg_scan.specs.Hit.{AreHitsOf, hit_rows};
 
 use crate::gate::Gate;
 use crate::hit::Hit;
-use crate::search::Search;
+use crate::search::{Search, bytes_of};
 use crate::target::Target;
 use crate::workers::{finish, gather, work};
 use mg_collate::{Direction, Row};
@@ -47,14 +48,34 @@ pub fn scan_lent<'a, R: Threads + Sync, G: Gate + Sync>(
         ≡ map (found_in target.entry (asked normal.now range.now (option_map (λ r. row_view r.now) after.entry) take direction)) (shards_seen shards.now)) }
     ensures hits { IfOk result (λ lists. AllZip (λ s hits. AreHitsOf s.documents hits.items) (shards_seen shards.now) lists.items) }
 {
+    let row_range = range.in_rows(alloc)?;
+    let after_row = bytes_of(alloc, after)?;
     let search = Search {
         target,
         normal,
-        range,
-        after,
+        range: &row_range,
+        after: after_row.as_ref(),
         take,
         direction,
     };
+    let lists = scan_by(rt, alloc, shards, search, workers, gate)?;
+    Ok(lists)
+}
+
+// What the search finds in each shard.
+fn scan_by<'a, R: Threads + Sync, G: Gate + Sync>(
+    rt: &R,
+    alloc: Global,
+    shards: &'a [Arc<Shard>],
+    search: Search<'_>,
+    workers: usize,
+    gate: &G,
+) -> Result<Vec<Vec<Hit<'a>>>, NoMemory>
+    requires { (0 < workers) × (workers ≤ 32) }
+    ensures rows { IfOk result (λ lists. map (λ hits. hit_rows hits.items) lists.items
+        ≡ map (found_by search.entry) (shards_seen shards.now)) }
+    ensures hits { IfOk result (λ lists. AllZip (λ s hits. AreHitsOf s.documents hits.items) (shards_seen shards.now) lists.items) }
+{
     let next = AtomicU64::new(0);
     let given = thread::map_indices(
         rt,

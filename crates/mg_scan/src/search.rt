@@ -1,13 +1,19 @@
 //! What is searched, and where a search begins and ends.
-ghost use Rattle.std.specs.Prelude.{◌≡◌, option_map};
+ghost use Rattle.std.specs.Prelude.{◌≡◌, option_map, IfOk, if◌then◌else◌};
+ghost use Rattle.std.specs.declared.cmp.Ordering.TheVariants.{Less, Greater};
+ghost use Rattle.mg_collate.specs.Direction.{directed};
 ghost use Rattle.mg_collate.specs.Row.{row_value_order, row_view};
+ghost use Rattle.mg_range.specs.Place.{is_early as stands_early, is_late as stands_late};
 ghost use Rattle.mg_scan.specs.Search.{begin_at};
-ghost use Rattle.mg_scan.specs.Walked.{begin_order, id_row, is_beyond as stands_beyond, is_early as stands_early, is_late as stands_late};
+ghost use Rattle.mg_scan.specs.Walked.{id_row, is_beyond as stands_beyond, is_late_row};
 
 use crate::target::Target;
-use mg_collate::{Direction, Row, compare_text_key};
+use mg_collate::{Direction, Row};
 use mg_normal::Normal;
-use mg_range::{KeyRange, Place};
+use mg_range::{Place, RowRange};
+use mg_rows::RowBytes;
+use mg_value::NoMemory;
+use std::alloc::Global;
 use std::cmp::Ordering;
 
 /// What is searched in each shard.
@@ -15,10 +21,20 @@ use std::cmp::Ordering;
 pub(crate) struct Search<'a> {
     pub(crate) target: Target<'a>,
     pub(crate) normal: &'a Normal,
-    pub(crate) range: &'a KeyRange,
-    pub(crate) after: Option<&'a Row>,
+    pub(crate) range: &'a RowRange<'a>,
+    pub(crate) after: Option<&'a RowBytes>,
     pub(crate) take: usize,
     pub(crate) direction: Direction,
+}
+
+// The row after which a search begins, if there is one, as bytes.
+pub(crate) fn bytes_of(alloc: Global, after: Option<&Row>) -> Result<Option<RowBytes>, NoMemory>
+    ensures { IfOk result (λ bytes. bytes ≡ option_map (λ r. row_view r.now) after.entry) }
+{
+    match after {
+        Some(after) => Ok(Some(RowBytes::of(alloc, &after.key, &after.id)?)),
+        None => Ok(None),
+    }
 }
 
 // Whether a key of this place comes before the range in the direction.
@@ -33,7 +49,7 @@ fn is_early(direction: Direction, place: Place) -> bool
 }
 
 // Whether a key of this place comes after the range in the direction.
-pub(crate) fn is_late(direction: Direction, place: Place) -> bool
+fn is_late(direction: Direction, place: Place) -> bool
     ensures { result ≡ stands_late direction place }
 {
     match (direction, place) {
@@ -53,11 +69,11 @@ fn is_beyond(direction: Direction, order: Option<Ordering>) -> bool
     }
 }
 
-// Where a search begins, against something that stands so to its range, and to the row after which it begins.
-fn begin(direction: Direction, place: Place, order: Option<Ordering>) -> Ordering
-    ensures { result ≡ begin_order direction place order }
+// Where a search begins, against something that it reaches or does not.
+fn begin(direction: Direction, is_reached: bool) -> Ordering
+    ensures { result ≡ directed direction (if is_reached then Less else Greater) }
 {
-    if !is_early(direction, place) && is_beyond(direction, order) {
+    if is_reached {
         direction.apply(Ordering::Less)
     } else {
         direction.apply(Ordering::Greater)
@@ -65,37 +81,54 @@ fn begin(direction: Direction, place: Place, order: Option<Ordering>) -> Orderin
 }
 
 // How a row stands to another, if there is one.
-fn row_order(row: &Row, after: Option<&Row>) -> Option<Ordering>
-    ensures { result ≡ option_map (row_value_order (row_view row.now)) (option_map (λ r. row_view r.now) after.entry) }
+fn row_order(row: &RowBytes, after: Option<&RowBytes>) -> Option<Ordering>
+    ensures { result ≡ option_map (row_value_order row.now) (option_map (λ r. r.now) after.entry) }
 {
     match after {
-        Some(after) => Some(row.cmp(after)),
+        Some(after) => Some(row.compare(after)),
         None => None,
     }
 }
 
 // How the row of an id among all documents stands to another, if there is one.
-fn id_order(id: &str, after: Option<&Row>) -> Option<Ordering>
-    ensures { result ≡ option_map (row_value_order (id_row id.now)) (option_map (λ r. row_view r.now) after.entry) }
+fn id_order(id: &str, after: Option<&RowBytes>) -> Option<Ordering>
+    ensures { result ≡ option_map (row_value_order (id_row id.now)) (option_map (λ r. r.now) after.entry) }
 {
     match after {
-        Some(after) => Some(compare_text_key(id, &after.key).then(id.cmp(after.id.as_str()))),
+        Some(after) => Some(after.order_of_id(id).reverse()),
         None => None,
     }
 }
 
-// Where the search begins, against a row.
-pub(crate) fn begin_at_row(search: Search<'_>, row: &Row) -> Ordering
-    ensures { result ≡ begin_at search.entry (row_view row.now) }
+// Where the search begins, against a row. Cost: a comparison of bytes with the end of the range, and one with the row after which it
+// begins, if there is one.
+pub(crate) fn begin_at_row(search: Search<'_>, row: &RowBytes) -> Ordering
+    ensures { result ≡ begin_at search.entry row.now }
 {
-    let place = search.range.place(&row.key);
-    begin(search.direction, place, row_order(row, search.after))
+    let is_early = search.range.is_early(search.direction, row);
+    let is_reached = !is_early && is_beyond(search.direction, row_order(row, search.after));
+    begin(search.direction, is_reached)
 }
 
 // Where the search begins, against the row of an id among all documents.
 pub(crate) fn begin_at_id(search: Search<'_>, id: &str) -> Ordering
     ensures { result ≡ begin_at search.entry (id_row id.now) }
 {
-    let place = search.range.place_of_text(id);
-    begin(search.direction, place, id_order(id, search.after))
+    let is_early = is_early(search.direction, search.range.keys().place_of_text(id));
+    let is_reached = !is_early && is_beyond(search.direction, id_order(id, search.after));
+    begin(search.direction, is_reached)
+}
+
+// Whether a search looks no further than a row. Cost: one comparison of bytes.
+pub(crate) fn is_past_row(search: Search<'_>, row: &RowBytes) -> bool
+    ensures { result ≡ is_late_row search.entry.direction search.entry.range.now row.now }
+{
+    search.range.is_late(search.direction, row)
+}
+
+// Whether a search looks no further than the row of an id among all documents.
+pub(crate) fn is_past_id(search: Search<'_>, id: &str) -> bool
+    ensures { result ≡ is_late_row search.entry.direction search.entry.range.now (id_row id.now) }
+{
+    is_late(search.direction, search.range.keys().place_of_text(id))
 }

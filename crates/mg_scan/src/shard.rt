@@ -1,43 +1,42 @@
 //! The search of one shard.
-ghost use Rattle.std.specs.Prelude.{◌≡◌, ◌||◌, ◌++◌, [], nat_le, false, Some, None, map, option_map, string_bytes, IfOk, IfSome, OnOk, if◌then◌else◌};
+ghost use Rattle.std.specs.Prelude.{◌≡◌, ◌||◌, ◌++◌, [], nat_le, false, Some, None, map, option_map, IfOk, IfSome, OnOk, if◌then◌else◌};
 ghost use Rattle.std.specs.FinMap.{get};
 ghost use Rattle.std.specs.List.{AllByRecursion};
 ghost use Rattle.std.specs.Option.{option_map_or};
-ghost use Rattle.mg_collate.specs.Row.{row_view, rows_view};
 ghost use Rattle.mg_normal.specs.Normal.{normal_holds};
-ghost use Rattle.mg_range.specs.Place.{place_of};
-ghost use Rattle.mg_value.specs.View.{items_view, view};
 ghost use Rattle.mg_index.specs.Catalog.{definition_at};
 ghost use Rattle.mg_shard.specs.Documents.{KeptDocuments, docs_of, kept_entry, form_of, id_of, kept_of};
 ghost use Rattle.mg_shard.specs.Own.{all_columns};
 ghost use Rattle.mg_scan.specs.Hit.{AreHitsOf, IsHitOf, hit_row, hit_rows};
+ghost use Rattle.mg_scan.specs.HitRow.{lent_row};
 ghost use Rattle.mg_scan.specs.Scan.{scanned};
 ghost use Rattle.mg_scan.specs.Search.{asked_by, entry_rows, walked_by};
-ghost use Rattle.mg_scan.specs.Walked.{holds_at, is_late as stands_late, listed};
+ghost use Rattle.mg_scan.specs.Walked.{holds_at, id_row, is_late_row, listed};
 ghost use Rattle.mg_scan.specs.Worked.{Gives};
 
 use crate::begin::Begin;
 use crate::hit::Hit;
-use crate::search::{Search, is_late};
+use crate::hit_row::HitRow;
+use crate::search::{Search, is_past_id, is_past_row};
 use crate::target::Target;
-use mg_collate::Row;
 use mg_normal::Normal;
+use mg_rows::RowBytes;
 use mg_shard::{Document, Documents, Rows, Shard};
-use mg_value::{Json, NoMemory};
+use mg_value::NoMemory;
 use std::alloc::Global;
 
 // Room for hits is taken for so many at first.
 const FIRST_ROOM: usize = 64;
 
-// The hit of a document at a key, if it is served and the selector holds of it.
+// The hit of a document at a row, if it is served and the selector holds of it.
 pub(crate) fn hit_of<'a>(
-    key: &'a [Json],
+    row: HitRow<'a>,
     document: &'a Document,
     normal: &Normal,
 ) -> Option<Hit<'a>>
     ensures row { option_map hit_row result
-        ≡ if option_map_or (λ form. normal_holds normal.now (Some form)) (form_of document.now) false then Some (items_view key.now, id_of document.now) else None }
-    ensures lent { (ds : KeptDocuments) → get ds (id_of document.now) ≡ Some (kept_of document.now) → IfSome result (IsHitOf ds) }
+        ≡ if option_map_or (λ form. normal_holds normal.now (Some form)) (form_of document.now) false then Some (lent_row row.entry) else None }
+    ensures lent { (ds : KeptDocuments) → get ds (lent_row row.entry).1 ≡ Some (kept_of document.now) → IfSome result (IsHitOf ds) }
 {
     let form = document.form()?;
     let text = document.text()?;
@@ -45,7 +44,7 @@ pub(crate) fn hit_of<'a>(
         return None;
     }
     Some(Hit {
-        key,
+        row,
         document,
         form,
         text,
@@ -53,19 +52,28 @@ pub(crate) fn hit_of<'a>(
 }
 
 // The hit of a row, if the selector holds of its document.
-pub(crate) fn hit_at<'a>(shard: &'a Shard, row: &'a Row, normal: &Normal) -> Option<Hit<'a>>
-    ensures row { option_map hit_row result ≡ if holds_at normal.now shard.now.documents (string_bytes row.now.id) then Some (row_view row.now) else None }
+pub(crate) fn hit_at<'a>(shard: &'a Shard, row: &'a RowBytes, normal: &Normal) -> Option<Hit<'a>>
+    ensures row { option_map hit_row result ≡ if holds_at normal.now shard.now.documents row.now.1 then Some row.now else None }
     ensures lent { IfSome result (IsHitOf shard.now.documents) }
 {
-    let document = shard.document(&row.id)?;
-    hit_of(&row.key, document, normal)
+    let document = shard.document(row.id())?;
+    hit_of(HitRow::Bytes(row), document, normal)
 }
 
-// Whether a search that has found so many looks no further than a row of this key.
-fn is_over(search: Search<'_>, found: usize, key: &[Json]) -> bool
-    ensures { result ≡ nat_le search.entry.take found || stands_late search.entry.direction (place_of search.entry.range.now (map view key.now)) }
+// Whether a search that has found so many looks no further than a row.
+fn is_over_at_row(search: Search<'_>, found: usize, row: &RowBytes) -> bool
+    ensures { result ≡ (nat_le search.entry.take found
+        || is_late_row search.entry.direction search.entry.range.now row.now) }
 {
-    found >= search.take || is_late(search.direction, search.range.place(key))
+    found >= search.take || is_past_row(search, row)
+}
+
+// The same of the row of an id among all documents.
+fn is_over_at_id(search: Search<'_>, found: usize, id: &str) -> bool
+    ensures { result ≡ (nat_le search.entry.take found
+        || is_late_row search.entry.direction search.entry.range.now (id_row id.now)) }
+{
+    found >= search.take || is_past_id(search, id)
 }
 
 // Puts a hit behind the others, if there is one.
@@ -85,12 +93,12 @@ fn hits_of_rows<'a>(
     rows: Rows<'a>,
     search: Search<'_>,
 ) -> Result<Vec<Hit<'a>>, NoMemory>
-    ensures rows { IfOk result (λ v. hit_rows v.items ≡ walked_by search.entry shard.now.documents search.entry.take (rows_view rows.entry)) }
+    ensures rows { IfOk result (λ v. hit_rows v.items ≡ walked_by search.entry shard.now.documents search.entry.take rows.entry) }
     ensures documents { IfOk result (λ v. AreHitsOf shard.now.documents v.items) }
 {
     let mut hits = Vec::with_capacity(alloc, search.take.min(FIRST_ROOM))?;
     for row in rows {
-        if is_over(search, hits.len(), &row.key) {
+        if is_over_at_row(search, hits.len(), row) {
             return Ok(hits);
         }
         push_if(&mut hits, hit_at(shard, row, search.normal))?;
@@ -112,13 +120,14 @@ fn hits_of_documents<'a>(
     let _ = shard;
     let mut hits = Vec::with_capacity(alloc, search.take.min(FIRST_ROOM))?;
     for document in documents {
-        let Some(key) = document.id_key() else {
+        let Some(_key) = document.id_key() else {
             continue;
         };
-        if is_over(search, hits.len(), key) {
+        let id = document.id();
+        if is_over_at_id(search, hits.len(), id) {
             return Ok(hits);
         }
-        push_if(&mut hits, hit_of(key, document, search.normal))?;
+        push_if(&mut hits, hit_of(HitRow::Id(id), document, search.normal))?;
     }
     Ok(hits)
 }

@@ -1,21 +1,17 @@
 //! Hits of a shard that are found as they are asked for.
-ghost use Rattle.std.specs.Prelude.{◌≡◌, ◌∷◌, [], map, IfNone, IfSome};
-ghost use Rattle.mg_collate.specs.Row.{rows_view};
-ghost use Rattle.mg_range.specs.Place.{place_of};
-ghost use Rattle.mg_value.specs.View.{view};
+ghost use Rattle.std.specs.Prelude.{◌≡◌, ◌∷◌, [], IfNone, IfSome};
 ghost use Rattle.mg_shard.specs.Documents.{KeptDocuments};
 ghost use Rattle.mg_scan.specs.Hit.{IsHitOf, hit_row};
 ghost use Rattle.mg_scan.specs.Search.{walked_all_by};
 ghost use Rattle.mg_scan.specs.Sourced.{AreKept, IsLeft, IsSourceOf, left_rows, walked_documents};
-ghost use Rattle.mg_scan.specs.Walked.{is_late as stands_late};
 
 use crate::hit::Hit;
+use crate::hit_row::HitRow;
 use crate::left::{Left, left_of};
-use crate::search::{Search, is_late};
+use crate::search::{Search, is_past_id, is_past_row};
 use crate::shard::{hit_at, hit_of};
 use mg_merge::RowSource;
 use mg_shard::{Documents, Rows, Shard};
-use mg_value::Json;
 
 /// The hits of a search in one shard that are still to come.
 #[derive(Drop)]
@@ -39,22 +35,15 @@ impl<'a, 'b> RowSource<Hit<'a>> for HitSource<'a, 'b> {
     }
 }
 
-// Whether a search looks no further than a row of this key.
-pub(crate) fn is_past(search: Search<'_>, key: &[Json]) -> bool
-    ensures { result ≡ stands_late search.entry.direction (place_of search.entry.range.now (map view key.now)) }
-{
-    is_late(search.direction, search.range.place(key))
-}
-
 // The next hit among rows of an index, and the rows after it.
 fn next_of_rows<'a>(shard: &'a Shard, rows: &mut Rows<'a>, search: Search<'_>) -> Option<Hit<'a>>
-    ensures hit { IfSome result (λ h. walked_all_by search.entry shard.now.documents (rows_view rows.old)
-        ≡ hit_row h ∷ walked_all_by search.entry shard.now.documents (rows_view rows.new)) }
-    ensures end { IfNone result (walked_all_by search.entry shard.now.documents (rows_view rows.old) ≡ []) }
+    ensures hit { IfSome result (λ h. walked_all_by search.entry shard.now.documents rows.old
+        ≡ hit_row h ∷ walked_all_by search.entry shard.now.documents rows.new) }
+    ensures end { IfNone result (walked_all_by search.entry shard.now.documents rows.old ≡ []) }
     ensures lent { IfSome result (IsHitOf shard.now.documents) }
 {
     while let Some(row) = rows.next() {
-        if is_past(search, &row.key) {
+        if is_past_row(search, row) {
             return None;
         }
         let hit = hit_at(shard, row, search.normal);
@@ -74,13 +63,14 @@ fn next_of_documents<'a>(documents: &mut Documents<'a>, search: Search<'_>) -> O
     ensures left { (ds : KeptDocuments) → AreKept ds documents.old → AreKept ds documents.new }
 {
     while let Some(document) = documents.next() {
-        let Some(key) = document.id_key() else {
+        let Some(_key) = document.id_key() else {
             continue;
         };
-        if is_past(search, key) {
+        let id = document.id();
+        if is_past_id(search, id) {
             return None;
         }
-        let hit = hit_of(key, document, search.normal);
+        let hit = hit_of(HitRow::Id(id), document, search.normal);
         if hit.is_some() {
             return hit;
         }

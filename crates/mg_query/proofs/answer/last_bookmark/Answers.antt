@@ -1,6 +1,7 @@
-use Rattle.std.proofs.Common.{◌≡◌, List, sym, ap₂, ◌∙◌}
+use Rattle.std.proofs.Common.{◌≡◌, List, sym}
 use Rattle.std.specs.Prelude.{string_bytes}
 use Rattle.mg_bookmark.specs.Bookmark.{spelled}
+use Rattle.mg_scan.specs.Hit.{hit_row}
 use Rattle.mg_query.specs.Page.{Candidate, bookmark_after, columns_of, ddoc_of, name_of}
 use Rattle.mg_query.specs.Lent.{LendEach}
 use Rattle.mg_query.specs.Seen.{query_seen}
@@ -12,9 +13,9 @@ pub returns-in-Some : goal.returns-in-Some
 returns-in-Some c =
     let q = query_seen c.args.query.now in
     let s = source_seen c.args.source in
-    ok_weaker c.bookmark_of.result
-    (λ t. string_bytes t ≡ spelled (record { ddoc = ddoc_of s; name = name_of s; direction = q.direction; key = _; id = _ }))
+    let hit = c.in-Some.hit.now in
+    ok_weaker c.bookmark_at.result
+    (λ t. string_bytes t ≡ spelled (record { ddoc = ddoc_of s; name = name_of s; direction = q.direction; key = (hit_row hit).0; id = (hit_row hit).1 }))
     (λ t. (cs : List Candidate) → LendEach (columns_of s) c.args.hits.now cs → string_bytes t ≡ bookmark_after s q cs)
-    (λ t m cs l. bookmark_last s q c.args.hits.now cs c.in-Some.hit.now (string_bytes t) l (sym c.in-Some.ensures.value)
-    (m ∙ ap₂ (λ key id. spelled (record { ddoc = ddoc_of s; name = name_of s; direction = q.direction; key = key; id = id })) c.key.ensures c.id.ensures))
-    c.bookmark_of.ensures
+    (λ t m cs l. bookmark_last s q c.args.hits.now cs hit (string_bytes t) l (sym c.in-Some.ensures.value) m)
+    c.bookmark_at.ensures

@@ -1,4 +1,4 @@
-use Rattle.std.proofs.Common.{length, refl, sym, ◌∙◌}
+use Rattle.std.proofs.Common.{length}
 use Rattle.mg_scan.specs.Search.{begin_at}
 use Rattle.mg_scan.proofs.AddedUp.{counts, counts_none}
 use Rattle.mg_scan.proofs.counting.count_rows_ahead.Goals as goal
@@ -8,9 +8,9 @@ use Rattle.mg_shard.specs.Walk.{beyond}
 pub returns-in-Some : goal.returns-in-Some
 returns-in-Some c =
     let s = c.args.search in
-    counts (λ rows. length (beyond s.direction (begin_at s) rows)) (rows_at c.args.ddoc.now c.args.name.now c.args.shard.now) c.in-Some.count (c.in-Some.ensures (begin_at s) (λ r. refl))
+    counts (λ rows. length (beyond s.direction (begin_at s) rows)) (rows_at c.args.ddoc.now c.args.name.now c.args.shard.now) c.in-Some.count c.in-Some.ensures
 
 pub returns-in-None : goal.returns-in-None
 returns-in-None c =
     let s = c.args.search in
-    counts_none (λ rows. length (beyond s.direction (begin_at s) rows)) (rows_at c.args.ddoc.now c.args.name.now c.args.shard.now) (c.in-None.ensures (begin_at s) (λ r. refl))
+    counts_none (λ rows. length (beyond s.direction (begin_at s) rows)) (rows_at c.args.ddoc.now c.args.name.now c.args.shard.now) c.in-None.ensures

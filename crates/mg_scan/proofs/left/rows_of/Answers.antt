@@ -1,16 +1,13 @@
-use Rattle.std.proofs.Common.{refl}
-use Rattle.mg_collate.specs.Row.{rows_view}
 use Rattle.mg_index.specs.Catalog.{definition_at}
-use Rattle.mg_scan.specs.Search.{begin_at}
 use Rattle.mg_scan.proofs.Begun.{none_begun, rows_begun}
 use Rattle.mg_scan.proofs.left.rows_of.Goals as goal
 
 pub returns-in-Some : goal.returns-in-Some
 returns-in-Some c =
     let shard = c.args.shard.now in
-    rows_begun c.args.search shard.documents (definition_at c.args.ddoc.now c.args.name.now shard.definitions) (rows_view c.in-Some.rows) (c.in-Some.ensures (begin_at c.args.search) (λ r. refl))
+    rows_begun c.args.search shard.documents (definition_at c.args.ddoc.now c.args.name.now shard.definitions) c.in-Some.rows c.in-Some.ensures
 
 pub returns-in-None : goal.returns-in-None
 returns-in-None c =
     let shard = c.args.shard.now in
-    none_begun c.args.search shard.documents (definition_at c.args.ddoc.now c.args.name.now shard.definitions) (c.in-None.ensures (begin_at c.args.search) (λ r. refl))
+    none_begun c.args.search shard.documents (definition_at c.args.ddoc.now c.args.name.now shard.definitions) c.in-None.ensures

@@ -1,11 +1,10 @@
 use Rattle.std.proofs.Common.{◌≡◌, length}
-use Rattle.mg_collate.specs.Row.{rows_view}
 use Rattle.mg_scan.specs.Search.{walked_all_by}
 use Rattle.mg_scan.proofs.source.next_of_rows.Given as goal
 
 -- nothing was found so far
 abbrev pub invariant-loop-row : goal.invariant-loop-row
-invariant-loop-row l = walked_all_by l.search l.shard.documents (rows_view l.fn.rows) ≡ walked_all_by l.search l.shard.documents (rows_view l.rows)
+invariant-loop-row l = walked_all_by l.search l.shard.documents l.fn.rows ≡ walked_all_by l.search l.shard.documents l.rows
 
 abbrev pub decreases-loop-row : goal.decreases-loop-row
 decreases-loop-row l = length l.rows

@@ -1,0 +1,12 @@
+use Rattle.std.proofs.Common.{Option, Some, sym, subst, ◌∙◌}
+use Rattle.mg_range.proofs.InRows.{placed}
+use Rattle.mg_range.specs.InRows.{HasEnds}
+use Rattle.mg_range.specs.Range.{Range}
+use Rattle.mg_range.specs.declared.row_range.Ends.{Ends}
+use Rattle.mg_range.proofs.row_range.RowRange.place.Goals as goal
+
+pub returns-in-Some : goal.returns-in-Some
+returns-in-Some c =
+    let ends = c.in-Some.ends in
+    let has = subst (λ (o : Option Ends). HasEnds c.self.inside.keys.now o) c.in-Some.is c.self.invariant in
+    c.place_between.ensures ∙ sym (placed c.args.self.now ends c.args.row.now (subst (λ (r : Range). HasEnds r (Some ends)) c.self.view_is has))

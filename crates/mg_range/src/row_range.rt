@@ -1,0 +1,235 @@
+//! Key ranges against rows that stand as bytes.
+ghost use Rattle.std.specs.Prelude.{◌≡◌, [], IfOk, OnOk, map, option_map};
+ghost use Rattle.std.specs.Ordering.{is_gt, is_lt};
+ghost use Rattle.mg_value.specs.Value.{item_list};
+ghost use Rattle.mg_value.specs.View.{items_view, view as json_view};
+ghost use Rattle.mg_rows.specs.Bound.{bound_order};
+ghost use Rattle.mg_rows.specs.Laws.{joined_items};
+ghost use Rattle.mg_range.specs.Ends.{end_values, high_edge as high_side, low_edge as low_side};
+ghost use Rattle.mg_range.specs.InRows.{ends_at, ends_of as both_ends, place_at};
+ghost use Rattle.mg_range.specs.Place.{is_early as stands_early, is_late as stands_late, is_place_before, is_place_past, place_of};
+ghost use Rattle.mg_range.specs.View.{limit_seen, span_seen};
+
+use crate::place::Place;
+use crate::range::KeyRange;
+use crate::span::{Limit, Span};
+use mg_collate::Direction;
+use mg_rows::{Bound, Edge, KeyBytes, RowBytes};
+use mg_value::{Json, NoMemory};
+use std::alloc::Global;
+use std::marker::Model;
+
+// The ends of a span: the rows in it are those after the low one and before the high one.
+#[derive(Drop)]
+pub(crate) struct Ends {
+    pub(crate) low: Bound,
+    pub(crate) high: Bound,
+}
+
+/// A key range with its ends as places among rows, against which rows are compared by their bytes. Contracts see the range.
+#[derive(Drop)]
+pub struct RowRange<'a> {
+    keys: &'a KeyRange,
+    ends: Option<Ends>,
+}
+
+impl<'a> Model for RowRange<'a> {
+    ghost use Rattle.mg_range.specs.Range.{Range, range_code};
+
+    ghost Value = { Range };
+
+    ghost coded = { range_code };
+
+    ghost use Rattle.mg_range.specs.InRows.{HasEnds};
+
+    ghost view = { λ r. r.keys.now };
+
+    ghost invariant = { λ r. HasEnds r.keys.now r.ends };
+}
+
+impl KeyRange {
+    /// The range with its ends as places among rows.
+    ///
+    /// Errors: `NoMemory` where a growth is refused. Cost: the size of its values.
+    pub fn in_rows(&self, alloc: Global) -> Result<RowRange<'_>, NoMemory>
+        ensures { IfOk result (λ r. r ≡ self.now) }
+    {
+        let ends = ends_if(alloc, &self.span)?;
+        Ok(RowRange { keys: self, ends })
+    }
+}
+
+impl<'a> RowRange<'a> {
+    /// The range. Takes no memory.
+    pub fn keys(&self) -> &'a KeyRange
+        ensures { result.now ≡ self.now }
+    {
+        self.keys
+    }
+
+    /// Where the key of the row stands to the range. Takes no memory. Cost: a comparison of bytes where the row is before the range, and
+    /// else two.
+    pub fn place(&self, row: &RowBytes) -> Place
+        ensures { result ≡ place_of self.now (item_list row.now.0) }
+    {
+        match &self.ends {
+            Some(ends) => place_between(ends, row),
+            None => Place::Past,
+        }
+    }
+
+    /// Whether the row comes before the range in the direction. Takes no memory. Cost: a comparison of bytes.
+    pub fn is_early(&self, direction: Direction, row: &RowBytes) -> bool
+        ensures { result ≡ stands_early direction (place_of self.now (item_list row.now.0)) }
+    {
+        match direction {
+            Direction::Asc => self.is_below(row),
+            Direction::Desc => self.is_above(row),
+        }
+    }
+
+    /// Whether the row comes after the range in the direction. Takes no memory. Cost: a comparison of bytes.
+    pub fn is_late(&self, direction: Direction, row: &RowBytes) -> bool
+        ensures { result ≡ stands_late direction (place_of self.now (item_list row.now.0)) }
+    {
+        match direction {
+            Direction::Asc => self.is_above(row),
+            Direction::Desc => self.is_below(row),
+        }
+    }
+
+    // Whether the row is below each key of the range.
+    fn is_below(&self, row: &RowBytes) -> bool
+        ensures { result ≡ is_place_before (place_of self.now (item_list row.now.0)) }
+    {
+        match &self.ends {
+            Some(ends) => is_before(ends, row),
+            None => false,
+        }
+    }
+
+    // Whether the row is above each key of the range, or the range is empty.
+    fn is_above(&self, row: &RowBytes) -> bool
+        ensures { result ≡ is_place_past (place_of self.now (item_list row.now.0)) }
+    {
+        match &self.ends {
+            Some(ends) => is_past(ends, row),
+            None => true,
+        }
+    }
+}
+
+// Whether the row is before the low end.
+fn is_before(ends: &Ends, row: &RowBytes) -> bool
+    ensures { result ≡ is_gt (bound_order ends.now.low.0 ends.now.low.1 row.now) }
+{
+    ends.low.against(row).is_gt()
+}
+
+// Whether the row is after the high end.
+fn is_past(ends: &Ends, row: &RowBytes) -> bool
+    ensures { result ≡ is_lt (bound_order ends.now.high.0 ends.now.high.1 row.now) }
+{
+    ends.high.against(row).is_lt()
+}
+
+// Where the row stands to the ends.
+fn place_between(ends: &Ends, row: &RowBytes) -> Place
+    ensures { result ≡ place_at ends.now row.now }
+{
+    if is_before(ends, row) {
+        Place::Before
+    } else if is_past(ends, row) {
+        Place::Past
+    } else {
+        Place::Within
+    }
+}
+
+// The ends of a span, if there is one.
+fn ends_if(alloc: Global, span: &Option<Span>) -> Result<Option<Ends>, NoMemory>
+    ensures { IfOk result (λ ends. option_map ends_at ends ≡ option_map (λ s. both_ends (span_seen s)) span.now) }
+{
+    match span {
+        Some(span) => Ok(Some(ends_of(alloc, span)?)),
+        None => Ok(None),
+    }
+}
+
+fn ends_of(alloc: Global, span: &Span) -> Result<Ends, NoMemory>
+    ensures { IfOk result (λ ends. ends_at ends ≡ both_ends (span_seen span.now)) }
+{
+    let lower = span.lower.as_ref();
+    let upper = span.upper.as_ref();
+    let low = end_at(alloc, &span.equal, lower, low_edge(lower))?;
+    let high = end_at(alloc, &span.equal, upper, high_edge(upper))?;
+    Ok(Ends { low, high })
+}
+
+// The place on a side of the rows that begin with these values, and then that of the limit, if there is one.
+fn end_at(
+    alloc: Global,
+    equal: &[Json],
+    limit: Option<&Limit>,
+    edge: Edge,
+) -> Result<Bound, NoMemory>
+    ensures { IfOk result (λ bound. bound
+        ≡ (edge, end_values (map json_view equal.now) (option_map (λ l. limit_seen l.now) limit.entry))) }
+{
+    let mut key = KeyBytes::new(alloc);
+    push_all(&mut key, equal)?;
+    push_limit(&mut key, limit)?;
+    Ok(key.bound(alloc, edge)?)
+}
+
+// Puts the values behind the columns of a key.
+fn push_all(key: &mut KeyBytes, values: &[Json]) -> Result<(), NoMemory>
+    ensures { OnOk result (key.new ≡ joined_items key.old (items_view values.now)) }
+{
+    for value in values {
+        key.push(value)?;
+    }
+    Ok(())
+}
+
+// Puts the value of a limit there, if there is one.
+fn push_limit(key: &mut KeyBytes, limit: Option<&Limit>) -> Result<(), NoMemory>
+    ensures { OnOk result (key.new
+        ≡ joined_items key.old (end_values [] (option_map (λ l. limit_seen l.now) limit.entry))) }
+{
+    match limit {
+        Some(limit) => {
+            key.push(&limit.value)?;
+            Ok(())
+        }
+        None => Ok(()),
+    }
+}
+
+// The side of the low end.
+fn low_edge(limit: Option<&Limit>) -> Edge
+    ensures { result ≡ low_side (option_map (λ l. limit_seen l.now) limit.entry) }
+{
+    match limit {
+        Some(limit) => if limit.inclusive {
+            Edge::Before
+        } else {
+            Edge::After
+        },
+        None => Edge::Before,
+    }
+}
+
+// The side of the high end.
+fn high_edge(limit: Option<&Limit>) -> Edge
+    ensures { result ≡ high_side (option_map (λ l. limit_seen l.now) limit.entry) }
+{
+    match limit {
+        Some(limit) => if limit.inclusive {
+            Edge::After
+        } else {
+            Edge::Before
+        },
+        None => Edge::After,
+    }
+}

@@ -1,0 +1,41 @@
+-- The row of a document among all documents is that of its id.
+use Rattle.std.proofs.Common.{◌≡◌, ℕ, List, ◌∷◌, Option, Some, None, option_map, map, ap, sym, subst, refl, ◌∙◌}
+use Rattle.std.specs.Option.{option_and_then}
+use Rattle.mg_collate.specs.Row.{RowValue}
+use Rattle.mg_scan.specs.Search.{entry_rows}
+use Rattle.mg_scan.specs.Sourced.{holds_for, walked_documents, walked_on}
+use Rattle.mg_scan.specs.Walked.{id_row, is_late_row}
+use Rattle.mg_scan.specs.declared.search.Search.{Search}
+use Rattle.mg_scan.proofs.Entries.{own_form}
+use Rattle.mg_scan.proofs.Maps.{some_is}
+use Rattle.mg_scan.proofs.Sources.{among_some}
+use Rattle.mg_scan.proofs.Steps.{keyed, rows_some}
+use Rattle.mg_shard.specs.Documents.{form_of, id_of, kept_entry}
+use Rattle.mg_shard.specs.Own.{HasOwnId, IsServedOwn, all_columns}
+use Rattle.mg_shard.specs.Rows.{row_key}
+use Rattle.mg_shard.specs.declared.document.Document.{Document}
+use Rattle.mg_shard.specs.declared.served.Served.{Served}
+use Rattle.mg_value.specs.Value.{Items, Value}
+use Rattle.mg_value.specs.View.{view}
+
+own_served : (id : List ℕ) (o : Option Served) → IsServedOwn id o → (form : Value) → option_map (λ s. view s.form) o ≡ Some form → HasOwnId id form
+own_served id None own form e = absurd cc
+own_served id (Some s) own form e = subst (HasOwnId id) (some_is (view s.form) form e) (own s refl)
+
+-- the row of a document that has a key
+pub own_lent : (d : Document) (key : Items) → Some key ≡ option_and_then (row_key all_columns) (form_of d) → ◌≡◌ {A = RowValue} (key, id_of d) (id_row (id_of d))
+own_lent d key e =
+    let id = id_of d in
+    own_form id (form_of d) (key, id) (own_served id d.served d.own_id) (keyed id (form_of d) ∙ ap (option_map (λ (k : Items). (k, id))) (sym e))
+
+-- such a document is looked at, by the row of its id
+pub among_own : (s : Search) (d : Document) (documents : List Document) (key : Items) (id : List ℕ) → Some key ≡ option_and_then (row_key all_columns) (form_of d) → id ≡ id_of d
+    → walked_documents s (d ∷ documents) ≡ walked_on (is_late_row s.direction s.range.now) (holds_for s.normal.now d) (Some (id_row id)) (walked_documents s documents)
+among_own s d documents key id e same =
+    let late = is_late_row s.direction s.range.now in
+    among_some s d documents key e
+    ∙ ap (λ (r : RowValue). walked_on late (holds_for s.normal.now d) (Some r) (walked_documents s documents)) (own_lent d key e ∙ ap id_row (sym same))
+
+pub rows_own : (d : Document) (ds : List Document) (key : Items) (id : List ℕ) → Some key ≡ option_and_then (row_key all_columns) (form_of d) → id ≡ id_of d
+    → entry_rows (map kept_entry (d ∷ ds)) ≡ id_row id ∷ entry_rows (map kept_entry ds)
+rows_own d ds key id e same = rows_some d ds key e ∙ ap (λ (r : RowValue). r ∷ entry_rows (map kept_entry ds)) (own_lent d key e ∙ ap id_row (sym same))

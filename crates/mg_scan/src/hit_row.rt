@@ -1,0 +1,102 @@
+//! The row of a hit, lent by a shard.
+ghost use Rattle.std.specs.Prelude.{◌≡◌, IfOk};
+ghost use Rattle.mg_collate.specs.Row.{row_value_order, row_view};
+ghost use Rattle.mg_value.specs.View.{items_view};
+ghost use Rattle.mg_scan.specs.HitRow.{lent_row};
+ghost use Rattle.mg_scan.specs.Walked.{id_row as row_of_id};
+
+use mg_collate::Row;
+use mg_rows::RowBytes;
+use mg_value::{Json, NoMemory};
+use std::alloc::Global;
+use std::cmp::Ordering;
+
+/// The row of a hit.
+#[derive(Clone, Copy)]
+pub(crate) enum HitRow<'a> {
+    /// A row of an index.
+    Bytes(&'a RowBytes),
+    /// The row that a document has among all documents, whose key is its id.
+    Id(&'a str),
+}
+
+impl<'a> HitRow<'a> {
+    /// The id of its document. Takes no memory.
+    pub(crate) fn id(&self) -> &'a str
+        ensures { result.now ≡ (lent_row self.now).1 }
+    {
+        match self {
+            HitRow::Bytes(row) => row.id(),
+            HitRow::Id(id) => id,
+        }
+    }
+
+    /// Its key. Errors: `NoMemory` where a growth was refused. Cost: the size of the key.
+    pub(crate) fn key(&self, alloc: Global) -> Result<Vec<Json>, NoMemory>
+        ensures { IfOk result (λ key. items_view key.items ≡ (lent_row self.now).0) }
+    {
+        match self {
+            HitRow::Bytes(row) => row.key(alloc),
+            HitRow::Id(id) => id_key(alloc, id),
+        }
+    }
+
+    /// A row of its own. Errors: `NoMemory` where a growth was refused. Cost: the size of the row.
+    pub(crate) fn row(&self, alloc: Global) -> Result<Row, NoMemory>
+        ensures { IfOk result (λ row. row_view row ≡ lent_row self.now) }
+    {
+        match self {
+            HitRow::Bytes(row) => row.row(alloc),
+            HitRow::Id(id) => id_row(alloc, id),
+        }
+    }
+
+    /// The order of two rows: by key, and at one key by the bytes of the id. Takes no memory.
+    pub(crate) fn compare(&self, other: &HitRow<'a>) -> Ordering
+        ensures { result ≡ row_value_order (lent_row self.now) (lent_row other.now) }
+    {
+        match self {
+            HitRow::Bytes(row) => compare_row(row, other),
+            HitRow::Id(id) => compare_id(id, other),
+        }
+    }
+}
+
+// The order of a row of an index and another.
+fn compare_row(row: &RowBytes, other: &HitRow<'_>) -> Ordering
+    ensures { result ≡ row_value_order row.now (lent_row other.now) }
+{
+    match other {
+        HitRow::Bytes(other) => row.compare(other),
+        HitRow::Id(id) => row.order_of_id(id),
+    }
+}
+
+// The order of the row that an id has among all documents and another.
+fn compare_id(id: &str, other: &HitRow<'_>) -> Ordering
+    ensures { result ≡ row_value_order (row_of_id id.now) (lent_row other.now) }
+{
+    match other {
+        HitRow::Bytes(other) => other.order_of_id(id).reverse(),
+        HitRow::Id(other) => id.cmp(other),
+    }
+}
+
+// The key of an id among all documents.
+fn id_key(alloc: Global, id: &str) -> Result<Vec<Json>, NoMemory>
+    ensures { IfOk result (λ key. items_view key.items ≡ (row_of_id id.now).0) }
+{
+    let mut key = Vec::with_capacity(alloc, 1)?;
+    key.push(Json::Text(String::from_str(alloc, id)?))?;
+    Ok(key)
+}
+
+// The row of an id among all documents.
+fn id_row(alloc: Global, id: &str) -> Result<Row, NoMemory>
+    ensures { IfOk result (λ row. row_view row ≡ row_of_id id.now) }
+{
+    Ok(Row {
+        key: id_key(alloc, id)?,
+        id: String::from_str(alloc, id)?,
+    })
+}
