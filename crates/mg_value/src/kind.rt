@@ -1,6 +1,6 @@
-/// A lent value, opened one level: a text is lent, and items and members are of the types that its values have.
+/// A lent value, opened one level. Its texts are a `T`, its arrays an `I` and its objects an `M`.
 #[derive(Drop)]
-pub enum Kind<'a, I, M> {
+pub enum Kind<T, I, M> {
     /// `null`.
     Null,
     /// `true` or `false`.
@@ -8,7 +8,7 @@ pub enum Kind<'a, I, M> {
     /// A number from -9,223,372,036,854,775,808 to 9,223,372,036,854,775,807.
     Whole(i64),
     /// A string.
-    Text(&'a str),
+    Text(T),
     /// An array.
     List(I),
     /// An object.

@@ -6,11 +6,13 @@ use std::collections::{BTreeMap, btree_map};
 
 /// A value that is lent: one that is read in place, from a tree of `Json` or from a block of memory.
 /// What is evaluated over it is written once, for all ways to keep a value.
-pub trait LentValue<'a>: Sized + Drop {
-    ghost use Rattle.std.specs.Prelude.{◌≡◌, ◌<◌, Some, MatchOption, length, option_map, slice_get};
+pub trait LentValue: Sized + Drop {
+    ghost use Rattle.std.specs.Prelude.{◌≡◌, ◌<◌, ℕ, List, Some, MatchOption, length, option_map, slice_get};
     ghost use Rattle.mg_value.specs.Value.{Value, Items, Members, no_members, member, item_list, get_member};
     ghost use Rattle.mg_value.specs.Kind.{kind_value};
 
+    /// A text.
+    type Text: Drop;
     /// The items of an array.
     type List: Drop;
     /// The members of an object.
@@ -19,6 +21,8 @@ pub trait LentValue<'a>: Sized + Drop {
     type Rest: Drop;
 
     ghost value: { Self → Value };
+
+    ghost bytes: { Self.Text → List ℕ };
 
     ghost items: { Self.List → Items };
 
@@ -31,8 +35,12 @@ pub trait LentValue<'a>: Sized + Drop {
         ensures { value result ≡ value self.now };
 
     /// The value, opened one level.
-    fn kind(&self) -> Kind<'a, Self::List, Self::Object>
-        ensures { kind_value items members result ≡ value self.now };
+    fn kind(&self) -> Kind<Self::Text, Self::List, Self::Object>
+        ensures { kind_value bytes items members result ≡ value self.now };
+
+    /// The text, as it is lent.
+    fn as_str(text: &Self::Text) -> &str
+        ensures { result.now ≡ bytes text.now };
 
     /// How many items there are.
     fn len(list: &Self::List) -> usize
@@ -52,13 +60,15 @@ pub trait LentValue<'a>: Sized + Drop {
         ensures { rest result ≡ members object.now };
 
     /// The next member of a walk, its name and its value.
-    fn next(walk: &mut Self::Rest) -> Option<(&'a str, Self)>
+    fn next(walk: &mut Self::Rest) -> Option<(Self::Text, Self)>
         ensures { MatchOption result (rest walk.old ≡ no_members)
-            (λ m. rest walk.old ≡ member m.0.now (value m.1) (rest walk.new)) };
+            (λ m. rest walk.old ≡ member (bytes m.0) (value m.1) (rest walk.new)) };
 }
 
-impl<'a> LentValue<'a> for &'a Json {
+impl<'a> LentValue for &'a Json {
     ghost use Rattle.mg_value.specs.View.{view, items_view, members_view};
+
+    type Text = &'a str;
 
     type List = &'a [Json];
 
@@ -67,6 +77,8 @@ impl<'a> LentValue<'a> for &'a Json {
     type Rest = btree_map::Iter<'a, String, Json>;
 
     ghost value = { λ v. view v.now };
+
+    ghost bytes = { λ s. s.now };
 
     ghost items = { λ vs. items_view vs.now };
 
@@ -80,7 +92,7 @@ impl<'a> LentValue<'a> for &'a Json {
     }
 
     #[inline(always)]
-    fn kind(&self) -> Kind<'a, &'a [Json], &'a BTreeMap<String, Json>> {
+    fn kind(&self) -> Kind<&'a str, &'a [Json], &'a BTreeMap<String, Json>> {
         match *self {
             Json::Null => Kind::Null,
             Json::Flag(flag) => Kind::Flag(*flag),
@@ -89,6 +101,11 @@ impl<'a> LentValue<'a> for &'a Json {
             Json::List(items) => Kind::List(items.as_slice()),
             Json::Object(members) => Kind::Object(members),
         }
+    }
+
+    #[inline(always)]
+    fn as_str<'t>(text: &'t &'a str) -> &'t str {
+        *text
     }
 
     #[inline(always)]
