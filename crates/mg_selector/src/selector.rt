@@ -9,7 +9,7 @@ use crate::operator::Op;
 use crate::sense::Sense;
 use crate::{copy, meaning, reader};
 use mg_path::Path;
-use mg_value::{Json, NoMemory};
+use mg_value::{Json, LentValue, NoMemory};
 use std::alloc::Global;
 
 /// A selector: what `_find` asks of a document, or of a part of one.
@@ -63,6 +63,13 @@ impl Sel {
     /// `$elemMatch` and `$allMatch` look at. Source: the operators of CouchDB's `_find`.
     pub fn holds(&self, value: &Json) -> bool
         ensures { result ≡ holds_in (selector_of self.now) Sense.Plain (Some (view value.now)) }
+    {
+        self.holds_of(value)
+    }
+
+    /// Whether the selector holds of the lent document, as of `holds`. No memory is taken. Cost: as of `holds`.
+    pub fn holds_of<L: LentValue>(&self, value: L) -> bool
+        ensures { result ≡ holds_in (selector_of self.now) Sense.Plain (Some (L.value value)) }
     {
         meaning::holds_in(self, Sense::Plain, Some(value))
     }

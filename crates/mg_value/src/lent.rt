@@ -1,4 +1,4 @@
-ghost use Rattle.std.specs.Prelude.{◌≡◌, ◌<◌, Some, length, slice_get};
+ghost use Rattle.std.specs.Prelude.{◌≡◌, ◌<◌, Some, length, option_map, slice_get};
 
 use crate::kind::Kind;
 use crate::value::Json;
@@ -63,6 +63,17 @@ pub trait LentValue: Sized + Drop {
     fn next(walk: &mut Self::Rest) -> Option<(Self::Text, Self)>
         ensures { MatchOption result (rest walk.old ≡ no_members)
             (λ m. rest walk.old ≡ member (bytes m.0) (value m.1) (rest walk.new)) };
+}
+
+/// The same value, lent once more, where there is one. Cost: none.
+#[inline(always)]
+pub fn lend_part<L: LentValue>(part: &Option<L>) -> Option<L>
+    ensures { option_map L.value result ≡ option_map L.value part.now }
+{
+    match part {
+        Some(value) => Some(value.lend()),
+        None => None,
+    }
 }
 
 impl<'a> LentValue for &'a Json {

@@ -13,7 +13,7 @@ mod writer;
 pub use copy::{copy_items, copy_texts};
 pub use error::{NoMemory, ReadError};
 pub use kind::Kind;
-pub use lent::LentValue;
+pub use lent::{LentValue, lend_part};
 pub use reader::read;
 pub use value::Json;
 pub use writer::write;
