@@ -101,8 +101,9 @@ fn has_item<L: LentValue>(items: &L::List, value: &Json) -> bool
 fn equals_only<L: LentValue>(arguments: &[Json], value: L) -> bool
     ensures { result ≡ equals_only (items_view arguments.now) (L.value value) }
 {
-    match arguments {
-        [argument] => are_equal(value, argument),
-        _ => false,
+    if arguments.len() == 1 {
+        are_equal(value, &arguments[0])
+    } else {
+        false
     }
 }

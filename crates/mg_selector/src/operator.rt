@@ -51,6 +51,7 @@ impl Op {
 
     /// Whether the operator holds of the part in the sense. On a missing part none does, in either
     /// sense, but `$exists`. No memory is taken.
+    #[inline]
     pub fn holds_in(&self, sense: Sense, part: Option<&Json>) -> bool
         ensures { result ≡ operator_holds (operator_of self.now) sense
             (option_map (λ j. view j.now) part.entry) }
@@ -59,6 +60,7 @@ impl Op {
     }
 
     /// Whether the operator holds of the lent part in the sense, as of `holds_in`. No memory is taken.
+    #[inline]
     pub fn holds_of<L: LentValue>(&self, sense: Sense, part: Option<L>) -> bool
         ensures { result ≡ operator_holds (operator_of self.now) sense (option_map L.value part) }
     {

@@ -61,6 +61,7 @@ impl Sel {
     ///
     /// Cost: each operator once, with the way to its part, and once more for each element that
     /// `$elemMatch` and `$allMatch` look at. Source: the operators of CouchDB's `_find`.
+    #[inline]
     pub fn holds(&self, value: &Json) -> bool
         ensures { result ≡ holds_in (selector_of self.now) Sense.Plain (Some (view value.now)) }
     {
@@ -68,6 +69,7 @@ impl Sel {
     }
 
     /// Whether the selector holds of the lent document, as of `holds`. No memory is taken. Cost: as of `holds`.
+    #[inline]
     pub fn holds_of<L: LentValue>(&self, value: L) -> bool
         ensures { result ≡ holds_in (selector_of self.now) Sense.Plain (Some (L.value value)) }
     {

@@ -11,12 +11,14 @@ use Rattle.mg_selector.proofs.meaning.+holds.Given as goal
 abbrev pub invariant-every_arm-loop-arm : goal.invariant-every_arm-loop-arm
 invariant-every_arm-loop-arm g l =
     let x = option_map g.L.LentValue.value l.fn.part in
-    every_arm (arms_view l.arms) l.sense x ≡ every_arm (arms_view (drop l.arm-index l.arms)) l.sense x
+    let y = option_map g.L.LentValue.value l.part in
+    every_arm (arms_view l.arms) l.sense x ≡ every_arm (arms_view (drop l.arm-index l.arms)) l.sense y
 
 abbrev pub invariant-some_arm-loop-arm : goal.invariant-some_arm-loop-arm
 invariant-some_arm-loop-arm g l =
     let x = option_map g.L.LentValue.value l.fn.part in
-    some_arm (arms_view l.arms) l.sense x ≡ some_arm (arms_view (drop l.arm-index l.arms)) l.sense x
+    let y = option_map g.L.LentValue.value l.part in
+    some_arm (arms_view l.arms) l.sense x ≡ some_arm (arms_view (drop l.arm-index l.arms)) l.sense y
 
 abbrev pub invariant-some_element-loop-place : goal.invariant-some_element-loop-place
 invariant-some_element-loop-place g l =
