@@ -1,11 +1,15 @@
 -- The turns of the loops that compare lists and objects.
-use Rattle.std.proofs.Common.{◌≡◌, ◌≢◌, ◌<◌, ℕ, ◌+◌, List, [], ◌∷◌, get_or, length, Ordering, Less, Equal, Greater, string_bytes, nat_cmp, ◌⊎◌, inl, inr, refl, sym, ap, ◌∙◌, arith}
+use Rattle.std.proofs.Common.{◌≡◌, ◌≢◌, ◌<◌, ◌≤◌, ℕ, zero, suc, ◌+◌, List, [], ◌∷◌, drop, get_or, length, Some, Ordering, Less, Equal, Greater, string_bytes, nat_cmp, refl, sym, ap, ap₂, ◌∙◌, arith}
+use Rattle.std.proofs.lemmas.List.{drop_more}
+use Rattle.std.proofs.Math.Seq.{drop-length}
 use Rattle.std.specs.Cmp.{nat_cmp_is}
 use Rattle.std.specs.Cmp.Lexicographic.{slice_cmp}
+use Rattle.std.specs.List.{slice_get}
 use Rattle.std.specs.Ordering.{ordering_then}
-use Rattle.mg_value.specs.Value.{text, item, no_items}
+use Rattle.mg_value.specs.Value.{Value, text, Items, no_items, item, Members, no_members, member, item_list}
 use Rattle.mg_value.specs.View.{view, items_view, members_view}
 use Rattle.mg_value.specs.declared.value.Json.{Json}
+use Rattle.mg_value.proofs.Items.{items_past, past_item, past_all}
 use Rattle.mg_value.proofs.Views.{Entry}
 use Rattle.mg_collate.specs.Order.{value_order, items_order}
 use Rattle.mg_collate.specs.Compared.{members_order}
@@ -16,22 +20,36 @@ decided Less p h = refl
 decided Equal p h = absurd (h refl)
 decided Greater p h = refl
 
-pub members_turn : (e f : Entry) (es fs : List Entry) → members_order (members_view (e ∷ es)) (members_view (f ∷ fs))
-    ≡ ordering_then (ordering_then (slice_cmp nat_cmp (string_bytes e.0) (string_bytes f.0)) (value_order (view e.1) (view f.1))) (members_order (members_view es) (members_view fs))
-members_turn e f es fs = members_order-member (string_bytes e.0) (string_bytes f.0) (view e.1) (view f.1) (members_view es) (members_view fs) ∙ sym (then_assoc (slice_cmp nat_cmp (string_bytes e.0) (string_bytes f.0)) (value_order (view e.1) (view f.1)) _)
+-- the n-th item, and then those after it
+pub items_step : (vs : Items) (ys : List Json) (n : ℕ) (v : Value) (y : Json) → slice_get (item_list vs) n ≡ Some v → n < length ys → y ≡ get_or ys n y
+    → items_order (items_past n vs) (items_view (drop n ys)) ≡ ordering_then (value_order v (view y)) (items_order (items_past (n + 1) vs) (items_view (drop (n + 1) ys)))
+items_step vs ys n v y there less is =
+    ap₂ (λ xs js. items_order xs (items_view js)) (past_item vs n v there) (drop_more ys n y less ∙ ap (λ z. z ∷ drop (n + 1) ys) (sym is))
+    ∙ items_order-item v (view y) (items_past (n + 1) vs) (items_view (drop (n + 1) ys))
 
--- one list is at its end, and n have gone before
-pub items_end : (xs ys : List Json) (n j k : ℕ) → (length xs ≡ 0) ⊎ (length ys ≡ 0) → j ≡ n + length xs → k ≡ n + length ys → nat_cmp j k ≡ items_order (items_view xs) (items_view ys)
-items_end [] [] n j k end a b = sym (nat_cmp_is j k Equal (omega arith))
-items_end [] (y ∷ ys) n j k end a b = sym (nat_cmp_is j k Less (omega arith)) ∙ sym (items_order-below (view y) (items_view ys))
-items_end (x ∷ xs) [] n j k end a b = sym (nat_cmp_is j k Greater (omega arith)) ∙ sym (items_order-above (view x) (items_view xs))
-items_end (x ∷ xs) (y ∷ ys) n j k end a b = absurd (elim end [ inl e ↦ omega arith | inr e ↦ omega arith ])
+-- the first array is at its end
+pub items_less : (vs : Items) (ys : List Json) (n : ℕ) (y : Json) → n ≡ length (item_list vs) → n < length ys → items_order (items_past n vs) (items_view (drop n ys)) ≡ Less
+items_less vs ys n y all less =
+    ap₂ (λ xs js. items_order xs (items_view js)) (past_all vs n all) (drop_more ys n y less) ∙ items_order-below (view (get_or ys n y)) (items_view (drop (n + 1) ys))
 
-pub members_end : (xs ys : List Entry) (n j k : ℕ) → (length xs ≡ 0) ⊎ (length ys ≡ 0) → j ≡ n + length xs → k ≡ n + length ys → nat_cmp j k ≡ members_order (members_view xs) (members_view ys)
-members_end [] [] n j k end a b = sym (nat_cmp_is j k Equal (omega arith))
-members_end [] (y ∷ ys) n j k end a b = sym (nat_cmp_is j k Less (omega arith))
-members_end (x ∷ xs) [] n j k end a b = sym (nat_cmp_is j k Greater (omega arith))
-members_end (x ∷ xs) (y ∷ ys) n j k end a b = absurd (elim end [ inl e ↦ omega arith | inr e ↦ omega arith ])
+items_left : (vs : Items) (n m j k : ℕ) → n ≤ length (item_list vs) → j ≡ m + length (item_list vs) → k ≡ m + n → nat_cmp j k ≡ items_order (items_past n vs) no_items
+items_left no_items zero m j k h a b = sym (nat_cmp_is j k Equal (omega arith))
+items_left no_items (suc n) m j k h a b = absurd (omega arith)
+items_left (item v vs) zero m j k h a b = sym (nat_cmp_is j k Greater (omega arith)) ∙ sym (items_order-above v vs)
+items_left (item v vs) (suc n) m j k h a b = items_left vs n (m + 1) j k (omega arith) (omega arith) (omega arith)
+
+-- the second array is at its end
+pub items_end : (vs : Items) (ys : List Json) (n : ℕ) → n ≤ length (item_list vs) → n ≡ length ys → nat_cmp (length (item_list vs)) (length ys) ≡ items_order (items_past n vs) (items_view (drop n ys))
+items_end vs ys n within end =
+    items_left vs n 0 (length (item_list vs)) (length ys) within (omega arith) (omega arith)
+    ∙ ap (λ js. items_order (items_past n vs) (items_view js)) (sym (ap (λ k. drop k ys) end ∙ drop-length ys))
+
+-- a member, and then those after it
+pub members_step : (ms rest : Members) (es left : List Entry) (k : List ℕ) (v : Value) (e : Entry) → ms ≡ member k v rest → es ≡ e ∷ left
+    → members_order ms (members_view es) ≡ ordering_then (ordering_then (slice_cmp nat_cmp k (string_bytes e.0)) (value_order v (view e.1))) (members_order rest (members_view left))
+members_step ms rest es left k v e a b =
+    ap₂ (λ x y. members_order x (members_view y)) a b ∙ members_order-member k (string_bytes e.0) v (view e.1) rest (members_view left)
+    ∙ sym (then_assoc (slice_cmp nat_cmp k (string_bytes e.0)) (value_order v (view e.1)) _)
 
 -- ---- the key of one text
 

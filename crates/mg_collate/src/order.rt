@@ -6,7 +6,7 @@ ghost use Rattle.mg_value.specs.View.{view, items_view, members_view};
 ghost use Rattle.mg_collate.specs.Order.{value_order, items_order};
 ghost use Rattle.mg_collate.specs.Compared.{members_order, rank};
 
-use mg_value::Json;
+use mg_value::{Json, Kind, LentValue};
 use std::cmp::Ordering;
 use std::collections::BTreeMap;
 
@@ -17,16 +17,24 @@ use std::collections::BTreeMap;
 /// orders them), arrays item by item, and objects member by member in the order of their names,
 /// each by its name and then by its value; a proper prefix is below. Only equal values tie.
 /// Cost: one pass over both values, up to the first difference. Takes no memory.
-#[cycle(compare)]
+#[inline]
 pub fn compare(a: &Json, b: &Json) -> Ordering
     ensures { result ≡ value_order (view a.now) (view b.now) }
 {
-    match (a, b) {
-        (Json::Whole(x), Json::Whole(y)) => x.cmp(y),
-        (Json::Text(x), Json::Text(y)) => x.as_str().cmp(y.as_str()),
-        (Json::List(xs), Json::List(ys)) => compare_keys(xs, ys),
-        (Json::Object(xs), Json::Object(ys)) => compare_members(xs, ys),
-        _ => rank_of(a).cmp(&rank_of(b)),
+    compare_of(a, b)
+}
+
+/// The order of a lent value and a value, as of `compare`. Takes no memory. Cost: as of `compare`.
+#[cycle(compare)]
+pub fn compare_of<L: LentValue>(value: L, other: &Json) -> Ordering
+    ensures { result ≡ value_order (L.value value) (view other.now) }
+{
+    match (value.kind(), other) {
+        (Kind::Whole(x), Json::Whole(y)) => x.cmp(y),
+        (Kind::Text(x), Json::Text(y)) => L::as_str(&x).cmp(y.as_str()),
+        (Kind::List(xs), Json::List(ys)) => compare_items::<L>(xs, ys),
+        (Kind::Object(xs), Json::Object(ys)) => compare_members::<L>(xs, ys),
+        _ => rank_of(&value).cmp(&rank_of(&other)),
     }
 }
 
@@ -34,58 +42,81 @@ pub fn compare(a: &Json, b: &Json) -> Ordering
 /// prefix is below.
 ///
 /// Cost: one pass over both keys, up to the first difference. Takes no memory.
-#[cycle(compare)]
+#[inline]
 pub fn compare_keys(a: &[Json], b: &[Json]) -> Ordering
     ensures { result ≡ items_order (items_view a.now) (items_view b.now) }
 {
-    for (x, y) in a.iter().zip(b) {
-        match compare(x, y) {
+    compare_items::<&Json>(a, b)
+}
+
+// The order of two arrays, by their items.
+#[cycle(compare)]
+fn compare_items<L: LentValue>(items: L::List, others: &[Json]) -> Ordering
+    ensures { result ≡ items_order (L.items items) (items_view others.now) }
+{
+    let count = L::len(&items);
+    for (place, other) in others.iter().enumerate() {
+        if place >= count {
+            return Ordering::Less;
+        }
+        match compare_of(L::item(&items, place), other) {
             Ordering::Equal => {}
             order => return order,
         }
     }
-    a.len().cmp(&b.len())
+    count.cmp(&others.len())
 }
 
 // The order of two objects, by their members.
 #[cycle(compare)]
-fn compare_members(members: &BTreeMap<String, Json>, others: &BTreeMap<String, Json>) -> Ordering
-    ensures { result
-        ≡ members_order (members_view members.now.entries) (members_view others.now.entries) }
+fn compare_members<L: LentValue>(members: L::Object, others: &BTreeMap<String, Json>) -> Ordering
+    ensures { result ≡ members_order (L.members members) (members_view others.now.entries) }
 {
-    for ((name, value), (other_name, other)) in members.iter().zip(others.iter()) {
-        match compare_member(name.as_str(), value, other_name.as_str(), other) {
-            Ordering::Equal => {}
-            order => return order,
+    let mut walk = L::walk(&members);
+    for (other_name, other) in others.iter() {
+        match L::next(&mut walk) {
+            Some((name, value)) => match compare_member(
+                L::as_str(&name),
+                value,
+                other_name.as_str(),
+                other,
+            ) {
+                Ordering::Equal => {}
+                order => return order,
+            },
+            None => return Ordering::Less,
         }
     }
-    members.len().cmp(&others.len())
+    match L::next(&mut walk) {
+        Some(_) => Ordering::Greater,
+        None => Ordering::Equal,
+    }
 }
 
 // The order of two members: by name, and then by value.
 #[cycle(compare)]
-fn compare_member(name: &str, value: &Json, other_name: &str, other: &Json) -> Ordering
+fn compare_member<L: LentValue>(name: &str, value: L, other_name: &str, other: &Json) -> Ordering
     ensures { result ≡ ordering_then (slice_cmp nat_cmp name.now other_name.now)
-        (value_order (view value.now) (view other.now)) }
+        (value_order (L.value value) (view other.now)) }
 {
     match name.cmp(other_name) {
-        Ordering::Equal => compare(value, other),
+        Ordering::Equal => compare_of(value, other),
         order => order,
     }
 }
 
 // The place of the value's type in the order of types.
-fn rank_of(value: &Json) -> u8
-    ensures { result ≡ rank (view value.now) }
+fn rank_of<L: LentValue>(value: &L) -> u8
+    ensures { result ≡ rank (L.value value.now) }
 {
-    match value {
-        Json::Null => 1,
-        Json::Flag(false) => 2,
-        Json::Flag(true) => 3,
-        Json::Whole(_) => 4,
-        Json::Text(_) => 5,
-        Json::List(_) => 6,
-        Json::Object(_) => 7,
+    match value.kind() {
+        Kind::Null => 1,
+        Kind::Flag(false) => 2,
+        Kind::Flag(true) => 3,
+        Kind::Whole(_) => 4,
+        Kind::Text(_) => 5,
+        Kind::List(_) => 6,
+        Kind::Object(_) => 7,
     }
 }
 

@@ -1,12 +1,11 @@
 ghost use Rattle.std.specs.Prelude.{◌≡◌, Some};
-ghost use Rattle.mg_value.specs.View.{view};
 ghost use Rattle.mg_normal.specs.Atoms.{atom_holds};
 ghost use Rattle.mg_normal.specs.Normal.{all_hold};
 ghost use Rattle.mg_normal.specs.View.{atom_view, atoms_view, sense_of};
 
-use mg_path::part_of;
+use mg_path::part_at;
 use mg_selector::{Op, Sense};
-use mg_value::Json;
+use mg_value::LentValue;
 
 /// What a selector asks in any case: an operator, in a sense, of the part at a whole path.
 #[derive(Debug, Drop)]
@@ -20,22 +19,22 @@ pub struct Atom {
 }
 
 // Whether each of the atoms holds of the document.
-pub(crate) fn all_hold(atoms: &[Atom], document: &Json) -> bool
-    ensures { result ≡ all_hold (Some (view document.now)) (atoms_view atoms.now) }
+pub(crate) fn all_hold<L: LentValue>(atoms: &[Atom], document: L) -> bool
+    ensures { result ≡ all_hold (Some (L.value document)) (atoms_view atoms.now) }
 {
     for atom in atoms {
-        if !holds(atom, document) {
+        if !holds(atom, document.lend()) {
             return false;
         }
     }
     true
 }
 
-fn holds(atom: &Atom, document: &Json) -> bool
-    ensures { result ≡ atom_holds (Some (view document.now)) (atom_view atom.now) }
+fn holds<L: LentValue>(atom: &Atom, document: L) -> bool
+    ensures { result ≡ atom_holds (Some (L.value document)) (atom_view atom.now) }
 {
     atom.op
-        .holds_in(sense_of(atom.negated), part_of(&atom.steps, document))
+        .holds_of(sense_of(atom.negated), part_at(&atom.steps, document))
 }
 
 fn sense_of(negated: bool) -> Sense

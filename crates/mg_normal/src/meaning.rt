@@ -1,15 +1,14 @@
 ghost use Rattle.std.specs.Prelude.{◌≡◌, ◌||◌, Some, option_map};
-ghost use Rattle.mg_value.specs.View.{view};
 ghost use Rattle.mg_normal.specs.Form.{form_holds, every_form, some_form, is_no_forms};
 ghost use Rattle.mg_normal.specs.Normal.{rest_holds};
 ghost use Rattle.mg_normal.specs.View.{form_of, forms_view};
 
 use crate::form::Form;
-use mg_value::Json;
+use mg_value::{LentValue, lend_part};
 
 // Whether the form holds of the document, where there is a form.
-pub(crate) fn rest_holds(rest: Option<&Form>, document: &Json) -> bool
-    ensures { result ≡ rest_holds (option_map (λ f. form_of f.now) rest.entry) (Some (view document.now)) }
+pub(crate) fn rest_holds<L: LentValue>(rest: Option<&Form>, document: L) -> bool
+    ensures { result ≡ rest_holds (option_map (λ f. form_of f.now) rest.entry) (Some (L.value document)) }
 {
     match rest {
         Some(form) => holds(form, Some(document)),
@@ -19,23 +18,23 @@ pub(crate) fn rest_holds(rest: Option<&Form>, document: &Json) -> bool
 
 // Whether the form holds of the part, which may be missing.
 #[cycle(holds)]
-fn holds(form: &Form, part: Option<&Json>) -> bool
-    ensures { result ≡ form_holds (form_of form.now) (option_map (λ j. view j.now) part.entry) }
+fn holds<L: LentValue>(form: &Form, part: Option<L>) -> bool
+    ensures { result ≡ form_holds (form_of form.now) (option_map L.value part) }
 {
     match form {
         Form::All(forms) => every_form(forms, part),
         Form::Any(forms) => some_form(forms, part),
         Form::At(path, inner) => holds(inner, path.get_in(part)),
-        Form::Ask(op, sense) => op.holds_in(*sense, part),
+        Form::Ask(op, sense) => op.holds_of(*sense, part),
     }
 }
 
 #[cycle(holds)]
-fn every_form(forms: &[Form], part: Option<&Json>) -> bool
-    ensures { result ≡ every_form (forms_view forms.now) (option_map (λ j. view j.now) part.entry) }
+fn every_form<L: LentValue>(forms: &[Form], part: Option<L>) -> bool
+    ensures { result ≡ every_form (forms_view forms.now) (option_map L.value part) }
 {
     for form in forms {
-        if !holds(form, part) {
+        if !holds(form, lend_part(&part)) {
             return false;
         }
     }
@@ -44,12 +43,12 @@ fn every_form(forms: &[Form], part: Option<&Json>) -> bool
 
 // Or there is none.
 #[cycle(holds)]
-fn some_form(forms: &[Form], part: Option<&Json>) -> bool
+fn some_form<L: LentValue>(forms: &[Form], part: Option<L>) -> bool
     ensures { result ≡ (is_no_forms (forms_view forms.now)
-        || some_form (forms_view forms.now) (option_map (λ j. view j.now) part.entry)) }
+        || some_form (forms_view forms.now) (option_map L.value part)) }
 {
     for form in forms {
-        if holds(form, part) {
+        if holds(form, lend_part(&part)) {
             return true;
         }
     }

@@ -10,7 +10,7 @@ use crate::meaning::rest_holds;
 use crate::pushed::pushed;
 use crate::rest::take_atoms;
 use mg_selector::{Sel, Sense};
-use mg_value::{Json, NoMemory};
+use mg_value::{Json, LentValue, NoMemory};
 use std::alloc::Global;
 use std::marker::Model;
 
@@ -58,10 +58,19 @@ impl Normal {
     ///
     /// Cost: each operator once, with the way to its part, an atom's from the top as far as the
     /// document goes, and once more for each element that `$elemMatch` and `$allMatch` look at.
+    #[inline]
     pub fn holds(&self, value: &Json) -> bool
         ensures { result ≡ normal_holds self.now (Some (view value.now)) }
     {
-        all_hold(&self.atoms, value) && rest_holds(self.rest.as_ref(), value)
+        self.holds_of(value)
+    }
+
+    /// Whether the selector holds of the lent document, as of `holds`. No memory is taken. Cost: as of `holds`.
+    #[inline]
+    pub fn holds_of<L: LentValue>(&self, value: L) -> bool
+        ensures { result ≡ normal_holds self.now (Some (L.value value)) }
+    {
+        all_hold(&self.atoms, value.lend()) && rest_holds(self.rest.as_ref(), value)
     }
 
     /// What the selector asks in any case, in reading order: the operators that are reached through

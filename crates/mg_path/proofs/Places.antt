@@ -1,38 +1,21 @@
 -- The place that a step names, and the item there.
-use Rattle.std.proofs.Common.{◌≡◌, ℕ, ◌<◌, ◌≤◌, ◌^◌, List, [], ◌∷◌, Bool, true, false, Option, Some, None, option_map, map, length, Bor, Result, Ok, Err, MatchOption, refl, ap, ◌∙◌, sym, arith, eqb, cond}
+use Rattle.std.proofs.Common.{◌≡◌, ℕ, ◌<◌, ◌≤◌, ◌^◌, List, [], ◌∷◌, Bool, true, false, Option, Some, None, length, Result, Ok, Err, MatchOption, refl, ap, sym, arith, eqb, cond}
 use Rattle.std.specs.Option.{option_and_then}
 use Rattle.std.specs.List.{slice_get}
-use Rattle.std.specs.Slice.{IsItemAt}
 use Rattle.std.specs.Result.{result_ok, OkIff}
 use Rattle.std.specs.Str.{all_ascii_digits}
 use Rattle.std.specs.Str.Parse.{ParsesUnsigned, digits_value}
 use Rattle.std.proofs.lemmas.Str.Parse.{IsNumeralModel, numerals_by_value, tells_all_ascii_digits, parse_plain}
-use Rattle.std.proofs.lemmas.Option.{slice_get-map, slice_get_past, slice_get-get_or}
-use Rattle.mg_value.specs.Value.{Value, item_list}
-use Rattle.mg_value.specs.View.{view, items_of, items_view}
-use Rattle.mg_value.specs.declared.value.Json.{Json}
+use Rattle.std.proofs.lemmas.Option.{slice_get_past}
+use Rattle.mg_value.specs.Value.{Value}
 use Rattle.mg_path.specs.Part.{item_place}
 
-item_list-items_of : (vs : List Value) → item_list (items_of vs) ≡ vs
-item_list-items_of [] = refl
-item_list-items_of (v ∷ vs) = ap (λ ws. v ∷ ws) (item_list-items_of vs)
-
--- an item of the values is the value of an item
-slice_get-items_view : (items : List Json) (n : ℕ) → slice_get (item_list (items_view items)) n ≡ option_map view (slice_get items n)
-slice_get-items_view items n = ap (λ vs. slice_get vs n) (item_list-items_of (map view items)) ∙ slice_get-map view items n
-
--- the item that a slice lends
-pub lent_item : (r : Option (Bor Json)) (items : List Json) (n : ℕ) → IsItemAt items n r → option_map (λ x. view x.now) r ≡ slice_get (item_list (items_view items)) n
-lent_item None items n h = sym (slice_get-items_view items n ∙ ap (option_map view) (slice_get_past items n h.3))
-lent_item (Some x) items n h = ap (λ y. Some (view y)) h.1 ∙ sym (slice_get-items_view items n ∙ ap (option_map view) (slice_get-get_or items n x.now h.3.0))
-
 -- no array is long enough for a place that no machine number holds
-pub none_so_far : (items : List Json) (place : Option ℕ) → ((n : ℕ) → place ≡ Some n → 2 ^ 64 ≤ n) → length items ≤ 2 ^ 64
-    → option_and_then (λ n. slice_get (item_list (items_view items)) n) place ≡ None
-none_so_far items None far short = refl
-none_so_far items (Some n) far short =
+pub none_so_far : (vs : List Value) (place : Option ℕ) → ((n : ℕ) → place ≡ Some n → 2 ^ 64 ≤ n) → length vs ≤ 2 ^ 64 → option_and_then (λ n. slice_get vs n) place ≡ None
+none_so_far vs None far short = refl
+none_so_far vs (Some n) far short =
     let past : 2 ^ 64 ≤ n = far n refl in
-    slice_get-items_view items n ∙ ap (option_map view) (slice_get_past items n (omega arith))
+    slice_get_past vs n (omega arith)
 
 numerals : IsNumeralModel (λ ds. all_ascii_digits ds ≡ true) (digits_value 10)
 numerals = numerals_by_value _ tells_all_ascii_digits

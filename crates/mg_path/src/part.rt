@@ -1,43 +1,56 @@
 ghost use Rattle.std.specs.Prelude.{◌≡◌, ◌≤◌, ◌^◌, ℕ, Some, map, string_bytes, option_map, MatchOption, slice_get};
 ghost use Rattle.std.specs.Option.{option_and_then};
 ghost use Rattle.mg_value.specs.Value.{item_list};
-ghost use Rattle.mg_value.specs.View.{view, items_view};
+ghost use Rattle.mg_value.specs.View.{view};
 ghost use Rattle.mg_path.specs.Part.{part_of, part_at as part_of_step, item_place as place_named};
 
-use mg_value::Json;
+use mg_value::{Json, Kind, LentValue};
 
 /// The part of the value that the steps lead to: the member that a step names, in an array the item
 /// at its place, from 0. None where it is missing. It is lent; no memory is taken.
 ///
 /// Cost: each step once, with a look-up in an object or an array.
+#[inline]
 pub fn part_of<'a>(steps: &[String], value: &'a Json) -> Option<&'a Json>
     ensures { option_map (λ part. view part.now) result
         ≡ part_of (map string_bytes steps.now) (view value.now) }
 {
+    part_at(steps, value)
+}
+
+/// The part of a lent value that the steps lead to, as of `part_of`. No memory is taken. Cost: as of `part_of`.
+pub fn part_at<L: LentValue>(steps: &[String], value: L) -> Option<L>
+    ensures { option_map L.value result ≡ part_of (map string_bytes steps.now) (L.value value) }
+{
     let mut part = value;
     for step in steps {
-        part = part_at(step.as_str(), part)?;
+        part = step_in(step.as_str(), part)?;
     }
     Some(part)
 }
 
 // The part of the value one step in.
-fn part_at<'a>(step: &str, value: &'a Json) -> Option<&'a Json>
-    ensures { option_map (λ part. view part.now) result ≡ part_of_step step.now (view value.now) }
+fn step_in<L: LentValue>(step: &str, value: L) -> Option<L>
+    ensures { option_map L.value result ≡ part_of_step step.now (L.value value) }
 {
-    match value {
-        Json::Object(members) => members.get(step),
-        Json::List(items) => item_at(step, items),
+    match value.kind() {
+        Kind::Object(members) => L::member(&members, step),
+        Kind::List(items) => item_at::<L>(step, items),
         _ => None,
     }
 }
 
-fn item_at<'a>(step: &str, items: &'a [Json]) -> Option<&'a Json>
-    ensures { option_map (λ part. view part.now) result
-        ≡ option_and_then (λ n. slice_get (item_list (items_view items.now)) n)
-        (place_named step.now) }
+fn item_at<L: LentValue>(step: &str, items: L::List) -> Option<L>
+    ensures { option_map L.value result
+        ≡ option_and_then (λ n. slice_get (item_list (L.items items)) n) (place_named step.now) }
 {
-    items.get(place_of(step)?)
+    let count = L::len(&items);
+    let place = place_of(step)?;
+    if place < count {
+        Some(L::item(&items, place))
+    } else {
+        None
+    }
 }
 
 // The place that the step names; none too where no array is that long.

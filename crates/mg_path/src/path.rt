@@ -4,9 +4,9 @@ ghost use Rattle.mg_value.specs.View.{view as json_view};
 ghost use Rattle.mg_path.specs.Part.{steps_of, part_of};
 
 use crate::error::PathError;
-use crate::part::part_of;
+use crate::part::{part_at, part_of};
 use crate::pieces::{has_empty_piece, pieces};
-use mg_value::{Json, NoMemory, copy_texts};
+use mg_value::{Json, LentValue, NoMemory, copy_texts};
 use std::alloc::Global;
 use std::marker::Model;
 
@@ -79,12 +79,12 @@ impl Path {
         part_of(&self.steps, value)
     }
 
-    /// The part at this path of a part that may be missing itself, as `get` finds it.
-    pub fn get_in<'a>(&self, part: Option<&'a Json>) -> Option<&'a Json>
-        ensures { option_map (λ part. json_view part.now) result
-            ≡ option_and_then (part_of self.now) (option_map (λ part. json_view part.now) part.entry) }
+    /// The part at this path of a lent part that may be missing itself, as `get` finds it.
+    pub fn get_in<L: LentValue>(&self, part: Option<L>) -> Option<L>
+        ensures { option_map L.value result
+            ≡ option_and_then (part_of self.now) (option_map L.value part) }
     {
-        self.get(part?)
+        part_at(&self.steps, part?)
     }
 
     /// An equal path. Errors: `NoMemory` where a growth is refused. Cost: its size.

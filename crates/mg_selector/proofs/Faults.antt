@@ -1,5 +1,5 @@
 -- The first fault of what is read one after another.
-use Rattle.std.proofs.Common.{◌≡◌, ℕ, List, Option, Some, None, is_some, Result, Ok, Err, unwrap_or, false, true, refl, ap}
+use Rattle.std.proofs.Common.{◌≡◌, ℕ, List, Option, Some, None, is_some, Result, Ok, Err, unwrap_or, false, true, refl}
 use Rattle.std.specs.Option.{option_map_or}
 use Rattle.std.specs.Result.{result_err}
 use Rattle.mg_selector.specs.Fault.{◌>>=◌, fmap}

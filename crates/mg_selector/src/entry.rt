@@ -3,72 +3,72 @@ ghost use Rattle.std.specs.Int.NonZero.{non_zero_i64_get};
 ghost use Rattle.mg_value.specs.View.{view, items_view};
 ghost use Rattle.mg_selector.specs.Entry.{are_equal, is_among, every_of_some, some_item, meets_some, has_size, has_remainder, contains_all, equals_only};
 
-use mg_collate::compare;
-use mg_value::Json;
+use mg_collate::compare_of;
+use mg_value::{Json, Kind, LentValue};
 use std::num::NonZeroI64;
 
 /// Whether some item of an array is among the arguments, or any other value is so itself.
-pub(crate) fn meets_some(arguments: &[Json], value: &Json) -> bool
-    ensures { result ≡ meets_some (items_view arguments.now) (view value.now) }
+pub(crate) fn meets_some<L: LentValue>(arguments: &[Json], value: L) -> bool
+    ensures { result ≡ meets_some (items_view arguments.now) (L.value value) }
 {
-    match value {
-        Json::List(items) => some_is_among(arguments, items),
+    match value.kind() {
+        Kind::List(items) => some_is_among::<L>(arguments, items),
         _ => is_among(arguments, value),
     }
 }
 
 /// An array of that length.
-pub(crate) fn has_size(size: u64, value: &Json) -> bool
-    ensures { result ≡ has_size size (view value.now) }
+pub(crate) fn has_size<L: LentValue>(size: u64, value: L) -> bool
+    ensures { result ≡ has_size size (L.value value) }
 {
-    match value {
-        Json::List(items) => items.len() as u64 == size,
+    match value.kind() {
+        Kind::List(items) => L::len(&items) as u64 == size,
         _ => false,
     }
 }
 
 /// A number that leaves the remainder, with its own sign.
-pub(crate) fn has_remainder(divisor: NonZeroI64, remainder: i64, value: &Json) -> bool
-    ensures { result ≡ has_remainder (non_zero_i64_get divisor) remainder (view value.now) }
+pub(crate) fn has_remainder<L: LentValue>(divisor: NonZeroI64, remainder: i64, value: L) -> bool
+    ensures { result ≡ has_remainder (non_zero_i64_get divisor) remainder (L.value value) }
 {
-    match value {
-        Json::Whole(number) => number.wrapping_rem(divisor.get()) == remainder,
+    match value.kind() {
+        Kind::Whole(number) => number.wrapping_rem(divisor.get()) == remainder,
         _ => false,
     }
 }
 
 /// An array that has every argument, of which there are some, or that equals the one argument.
-pub(crate) fn contains_all(arguments: &[Json], value: &Json) -> bool
-    ensures { result ≡ contains_all (items_view arguments.now) (view value.now) }
+pub(crate) fn contains_all<L: LentValue>(arguments: &[Json], value: L) -> bool
+    ensures { result ≡ contains_all (items_view arguments.now) (L.value value) }
 {
-    match value {
-        Json::List(items) => each_is_among(items, arguments) || equals_only(arguments, value),
+    match value.kind() {
+        Kind::List(items) => each_is_among::<L>(items, arguments) || equals_only(arguments, value),
         _ => false,
     }
 }
 
-fn are_equal(a: &Json, b: &Json) -> bool
-    ensures { result ≡ are_equal (view a.now) (view b.now) }
+fn are_equal<L: LentValue>(value: L, other: &Json) -> bool
+    ensures { result ≡ are_equal (L.value value) (view other.now) }
 {
-    compare(a, b).is_eq()
+    compare_of(value, other).is_eq()
 }
 
-fn is_among(items: &[Json], value: &Json) -> bool
-    ensures { result ≡ is_among (items_view items.now) (view value.now) }
+fn is_among<L: LentValue>(items: &[Json], value: L) -> bool
+    ensures { result ≡ is_among (items_view items.now) (L.value value) }
 {
     for item in items {
-        if are_equal(value, item) {
+        if are_equal(value.lend(), item) {
             return true;
         }
     }
     false
 }
 
-fn some_is_among(items: &[Json], values: &[Json]) -> bool
-    ensures { result ≡ some_item (is_among (items_view items.now)) (items_view values.now) }
+fn some_is_among<L: LentValue>(items: &[Json], values: L::List) -> bool
+    ensures { result ≡ some_item (is_among (items_view items.now)) (L.items values) }
 {
-    for value in values {
-        if is_among(items, value) {
+    for place in 0..L::len(&values) {
+        if is_among(items, L::item(&values, place)) {
             return true;
         }
     }
@@ -76,22 +76,34 @@ fn some_is_among(items: &[Json], values: &[Json]) -> bool
 }
 
 // There are values, and each is among the items.
-fn each_is_among(items: &[Json], values: &[Json]) -> bool
-    ensures { result ≡ every_of_some (is_among (items_view items.now)) (items_view values.now) }
+fn each_is_among<L: LentValue>(items: L::List, values: &[Json]) -> bool
+    ensures { result ≡ every_of_some (is_among (L.items items)) (items_view values.now) }
 {
     for value in values {
-        if !is_among(items, value) {
+        if !has_item::<L>(&items, value) {
             return false;
         }
     }
     !values.is_empty()
 }
 
-fn equals_only(arguments: &[Json], value: &Json) -> bool
-    ensures { result ≡ equals_only (items_view arguments.now) (view value.now) }
+fn has_item<L: LentValue>(items: &L::List, value: &Json) -> bool
+    ensures { result ≡ is_among (L.items items.now) (view value.now) }
 {
-    match arguments {
-        [argument] => are_equal(value, argument),
-        _ => false,
+    for place in 0..L::len(items) {
+        if are_equal(L::item(items, place), value) {
+            return true;
+        }
+    }
+    false
+}
+
+fn equals_only<L: LentValue>(arguments: &[Json], value: L) -> bool
+    ensures { result ≡ equals_only (items_view arguments.now) (L.value value) }
+{
+    if arguments.len() == 1 {
+        are_equal(value, &arguments[0])
+    } else {
+        false
     }
 }

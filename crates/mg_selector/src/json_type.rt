@@ -1,7 +1,6 @@
 ghost use Rattle.std.specs.Prelude.{◌≡◌};
-ghost use Rattle.mg_value.specs.View.{view};
 
-use mg_value::Json;
+use mg_value::{Kind, LentValue};
 
 /// A type of JSON value, as `$type` names it.
 #[derive(Clone, Copy, PartialEq, Eq, Debug, Drop)]
@@ -34,16 +33,16 @@ impl JsonType {
     }
 
     /// Whether the value is of this type.
-    pub fn is_of(self, value: &Json) -> bool
-        ensures { result ≡ has_type self (view value.now) }
+    pub fn is_of<L: LentValue>(self, value: L) -> bool
+        ensures { result ≡ has_type self (L.value value) }
     {
-        match (self, value) {
-            (JsonType::Null, Json::Null) => true,
-            (JsonType::Boolean, Json::Flag(_)) => true,
-            (JsonType::Number, Json::Whole(_)) => true,
-            (JsonType::String, Json::Text(_)) => true,
-            (JsonType::Array, Json::List(_)) => true,
-            (JsonType::Object, Json::Object(_)) => true,
+        match (self, value.kind()) {
+            (JsonType::Null, Kind::Null) => true,
+            (JsonType::Boolean, Kind::Flag(_)) => true,
+            (JsonType::Number, Kind::Whole(_)) => true,
+            (JsonType::String, Kind::Text(_)) => true,
+            (JsonType::Array, Kind::List(_)) => true,
+            (JsonType::Object, Kind::Object(_)) => true,
             _ => false,
         }
     }

@@ -1,5 +1,4 @@
 ghost use Rattle.std.specs.Prelude.{◌≡◌, ◌||◌, Some, None, option_map};
-ghost use Rattle.mg_value.specs.View.{view, items_view};
 ghost use Rattle.mg_selector.specs.Entry.{some_item, every_of_some};
 ghost use Rattle.mg_selector.specs.Meaning.{holds_in, every_arm, some_arm, is_no_arms, operator_holds};
 ghost use Rattle.mg_selector.specs.View.{selector_of, operator_of, arms_view};
@@ -8,13 +7,13 @@ use crate::entry;
 use crate::operator::Op;
 use crate::selector::Sel;
 use crate::sense::Sense;
-use mg_collate::compare;
-use mg_value::Json;
+use mg_collate::compare_of;
+use mg_value::{Kind, LentValue, lend_part};
 
 /// Whether the selector holds of the part, which may be missing, in the sense.
 #[cycle(holds)]
-pub(crate) fn holds_in(sel: &Sel, sense: Sense, part: Option<&Json>) -> bool
-    ensures { result ≡ holds_in (selector_of sel.now) sense (option_map (λ j. view j.now) part.entry) }
+pub(crate) fn holds_in<L: LentValue>(sel: &Sel, sense: Sense, part: Option<L>) -> bool
+    ensures { result ≡ holds_in (selector_of sel.now) sense (option_map L.value part) }
 {
     match sel {
         Sel::Members(arms) | Sel::And(arms) => match sense {
@@ -36,11 +35,11 @@ pub(crate) fn holds_in(sel: &Sel, sense: Sense, part: Option<&Json>) -> bool
 }
 
 #[cycle(holds)]
-fn every_arm(arms: &[Sel], sense: Sense, part: Option<&Json>) -> bool
-    ensures { result ≡ every_arm (arms_view arms.now) sense (option_map (λ j. view j.now) part.entry) }
+fn every_arm<L: LentValue>(arms: &[Sel], sense: Sense, part: Option<L>) -> bool
+    ensures { result ≡ every_arm (arms_view arms.now) sense (option_map L.value part) }
 {
     for arm in arms {
-        if !holds_in(arm, sense, part) {
+        if !holds_in(arm, sense, lend_part(&part)) {
             return false;
         }
     }
@@ -49,12 +48,12 @@ fn every_arm(arms: &[Sel], sense: Sense, part: Option<&Json>) -> bool
 
 // Or there is none.
 #[cycle(holds)]
-fn some_arm(arms: &[Sel], sense: Sense, part: Option<&Json>) -> bool
+fn some_arm<L: LentValue>(arms: &[Sel], sense: Sense, part: Option<L>) -> bool
     ensures { result ≡ (is_no_arms (arms_view arms.now)
-        || some_arm (arms_view arms.now) sense (option_map (λ j. view j.now) part.entry)) }
+        || some_arm (arms_view arms.now) sense (option_map L.value part)) }
 {
     for arm in arms {
-        if holds_in(arm, sense, part) {
+        if holds_in(arm, sense, lend_part(&part)) {
             return true;
         }
     }
@@ -63,9 +62,9 @@ fn some_arm(arms: &[Sel], sense: Sense, part: Option<&Json>) -> bool
 
 /// Whether the operator holds of the part, which may be missing, in the sense.
 #[cycle(holds)]
-pub(crate) fn operator_holds(op: &Op, sense: Sense, part: Option<&Json>) -> bool
+pub(crate) fn operator_holds<L: LentValue>(op: &Op, sense: Sense, part: Option<L>) -> bool
     ensures { result ≡ operator_holds (operator_of op.now) sense
-        (option_map (λ j. view j.now) part.entry) }
+        (option_map L.value part) }
 {
     match part {
         Some(value) => sense.of(holds_on(op, value)),
@@ -84,16 +83,16 @@ fn holds_on_missing(op: &Op, sense: Sense) -> bool
 
 // In the plain sense.
 #[cycle(holds)]
-fn holds_on(op: &Op, value: &Json) -> bool
-    ensures { result ≡ operator_holds (operator_of op.now) Sense.Plain (Some (view value.now)) }
+fn holds_on<L: LentValue>(op: &Op, value: L) -> bool
+    ensures { result ≡ operator_holds (operator_of op.now) Sense.Plain (Some (L.value value)) }
 {
     match op {
-        Op::Lt(bound) => compare(value, bound).is_lt(),
-        Op::Lte(bound) => compare(value, bound).is_le(),
-        Op::Eq(bound) => compare(value, bound).is_eq(),
-        Op::Ne(bound) => compare(value, bound).is_ne(),
-        Op::Gte(bound) => compare(value, bound).is_ge(),
-        Op::Gt(bound) => compare(value, bound).is_gt(),
+        Op::Lt(bound) => compare_of(value, bound).is_lt(),
+        Op::Lte(bound) => compare_of(value, bound).is_le(),
+        Op::Eq(bound) => compare_of(value, bound).is_eq(),
+        Op::Ne(bound) => compare_of(value, bound).is_ne(),
+        Op::Gte(bound) => compare_of(value, bound).is_ge(),
+        Op::Gt(bound) => compare_of(value, bound).is_gt(),
         Op::Exists(there) => *there,
         Op::Type(json_type) => json_type.is_of(value),
         Op::In(arguments) => entry::meets_some(arguments, value),
@@ -101,24 +100,23 @@ fn holds_on(op: &Op, value: &Json) -> bool
         Op::Size(size) => entry::has_size(*size, value),
         Op::Mod(divisor, remainder) => entry::has_remainder(*divisor, *remainder, value),
         Op::All(arguments) => entry::contains_all(arguments, value),
-        Op::ElemMatch(inner) => match value {
-            Json::List(items) => some_element(inner, items),
+        Op::ElemMatch(inner) => match value.kind() {
+            Kind::List(items) => some_element::<L>(inner, items),
             _ => false,
         },
-        Op::AllMatch(inner) => match value {
-            Json::List(items) => each_element(inner, items),
+        Op::AllMatch(inner) => match value.kind() {
+            Kind::List(items) => each_element::<L>(inner, items),
             _ => false,
         },
     }
 }
 
 #[cycle(holds)]
-fn some_element(inner: &Sel, items: &[Json]) -> bool
-    ensures { result ≡ some_item (λ v. holds_in (selector_of inner.now) Sense.Plain (Some v))
-        (items_view items.now) }
+fn some_element<L: LentValue>(inner: &Sel, items: L::List) -> bool
+    ensures { result ≡ some_item (λ v. holds_in (selector_of inner.now) Sense.Plain (Some v)) (L.items items) }
 {
-    for item in items {
-        if holds_in(inner, Sense::Plain, Some(item)) {
+    for place in 0..L::len(&items) {
+        if holds_in(inner, Sense::Plain, Some(L::item(&items, place))) {
             return true;
         }
     }
@@ -127,14 +125,15 @@ fn some_element(inner: &Sel, items: &[Json]) -> bool
 
 // There are items, and the selector holds of each.
 #[cycle(holds)]
-fn each_element(inner: &Sel, items: &[Json]) -> bool
+fn each_element<L: LentValue>(inner: &Sel, items: L::List) -> bool
     ensures { result ≡ every_of_some (λ v. holds_in (selector_of inner.now) Sense.Plain (Some v))
-        (items_view items.now) }
+        (L.items items) }
 {
-    for item in items {
-        if !holds_in(inner, Sense::Plain, Some(item)) {
+    let count = L::len(&items);
+    for place in 0..count {
+        if !holds_in(inner, Sense::Plain, Some(L::item(&items, place))) {
             return false;
         }
     }
-    !items.is_empty()
+    count > 0
 }

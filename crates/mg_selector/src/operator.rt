@@ -5,7 +5,7 @@ use crate::json_type::JsonType;
 use crate::selector::Sel;
 use crate::sense::Sense;
 use crate::{copy, meaning};
-use mg_value::{Json, NoMemory};
+use mg_value::{Json, LentValue, NoMemory};
 use std::alloc::Global;
 use std::num::NonZeroI64;
 
@@ -51,9 +51,18 @@ impl Op {
 
     /// Whether the operator holds of the part in the sense. On a missing part none does, in either
     /// sense, but `$exists`. No memory is taken.
+    #[inline]
     pub fn holds_in(&self, sense: Sense, part: Option<&Json>) -> bool
         ensures { result ≡ operator_holds (operator_of self.now) sense
             (option_map (λ j. view j.now) part.entry) }
+    {
+        self.holds_of(sense, part)
+    }
+
+    /// Whether the operator holds of the lent part in the sense, as of `holds_in`. No memory is taken.
+    #[inline]
+    pub fn holds_of<L: LentValue>(&self, sense: Sense, part: Option<L>) -> bool
+        ensures { result ≡ operator_holds (operator_of self.now) sense (option_map L.value part) }
     {
         meaning::operator_holds(self, sense, part)
     }

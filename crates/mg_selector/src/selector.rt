@@ -9,7 +9,7 @@ use crate::operator::Op;
 use crate::sense::Sense;
 use crate::{copy, meaning, reader};
 use mg_path::Path;
-use mg_value::{Json, NoMemory};
+use mg_value::{Json, LentValue, NoMemory};
 use std::alloc::Global;
 
 /// A selector: what `_find` asks of a document, or of a part of one.
@@ -61,8 +61,17 @@ impl Sel {
     ///
     /// Cost: each operator once, with the way to its part, and once more for each element that
     /// `$elemMatch` and `$allMatch` look at. Source: the operators of CouchDB's `_find`.
+    #[inline]
     pub fn holds(&self, value: &Json) -> bool
         ensures { result ≡ holds_in (selector_of self.now) Sense.Plain (Some (view value.now)) }
+    {
+        self.holds_of(value)
+    }
+
+    /// Whether the selector holds of the lent document, as of `holds`. No memory is taken. Cost: as of `holds`.
+    #[inline]
+    pub fn holds_of<L: LentValue>(&self, value: L) -> bool
+        ensures { result ≡ holds_in (selector_of self.now) Sense.Plain (Some (L.value value)) }
     {
         meaning::holds_in(self, Sense::Plain, Some(value))
     }

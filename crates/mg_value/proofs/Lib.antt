@@ -1,5 +1,6 @@
 pub mod Views
 pub mod Lookup
+pub mod Items
 mod Whole
 mod Texts
 mod Written

@@ -4,3 +4,4 @@ pub mod Text
 pub mod Code
 pub mod Held
 pub mod Borrowed
+pub mod Kind

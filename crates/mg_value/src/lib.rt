@@ -4,12 +4,16 @@
 mod borrowed;
 mod copy;
 mod error;
+mod kind;
+mod lent;
 mod reader;
 mod value;
 mod writer;
 
 pub use copy::{copy_items, copy_texts};
 pub use error::{NoMemory, ReadError};
+pub use kind::Kind;
+pub use lent::{LentValue, lend_part};
 pub use reader::read;
 pub use value::Json;
 pub use writer::write;

@@ -5,7 +5,7 @@ use Rattle.mg_value.proofs.Views.{Entry}
 use Rattle.mg_packed.specs.Packed.{packed, named, word, item_rows, member_rows}
 use Rattle.mg_packed.proofs.Built.{table_pushed, row_pushed, length-item_rows_view, length-member_rows_view}
 use Rattle.mg_packed.proofs.Filling.{IsFilling, filling_begins, filling_next, filling_ends}
-use Rattle.mg_packed.proofs.Steps.{ended}
+use Rattle.mg_packed.proofs.Walks.{ended}
 use Rattle.mg_packed.proofs.build.+push_value.Goals as goal
 
 pub push_list-returns : goal.push_list-returns

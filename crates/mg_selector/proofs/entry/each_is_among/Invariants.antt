@@ -5,6 +5,6 @@ use Rattle.mg_selector.proofs.entry.each_is_among.Given as goal
 
 -- what is left decides
 abbrev pub invariant-loop-value : goal.invariant-loop-value
-invariant-loop-value l =
-    let p = is_among (items_view l.items) in
+invariant-loop-value g l =
+    let p = is_among (g.L.LentValue.items l.fn.items) in
     every_item p (items_view l.values) ≡ every_item p (items_view (drop l.value-index l.values))

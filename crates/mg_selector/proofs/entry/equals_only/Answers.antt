@@ -1,6 +1,9 @@
-use Rattle.mg_value.specs.View.{view}
-use Rattle.mg_selector.proofs.Elements.{equals_only-many}
+use Rattle.std.proofs.Common.{◌∙◌}
+use Rattle.mg_selector.proofs.Elements.{equals_only-one, equals_only-other}
 use Rattle.mg_selector.proofs.entry.equals_only.Goals as goal
 
-pub returns-in_default-2 : goal.returns-in_default-2
-returns-in_default-2 c = equals_only-many c.args.arguments.now (view c.args.value.now) c.in_default.len_at_least
+pub returns-else-arguments-eq1 : goal.returns-else-arguments-eq1
+returns-else-arguments-eq1 g c = equals_only-other c.args.arguments.now (g.L.LentValue.value c.args.value) c.if-arguments-eq1.false
+
+pub returns-then-arguments-eq1 : goal.returns-then-arguments-eq1
+returns-then-arguments-eq1 g c = c.are_equal.ensures ∙ equals_only-one c.args.arguments.now c.index-arguments-0.result (g.L.LentValue.value c.args.value) c.if-arguments-eq1.true c.index-arguments-0.is

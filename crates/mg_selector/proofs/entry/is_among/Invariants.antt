@@ -1,8 +1,10 @@
 use Rattle.std.proofs.Common.{◌≡◌, drop}
-use Rattle.mg_value.specs.View.{view, items_view}
+use Rattle.mg_value.specs.View.{items_view}
 use Rattle.mg_selector.specs.Entry.{is_among}
 use Rattle.mg_selector.proofs.entry.is_among.Given as goal
 
 -- what is left decides
 abbrev pub invariant-loop-item : goal.invariant-loop-item
-invariant-loop-item l = is_among (items_view l.items) (view l.value) ≡ is_among (items_view (drop l.item-index l.items)) (view l.value)
+invariant-loop-item g l =
+    let v = g.L.LentValue.value l.fn.value in
+    is_among (items_view l.items) v ≡ is_among (items_view (drop l.item-index l.items)) v

@@ -1,10 +1,12 @@
-use Rattle.std.proofs.Common.{◌≡◌, drop}
+use Rattle.std.proofs.Common.{◌≡◌}
 use Rattle.mg_value.specs.View.{items_view}
+use Rattle.mg_value.proofs.Items.{items_past}
 use Rattle.mg_selector.specs.Entry.{some_item, is_among}
 use Rattle.mg_selector.proofs.entry.some_is_among.Given as goal
 
 -- what is left decides
-abbrev pub invariant-loop-value : goal.invariant-loop-value
-invariant-loop-value l =
+abbrev pub invariant-loop-place : goal.invariant-loop-place
+invariant-loop-place g l =
     let p = is_among (items_view l.items) in
-    some_item p (items_view l.values) ≡ some_item p (items_view (drop l.value-index l.values))
+    let vs = g.L.LentValue.items l.fn.values in
+    some_item p vs ≡ some_item p (items_past l.place vs)

@@ -1,4 +1,4 @@
-use Rattle.std.proofs.Common.{◌≡◌, Err, sym, subst}
+use Rattle.std.proofs.Common.{Err, sym, subst}
 use Rattle.mg_value.specs.View.{view}
 use Rattle.mg_selector.specs.Reading.{Gives, reading}
 use Rattle.mg_selector.specs.View.{selector_of}

@@ -1,0 +1,74 @@
+// Parts are lent values: what is evaluated over these is evaluated over parts.
+use crate::array::Array;
+use crate::kind::Kind;
+use crate::object::Object;
+use crate::part::Part;
+use mg_value::LentValue;
+
+impl<'a> LentValue for Part<'a> {
+    ghost use Rattle.mg_packed.specs.Weight.{members_past};
+
+    type Text = &'a str;
+
+    type List = Array<'a>;
+
+    type Object = Object<'a>;
+
+    // The object, and how many of its members the walk has come to.
+    type Rest = (Object<'a>, usize);
+
+    ghost value = { λ v. v };
+
+    ghost bytes = { λ s. s.now };
+
+    ghost items = { λ vs. vs };
+
+    ghost members = { λ ms. ms };
+
+    ghost rest = { λ walk. members_past walk.1 walk.0 };
+
+    #[inline(always)]
+    fn lend(&self) -> Part<'a> {
+        self.lend()
+    }
+
+    #[inline(always)]
+    fn kind(&self) -> Kind<'a> {
+        self.kind()
+    }
+
+    #[inline(always)]
+    fn as_str<'t>(text: &'t &'a str) -> &'t str {
+        *text
+    }
+
+    #[inline(always)]
+    fn len(list: &Array<'a>) -> usize {
+        list.len()
+    }
+
+    #[inline(always)]
+    fn item(list: &Array<'a>, place: usize) -> Part<'a> {
+        list.item(place)
+    }
+
+    #[inline(always)]
+    fn member(object: &Object<'a>, name: &str) -> Option<Part<'a>> {
+        object.get(name)
+    }
+
+    #[inline(always)]
+    fn walk(object: &Object<'a>) -> (Object<'a>, usize) {
+        (object.lend(), 0)
+    }
+
+    #[inline(always)]
+    fn next(walk: &mut (Object<'a>, usize)) -> Option<(&'a str, Part<'a>)> {
+        let place = walk.1;
+        if place >= walk.0.len() {
+            return None;
+        }
+        walk.1 = place + 1;
+        Some((walk.0.name(place), walk.0.value(place)))
+    }
+}

@@ -1,0 +1,159 @@
+ghost use Rattle.std.specs.Prelude.{◌≡◌, ◌<◌, Some, length, option_map, slice_get};
+
+use crate::kind::Kind;
+use crate::value::Json;
+use std::collections::{BTreeMap, btree_map};
+
+/// A value that is lent: one that is read in place, from a tree of `Json` or from a block of memory.
+/// What is evaluated over it is written once, for all ways to keep a value.
+pub trait LentValue: Sized + Drop {
+    ghost use Rattle.std.specs.Prelude.{◌≡◌, ◌<◌, ℕ, List, Some, MatchOption, length, option_map, slice_get};
+    ghost use Rattle.mg_value.specs.Value.{Value, Items, Members, no_members, member, item_list, get_member};
+    ghost use Rattle.mg_value.specs.Kind.{kind_value};
+
+    /// A text.
+    type Text: Drop;
+    /// The items of an array.
+    type List: Drop;
+    /// The members of an object.
+    type Object: Drop;
+    /// The members that a walk has not come to.
+    type Rest: Drop;
+
+    ghost value: { Self → Value };
+
+    ghost bytes: { Self.Text → List ℕ };
+
+    ghost items: { Self.List → Items };
+
+    ghost members: { Self.Object → Members };
+
+    ghost rest: { Self.Rest → Members };
+
+    /// The same value, lent once more.
+    fn lend(&self) -> Self
+        ensures { value result ≡ value self.now };
+
+    /// The value, opened one level.
+    fn kind(&self) -> Kind<Self::Text, Self::List, Self::Object>
+        ensures { kind_value bytes items members result ≡ value self.now };
+
+    /// The text, as it is lent.
+    fn as_str(text: &Self::Text) -> &str
+        ensures { result.now ≡ bytes text.now };
+
+    /// How many items there are.
+    fn len(list: &Self::List) -> usize
+        ensures { result ≡ length (item_list (items list.now)) };
+
+    /// The item at a place, from 0. The place must be below `len`.
+    fn item(list: &Self::List, place: usize) -> Self
+        requires { place < length (item_list (items list.now)) }
+        ensures { slice_get (item_list (items list.now)) place ≡ Some (value result) };
+
+    /// The member with this name, if there is one.
+    fn member(object: &Self::Object, name: &str) -> Option<Self>
+        ensures { option_map value result ≡ get_member name.now (members object.now) };
+
+    /// A walk over the members, in the order of their names.
+    fn walk(object: &Self::Object) -> Self::Rest
+        ensures { rest result ≡ members object.now };
+
+    /// The next member of a walk, its name and its value.
+    fn next(walk: &mut Self::Rest) -> Option<(Self::Text, Self)>
+        ensures { MatchOption result (rest walk.old ≡ no_members)
+            (λ m. rest walk.old ≡ member (bytes m.0) (value m.1) (rest walk.new)) };
+}
+
+/// The same value, lent once more, where there is one. Cost: none.
+#[inline(always)]
+pub fn lend_part<L: LentValue>(part: &Option<L>) -> Option<L>
+    ensures { option_map L.value result ≡ option_map L.value part.now }
+{
+    match part {
+        Some(value) => Some(value.lend()),
+        None => None,
+    }
+}
+
+impl<'a> LentValue for &'a Json {
+    ghost use Rattle.mg_value.specs.View.{view, items_view, members_view};
+
+    type Text = &'a str;
+
+    type List = &'a [Json];
+
+    type Object = &'a BTreeMap<String, Json>;
+
+    type Rest = btree_map::Iter<'a, String, Json>;
+
+    ghost value = { λ v. view v.now };
+
+    ghost bytes = { λ s. s.now };
+
+    ghost items = { λ vs. items_view vs.now };
+
+    ghost members = { λ ms. members_view ms.now.entries };
+
+    ghost rest = { λ ms. members_view ms };
+
+    #[inline(always)]
+    fn lend(&self) -> &'a Json {
+        *self
+    }
+
+    #[inline(always)]
+    fn kind(&self) -> Kind<&'a str, &'a [Json], &'a BTreeMap<String, Json>> {
+        match *self {
+            Json::Null => Kind::Null,
+            Json::Flag(flag) => Kind::Flag(*flag),
+            Json::Whole(number) => Kind::Whole(*number),
+            Json::Text(text) => Kind::Text(text.as_str()),
+            Json::List(items) => Kind::List(items.as_slice()),
+            Json::Object(members) => Kind::Object(members),
+        }
+    }
+
+    #[inline(always)]
+    fn as_str<'t>(text: &'t &'a str) -> &'t str {
+        *text
+    }
+
+    #[inline(always)]
+    fn len(list: &&'a [Json]) -> usize {
+        list.len()
+    }
+
+    #[inline(always)]
+    fn item(list: &&'a [Json], place: usize) -> &'a Json {
+        item_in(*list, place)
+    }
+
+    #[inline(always)]
+    fn member(object: &&'a BTreeMap<String, Json>, name: &str) -> Option<&'a Json> {
+        let members = *object;
+        members.get(name)
+    }
+
+    #[inline(always)]
+    fn walk(object: &&'a BTreeMap<String, Json>) -> btree_map::Iter<'a, String, Json> {
+        let members = *object;
+        members.iter()
+    }
+
+    #[inline(always)]
+    fn next(walk: &mut btree_map::Iter<'a, String, Json>) -> Option<(&'a str, &'a Json)> {
+        match walk.next() {
+            Some((name, value)) => Some((name.as_str(), value)),
+            None => None,
+        }
+    }
+}
+
+#[inline(always)]
+fn item_in<'a>(items: &'a [Json], place: usize) -> &'a Json
+    requires { place < length items.now }
+    ensures { slice_get items.now place ≡ Some result.now }
+{
+    &items[place]
+}
