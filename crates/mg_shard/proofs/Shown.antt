@@ -8,7 +8,6 @@ use Rattle.std.specs.Option.{option_or}
 use Rattle.std.specs.Ordering.{eq_by_cmp, ordering_reverse}
 use Rattle.std.specs.FinMap.Entries.{below_all, where_key, find-where_key}
 use Rattle.std.specs.FinMap.{IsAntisymmetric, entries, entries-from_sorted, find, from_sorted, get, get-from_entries, get-from_sorted, get-insert, insert, is_sorted, nat_cmp-IsAntisymmetric, same_map, slice_cmp-IsAntisymmetric}
-use denote.Ref.{Bor}
 use Rattle.mg_pages.specs.Identified.{id_against, id_order}
 use Rattle.mg_pages.specs.Order.{Ascends, above, below, first_of_list, found, inserted}
 use Rattle.mg_shard.specs.Documents.{Kept, doc_entry, docs_of, kept_entry, id_of, kept_of, served_docs, shown}
@@ -34,11 +33,6 @@ find-found q (d ∷ ds) = found_step (is_eq (bytes_cmp q (id_of d))) d (filter (
 -- what is found among the documents is what the map has
 pub get-shown : (q : List ℕ) (ds : List Document) → option_map kept_of (found (id_against id_of q) ds) ≡ get (shown ds) q
 get-shown q ds = find-found q ds ∙ sym (get-from_entries nat_list_cmp_total (map kept_entry ds) q)
-
--- so is what is lent of it
-pub kept_through : (r : Option (Bor Document)) → option_map (λ d. kept_of d.now) r ≡ option_map kept_of (option_map (λ d. d.now) r)
-kept_through None = refl
-kept_through (Some d) = refl
 
 -- ---- insertions
 

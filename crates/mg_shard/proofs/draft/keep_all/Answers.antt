@@ -19,7 +19,7 @@ loop-id-preserved c =
     let tree = c.in-Some.tree in
     let d = c.in_ok-document.document in
     let inserted_in : shown c.insert.new.self ≡ insert (shown l.documents) (id_of d) (kept_of d) =
-    ap shown c.in_ok-insert.ensures.ok ∙ ap (λ x. shown (inserted (id_order id_of) x l.documents)) c.in_ok-new.ensures.ok ∙ shown-inserted d l.documents in
+    ap shown c.in_ok-insert.ensures.ok ∙ ap (λ x. shown (inserted (id_order id_of) x l.documents)) c.in_ok-new.ensures ∙ shown-inserted d l.documents in
     let made = c.mend_all.new.indexes in
     let number : length made ≡ length l.indexes.items = let a = c.mend_all.auto.indexes in let b = ap length c.deref_mut.ensures.value in omega (arith, a, b) in
     let same : take l.indexes.len (made ++ drop (length made) l.indexes.items) ≡ made = written l.indexes.len made l.indexes.items number l.indexes.ok.0 in

@@ -1,6 +1,5 @@
 use Rattle.std.proofs.Common.{◌≡◌, List, [], ◌∷◌, sym, ap, ◌∙◌, subst}
 use Rattle.std.proofs.lemmas.List.{map-append}
-use Rattle.std.specs.Arc.{arc_value}
 use Rattle.std.specs.FinMap.{get}
 use Rattle.std.specs.Option.{option_or}
 use Rattle.mg_pages.specs.Identified.{id_order}
@@ -13,17 +12,18 @@ use Rattle.mg_shard.proofs.placed.add_documents.Goals as goal
 
 pub loop-document-init : goal.loop-document-init
 loop-document-init c = record {
-  ascends = subst (λ (ds : List Document). Ascends (id_order id_of) ds) (sym c.iter-documents.ensures) c.ascends.ensures;
-  goes_on = λ id. ap (λ (ds : List Document). option_or (get (shown ds) id) (last_kept (documents_seen c.args.all.now.items) id)) c.iter-documents.ensures
+  ascends = subst (λ (ds : List Document). Ascends (id_order id_of) ds) (sym (c.into_iter-document-iterator.ensures.into_iter_gives ∙ c.iter-document-items.ensures)) c.ascends.ensures;
+  goes_on = λ id. ap (λ (ds : List Document). option_or (get (shown ds) id) (last_kept (documents_seen c.args.all.now.items) id))
+          (c.into_iter-document-iterator.ensures.into_iter_gives ∙ c.iter-document-items.ensures)
       ∙ ap (λ v. option_or (get v.documents id) (last_kept (documents_seen c.args.all.now.items) id)) c.shard.view_is;
 }
 
 pub loop-document-preserved : goal.loop-document-preserved
 loop-document-preserved c =
     let l = c.loop-document in
-    let d : Document = arc_value c.in-Some.document.now in
-    let rest : List Document = c.next_shared.new.self in
-    let first : l.documents ≡ d ∷ rest = c.in-Some.ensures in
+    let d : Document = c.in-Some.document.now in
+    let rest : List Document = c.next.new.self in
+    let first : l.document-iterator ≡ d ∷ rest = c.in-Some.ensures.steps in
     let ascends : Ascends (id_order id_of) (d ∷ rest) = subst (λ (ds : List Document). Ascends (id_order id_of) ds) first l.invariant.ascends in
     record {
       ascends = ascends.1;
@@ -37,4 +37,4 @@ loop-document-preserved c =
 pub returns : goal.returns
 returns c = λ id.
     let l = c.loop-document in
-    sym (none_left l.documents (last_kept (documents_seen l.all.items) id) id c.in_default.ensures.0) ∙ l.invariant.goes_on id
+    sym (none_left l.document-iterator (last_kept (documents_seen l.all.items) id) id c.in-None.ensures.steps.0) ∙ l.invariant.goes_on id

@@ -1,13 +1,18 @@
-use Rattle.std.proofs.Common.{◌∙◌, ap, option_map}
+use Rattle.std.proofs.Common.{◌∙◌, Some, ap, option_map}
 use Rattle.std.specs.FinMap.{get}
-use Rattle.mg_shard.specs.Documents.{kept_of}
+use Rattle.mg_shard.specs.Documents.{id_of, kept_of}
 use Rattle.mg_shard.proofs.Owned.{found_through}
-use Rattle.mg_shard.proofs.Shown.{get-shown, kept_through}
+use Rattle.mg_shard.proofs.Shown.{get-shown}
 use Rattle.mg_shard.proofs.shard.Shard.document.Goals as goal
 
-pub returns-clause-kept : goal.returns-clause-kept
-returns-clause-kept c =
-    kept_through c.get.result ∙ ap (option_map kept_of) c.get.ensures ∙ get-shown c.args.id.now c.self.inside.documents ∙ ap (λ v. get v.documents c.args.id.now) c.self.view_is
+pub returns-in-Some-clause-kept : goal.returns-in-Some-clause-kept
+returns-in-Some-clause-kept c =
+    ap (λ d. Some (kept_of d)) c.get-in-Some.ensures ∙ ap (option_map kept_of) c.in-Some.ensures ∙ get-shown c.args.id.now c.self.inside.documents
+    ∙ ap (λ v. get v.documents c.args.id.now) c.self.view_is
 
-pub returns-clause-id : goal.returns-clause-id
-returns-clause-id c = found_through c.args.id.now c.self.inside.documents c.get.result c.get.ensures
+pub returns-in-Some-clause-id : goal.returns-in-Some-clause-id
+returns-in-Some-clause-id c = ap id_of c.get-in-Some.ensures ∙ found_through c.args.id.now c.self.inside.documents (Some c.in-Some.document) c.in-Some.ensures
+
+pub returns-in-None-clause-kept : goal.returns-in-None-clause-kept
+returns-in-None-clause-kept c =
+    ap (option_map kept_of) c.in-None.ensures ∙ get-shown c.args.id.now c.self.inside.documents ∙ ap (λ v. get v.documents c.args.id.now) c.self.view_is
