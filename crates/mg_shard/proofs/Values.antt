@@ -5,7 +5,6 @@ use denote.Hole.FixSend.{fix_pulls}
 use denote.Model.Goals.{send, sync}
 use denote.Enum.Enum.{Enum}
 use denote.Param.Send.{IsSend, IsSync, enum_send, enum_sync, recorded_send, recorded_sync, sendable}
-use denote.Param.SendFields.{variants_send, variants_sync, as_row_send, as_row_sync}
 use Rattle.std.proofs.Crossing.{crosses}
 use Rattle.std.proofs.MapsCrossing.{BTreeMap-send, BTreeMap-sync, String-send, String-sync, crosses as maps}
 use Rattle.std.specs.contracts.alloc.Global as Global
@@ -26,23 +25,12 @@ hole_sync = ring_sync
 hole_send : IsSend Json.the_hole
 hole_send = ring_send
 
-pub json_sync : IsSync Json.the_row
-json_sync =
-    variants_sync Json.enum
-    (tt, ((search (sendable, as_row_sync) depth 20, tt), ((search (sendable, as_row_sync) depth 20, tt), ((search (sendable, crosses, maps) depth 20, tt), ((search (sendable, crosses, maps, as_row_sync, hole_sync) depth 20, tt), ((search (sendable, crosses, maps, as_row_sync, hole_sync) depth 20, tt), tt))))))
-
-pub json_send : IsSend Json.the_row
-json_send =
-    variants_send Json.enum
-    (tt, ((search (sendable, as_row_send) depth 20, tt), ((search (sendable, as_row_send) depth 20, tt), ((search (sendable, crosses, maps, as_row_send) depth 20, tt), ((search (sendable, crosses, maps, as_row_send, hole_send) depth 20, tt), ((search (sendable, crosses, maps, as_row_send, hole_send) depth 20, tt), tt))))))
-
--- so may a value that is a field
+-- a value that is a field may cross
 pub json_field_sync : IsSync (Json.the_field).row
 json_field_sync =
     enum_sync (E.shape Json.the_type)
     (tt, ((search sendable depth 20, tt), ((search sendable depth 20, tt), ((search (sendable, crosses, maps) depth 20, tt), ((search (sendable, crosses, maps, hole_sync) depth 20, tt), ((BTreeMap-sync _ _ _ (eq.ghosts Global.the_row allocator.ghosts eq.no_dict eq.no_dict) (partial.ghosts Global.the_row allocator.ghosts partial.no_dict partial.no_dict) String-sync hole_sync, tt), tt))))))
 
--- so may a value that is a field
 pub json_field_send : IsSend (Json.the_field).row
 json_field_send =
     enum_send (E.shape Json.the_type)

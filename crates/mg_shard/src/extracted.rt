@@ -41,12 +41,15 @@ pub(crate) fn listed<'a>(
 }
 
 // The row of a document, if it is served and has every column, or a refusal of memory.
+type Given = Option<Result<RowBytes, NoMemory>>;
+
+// What is extracted of a document.
 fn row_or_refusal(
     alloc: Global,
     scratch: &mut KeyBytes,
     columns: &[Path],
     document: &Document,
-) -> Option<Result<RowBytes, NoMemory>>
+) -> Given
     ensures { IsRowOf columns.now document.now result }
 {
     let form = document.form()?;
@@ -57,8 +60,8 @@ fn row_or_refusal(
     }
 }
 
-/// The rows of these documents that are served and have every column, in the order of the documents, extracted by a thread for each
-/// piece, which has a scratch of its own.
+/// The rows of these documents, of those that are served and have every column, in the order of the documents, extracted by a thread
+/// for each piece, which has a scratch of its own.
 ///
 /// Errors: `NoMemory` where a growth was refused. Cost: the bytes of each row, shared among as many threads as there are processors.
 pub(crate) fn rows_by_threads<R: Threads + Sync>(
@@ -67,19 +70,20 @@ pub(crate) fn rows_by_threads<R: Threads + Sync>(
     columns: &[Path],
     documents: &[&Shared<Document>],
 ) -> Result<Vec<RowBytes>, NoMemory>
-    ensures { IfOk result (λ rows. rows.items ≡ filter_map (row_of columns.now) (served_docs (documents_seen documents.now))) }
+    ensures { IfOk result (λ rows. rows.items
+        ≡ filter_map (row_of columns.now) (served_docs (documents_seen documents.now))) }
 {
     let rows: Result<Vec<RowBytes>, NoMemory> = documents
         .par_iter()
         .with_min_len(LEAST_PIECE)
         .map_init(
             || KeyBytes::new(alloc),
-            |scratch: &mut KeyBytes, document: &&Shared<Document>| -> Option<Result<RowBytes, NoMemory>>
+            |scratch: &mut KeyBytes, document: &&Shared<Document>| -> Given
                 ensures { IsRowOf columns.entry.now document.now.now result }
             { row_or_refusal(alloc, scratch, columns, document.get()) },
         )
         .filter_map(
-            |given: Option<Result<RowBytes, NoMemory>>| -> Option<Result<RowBytes, NoMemory>>
+            |given: Given| -> Given
                 ensures { result ≡ given }
             { given },
         )

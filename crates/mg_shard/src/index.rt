@@ -67,7 +67,8 @@ fn row_if(
     id: &str,
     form: Option<&Json>,
 ) -> Result<Option<RowBytes>, NoMemory>
-    ensures { IfOk result (λ row. row ≡ own_row columns.now id.now (option_map (λ v. view v.now) form.entry)) }
+    ensures { IfOk result (λ row. row
+        ≡ own_row columns.now id.now (option_map (λ v. view v.now) form.entry)) }
 {
     match form {
         Some(form) => Ok(row_in(alloc, scratch, columns, id, form)?),
@@ -77,7 +78,8 @@ fn row_if(
 
 // Whether two parts are the same, or both are missing.
 fn are_same(part: Option<&Json>, other: Option<&Json>) -> bool
-    ensures { result ≡ true → option_map (λ v. view v.now) part.entry ≡ option_map (λ v. view v.now) other.entry }
+    ensures { result ≡ true
+        → option_map (λ v. view v.now) part.entry ≡ option_map (λ v. view v.now) other.entry }
 {
     match (part, other) {
         (Some(part), Some(other)) => compare(part, other).is_eq(),
@@ -100,7 +102,8 @@ fn have_same_key(columns: &[Path], form: &Json, other: &Json) -> bool
 
 // Whether a document that may be deleted has the same row in both forms, or none, told by the parts that are lent. Takes no memory.
 fn have_same_row(columns: &[Path], form: Option<&Json>, other: Option<&Json>) -> bool
-    ensures { result ≡ true → HaveSameRow columns.now (option_map (λ v. view v.now) form.entry) (option_map (λ v. view v.now) other.entry) }
+    ensures { result ≡ true → HaveSameRow columns.now (option_map (λ v. view v.now) form.entry)
+        (option_map (λ v. view v.now) other.entry) }
 {
     match (form, other) {
         (Some(form), Some(other)) => have_same_key(columns, form, other),
@@ -124,11 +127,7 @@ fn take_row(
 }
 
 // Puts a row in, if there is one to be put.
-fn put_row(
-    alloc: Global,
-    rows: &mut Pages<RowBytes>,
-    row: Option<RowBytes>,
-) -> Result<(), NoMemory>
+fn put_row(alloc: Global, rows: &mut Pages<RowBytes>, row: Option<RowBytes>) -> Result<(), NoMemory>
     ensures { OnOk result (rows.new ≡ with_row row rows.old) }
 {
     if let Some(row) = row {
@@ -158,7 +157,8 @@ fn change_shared(
     gone: Option<RowBytes>,
     come: Option<RowBytes>,
 ) -> Result<(), NoMemory>
-    ensures { OnOk result (arc_value rows.new ≡ with_row come (without_row gone (arc_value rows.old))) }
+    ensures { OnOk result (arc_value rows.new
+        ≡ with_row come (without_row gone (arc_value rows.old))) }
 {
     if gone.is_none() && come.is_none() {
         return Ok(());

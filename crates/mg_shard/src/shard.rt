@@ -252,7 +252,8 @@ impl Shard {
         place: &Q,
         direction: Direction,
     ) -> Option<Rows<'_>>
-        ensures { result ≡ option_map (beyond direction (Q.against place.now)) (rows_at ddoc.now name.now self.now) }
+        ensures { result
+            ≡ option_map (beyond direction (Q.against place.now)) (rows_at ddoc.now name.now self.now) }
     {
         match rows_there(&self.indexes, ddoc, name) {
             Some(rows) => Some(Walk::beyond(rows, place, direction)),
@@ -270,7 +271,8 @@ impl Shard {
         place: &Q,
         direction: Direction,
     ) -> Option<usize>
-        ensures { result ≡ option_map (λ rows. length (beyond direction (Q.against place.now) rows)) (rows_at ddoc.now name.now self.now) }
+        ensures { result ≡ option_map (λ rows. length (beyond direction (Q.against place.now) rows))
+            (rows_at ddoc.now name.now self.now) }
     {
         match rows_there(&self.indexes, ddoc, name) {
             Some(rows) => Some(count_beyond(rows, place, direction)),
@@ -287,13 +289,18 @@ impl Shard {
         row: &RowBytes,
         direction: Direction,
     ) -> Option<Rows<'_>>
-        ensures { result ≡ option_map (beyond direction (row_value_order row.now)) (rows_at ddoc.now name.now self.now) }
+        ensures { result
+            ≡ option_map (beyond direction (row_value_order row.now)) (rows_at ddoc.now name.now self.now) }
     {
         self.rows_beyond(ddoc, name, row, direction)
     }
 
     // The rows that an index with these columns has, in the order of the documents.
-    pub(crate) fn unsorted(&self, alloc: Global, columns: &[Path]) -> Result<Vec<RowBytes>, NoMemory>
+    pub(crate) fn unsorted(
+        &self,
+        alloc: Global,
+        columns: &[Path],
+    ) -> Result<Vec<RowBytes>, NoMemory>
         ensures { IfOk result (λ rows. rows.items ≡ filter_map (row_of columns.now) (docs_of self.now.documents)) }
     {
         let mut rows = Vec::new(alloc);

@@ -128,10 +128,7 @@ impl<'a> Model for Documents<'a> {
 
 impl<'a> Documents<'a> {
     // All documents of a collection.
-    pub(crate) fn over(
-        pages: &'a Pages<Shared<Document>>,
-        direction: Direction,
-    ) -> Documents<'a>
+    pub(crate) fn over(pages: &'a Pages<Shared<Document>>, direction: Direction) -> Documents<'a>
         ensures { result ≡ in_direction direction pages.now }
     {
         let documents = Walk::over(pages, direction);

@@ -14,7 +14,7 @@ pub loop-document-init : goal.loop-document-init
 loop-document-init c = record {
   ascends = subst (λ (ds : List Document). Ascends (id_order id_of) ds) (sym (c.into_iter-document-iterator.ensures.into_iter_gives ∙ c.iter-document-items.ensures)) c.ascends.ensures;
   goes_on = λ id. ap (λ (ds : List Document). option_or (get (shown ds) id) (last_kept (documents_seen c.args.all.now.items) id))
-          (c.into_iter-document-iterator.ensures.into_iter_gives ∙ c.iter-document-items.ensures)
+      (c.into_iter-document-iterator.ensures.into_iter_gives ∙ c.iter-document-items.ensures)
       ∙ ap (λ v. option_or (get v.documents id) (last_kept (documents_seen c.args.all.now.items) id)) c.shard.view_is;
 }
 

@@ -1,4 +1,4 @@
-use Rattle.std.proofs.Common.{◌≡◌, ◌∙◌, List, None, Option, Some, ap, option_map}
+use Rattle.std.proofs.Common.{◌≡◌, ◌∙◌, List, None, Option, Some, ap}
 use Rattle.mg_collate.specs.Row.{RowValue}
 use Rattle.mg_shard.specs.Documents.{shown}
 use Rattle.mg_shard.specs.Shard.{rows_at}
