@@ -120,7 +120,7 @@ led_in shards hits None leads i lead less is all here h = subst (AreHitsIn shard
 led_in shards hits (Some hit) leads i lead less is all here h = all_append (IsHitIn shards) hits (hit ∷ []) h (one_in shards lead hit (lead_at shards leads i lead all less is) here, tt)
 
 -- the lead's document is served
-pub lead_served : (shards : List ShardView) (leads : List Lead) (i : ℕ) (lead : Lead) → i < length leads → lead ≡ get_or leads i lead → AreLeadsIn shards leads → is_some (form_at lead.shard.now.documents lead.id.now) ≡ true
+pub lead_served : (shards : List ShardView) (leads : List Lead) (i : ℕ) (lead : Lead) → i < length leads → lead ≡ get_or leads i lead → AreLeadsIn shards leads → is_some (form_at lead.shard.now.documents (lead_row lead).1) ≡ true
 lead_served shards leads i lead less is all =
     let here = lead_at shards leads i lead all less is in
-    ap (λ (s : ShardView). is_some (form_at s.documents lead.id.now)) here.lead.shard ∙ here.lead.served
+    ap (λ (s : ShardView). is_some (form_at s.documents (lead_row lead).1)) here.lead.shard ∙ here.lead.served

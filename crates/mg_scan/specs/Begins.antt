@@ -23,7 +23,6 @@ use Rattle.mg_range.proofs.Together.{rows_together}
 use Rattle.mg_scan.specs.Search.{after_of, begin_at}
 use Rattle.mg_scan.specs.Walked.{begin_order, id_row, is_beyond, reaches}
 use Rattle.mg_scan.specs.declared.search.Search.{Search}
-use Rattle.mg_shard.specs.Documents.{id_of}
 use Rattle.mg_value.specs.Value.{Items, no_items, item, item_list, text}
 use Rattle.mg_value.specs.View.{items_of}
 
@@ -138,6 +137,6 @@ id_rows a b =
     ap (λ o. ordering_then o (slice_cmp nat_cmp a b)) (items_order-item (text a) (text b) no_items no_items ∙ then_equal (value_order (text a) (text b)) ∙ text_order a b)
     ∙ twice (slice_cmp nat_cmp a b)
 
--- and a place among documents
-pub begin_probes_documents : (s : Search) → IsProbe (id_order id_of) (λ d. begin_at s (id_row (id_of d)))
-begin_probes_documents s = λ x y l n. begin_probes s.direction s.range.now (after_of s) (id_row (id_of x)) (id_row (id_of y)) (id_rows (id_of x) (id_of y) ∙ l) n
+-- and a place among documents, or other things that have ids
+pub begin_probes_ids : {T : Type 0} (id : T → List ℕ) (s : Search) → IsProbe (id_order id) (λ d. begin_at s (id_row (id d)))
+begin_probes_ids id s = λ x y l n. begin_probes s.direction s.range.now (after_of s) (id_row (id x)) (id_row (id y)) (id_rows (id x) (id y) ∙ l) n

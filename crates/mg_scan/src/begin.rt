@@ -1,9 +1,8 @@
-//! Searches as places: where they begin among rows, and among documents.
+//! Searches as places: where they begin among rows, and among documents, which have their ids as keys.
 use crate::search::{Search, begin_at_id, begin_at_row};
 use mg_collate::Direction;
-use mg_pages::{Keyed, Probe, Shared, text_hint};
+use mg_pages::{Identified, Keyed, Probe, Shared, text_hint};
 use mg_rows::{RowBytes, value_hint};
-use mg_shard::Document;
 use mg_value::Json;
 use std::cmp::Ordering;
 
@@ -34,15 +33,14 @@ impl<'a> Probe<RowBytes> for Begin<'a> {
     }
 }
 
-impl<'a> Probe<Shared<Document>> for Begin<'a> {
-    ghost use Rattle.mg_shard.specs.Documents.{id_of};
-    ghost use Rattle.mg_scan.specs.Begins.{begin_probes_documents};
+impl<'a, X: Identified> Probe<Shared<X>> for Begin<'a> {
+    ghost use Rattle.mg_scan.specs.Begins.{begin_probes_ids};
     ghost use Rattle.mg_scan.specs.Search.{begin_at};
     ghost use Rattle.mg_scan.specs.Walked.{id_row};
 
-    ghost against = { λ b d. begin_at b.search (id_row (id_of d)) };
+    ghost against = { λ b x. begin_at b.search (id_row (X.id x)) };
 
-    ghost probes = { λ b. begin_probes_documents b.search };
+    ghost probes = { λ b. begin_probes_ids X.id b.search };
 
     fn hint(&self) -> u64 {
         match self.search.after {
@@ -51,7 +49,7 @@ impl<'a> Probe<Shared<Document>> for Begin<'a> {
         }
     }
 
-    fn against(&self, element: &Shared<Document>) -> Ordering {
+    fn against(&self, element: &Shared<X>) -> Ordering {
         begin_at_id(self.search, element.get().id())
     }
 }

@@ -2,15 +2,15 @@ use denote.Param.Send.{sendable}
 use Rattle.std.proofs.Common.{sym, ◌∙◌}
 use Rattle.std.proofs.Crossing.{crosses}
 use Rattle.std.proofs.MapsCrossing.{crosses as maps}
+use Rattle.mg_rows.proofs.row.RowBytes.TheSendSync as rows
 use Rattle.mg_shard.specs.Shard.{shards_seen}
 use Rattle.mg_scan.proofs.Builds.{rows-called}
-use Rattle.mg_scan.proofs.Crossing.{row_send}
 use Rattle.mg_scan.proofs.Lent.{build_sync}
 use Rattle.mg_scan.proofs.building.extracted_at_once.Goals as goal
 
 -- the rows that threads hand over, and what they look at, may cross
 pub map_indices-requires-send-X : goal.map_indices-requires-send-X
-map_indices-requires-send-X g c κs within = search (sendable, crosses, maps, row_send) depth 40
+map_indices-requires-send-X g c κs within = search (sendable, crosses, maps, rows.the_send) depth 40
 
 pub map_indices-requires-sync-F : goal.map_indices-requires-sync-F
 map_indices-requires-sync-F g c κs within = record { shared = (build_sync _ _ _ _ _ _ c.type_bounds.sync-R c.type_bounds.sync-G).shared }
