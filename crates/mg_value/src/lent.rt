@@ -5,7 +5,10 @@ use crate::value::Json;
 use std::collections::{BTreeMap, btree_map};
 
 /// A value that is lent: one that is read in place, from a tree of `Json` or from a block of memory.
-/// What is evaluated over it is written once, for all ways to keep a value.
+/// What is evaluated over it is written once, for every way to keep values.
+///
+/// No method takes memory. Cost: constant, but for `member`. Items and members are reached through the
+/// types of the opened value, so that its kind is looked at once.
 pub trait LentValue: Sized + Drop {
     ghost use Rattle.std.specs.Prelude.{◌≡◌, ◌<◌, ℕ, List, Some, MatchOption, length, option_map, slice_get};
     ghost use Rattle.mg_value.specs.Value.{Value, Items, Members, no_members, member, item_list, get_member};
@@ -51,7 +54,7 @@ pub trait LentValue: Sized + Drop {
         requires { place < length (item_list (items list.now)) }
         ensures { slice_get (item_list (items list.now)) place ≡ Some (value result) };
 
-    /// The member with this name, if there is one.
+    /// The member with this name, if there is one. Cost: the logarithm of the count of members.
     fn member(object: &Self::Object, name: &str) -> Option<Self>
         ensures { option_map value result ≡ get_member name.now (members object.now) };
 
@@ -59,7 +62,7 @@ pub trait LentValue: Sized + Drop {
     fn walk(object: &Self::Object) -> Self::Rest
         ensures { rest result ≡ members object.now };
 
-    /// The next member of a walk, its name and its value.
+    /// The name and the value of the next member of a walk; none at its end.
     fn next(walk: &mut Self::Rest) -> Option<(Self::Text, Self)>
         ensures { MatchOption result (rest walk.old ≡ no_members)
             (λ m. rest walk.old ≡ member (bytes m.0) (value m.1) (rest walk.new)) };

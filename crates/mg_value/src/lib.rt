@@ -1,4 +1,4 @@
-//! JSON values whose numbers are whole: reading, writing and copying them, and the members of objects.
+//! JSON values whose numbers are whole: reading, writing, copying and lending them, and the members of objects.
 #![tactic(auto)]
 
 mod borrowed;

@@ -1,7 +1,4 @@
 use Rattle.std.proofs.Common.{option_map, ap, ◌∙◌, sym, arith}
-use Rattle.std.specs.Option.{option_and_then}
-use Rattle.std.specs.List.{slice_get}
-use Rattle.std.proofs.lemmas.Option.{slice_get_past}
 use Rattle.mg_value.specs.Value.{item_list}
 use Rattle.mg_path.proofs.Places.{none_so_far}
 use Rattle.mg_path.proofs.part.item_at.Goals as goal
