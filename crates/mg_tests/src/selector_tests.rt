@@ -1,5 +1,7 @@
-// The selector itself, of which the program asks its normal form alone. Selectors are in tests/conversations/selectors.txt.
-use crate::given::json;
+// The selector itself, of which the program asks its normal form alone, and selectors of documents in one block, which the program
+// does not keep yet. Selectors are in tests/conversations/selectors.txt.
+use crate::given::{check, json};
+use mg_packed::Packed;
 use mg_selector::Sel;
 use std::alloc::Global;
 use std::process::Abort;
@@ -25,4 +27,53 @@ fn selections(rt: HostRuntime) {
     let selector = selector_of(&rt, alloc, r#"{"$not":{"a.b":{"$lt":5}}}"#);
     assert!(rt; holds(&rt, alloc, &selector, r#"{"a":{"b":5}}"#));
     assert!(rt; !holds(&rt, alloc, &selector, r#"{"a":{}}"#));
+}
+
+// A selector, a document, and whether it holds, as CouchDB's documentation of selectors says.
+const SELECTIONS: &[(&str, &str, bool)] = &[
+    (r#"{"a.b":{"$lt":5}}"#, r#"{"a":{"b":4}}"#, true),
+    (r#"{"a.b":{"$lt":5}}"#, r#"{"a":{"b":5}}"#, false),
+    (r#"{"$not":{"a.b":{"$lt":5}}}"#, r#"{"a":{"b":5}}"#, true),
+    (r#"{"$not":{"a.b":{"$lt":5}}}"#, r#"{"a":{}}"#, false),
+    (r#"{"a":{"$in":["y","x"]}}"#, r#"{"a":"x"}"#, true),
+    (r#"{"a":{"$in":["y","x"]}}"#, r#"{"a":["z","x"]}"#, true),
+    (r#"{"a":{"$in":["y","x"]}}"#, r#"{"a":["z"]}"#, false),
+    (r#"{"a":{"$all":[1,3]}}"#, r#"{"a":[3,2,1]}"#, true),
+    (r#"{"a":{"$all":[1,3]}}"#, r#"{"a":[3,2]}"#, false),
+    (
+        r#"{"a":{"$elemMatch":{"b":{"$gt":1}}}}"#,
+        r#"{"a":[{"b":1},{"b":2}]}"#,
+        true,
+    ),
+    (
+        r#"{"a":{"$elemMatch":{"b":{"$gt":1}}}}"#,
+        r#"{"a":[{"b":1},{"c":2}]}"#,
+        false,
+    ),
+    (r#"{"a":{"$size":2}}"#, r#"{"a":[{},[]]}"#, true),
+    (r#"{"a":{"$mod":[4,3]}}"#, r#"{"a":7}"#, true),
+    (r#"{"a":{"$type":"object"}}"#, r#"{"a":[]}"#, false),
+    (
+        r#"{"a":{"b":[1,"x"],"c":null}}"#,
+        r#"{"a":{"c":null,"b":[1,"x"]}}"#,
+        true,
+    ),
+    (r#"{"a":{"$exists":false}}"#, r#"{"b":1}"#, true),
+];
+
+// Whether a selector holds of a document that stands in one block.
+fn holds_in_a_block<R: Abort>(rt: &R, alloc: Global, selector: &str, document: &str) -> bool {
+    let selector = selector_of(rt, alloc, selector);
+    let document = json(rt, alloc, document);
+    let packed = Packed::of(alloc, &document).expect(rt, "memory");
+    selector.holds_of(packed.part())
+}
+
+#[test]
+fn selections_of_documents_in_one_block(rt: HostRuntime) {
+    let alloc = rt.alloc();
+    for (selector, document, wanted) in SELECTIONS {
+        let found = holds_in_a_block(&rt, alloc, selector, document);
+        check(&rt, found == *wanted, selector);
+    }
 }
