@@ -1,11 +1,11 @@
 -- What a search finds of what it has to read when it begins.
-use Rattle.std.proofs.Common.{◌≡◌, ℕ, Bool, true, false, cond, List, [], ◌∷◌, Option, Some, None, Ordering, is_gt, is_some, option_map, if◌then◌else◌, refl, ap, sym, ◌∙◌, subst}
+use Rattle.std.proofs.Common.{◌≡◌, Bool, true, false, cond, List, [], ◌∷◌, Option, Some, None, Ordering, is_gt, is_some, option_map, if◌then◌else◌, refl, ap, sym, ◌∙◌, subst}
 use Rattle.std.specs.List.{AllByRecursion, cons_option, filter_map}
 use Rattle.std.specs.Option.{option_map_or}
 use Rattle.mg_collate.specs.Row.{RowValue, row_value_order}
 use Rattle.mg_collate.specs.Sorted.{sorted_with, sorted}
 use Rattle.mg_index.specs.Definition.{IndexDefinition, Steps}
-use Rattle.mg_scan.specs.Begun.{AreBegun, IsBegunIn}
+use Rattle.mg_scan.specs.Begun.{IsBegunIn}
 use Rattle.mg_scan.specs.Hit.{IsHitOf}
 use Rattle.mg_scan.specs.Lead.{AreServed, IsLeadLeft, IsLeadOf, lead_rows, rows_on_way, unasked}
 use Rattle.mg_scan.specs.Scan.{all_scanned}

@@ -18,7 +18,7 @@ use Rattle.mg_merge.specs.Merged.{merged}
 use Rattle.mg_merge.specs.Pulled.{IsGivenBy}
 use Rattle.mg_scan.specs.Begun.{IsBegunIn, IsBehind}
 use Rattle.mg_scan.specs.Decided.{IsDecidedIn}
-use Rattle.mg_scan.specs.Lead.{AreLeadsIn, AreServed, IsLeadIn, IsLeadLeft, IsLeadOf, IsLeadSourceBehind, lead_rows, rows_on_way, unasked}
+use Rattle.mg_scan.specs.Lead.{AreLeadsIn, IsLeadIn, IsLeadLeft, IsLeadOf, IsLeadSourceBehind, lead_rows, unasked}
 use Rattle.mg_scan.specs.Search.{all_found_by, asked_by, found_by}
 use Rattle.mg_scan.specs.Walked.{is_late_row, walked_all}
 use Rattle.mg_scan.specs.declared.lead.Lead.{Lead}

@@ -1,7 +1,7 @@
 -- Leads: one step of their sources, and the hits of them.
 use Rattle.std.proofs.Common.{◌≡◌, ℕ, zero, suc, ◌+◌, ◌<◌, ◌≤◌, Bool, true, false, List, [], ◌∷◌, ◌++◌, Option, Some, None, IfSome, All, get_or, is_some, drop, length, map, option_map, append_assoc, append-nil, if◌then◌else◌, refl, ap, ap₂, sym, ◌∙◌, subst, arith}
 use Rattle.std.specs.FinMap.{get}
-use Rattle.std.specs.List.{AllByRecursion, AllZip}
+use Rattle.std.specs.List.{AllZip}
 use Rattle.std.specs.Option.{option_and_then, option_map_or}
 use Rattle.mg_collate.proofs.Sorting.{all_append, all_weaker}
 use Rattle.mg_collate.specs.Row.{RowValue}

@@ -1,4 +1,4 @@
-use Rattle.std.proofs.Common.{◌≡◌, IfOk, List, map, sym, ◌∙◌, subst}
+use Rattle.std.proofs.Common.{◌≡◌, IfOk, map, sym, ◌∙◌, subst}
 use Rattle.mg_index.specs.Definition.{IndexDefinition}
 use Rattle.mg_scan.specs.Built.{with_index}
 use Rattle.mg_scan.specs.Building.{AreRowsAt}

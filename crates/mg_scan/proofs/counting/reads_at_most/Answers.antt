@@ -1,4 +1,4 @@
-use Rattle.std.proofs.Common.{Option, ap₂, nat_le, option_map, ◌∙◌}
+use Rattle.std.proofs.Common.{Option, ap₂, nat_le, ◌∙◌}
 use Rattle.std.specs.List.{sum_by}
 use Rattle.mg_collate.specs.Row.{RowValue}
 use Rattle.mg_range.specs.Range.{Range}

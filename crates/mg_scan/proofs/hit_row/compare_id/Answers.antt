@@ -1,8 +1,7 @@
 use Rattle.std.proofs.Common.{ap, sym, ◌∙◌}
 use Rattle.std.specs.Ordering.{ordering_reverse}
-use Rattle.mg_collate.specs.Row.{row_value_order, row_value_order_total}
+use Rattle.mg_collate.specs.Row.{row_value_order_total}
 use Rattle.mg_scan.specs.Begins.{id_rows}
-use Rattle.mg_scan.specs.HitRow.{lent_row}
 use Rattle.mg_scan.specs.Walked.{id_row}
 use Rattle.mg_scan.proofs.hit_row.compare_id.Goals as goal
 

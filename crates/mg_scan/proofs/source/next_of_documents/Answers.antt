@@ -1,4 +1,4 @@
-use Rattle.std.proofs.Common.{◌≡◌, ◌∷◌, List, Some, map, ap, sym, subst, ◌∙◌}
+use Rattle.std.proofs.Common.{List, ap, sym, subst, ◌∙◌}
 use Rattle.std.specs.FinMap.{get}
 use Rattle.mg_scan.specs.Sourced.{AreKept, holds_for, walked_documents}
 use Rattle.mg_scan.specs.Walked.{id_row, is_late_row}
