@@ -1,16 +1,15 @@
 -- The fault of a body that is found without memory, and that it is the body's first.
 use Rattle.std.specs.Prelude.{codes}
-use Rattle.std.proofs.Common.{◌≡◌, ◌∷◌, [], Bool, true, false, ◌&&◌, cond, List, Option, Some, None, is_some, option_map, option_and_then, unwrap_or, Result, Ok, Err, refl, ap, sym, ◌∙◌, subst}
+use Rattle.std.proofs.Common.{◌≡◌, ◌∷◌, [], Bool, true, false, ◌&&◌, cond, List, Option, Some, None, is_some, option_map, option_and_then, unwrap_or, Result, Ok, Err, refl, ap, ◌∙◌}
 use Rattle.std.specs.List.{list_all}
 use Rattle.std.specs.Result.{result_err}
 use Rattle.mg_value.specs.Value.{Value, member_of}
 use Rattle.mg_collate.specs.declared.direction.Direction.{Direction}
 use Rattle.mg_index.specs.Definition.{Steps}
 use Rattle.mg_index.specs.Reading.{each_of, field_direction}
-use Rattle.mg_selector.specs.Selector.{Selector}
 use Rattle.mg_selector.specs.Reading.{reading}
 use Rattle.mg_query.specs.Given.{Given, fault_given, given, gives_path, gives_sort, parsed, with_parts}
-use Rattle.mg_query.specs.Query.{Query, Shaped, ◌>>=◌, early_fault, or_fault, path_of, query_of, query_with, selector_or_fault, shaped, sort_path}
+use Rattle.mg_query.specs.Query.{Shaped, ◌>>=◌, early_fault, or_fault, path_of, query_of, query_with, selector_or_fault, shaped, sort_path}
 use Rattle.mg_query.specs.Seen.{Fails, Gives, query_seen}
 use Rattle.mg_query.specs.declared.error.QueryError.{QueryError}
 use Rattle.mg_query.specs.declared.error.QueryError.TheVariants.{Shape, InvalidOperator, BadArg, BadBookmark, MixedSort, NoMemory}

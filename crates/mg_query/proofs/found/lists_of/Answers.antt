@@ -1,4 +1,4 @@
-use Rattle.std.proofs.Common.{◌≡◌, List, Some, map, option_map, subst, ◌∙◌}
+use Rattle.std.proofs.Common.{◌≡◌, List, map, option_map, subst, ◌∙◌}
 use Rattle.std.specs.Prelude.{IfOk}
 use Rattle.mg_collate.specs.Row.{RowValue, row_view}
 use Rattle.mg_shard.specs.Shard.{shards_seen}

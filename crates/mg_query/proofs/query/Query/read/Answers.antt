@@ -1,4 +1,4 @@
-use Rattle.std.proofs.Common.{◌≡◌, Err, unwrap_or, sym, ap, ◌∙◌, subst}
+use Rattle.std.proofs.Common.{Err, unwrap_or, sym, ap, ◌∙◌, subst}
 use Rattle.mg_value.specs.View.{view}
 use Rattle.mg_query.specs.Query.{query_of}
 use Rattle.mg_query.specs.Seen.{Gives, query_seen}
