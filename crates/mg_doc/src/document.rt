@@ -32,7 +32,7 @@ pub fn served(alloc: Global, id: &str, tree: &RevTree) -> Result<Option<Json>, N
 fn served_form(alloc: Global, id: &str, leaf: &Leaf) -> Result<Json, NoMemory>
     ensures { IfOk result (λ form. view form ≡ form_of id.now leaf.now) }
 {
-    let mut form = leaf.body.copy(alloc)?;
+    let mut form = leaf.body.part().copy(alloc)?;
     form.insert(alloc, "_rev", Json::Text(leaf.rev.text(alloc)?))?;
     form.insert(alloc, "_id", Json::Text(String::from_str(alloc, id)?))?;
     Ok(form)

@@ -3,19 +3,21 @@ ghost use Rattle.mg_revtree.specs.History.{leaf_order};
 ghost use Rattle.mg_revtree.specs.Steps.{marked_as};
 
 use crate::revision::Rev;
-use mg_value::{Json, NoMemory};
+use mg_packed::Packed;
+use mg_value::NoMemory;
 use std::alloc::Global;
 use std::cmp::Ordering;
 use std::marker::Model;
 use std::sync::Arc;
 
 /// A revision that is nobody's parent, with its mark and body.
-#[derive(Debug, Drop)]
+#[derive(Drop)]
 pub struct Leaf {
     pub rev: Rev,
     /// Whether the revision deletes the document.
     pub deleted: bool,
-    pub body: Json,
+    /// The body, in one block of memory.
+    pub body: Packed,
 }
 
 impl Model for Leaf {
@@ -26,9 +28,7 @@ impl Model for Leaf {
 
     ghost coded = { leaf_code };
 
-    ghost use Rattle.mg_value.specs.View.{view as json_view};
-
-    ghost view = { λ l. record { rev = l.rev; deleted = l.deleted; body = json_view l.body } };
+    ghost view = { λ l. record { rev = l.rev; deleted = l.deleted; body = l.body } };
 }
 
 impl Leaf {

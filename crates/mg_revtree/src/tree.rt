@@ -13,6 +13,7 @@ use crate::known::Known;
 use crate::leaf::{Leaf, Shared};
 use crate::leaf_list::{add_leaf, copy_leaves, is_leaf, kept_among, unleaf};
 use crate::revision::Rev;
+use mg_packed::Packed;
 use mg_value::{Json, NoMemory};
 use std::alloc::Global;
 use std::marker::Model;
@@ -222,7 +223,9 @@ impl RevTree {
             pos: start,
             id: id.clone()?,
         };
-        let leaf = Shared::new(*self.leaves.allocator(), Leaf { rev, deleted, body })?;
+        let alloc = *self.leaves.allocator();
+        let body = Packed::of(alloc, &body)?;
+        let leaf = Shared::new(alloc, Leaf { rev, deleted, body })?;
         self.leaves.reserve(1)?;
         self.links.join(start, ids)?;
         unleaf(&mut self.leaves, start, ids);

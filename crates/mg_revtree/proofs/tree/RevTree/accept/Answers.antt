@@ -1,4 +1,5 @@
 use Rattle.std.proofs.Common.{◌≡◌, ◌∙◌, true, false, not, filter, Some, None, is_some, map, string_bytes, sym, ap, subst, List, ℕ, arith}
+use Rattle.mg_value.specs.Value.{Value}
 use Rattle.mg_value.specs.View.{view}
 use Rattle.mg_revtree.specs.Revision.{Revision, run_from}
 use Rattle.mg_revtree.specs.History.{Leaf, all_links, is_known, has_child, links, newest_of, ranked_with}
@@ -35,7 +36,8 @@ returns-clause-accepted c = λ h stands.
     let k : is_some (find q kept) ≡ false = sym (c.knows-known.ensures s.nodes.sorted) ∙ c.if-known.false in
     let leaf : Leaf = record { rev = q; deleted = c.args.deleted; body = view c.args.body } in
     let u : is_known q (all_links h) ≡ false = sym (found_known q (all_links h) kept (s.nodes.same q)) ∙ k in
-    let made : c.in_ok-leaf.leaf ≡ leaf = c.in_ok-leaf.ensures ∙ ap (λ (t : List ℕ). (let l : Leaf = record { rev = (c.args.start, t); deleted = c.args.deleted; body = view c.args.body } in l)) c.in_ok-clone.ensures.cases in
+    let made : c.in_ok-leaf.leaf ≡ leaf = c.in_ok-leaf.ensures ∙ ap (λ (t : List ℕ). (let l : Leaf = record { rev = (c.args.start, t); deleted = c.args.deleted; body = c.in_ok-body.body } in l)) c.in_ok-clone.ensures.cases
+    ∙ ap (λ (v : Value). (let l : Leaf = record { rev = q; deleted = c.args.deleted; body = v } in l)) c.in_ok-body.ensures in
     let ordered : AreRanked left = subst AreRanked (sym unleafed) (are_ranked-filter (λ l. not (has_child l.rev (links rs))) leaves s.leaves.ranked) in
     let none : leaf_in q left ≡ None = rw unleafed (unknown_no_leaf h (path_of rs c.args.deleted (view c.args.body)) q newest leaves s.leaves.same u) in
     let more : c.add_leaf.new.leaves.items ≡ ranked_with leaf left = c.add_leaf.ensures ordered (subst (λ (l : Leaf). leaf_in l.rev left ≡ None) (sym made) none) ∙ ap (λ (l : Leaf). ranked_with l left) made in
