@@ -3,7 +3,8 @@ use crate::array::Array;
 use crate::kind::Kind;
 use crate::object::Object;
 use crate::part::Part;
-use mg_value::LentValue;
+use mg_value::{Json, LentValue, NoMemory};
+use std::alloc::Global;
 
 impl<'a> LentValue for Part<'a> {
     ghost use Rattle.mg_packed.specs.Weight.{members_past};
@@ -30,6 +31,10 @@ impl<'a> LentValue for Part<'a> {
     #[inline(always)]
     fn lend(&self) -> Part<'a> {
         self.lend()
+    }
+
+    fn to_json(&self, alloc: Global) -> Result<Json, NoMemory> {
+        self.copy(alloc)
     }
 
     #[inline(always)]
@@ -60,6 +65,11 @@ impl<'a> LentValue for Part<'a> {
     #[inline(always)]
     fn walk(object: &Object<'a>) -> (Object<'a>, usize) {
         (object.lend(), 0)
+    }
+
+    #[inline(always)]
+    fn ascends(object: &Object<'a>) {
+        let _ = object.len();
     }
 
     #[inline(always)]

@@ -3,26 +3,27 @@ ghost use Rattle.mg_value.specs.Value.{object};
 ghost use Rattle.mg_value.specs.View.{view, members_view};
 ghost use Rattle.mg_path.specs.Part.{placed, projection_of};
 
+use crate::part::part_at;
 use crate::path::Path;
-use mg_value::{Json, NoMemory};
+use mg_value::{Json, LentValue, NoMemory};
 use std::alloc::Global;
 use std::collections::BTreeMap;
 use std::mem;
 
-/// The parts of the value at the paths, in an object: each stands under its steps, as the names of
+/// The parts of the lent value at the paths, in an object: each stands under its steps, as the names of
 /// nested objects, and a later path replaces what an earlier one put there. Nothing comes of a path
 /// whose part is missing, or on whose way an earlier path has put anything but an object.
 ///
 /// Errors: `NoMemory` where a growth is refused.
 /// Cost: for each path its steps, and the size of its part, also where a later one replaces it.
 /// Source: `fields` of CouchDB's `_find`.
-pub fn project(alloc: Global, value: &Json, paths: &[Path]) -> Result<Json, NoMemory>
-    ensures { IfOk result (λ projected. view projected ≡ projection_of paths.now (view value.now)) }
+pub fn project<L: LentValue>(alloc: Global, value: L, paths: &[Path]) -> Result<Json, NoMemory>
+    ensures { IfOk result (λ projected. view projected ≡ projection_of paths.now (L.value value)) }
 {
     let mut projected = Json::empty_object(alloc);
     for path in paths {
-        if let Some(part) = path.get(value) {
-            let part = part.copy(alloc)?;
+        if let Some(part) = part_at(path.steps(), value.lend()) {
+            let part = part.to_json(alloc)?;
             projected = place(alloc, projected, path.steps(), part)?;
         }
     }

@@ -6,3 +6,5 @@ mod Texts
 mod Written
 mod Trees
 pub mod Compact
+pub mod Names
+pub mod Weights

@@ -16,6 +16,11 @@ abbrev pub AllAfter : List ℕ → Members → Type 0
 AllAfter k no_members = ⊤
 AllAfter k (member l v ms) = (slice_cmp nat_cmp k l ≡ Less) × AllAfter k ms
 
+-- each name comes after those before it
+abbrev pub NamesAscend : Members → Type 0
+NamesAscend no_members = ⊤
+NamesAscend (member k v ms) = AllAfter k ms × NamesAscend ms
+
 -- each number is an i64, and each object has its names in ascending order
 abbrev mutual
   pub IsHeld : Value → Type 0

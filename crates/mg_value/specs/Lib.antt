@@ -5,3 +5,4 @@ pub mod Code
 pub mod Held
 pub mod Borrowed
 pub mod Kind
+pub mod Weight

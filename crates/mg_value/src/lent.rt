@@ -1,18 +1,22 @@
 ghost use Rattle.std.specs.Prelude.{◌≡◌, ◌<◌, Some, length, option_map, slice_get};
 
+use crate::error::NoMemory;
 use crate::kind::Kind;
 use crate::value::Json;
+use std::alloc::Global;
 use std::collections::{BTreeMap, btree_map};
 
 /// A value that is lent: one that is read in place, from a tree of `Json` or from a block of memory.
 /// What is evaluated over it is written once, for every way to keep values.
 ///
-/// No method takes memory. Cost: constant, but for `member`. Items and members are reached through the
+/// No method but `to_json` takes memory. Cost: constant, but for `member` and `to_json`. Items and members are reached through the
 /// types of the opened value, so that its kind is looked at once.
 pub trait LentValue: Sized + Drop {
-    ghost use Rattle.std.specs.Prelude.{◌≡◌, ◌<◌, ℕ, List, Some, MatchOption, length, option_map, slice_get};
+    ghost use Rattle.std.specs.Prelude.{◌≡◌, ◌<◌, ℕ, List, Some, IfOk, MatchOption, length, option_map, slice_get};
     ghost use Rattle.mg_value.specs.Value.{Value, Items, Members, no_members, member, item_list, get_member};
+    ghost use Rattle.mg_value.specs.Held.{NamesAscend};
     ghost use Rattle.mg_value.specs.Kind.{kind_value};
+    ghost use Rattle.mg_value.specs.View.{view};
 
     /// A text.
     type Text: Drop;
@@ -36,6 +40,12 @@ pub trait LentValue: Sized + Drop {
     /// The same value, lent once more.
     fn lend(&self) -> Self
         ensures { value result ≡ value self.now };
+
+    /// An equal value that owns its memory.
+    ///
+    /// Errors: `NoMemory` where a growth was refused. Cost: the size of the value.
+    fn to_json(&self, alloc: Global) -> Result<Json, NoMemory>
+        ensures { IfOk result (λ copy. view copy ≡ value self.now) };
 
     /// The value, opened one level.
     fn kind(&self) -> Kind<Self::Text, Self::List, Self::Object>
@@ -61,6 +71,10 @@ pub trait LentValue: Sized + Drop {
     /// A walk over the members, in the order of their names.
     fn walk(object: &Self::Object) -> Self::Rest
         ensures { rest result ≡ members object.now };
+
+    /// The names of the members ascend: what is ensured is known of every value that is kept. Does nothing.
+    fn ascends(object: &Self::Object)
+        ensures { NamesAscend (members object.now) };
 
     /// The name and the value of the next member of a walk; none at its end.
     fn next(walk: &mut Self::Rest) -> Option<(Self::Text, Self)>
@@ -105,6 +119,11 @@ impl<'a> LentValue for &'a Json {
         *self
     }
 
+    fn to_json(&self, alloc: Global) -> Result<Json, NoMemory> {
+        let value: &Json = *self;
+        value.copy(alloc)
+    }
+
     #[inline(always)]
     fn kind(&self) -> Kind<&'a str, &'a [Json], &'a BTreeMap<String, Json>> {
         match *self {
@@ -142,6 +161,12 @@ impl<'a> LentValue for &'a Json {
     fn walk(object: &&'a BTreeMap<String, Json>) -> btree_map::Iter<'a, String, Json> {
         let members = *object;
         members.iter()
+    }
+
+    #[inline(always)]
+    fn ascends(object: &&'a BTreeMap<String, Json>) {
+        let members = *object;
+        let _ = members.iter();
     }
 
     #[inline(always)]

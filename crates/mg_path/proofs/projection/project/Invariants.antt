@@ -6,4 +6,6 @@ use Rattle.mg_path.proofs.projection.project.Given as goal
 
 -- the paths left make the projection of what is projected
 abbrev pub invariant-loop-path : goal.invariant-loop-path
-invariant-loop-path l = projection_of l.paths (view l.value) ≡ fold (with_part (view l.value)) (view l.projected) (drop l.path-index l.paths)
+invariant-loop-path g l =
+    let v = g.L.LentValue.value l.value in
+    projection_of l.paths v ≡ fold (with_part v) (view l.projected) (drop l.path-index l.paths)
