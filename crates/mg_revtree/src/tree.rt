@@ -46,9 +46,9 @@ fn ids_over(alloc: Global, id: String, parent: Option<&Rev>) -> Result<Vec<Strin
 }
 
 /// The revision tree of a document: its known revisions with their parents, and its leaves with their marks
-/// and bodies. A body is kept once, at its leaf, and a revision's id once, once more where an older and a newer list of the
-/// known revisions both have it, and once more where it is a leaf. A contract speaks of every history that the tree stands
-/// for.
+/// and bodies. A body is kept once, at its leaf, in one block of memory, and a revision's id once, once more where an
+/// older and a newer list of the known revisions both have it, and once more where it is a leaf. A contract speaks of
+/// every history that the tree stands for.
 #[derive(Drop)]
 pub struct RevTree {
     links: Known,
@@ -180,9 +180,9 @@ impl RevTree {
     /// tree is as it was.
     ///
     /// Errors: `BadHistory` where the path contradicts a parent that is known already, and else `NoMemory` where a
-    /// growth is refused; neither a bad path nor one that is known whole needs memory. A refusal leaves the tree as it
-    /// was. Cost: the length of the path times the logarithm of the known revisions and that of the leaves, a word for each
-    /// leaf, and one pass over the newer known revisions that are above the lowest unknown one of the path: none where the
+    /// growth is refused, or where the body takes more than 4,294,967,295 bytes; neither a bad path nor one that is known
+    /// whole needs memory. A refusal leaves the tree as it was. Cost: the size of the body, the length of the path times
+    /// the logarithm of the known revisions and that of the leaves, a word for each leaf, and one pass over the newer known revisions that are above the lowest unknown one of the path: none where the
     /// path goes on the line with the highest positions. Where these and the path's are more than 64, and more than four
     /// times the root of the number of the older ones, all known revisions are copied besides. Source: the replication model of CouchDB.
     pub fn merge(&mut self, path: &History, deleted: bool, body: Json) -> Result<Merged, MergeError>
@@ -239,7 +239,7 @@ impl RevTree {
     /// Makes a new revision over a leaf, or, with no parent, at position 1 in a tree without leaves. The id is one
     /// that `is_id` allows.
     ///
-    /// Errors: what `refusal` says, which needs no memory, and else `NoMemory` where a growth is refused. A refusal
+    /// Errors: what `refusal` says, which needs no memory, and else `NoMemory` as of `merge`. A refusal
     /// leaves the tree as it was. Cost: as that of `merge`, with a path of the new revision and its parent.
     pub fn extend(
         &mut self,
