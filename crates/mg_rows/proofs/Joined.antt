@@ -55,11 +55,9 @@ columns_append (item v vs) s t = ap (value_before v) (columns_append vs s t) ∙
 turn : (v : Value) (front out rest : List ℕ) → front ≡ out ++ value_before v rest → front ≡ (out ++ value_before v []) ++ rest
 turn v front out rest e = e ∙ ap (λ y. out ++ y) (value_append v [] rest) ∙ sym (append_assoc out (value_before v []) rest)
 
-pub items_turn : (all : List Json) (i : ℕ) (v : Json) (front out new : List ℕ) → i < length all → v ≡ get_or all i v → new ≡ out ++ value_before (view v) []
-    → front ≡ out ++ items_before (items_view (drop i all)) [] → front ≡ new ++ items_before (items_view (drop (i + 1) all)) []
-items_turn all i v front out new low at e h =
-    turn (view v) front out _ (h ∙ ap (λ vs. out ++ items_before (items_view vs) []) (drop_more all i v low ∙ ap (λ x. x ∷ drop (i + 1) all) (sym at)))
-    ∙ ap (λ y. y ++ items_before (items_view (drop (i + 1) all)) []) (sym e)
+pub items_turn : (v : Value) (rest : Items) (front out new : List ℕ) → new ≡ out ++ value_before v [] → front ≡ out ++ items_before (item v rest) []
+    → front ≡ new ++ items_before rest []
+items_turn v rest front out new e h = turn v front out (items_before rest []) h ∙ ap (λ y. y ++ items_before rest []) (sym e)
 
 pub columns_turn : (all : List Json) (i : ℕ) (v : Json) (front out new : List ℕ) → i < length all → v ≡ get_or all i v → new ≡ out ++ value_before (view v) []
     → front ≡ out ++ columns_before (items_view (drop i all)) [] → front ≡ new ++ columns_before (items_view (drop (i + 1) all)) []
@@ -84,18 +82,6 @@ pub members_turn : (k : List ℕ) (v : Value) (ms : Members) (front out named ne
 members_turn k v ms front out named new e f h =
     h ∙ ap (λ y. out ++ 5 ∷ y) (text_append k [] (value_before v (members_before ms []))) ∙ sym (append_assoc out (5 ∷ text_before k []) _) ∙ ap (λ y. y ++ value_before v (members_before ms [])) (sym e)
     ∙ ap (λ y. named ++ y) (value_append v [] (members_before ms [])) ∙ sym (append_assoc named (value_before v []) _) ∙ ap (λ y. y ++ members_before ms []) (sym f)
-
--- ---- the names of a map ascend
-
-all_after : (k : String Global) (es : List Entry) → AllByRecursion (λ y. string_cmp k y ≡ Less) (keys_of es) → AllAfter (string_bytes k) (members_view es)
-all_after k [] h = tt
-all_after k (e ∷ es) h = (h.0, all_after k es h.1)
-
--- the names after one of a map's are above it
-pub above_middle : (done : List Entry) (e : Entry) (more : List Entry) → IsStrictlySortedBy string_cmp (keys_of (done ++ e ∷ more)) → AllAfter (string_bytes e.0) (members_view more)
-unfolding IsStrictlySortedBy
-above_middle [] e more h = all_after e.0 more h.0
-above_middle (first ∷ done) e more h = above_middle done e more h.1
 
 -- ---- keys and places
 

@@ -4,7 +4,7 @@ use crate::bound::Bound;
 use crate::edge::Edge;
 use crate::row::RowBytes;
 use crate::write::write_column;
-use mg_value::{Json, NoMemory};
+use mg_value::{LentValue, NoMemory};
 use std::alloc::Global;
 use std::marker::Model;
 
@@ -32,7 +32,6 @@ impl Model for KeyBytes {
 impl KeyBytes {
     ghost use Rattle.std.specs.Prelude.{◌≡◌, IfOk, OnOk, OnErr};
     ghost use Rattle.mg_value.specs.Value.{no_items, item};
-    ghost use Rattle.mg_value.specs.View.{view};
     ghost use Rattle.mg_rows.specs.Laws.{joined_items};
 
     /// A key with no columns. Takes no memory.
@@ -51,12 +50,12 @@ impl KeyBytes {
         self.bytes.clear();
     }
 
-    /// Puts a column behind the others.
+    /// Puts a column, a value that is lent, behind the others.
     ///
     /// Errors: `NoMemory` where a growth was refused; then the key has no columns. Cost: the size of the value.
-    pub fn push(&mut self, column: &Json) -> Result<(), NoMemory>
+    pub fn push<L: LentValue>(&mut self, column: L) -> Result<(), NoMemory>
         ensures pushed { OnOk result
-            (self.new ≡ joined_items self.old (item (view column.now) no_items)) }
+            (self.new ≡ joined_items self.old (item (L.value column) no_items)) }
         ensures refused { OnErr result (self.new ≡ no_items) }
     {
         write_column(column, &mut self.bytes)?;

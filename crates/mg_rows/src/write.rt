@@ -1,14 +1,13 @@
 // The bytes of values, added to a buffer. After an error some of them may stand there.
 ghost use Rattle.std.specs.Prelude.{◌≡◌, ◌++◌, [], ◌∷◌, suc, map, OnOk, OnErr, IsUtf8};
 ghost use Rattle.mg_value.specs.Value.{Items};
-ghost use Rattle.mg_value.specs.View.{view, items_view, members_view};
+ghost use Rattle.mg_value.specs.View.{items_view};
 ghost use Rattle.mg_rows.specs.Bytes.{big_endian, sign_turned, text_before, value_before};
 ghost use Rattle.mg_rows.specs.Bytes.{columns_before, items_before, members_before};
 ghost use Rattle.mg_rows.specs.Stored.{IsStored, AreStored, MembersAreStored, IsKey};
 ghost use Rattle.mg_rows.specs.Only.{KeyOf};
 
-use mg_value::{Json, NoMemory};
-use std::collections::BTreeMap;
+use mg_value::{Json, Kind, LentValue, NoMemory};
 
 // The byte behind a string: below each byte of one, which is stored as one more.
 const TEXT_END: u8 = 0;
@@ -17,10 +16,10 @@ const TEXT_END: u8 = 0;
 const LIST_END: u8 = 0;
 
 // A column more of a key. After an error there are none.
-pub(crate) fn write_column(column: &Json, out: &mut Vec<u8>) -> Result<(), NoMemory>
+pub(crate) fn write_column<L: LentValue>(column: L, out: &mut Vec<u8>) -> Result<(), NoMemory>
     ensures bytes { OnOk result
-        (out.new.items ≡ out.old.items ++ value_before (view column.now) []) }
-    ensures stored { OnOk result (IsStored (view column.now)) }
+        (out.new.items ≡ out.old.items ++ value_before (L.value column) []) }
+    ensures stored { OnOk result (IsStored (L.value column)) }
     ensures refused { OnErr result (out.new.items ≡ []) }
     ensures key { (key : Items) → IsKey out.old.items key → KeyOf out.new.items }
 {
@@ -47,50 +46,51 @@ pub(crate) fn write_columns(columns: &[Json], out: &mut Vec<u8>) -> Result<(), N
 
 // The items of an array, with their end.
 #[cycle(write_value)]
-fn write_items(items: &[Json], out: &mut Vec<u8>) -> Result<(), NoMemory>
-    ensures bytes { OnOk result
-        (out.new.items ≡ out.old.items ++ items_before (items_view items.now) []) }
-    ensures stored { OnOk result (AreStored (items_view items.now)) }
+fn write_items<L: LentValue>(items: L::List, out: &mut Vec<u8>) -> Result<(), NoMemory>
+    ensures bytes { OnOk result (out.new.items ≡ out.old.items ++ items_before (L.items items) []) }
+    ensures stored { OnOk result (AreStored (L.items items)) }
 {
-    for item in items {
-        write_value(item, out)?;
+    for place in 0..L::len(&items) {
+        write_value(L::item(&items, place), out)?;
     }
     out.push(LIST_END)?;
     Ok(())
 }
 
 #[cycle(write_value)]
-fn write_value(value: &Json, out: &mut Vec<u8>) -> Result<(), NoMemory>
+fn write_value<L: LentValue>(value: L, out: &mut Vec<u8>) -> Result<(), NoMemory>
     ensures bytes { OnOk result
-        (out.new.items ≡ out.old.items ++ value_before (view value.now) []) }
-    ensures stored { OnOk result (IsStored (view value.now)) }
+        (out.new.items ≡ out.old.items ++ value_before (L.value value) []) }
+    ensures stored { OnOk result (IsStored (L.value value)) }
 {
-    match value {
-        Json::Null => out.push(1)?,
-        Json::Flag(false) => out.push(2)?,
-        Json::Flag(true) => out.push(3)?,
-        Json::Whole(number) => write_whole(*number, out)?,
-        Json::Text(text) => write_text(text, out)?,
-        Json::List(items) => {
+    match value.kind() {
+        Kind::Null => out.push(1)?,
+        Kind::Flag(false) => out.push(2)?,
+        Kind::Flag(true) => out.push(3)?,
+        Kind::Whole(number) => write_whole(number, out)?,
+        Kind::Text(text) => write_text(L::as_str(&text), out)?,
+        Kind::List(items) => {
             out.push(6)?;
-            write_items(items, out)?;
+            write_items::<L>(items, out)?;
         }
-        Json::Object(members) => {
+        Kind::Object(members) => {
             out.push(7)?;
-            write_members(members, out)?;
+            write_members::<L>(members, out)?;
         }
     }
     Ok(())
 }
 
 #[cycle(write_value)]
-fn write_members(members: &BTreeMap<String, Json>, out: &mut Vec<u8>) -> Result<(), NoMemory>
+fn write_members<L: LentValue>(members: L::Object, out: &mut Vec<u8>) -> Result<(), NoMemory>
     ensures bytes { OnOk result
-        (out.new.items ≡ out.old.items ++ members_before (members_view members.now.entries) []) }
-    ensures stored { OnOk result (MembersAreStored (members_view members.now.entries)) }
+        (out.new.items ≡ out.old.items ++ members_before (L.members members) []) }
+    ensures stored { OnOk result (MembersAreStored (L.members members)) }
 {
-    for (name, member) in members.iter() {
-        write_text(name, out)?;
+    L::ascends(&members);
+    let mut walk = L::walk(&members);
+    while let Some((name, member)) = L::next(&mut walk) {
+        write_text(L::as_str(&name), out)?;
         write_value(member, out)?;
     }
     out.push(LIST_END)?;

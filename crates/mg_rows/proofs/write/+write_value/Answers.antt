@@ -1,36 +1,63 @@
-use Rattle.std.proofs.Common.{◌≡◌, ◌<◌, [], ◌∷◌, ◌++◌, length, arith, string_bytes, string_cmp, ap, sym, ◌∙◌, subst, append_assoc, rules}
-use Rattle.std.proofs.lemmas.Str.{IsUtf8-string_bytes}
-use Rattle.std.specs.List.Sorted.{IsStrictlySortedBy}
-use Rattle.std.specs.Map.{keys_of}
-use Rattle.mg_rows.specs.Bytes.{text_before, members_before}
+use Rattle.std.proofs.Common.{◌≡◌, ◌+◌, ◌<◌, [], ◌∷◌, ◌++◌, IsUtf8, arith, sym, ap, ◌∙◌, subst, rules}
+use Rattle.mg_rows.specs.Bytes.{items_before, text_before, members_before}
 use Rattle.mg_rows.specs.Stored.{AreStored, MembersAreStored}
-use Rattle.mg_value.specs.View.{view, items_view, members_view}
-use Rattle.mg_value.proofs.Views.{Entry}
-use Rattle.mg_rows.proofs.Joined.{items_turn, members_turn, here, above_middle}
+use Rattle.mg_value.specs.Held.{NamesAscend}
+use Rattle.mg_value.specs.Value.{Items, Members, item, no_items, member}
+use Rattle.mg_value.specs.Weight.{weight, items_weight, members_weight}
+use Rattle.mg_value.proofs.Items.{items_past, past_item, past_all}
+use Rattle.mg_value.proofs.Weights.{item_lighter, members_some}
+use Rattle.mg_rows.proofs.Joined.{items_turn, members_turn}
 use Rattle.mg_rows.proofs.write.+write_value.Goals as goal
 
-pub write_items-loop-item-preserved : goal.write_items-loop-item-preserved
-write_items-loop-item-preserved t c =
-    let l = c.loop-item in
-    let all = c.args.items.now in
-    let low : l.item-index < length all = omega arith in (
-      items_turn all l.item-index c.item-item.result _ l.out.items c.write_value.new.out.items low c.item-item.is c.in_ok-write_value.ensures.bytes l.invariant.0,
-      λ h. l.invariant.1 (subst (λ vs. AreStored (items_view vs)) (sym (here all l.item-index c.item-item.result low c.item-item.is)) (c.in_ok-write_value.ensures.stored, h)),
+pub write_items-write_value-requires : goal.write_items-write_value-requires
+write_items-write_value-requires g t c =
+    let vs = g.L.LentValue.items c.args.items in
+    (omega (arith, item_lighter vs c.loop-place.place (g.L.LentValue.value c.item.result) c.item.ensures, c.decreases), tt)
+
+pub write_items-loop-place-preserved : goal.write_items-loop-place-preserved
+write_items-loop-place-preserved g t c =
+    let l = c.loop-place in
+    let vs = g.L.LentValue.items c.args.items in
+    let v = g.L.LentValue.value c.item.result in
+    let rest = items_past (l.place + 1) vs in
+    let next : items_past l.place vs ≡ item v rest = past_item vs l.place v c.item.ensures in (
+      items_turn v rest _ l.out.items c.write_value.new.out.items c.in_ok-write_value.ensures.bytes (l.invariant.0 ∙ ap (λ xs. l.out.items ++ items_before xs []) next),
+      λ h. l.invariant.1 (subst AreStored (sym next) (c.in_ok-write_value.ensures.stored, h)),
     )
 
+pub write_items-returns-clause-bytes : goal.write_items-returns-clause-bytes
+write_items-returns-clause-bytes g t c =
+    let l = c.loop-place in
+    let vs = g.L.LentValue.items c.args.items in
+    let end : items_past l.place vs ≡ no_items = past_all vs l.place (omega (arith, c.len-place-end.ensures)) in
+    c.in_ok-push.ensures.items ∙ sym (l.invariant.0 ∙ ap (λ xs. l.out.items ++ items_before xs []) end)
+
+pub write_items-returns-clause-stored : goal.write_items-returns-clause-stored
+write_items-returns-clause-stored g t c =
+    let l = c.loop-place in
+    let vs = g.L.LentValue.items c.args.items in
+    let end : items_past l.place vs ≡ no_items = past_all vs l.place (omega (arith, c.len-place-end.ensures)) in
+    l.invariant.1 (subst AreStored (sym end) tt)
+
+pub write_members-write_value-requires : goal.write_members-write_value-requires
+write_members-write_value-requires g t c =
+    let left = g.L.LentValue.rest c.next.new.walk in
+    let step = ap members_weight c.in-Some.ensures in
+    (omega (arith, c.loop-name.invariant.3, step, members_some left, c.decreases), tt)
+
 pub write_members-loop-name-preserved : goal.write_members-loop-name-preserved
-write_members-loop-name-preserved t c =
+write_members-loop-name-preserved g t c =
     let l = c.loop-name in
-    let done = l.invariant.1 in
-    let e : Entry = (c.in-Some.name.now, c.in-Some.member.now) in
-    let left = c.next.new.self in
-    let step : l.name-iterator ≡ e ∷ left = c.in-Some.ensures.steps in
-    let all : c.args.members.now.entries ≡ done ++ e ∷ left = l.invariant.2 ∙ ap (λ es. done ++ es) step in
-    let above = above_middle done e left (subst (λ es. IsStrictlySortedBy string_cmp (keys_of es)) all c.iter-name-items.ensures.ordered) in
-    let named : c.write_text.new.out.items ≡ l.out.items ++ 5 ∷ text_before (string_bytes e.0) [] = search rules in (
-      members_turn (string_bytes e.0) (view e.1) (members_view left) _ l.out.items c.write_text.new.out.items c.write_value.new.out.items named c.in_ok-write_value.ensures.bytes
-          (l.invariant.0 ∙ ap (λ es. l.out.items ++ members_before (members_view es) []) step),
-      done ++ e ∷ [],
-      all ∙ sym (append_assoc done (e ∷ []) left),
-      λ stored. l.invariant.3 (subst (λ es. MembersAreStored (members_view es)) (sym step) (IsUtf8-string_bytes e.0, above, c.in_ok-write_value.ensures.stored, stored)),
+    let k = g.L.LentValue.bytes c.in-Some.name in
+    let v = g.L.LentValue.value c.in-Some.member in
+    let left = g.L.LentValue.rest c.next.new.walk in
+    let step : g.L.LentValue.rest l.walk ≡ member k v left = c.in-Some.ensures in
+    let named : c.write_text.new.out.items ≡ l.out.items ++ 5 ∷ text_before k [] = c.in_ok-write_text.ensures.bytes ∙ ap (λ s. l.out.items ++ 5 ∷ text_before s []) c.as_str.ensures in
+    let utf8 : IsUtf8 k = subst IsUtf8 c.as_str.ensures c.write_text.ensures.utf8 in
+    let ascend : NamesAscend (member k v left) = subst NamesAscend step l.invariant.1 in (
+      members_turn k v left _ l.out.items c.write_text.new.out.items c.write_value.new.out.items named c.in_ok-write_value.ensures.bytes
+          (l.invariant.0 ∙ ap (λ ms. l.out.items ++ members_before ms []) step),
+      ascend.1,
+      λ stored. l.invariant.2 (subst MembersAreStored (sym step) (utf8, ascend.0, c.in_ok-write_value.ensures.stored, stored)),
+      omega (arith, l.invariant.3, ap members_weight step),
     )
