@@ -2,7 +2,6 @@
 ghost use Rattle.std.specs.Prelude.{◌≡◌, ◌<◌, IfOk, Option, Some, length, slice_get};
 ghost use Rattle.std.specs.FinMap as finite;
 ghost use Rattle.std.specs.FinMap.{get};
-ghost use Rattle.mg_value.specs.View.{view};
 ghost use Rattle.mg_revtree.specs.History.{History};
 ghost use Rattle.mg_revtree.specs.Tree.{StandsFor};
 ghost use Rattle.mg_doc.specs.Conflicts.{with_conflicts_of};
@@ -14,15 +13,16 @@ ghost use Rattle.mg_shard.specs.Shard.{shards_seen};
 ghost use Rattle.mg_engine.specs.View.{said};
 ghost use Rattle.mg_engine.specs.World.{World};
 
-use crate::body::{line, text_line};
+use crate::body::{line, text_line, with_line_feed};
 use crate::refusal::Refusal;
 use crate::reply::Reply;
 use crate::state::State;
 use mg_doc::with_conflicts;
+use mg_packed::Part;
 use mg_revtree::RevTree;
 use mg_shard::laws::each_id_has_its_shard;
 use mg_shard::{Document, Placement, Shard};
-use mg_value::{Json, NoMemory};
+use mg_value::NoMemory;
 use std::alloc::Global;
 use std::sync::Arc;
 
@@ -68,16 +68,16 @@ fn get_from(alloc: Global, shard: &Shard, id: &str, conflicts: bool) -> Result<R
         return Ok(Reply::refusing(alloc, Refusal::Deleted)?);
     };
     let body = if conflicts {
-        conflicted_line(alloc, form, document.tree())?
+        conflicted_line(alloc, &form, document.tree())?
     } else {
-        served_line(alloc, document, form)?
+        served_line(alloc, document, &form)?
     };
     Ok(Reply::Full { status: 200, body })
 }
 
 // The line of a document with its conflicts.
-fn conflicted_line(alloc: Global, form: &Json, tree: &RevTree) -> Result<Vec<u8>, NoMemory>
-    ensures { IfOk result (λ b. (h : History) → StandsFor tree.now h → b.items ≡ line_of (with_conflicts_of h (view form.now))) }
+fn conflicted_line(alloc: Global, form: &Part<'_>, tree: &RevTree) -> Result<Vec<u8>, NoMemory>
+    ensures { IfOk result (λ b. (h : History) → StandsFor tree.now h → b.items ≡ line_of (with_conflicts_of h form.now)) }
 {
     let document = form.copy(alloc)?;
     let shown = with_conflicts(alloc, document, tree)?;
@@ -86,13 +86,13 @@ fn conflicted_line(alloc: Global, form: &Json, tree: &RevTree) -> Result<Vec<u8>
 }
 
 // The line of a document that is served in this form, by the text that is kept of it.
-fn served_line(alloc: Global, document: &Document, form: &Json) -> Result<Vec<u8>, NoMemory>
-    requires { form_of document.now ≡ Some (view form.now) }
-    ensures { IfOk result (λ b. b.items ≡ line_of (view form.now)) }
+fn served_line(alloc: Global, document: &Document, form: &Part<'_>) -> Result<Vec<u8>, NoMemory>
+    requires { form_of document.now ≡ Some form.now }
+    ensures { IfOk result (λ b. b.items ≡ line_of form.now) }
 {
     let body = match document.text() {
         Some(text) => text_line(alloc, text)?,
-        None => line(alloc, form)?,
+        None => with_line_feed(form.text(alloc)?)?,
     };
     Ok(body)
 }

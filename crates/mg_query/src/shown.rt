@@ -13,6 +13,7 @@ use crate::source::Source;
 use mg_bookmark::{RowKey, RowPlace};
 use mg_collate::Direction;
 use mg_doc::with_conflicts;
+use mg_packed::Part;
 use mg_path::{Path, project};
 use mg_revtree::RevTree;
 use mg_value::{Json, NoMemory};
@@ -30,11 +31,11 @@ pub struct Page {
 pub(crate) fn shown(
     alloc: Global,
     query: &Query<'_>,
-    form: &Json,
+    form: Part<'_>,
     tree: &RevTree,
 ) -> Result<Json, NoMemory>
     ensures { IfOk result (λ v. (id : List ℕ) (h : Paths) → StandsFor tree.now h
-        → view v ≡ shown_of (query_seen query.now) (record { id = id; form = view form.now; history = h })) }
+        → view v ≡ shown_of (query_seen query.now) (record { id = id; form = form; history = h })) }
 {
     if query.conflicts {
         let whole = with_conflicts(alloc, form.copy(alloc)?, tree)?;
@@ -56,8 +57,8 @@ fn parts_in(alloc: Global, fields: &[Path], document: Json) -> Result<Json, NoMe
 }
 
 // The same of a document that is lent.
-fn parts_of(alloc: Global, fields: &[Path], document: &Json) -> Result<Json, NoMemory>
-    ensures { IfOk result (λ v. view v ≡ projected fields.now (view document.now)) }
+fn parts_of(alloc: Global, fields: &[Path], document: Part<'_>) -> Result<Json, NoMemory>
+    ensures { IfOk result (λ v. view v ≡ projected fields.now document) }
 {
     if fields.is_empty() {
         document.copy(alloc)

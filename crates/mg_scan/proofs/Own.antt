@@ -16,11 +16,10 @@ use Rattle.mg_shard.specs.Rows.{row_key}
 use Rattle.mg_shard.specs.declared.document.Document.{Document}
 use Rattle.mg_shard.specs.declared.served.Served.{Served}
 use Rattle.mg_value.specs.Value.{Items, Value}
-use Rattle.mg_value.specs.View.{view}
 
-own_served : (id : List ℕ) (o : Option Served) → IsServedOwn id o → (form : Value) → option_map (λ s. view s.form) o ≡ Some form → HasOwnId id form
+own_served : (id : List ℕ) (o : Option Served) → IsServedOwn id o → (form : Value) → option_map (λ s. s.form) o ≡ Some form → HasOwnId id form
 own_served id None own form e = absurd cc
-own_served id (Some s) own form e = subst (HasOwnId id) (some_is (view s.form) form e) (own s refl)
+own_served id (Some s) own form e = subst (HasOwnId id) (some_is (s.form) form e) (own s refl)
 
 -- the row of a document that has a key
 pub own_lent : (d : Document) (key : Items) → Some key ≡ option_and_then (row_key all_columns) (form_of d) → ◌≡◌ {A = RowValue} (key, id_of d) (id_row (id_of d))

@@ -9,7 +9,6 @@ use Rattle.std.specs.Ordering.{on, eq_by_cmp, as_partial_cmp}
 use Rattle.mg_collate.specs.Row.{RowValue, row_value_order, row_value_order_total}
 use Rattle.mg_value.specs.Text.{compact}
 use Rattle.mg_value.specs.Value.{Value}
-use Rattle.mg_value.specs.View.{view}
 use Rattle.mg_scan.specs.HitRow.{lent_row}
 use Rattle.mg_scan.specs.declared.hit.Hit.{Hit}
 use Rattle.mg_shard.specs.Documents.{KeptDocuments, form_of, kept_of}
@@ -30,7 +29,7 @@ hit_document h = h.document.now
 
 -- the form in which it is served
 abbrev pub hit_form : Hit → Value
-hit_form h = view h.form.now
+hit_form h = h.form.now
 
 -- the text of that form
 abbrev pub hit_text : Hit → List ℕ

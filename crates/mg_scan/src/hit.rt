@@ -1,12 +1,13 @@
 //! Rows that a scan found, each with its document, all lent.
 ghost use Rattle.std.specs.Prelude.{◌≡◌, IfOk};
 ghost use Rattle.mg_collate.specs.Row.{row_view};
-ghost use Rattle.mg_value.specs.View.{items_view, view};
+ghost use Rattle.mg_value.specs.View.{items_view};
 ghost use Rattle.mg_scan.specs.Hit.{hit_document, hit_form, hit_row, hit_text};
 
 use crate::hit_row::HitRow;
 use mg_collate::Row;
 use mg_merge::Ranked;
+use mg_packed::{Packed, Part};
 use mg_shard::Document;
 use mg_value::{Json, NoMemory};
 use std::alloc::Global;
@@ -17,7 +18,7 @@ use std::cmp::Ordering;
 pub struct Hit<'a> {
     pub(crate) row: HitRow<'a>,
     pub(crate) document: &'a Document,
-    pub(crate) form: &'a Json,
+    pub(crate) form: &'a Packed,
     pub(crate) text: &'a [u8],
 }
 
@@ -44,10 +45,10 @@ impl<'a> Hit<'a> {
     }
 
     /// The form in which the document is served. Takes no memory.
-    pub fn form(&self) -> &'a Json
-        ensures { view result.now ≡ hit_form self.now }
+    pub fn form(&self) -> Part<'a>
+        ensures { result ≡ hit_form self.now }
     {
-        self.form
+        self.form.part()
     }
 
     /// The compact text of that form. Takes no memory.

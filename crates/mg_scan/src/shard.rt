@@ -38,9 +38,9 @@ pub(crate) fn hit_of<'a>(
         ≡ if option_map_or (λ form. normal_holds normal.now (Some form)) (form_of document.now) false then Some (lent_row row.entry) else None }
     ensures lent { (ds : KeptDocuments) → get ds (lent_row row.entry).1 ≡ Some (kept_of document.now) → IfSome result (IsHitOf ds) }
 {
-    let form = document.form()?;
+    let form = document.packed()?;
     let text = document.text()?;
-    if !normal.holds(form) {
+    if !normal.holds_of(form.part()) {
         return None;
     }
     Some(Hit {

@@ -2,8 +2,8 @@
 use denote.Param.Send.{IsSend, IsSync, sendable}
 use Rattle.std.proofs.Crossing.{crosses}
 use Rattle.std.proofs.MapsCrossing.{crosses as maps}
-use Rattle.mg_shard.proofs.Values.{json_field_send, json_field_sync}
 use Rattle.mg_index.proofs.definition.IndexDef.TheSendSync as definition
+use Rattle.mg_packed.proofs.packed.Packed.TheSendSync as packed
 use Rattle.mg_pages.proofs.element.Shared.TheSendSync as element
 use Rattle.mg_pages.proofs.pages.Pages.TheSendSync as pages
 use Rattle.mg_revtree.specs.contracts.leaf.Leaf as Leaf
@@ -18,10 +18,10 @@ use Rattle.mg_shard.specs.contracts.served.Served as Served
 use Rattle.mg_shard.specs.contracts.shard.Shard as Shard
 
 pub leaf_send : IsSend Leaf.the_row
-leaf_send = search (sendable, crosses, maps, json_field_send, json_field_sync, revision.the_send, revision.the_sync) depth 40
+leaf_send = search (sendable, crosses, maps, packed.the_send, packed.the_sync, revision.the_send, revision.the_sync) depth 40
 
 pub leaf_sync : IsSync Leaf.the_row
-leaf_sync = search (sendable, crosses, maps, json_field_send, json_field_sync, revision.the_send, revision.the_sync) depth 40
+leaf_sync = search (sendable, crosses, maps, packed.the_send, packed.the_sync, revision.the_send, revision.the_sync) depth 40
 
 pub shared_send : IsSend Shared.the_row
 shared_send = search (sendable, crosses, maps, leaf_send, leaf_sync) depth 40
@@ -36,10 +36,10 @@ pub tree_sync : IsSync RevTree.the_row
 tree_sync = search (sendable, crosses, maps, shared_send, shared_sync, links.the_send, links.the_sync) depth 40
 
 pub served_send : IsSend Served.the_row
-served_send = search (sendable, crosses, maps, json_field_send, json_field_sync) depth 40
+served_send = search (sendable, crosses, maps, packed.the_send, packed.the_sync) depth 40
 
 pub served_sync : IsSync Served.the_row
-served_sync = search (sendable, crosses, maps, json_field_send, json_field_sync) depth 40
+served_sync = search (sendable, crosses, maps, packed.the_send, packed.the_sync) depth 40
 
 pub document_send : IsSend Document.the_row
 document_send = search (sendable, crosses, maps, tree_send, tree_sync, served_send, served_sync) depth 40

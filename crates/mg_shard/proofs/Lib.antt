@@ -11,6 +11,5 @@ pub mod Keyed
 pub mod Walks
 pub mod Owned
 pub mod Extracting
-pub mod Values
 pub mod Crossing
 pub mod Together

@@ -54,10 +54,10 @@ some_is : {X : Type 0} (x y : X) → Some x ≡ Some y → x ≡ y
 some_is x y e = cc
 
 -- so is what is made of it
-pub own_made : (id : List ℕ) (o : Option Json) (form : Json) (made : Served) → IfSome o (λ f. (l : Leaf) × (view f ≡ served_form id l)) → o ≡ Some form → view made.form ≡ view form → IsServedOwn id (Some made)
+pub own_made : (id : List ℕ) (o : Option Json) (form : Json) (made : Served) → IfSome o (λ f. (l : Leaf) × (view f ≡ served_form id l)) → o ≡ Some form → made.form ≡ view form → IsServedOwn id (Some made)
 own_made id None form made h is same = absurd cc
 own_made id (Some f) form made h is same =
-    λ s e. subst (λ (x : Served). HasOwnId id (view x.form)) (some_is made s e) (own_leaf id h.0 (view made.form) (same ∙ ap view (sym (some_is f form is)) ∙ h.1))
+    λ s e. subst (λ (x : Served). HasOwnId id x.form) (some_is made s e) (own_leaf id h.0 made.form (same ∙ ap view (sym (some_is f form is)) ∙ h.1))
 
 pub none_made : (id : List ℕ) → IsServedOwn id None
 none_made id = λ s is. absurd cc
@@ -78,9 +78,9 @@ key-member (object ms) = one_part (get_member (codes "_id") ms)
 
 -- ---- the documents of a shard
 
-own_served : (id : List ℕ) (served : Option Served) (form : Value) → IsServedOwn id served → option_map (λ s. view s.form) served ≡ Some form → HasOwnId id form
+own_served : (id : List ℕ) (served : Option Served) (form : Value) → IsServedOwn id served → option_map (λ s. s.form) served ≡ Some form → HasOwnId id form
 own_served id None form own e = absurd cc
-own_served id (Some s) form own e = let same : view s.form ≡ form = cc in subst (λ (v : Value). HasOwnId id v) same (own s refl)
+own_served id (Some s) form own e = let same : s.form ≡ form = cc in subst (λ (v : Value). HasOwnId id v) same (own s refl)
 
 own_document : (d : Document) (form : Value) → form_of d ≡ Some form → HasOwnId (id_of d) form
 own_document d form e = own_served (id_of d) d.served form d.own_id e

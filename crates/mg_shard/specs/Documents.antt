@@ -6,8 +6,6 @@ use Rattle.std.specs.List.{filter_map}
 use Rattle.std.specs.Ordering.{nat_cmp}
 use denote.Ref.{Bor}
 use Rattle.mg_value.specs.Value.{Value}
-use Rattle.mg_value.specs.View.{view}
-use Rattle.mg_value.specs.declared.value.Json.{Json}
 use Rattle.mg_revtree.specs.History.{History}
 use Rattle.mg_revtree.specs.Tree.{Tree, StandsFor}
 use Rattle.mg_doc.specs.Served.{served_of}
@@ -57,7 +55,7 @@ id_of d = string_bytes d.id
 
 -- the form in which a document is served
 abbrev pub form_of : Document → Option Value
-form_of d = option_map (λ s. view s.form) d.served
+form_of d = option_map (λ s. s.form) d.served
 
 -- the document as it is kept
 abbrev pub kept_of : Document → Kept
@@ -76,5 +74,5 @@ abbrev pub served_docs : List Document → List ServedDocument
 served_docs ds = filter_map (λ d. doc_entry (kept_entry d)) ds
 
 -- what an id and a form that are lent say
-abbrev pub lent : Bor (List ℕ) × Bor Json → ServedDocument
-lent p = (p.0.now, view p.1.now)
+abbrev pub lent : Bor (List ℕ) × Value → ServedDocument
+lent p = (p.0.now, p.1)

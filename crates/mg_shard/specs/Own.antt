@@ -3,7 +3,6 @@ use Rattle.std.specs.Prelude.{◌≡◌, ℕ, List, [], ◌∷◌, Option, Some,
 use Rattle.std.specs.Coded.{Coded-set, Π_prop, →_prop}
 use Rattle.mg_value.specs.Value.{Value, text}
 use Rattle.mg_value.specs.Code.{value_code}
-use Rattle.mg_value.specs.View.{view}
 use Rattle.mg_index.specs.Definition.{Steps}
 use Rattle.mg_path.specs.Part.{part_of}
 use Rattle.mg_shard.specs.declared.served.Served.{Served}
@@ -20,7 +19,7 @@ HasOwnId id form = (part : Value) → part_of (codes "_id" ∷ []) form ≡ Some
 
 -- so it is where there is a form
 abbrev pub IsServedOwn : List ℕ → Option Served → Type 0
-IsServedOwn id served = (s : Served) → served ≡ Some s → HasOwnId id (view s.form)
+IsServedOwn id served = (s : Served) → served ≡ Some s → HasOwnId id s.form
 
 pub IsServedOwn-prop : (id : List ℕ) (served : Option Served) → IsProp (IsServedOwn id served)
 IsServedOwn-prop id served = Π_prop (λ s. →_prop (Π_prop (λ part. →_prop (Coded-set value_code part (text id)))))

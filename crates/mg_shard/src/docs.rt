@@ -5,7 +5,7 @@ ghost use Rattle.std.specs.Map.Iter.{TakesFirst};
 ghost use Rattle.mg_shard.specs.Documents.{lent, served_docs};
 
 use crate::walk::Documents;
-use mg_value::Json;
+use mg_packed::Part;
 use std::marker::Model;
 
 /// The documents that are left, each an id and the form in which it is served, in the order of the ids or from the last.
@@ -40,13 +40,13 @@ impl<'a> Docs<'a> {
 }
 
 impl<'a> Iterator for Docs<'a> {
-    type Item = (&'a str, &'a Json);
+    type Item = (&'a str, Part<'a>);
 
     ghost next_gives = { TakesFirst lent };
 
     ghost remaining = { λ s. at_most (length s) };
 
-    fn next(&mut self) -> Option<(&'a str, &'a Json)> {
+    fn next(&mut self) -> Option<(&'a str, Part<'a>)> {
         while let Some(document) = self.documents.next() {
             if let Some(form) = document.form() {
                 return Some((&document.id, form));

@@ -1,6 +1,5 @@
 //! Documents as they are kept.
 ghost use Rattle.std.specs.Prelude.{◌≡◌, string_bytes, option_map, IfOk};
-ghost use Rattle.mg_value.specs.View.{view};
 ghost use Rattle.mg_revtree.specs.History.{History};
 ghost use Rattle.mg_revtree.specs.Tree.{StandsFor};
 ghost use Rattle.mg_doc.specs.Served.{served_of};
@@ -8,11 +7,11 @@ ghost use Rattle.mg_shard.specs.Own.{IsServedOwn, IsServedOwn-prop};
 
 use crate::served::Served;
 use mg_doc::served;
+use mg_packed::{Packed, Part};
 use mg_pages::Identified;
 use mg_revtree::RevTree;
-use mg_value::{Json, NoMemory};
+use mg_value::NoMemory;
 use std::alloc::Global;
-use std::slice;
 
 /// A document: its id, its revision tree, and the form in which it is served, if it is not deleted.
 #[derive(Drop)]
@@ -36,17 +35,17 @@ impl Identified for Document {
 // The form in which the document of an id is served, with its text, if it is not deleted.
 fn served_in(alloc: Global, id: &str, tree: &RevTree) -> Result<Option<Served>, NoMemory>
     ensures own { IfOk result (λ served. IsServedOwn id.now served) }
-    ensures served { IfOk result (λ served. (h : History) → StandsFor tree.now h → option_map (λ s. view s.form) served ≡ served_of id.now h) }
+    ensures served { IfOk result (λ served. (h : History) → StandsFor tree.now h → option_map (λ s. s.form) served ≡ served_of id.now h) }
 {
     match served(alloc, id, tree)? {
-        Some(form) => Ok(Some(Served::of(alloc, form)?)),
+        Some(form) => Ok(Some(Served::of(alloc, &form)?)),
         None => Ok(None),
     }
 }
 
 impl Document {
     ghost use Rattle.std.specs.Prelude.{◌≡◌, string_bytes, option_and_then, option_map, IfOk};
-    ghost use Rattle.mg_value.specs.View.{items_view, view};
+    ghost use Rattle.mg_value.specs.Value.{item, no_items};
     ghost use Rattle.mg_value.specs.Text.{compact};
     ghost use Rattle.mg_revtree.specs.History.{History};
     ghost use Rattle.mg_revtree.specs.Tree.{StandsFor};
@@ -57,7 +56,7 @@ impl Document {
 
     /// The document of an id whose revision tree this is.
     ///
-    /// Errors: `NoMemory` where a growth was refused. Cost: a copy of the winner's body, and its text.
+    /// Errors: `NoMemory` where a growth was refused. Cost: the winner's body in a second block, and its text.
     pub(crate) fn of(alloc: Global, id: String, tree: RevTree) -> Result<Document, NoMemory>
         ensures id { IfOk result (λ d. string_bytes d.id ≡ string_bytes id) }
         ensures tree { IfOk result (λ d. d.tree ≡ tree) }
@@ -82,8 +81,18 @@ impl Document {
     }
 
     /// The form in which it is served, if it is not deleted. Takes no memory.
-    pub fn form(&self) -> Option<&Json>
-        ensures { option_map (λ v. view v.now) result ≡ form_of self.now }
+    pub fn form(&self) -> Option<Part<'_>>
+        ensures { result ≡ form_of self.now }
+    {
+        match self.packed() {
+            Some(form) => Some(form.part()),
+            None => None,
+        }
+    }
+
+    /// The block in which that form is kept. Takes no memory.
+    pub fn packed(&self) -> Option<&Packed>
+        ensures { option_map (λ v. v.now) result ≡ form_of self.now }
     {
         match &self.served {
             Some(served) => Some(&served.form),
@@ -103,10 +112,9 @@ impl Document {
 
     /// The key of its row among all documents, by id: the `_id` of that form alone, which is lent. Takes no memory.
     /// Cost: one look-up of a member.
-    pub fn id_key(&self) -> Option<&[Json]>
-        ensures { option_map (λ key. items_view key.now) result ≡ option_and_then (row_key all_columns) (form_of self.now) }
+    pub fn id_key(&self) -> Option<Part<'_>>
+        ensures { option_map (λ id. item id no_items) result ≡ option_and_then (row_key all_columns) (form_of self.now) }
     {
-        let id = self.form()?.member("_id")?;
-        Some(slice::from_ref(id))
+        self.form()?.member("_id")
     }
 }

@@ -53,7 +53,7 @@ fn row_or_refusal(
     ensures { IsRowOf columns.now document.now result }
 {
     let form = document.form()?;
-    match row_in(alloc, scratch, columns, document.id(), form) {
+    match row_in(alloc, scratch, columns, document.id(), &form) {
         Ok(Some(row)) => Some(Ok(row)),
         Ok(None) => None,
         Err(refusal) => Some(Err(refusal)),

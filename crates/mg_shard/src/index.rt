@@ -2,7 +2,6 @@
 ghost use Rattle.std.specs.Prelude.{◌≡◌, ◌≤◌, IfOk, None, OnOk, Some, cond, option_map, true};
 ghost use Rattle.std.specs.Arc.{arc_value};
 ghost use Rattle.std.specs.FinMap.{insert};
-ghost use Rattle.mg_value.specs.View.{view};
 ghost use Rattle.mg_collate.specs.Row.{RowValue, row_value_order};
 ghost use Rattle.mg_collate.specs.Sorted.{sorted};
 ghost use Rattle.mg_collate.proofs.Sorting.{times};
@@ -10,12 +9,12 @@ ghost use Rattle.mg_shard.specs.Documents.{Kept, KeptDocuments, docs_of, form_at
 ghost use Rattle.mg_shard.specs.Mended.{HaveSameRow, own_row, with_row, without_row};
 ghost use Rattle.mg_shard.specs.Rows.{row_key, row_of, rows_of};
 
-use mg_collate::compare;
 use mg_index::IndexDef;
+use mg_packed::{Kind, Packed, Part};
 use mg_pages::Pages;
 use mg_path::Path;
 use mg_rows::{KeyBytes, RowBytes};
-use mg_value::{Json, NoMemory};
+use mg_value::NoMemory;
 use std::alloc::Global;
 use std::sync::Arc;
 
@@ -27,12 +26,12 @@ pub(crate) struct IndexRows {
 }
 
 // Puts the parts of a document at the columns together in the scratch that is lent, and says whether each of them is there.
-fn key_in(scratch: &mut KeyBytes, columns: &[Path], form: &Json) -> Result<bool, NoMemory>
-    ensures { IfOk result (λ all. cond all (Some scratch.new) None ≡ row_key columns.now (view form.now)) }
+fn key_in(scratch: &mut KeyBytes, columns: &[Path], form: &Part<'_>) -> Result<bool, NoMemory>
+    ensures { IfOk result (λ all. cond all (Some scratch.new) None ≡ row_key columns.now form.now) }
 {
     scratch.clear();
     for column in columns {
-        match column.get(form) {
+        match form.get(column) {
             Some(part) => scratch.push(part)?,
             None => return Ok(false),
         }
@@ -49,9 +48,9 @@ pub(crate) fn row_in(
     scratch: &mut KeyBytes,
     columns: &[Path],
     id: &str,
-    form: &Json,
+    form: &Part<'_>,
 ) -> Result<Option<RowBytes>, NoMemory>
-    ensures { IfOk result (λ row. row ≡ row_of columns.now (id.now, view form.now)) }
+    ensures { IfOk result (λ row. row ≡ row_of columns.now (id.now, form.now)) }
 {
     if key_in(scratch, columns, form)? {
         return Ok(Some(scratch.row(alloc, id)?));
@@ -65,35 +64,47 @@ fn row_if(
     scratch: &mut KeyBytes,
     columns: &[Path],
     id: &str,
-    form: Option<&Json>,
+    form: Option<&Packed>,
 ) -> Result<Option<RowBytes>, NoMemory>
     ensures { IfOk result (λ row. row
-        ≡ own_row columns.now id.now (option_map (λ v. view v.now) form.entry)) }
+        ≡ own_row columns.now id.now (option_map (λ v. v.now) form.entry)) }
 {
     match form {
-        Some(form) => Ok(row_in(alloc, scratch, columns, id, form)?),
+        Some(form) => Ok(row_in(alloc, scratch, columns, id, &form.part())?),
         None => Ok(None),
     }
 }
 
-// Whether two parts are the same, or both are missing.
-fn are_same(part: Option<&Json>, other: Option<&Json>) -> bool
-    ensures { result ≡ true
-        → option_map (λ v. view v.now) part.entry ≡ option_map (λ v. view v.now) other.entry }
+// Whether two parts are seen to be the same: two arrays or objects are not looked into.
+fn is_same(part: Part<'_>, other: Part<'_>) -> bool
+    ensures { result ≡ true → part ≡ other }
+{
+    match (part.kind(), other.kind()) {
+        (Kind::Null, Kind::Null) => true,
+        (Kind::Flag(flag), Kind::Flag(other)) => flag == other,
+        (Kind::Whole(number), Kind::Whole(other)) => number == other,
+        (Kind::Text(text), Kind::Text(other)) => text == other,
+        _ => false,
+    }
+}
+
+// The same of parts that may be missing.
+fn are_same(part: Option<Part<'_>>, other: Option<Part<'_>>) -> bool
+    ensures { result ≡ true → part ≡ other }
 {
     match (part, other) {
-        (Some(part), Some(other)) => compare(part, other).is_eq(),
+        (Some(part), Some(other)) => is_same(part, other),
         (None, None) => true,
         _ => false,
     }
 }
 
-// Whether two forms have the same parts at the columns. Takes no memory.
-fn have_same_key(columns: &[Path], form: &Json, other: &Json) -> bool
-    ensures { result ≡ true → row_key columns.now (view form.now) ≡ row_key columns.now (view other.now) }
+// Whether two forms are seen to have the same parts at the columns. Takes no memory.
+fn have_same_key(columns: &[Path], form: &Part<'_>, other: &Part<'_>) -> bool
+    ensures { result ≡ true → row_key columns.now form.now ≡ row_key columns.now other.now }
 {
     for column in columns {
-        if !are_same(column.get(form), column.get(other)) {
+        if !are_same(form.get(column), other.get(column)) {
             return false;
         }
     }
@@ -101,12 +112,12 @@ fn have_same_key(columns: &[Path], form: &Json, other: &Json) -> bool
 }
 
 // Whether a document that may be deleted has the same row in both forms, or none, told by the parts that are lent. Takes no memory.
-fn have_same_row(columns: &[Path], form: Option<&Json>, other: Option<&Json>) -> bool
-    ensures { result ≡ true → HaveSameRow columns.now (option_map (λ v. view v.now) form.entry)
-        (option_map (λ v. view v.now) other.entry) }
+fn have_same_row(columns: &[Path], form: Option<&Packed>, other: Option<&Packed>) -> bool
+    ensures { result ≡ true → HaveSameRow columns.now (option_map (λ v. v.now) form.entry)
+        (option_map (λ v. v.now) other.entry) }
 {
     match (form, other) {
-        (Some(form), Some(other)) => have_same_key(columns, form, other),
+        (Some(form), Some(other)) => have_same_key(columns, &form.part(), &other.part()),
         (None, None) => true,
         _ => false,
     }
@@ -188,17 +199,18 @@ impl IndexRows {
     ///
     /// Errors: `NoMemory` where a growth was refused; the index is then of no more use.
     /// Cost: a look at the parts of both forms at the columns, and where these differ both rows, put together in the scratch that is
-    /// lent, the way to both, and once the top of pages that others share. A row that stays costs no memory.
+    /// lent, the way to both, and once the top of pages that others share. A row that stays costs no memory, unless an array or an
+    /// object is among its columns.
     pub(crate) fn mend(
         &mut self,
         alloc: Global,
         scratch: &mut KeyBytes,
         id: &str,
-        before: Option<&Json>,
-        after: Option<&Json>,
+        before: Option<&Packed>,
+        after: Option<&Packed>,
     ) -> Result<(), NoMemory>
         ensures definition { OnOk result (self.new.definition ≡ self.old.definition) }
-        ensures rows { OnOk result ((ds : KeptDocuments) (d : Kept) → option_map (λ v. view v.now) before.entry ≡ form_at ds id.now → option_map (λ v. view v.now) after.entry ≡ d.1
+        ensures rows { OnOk result ((ds : KeptDocuments) (d : Kept) → option_map (λ v. v.now) before.entry ≡ form_at ds id.now → option_map (λ v. v.now) after.entry ≡ d.1
             → arc_value self.old.rows ≡ rows_of (arc_value self.old.definition).columns (docs_of ds)
             → arc_value self.new.rows ≡ rows_of (arc_value self.old.definition).columns (docs_of (insert ds id.now d))) }
     {

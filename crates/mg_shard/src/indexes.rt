@@ -5,7 +5,6 @@ ghost use Rattle.std.specs.FinMap.{insert};
 ghost use Rattle.std.specs.List.{filter, find, AllByRecursion};
 ghost use Rattle.std.specs.Ordering.{is_gt, is_lt};
 ghost use Rattle.mg_index.specs.Catalog.{definition_order, is_at};
-ghost use Rattle.mg_value.specs.View.{view};
 ghost use Rattle.mg_shard.specs.Documents.{form_at, kept_of, shown};
 ghost use Rattle.mg_shard.specs.Index.{HasRows, definitions_of, index_seen, indexes_seen};
 ghost use Rattle.mg_pages.specs.Order.{inserted};
@@ -13,9 +12,10 @@ ghost use Rattle.mg_pages.specs.Order.{inserted};
 use crate::document::Document;
 use crate::index::IndexRows;
 use mg_index::IndexDef;
+use mg_packed::Packed;
 use mg_pages::{Pages, Shared};
 use mg_rows::{KeyBytes, RowBytes};
-use mg_value::{Json, NoMemory};
+use mg_value::NoMemory;
 use std::alloc::Global;
 use std::cmp::Ordering;
 
@@ -141,11 +141,11 @@ pub(crate) fn without(
 }
 
 // The form in which the document of an id is served, if there is one and it is.
-fn form_in<'a>(documents: &'a Pages<Shared<Document>>, id: &str) -> Option<&'a Json>
-    ensures { option_map (λ v. view v.now) result ≡ form_at (shown documents.now) id.now }
+fn form_in<'a>(documents: &'a Pages<Shared<Document>>, id: &str) -> Option<&'a Packed>
+    ensures { option_map (λ v. v.now) result ≡ form_at (shown documents.now) id.now }
 {
     match documents.get(&id) {
-        Some(document) => document.get().form(),
+        Some(document) => document.get().packed(),
         None => None,
     }
 }
@@ -167,7 +167,7 @@ pub(crate) fn mend_all(
         → AllByRecursion (HasRows (insert (shown documents.now) (string_bytes document.now.id) (kept_of document.now))) (indexes_seen indexes.new)) }
 {
     let before = form_in(documents, &document.id);
-    let after = document.form();
+    let after = document.packed();
     for i in 0..indexes.len() {
         let index = &mut indexes[i];
         index.mend(alloc, scratch, &document.id, before, after)?;

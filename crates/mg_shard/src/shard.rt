@@ -4,7 +4,6 @@ ghost use Rattle.std.specs.Arc.{arc_value};
 ghost use Rattle.std.specs.FinMap as finite;
 ghost use Rattle.std.specs.FinMap.{entries, get};
 ghost use Rattle.std.specs.declared.cmp.Ordering.{Ordering};
-ghost use Rattle.mg_value.specs.View.{view};
 ghost use Rattle.mg_value.specs.Text.{compact};
 ghost use Rattle.mg_shard.specs.Documents.{Kept, docs_of, kept_entry, form_at, id_of, kept_of, tree_at, StandFor};
 ghost use Rattle.mg_shard.specs.Own.{HasOwnId};
@@ -31,11 +30,12 @@ use crate::walk::{Documents, Rows, Walk, count_beyond};
 use mg_collate::Direction;
 use mg_doc::Edit;
 use mg_index::IndexDef;
+use mg_packed::Part;
 use mg_pages::{Pages, Probe, Shared};
 use mg_path::Path;
 use mg_revtree::RevTree;
 use mg_rows::{KeyBytes, RowBytes};
-use mg_value::{Json, NoMemory};
+use mg_value::NoMemory;
 use std::alloc::Global;
 use std::cmp::Ordering;
 use std::marker::Model;
@@ -103,8 +103,8 @@ impl Shard {
 
     /// The form in which the document of an id is served, if it is there and not deleted. Takes no memory.
     /// Cost: one look-up.
-    pub fn served(&self, id: &str) -> Option<&Json>
-        ensures { option_map (λ v. view v.now) result ≡ form_at self.now.documents id.now }
+    pub fn served(&self, id: &str) -> Option<Part<'_>>
+        ensures { result ≡ form_at self.now.documents id.now }
     {
         match self.document(id) {
             Some(document) => document.form(),
@@ -306,7 +306,7 @@ impl Shard {
         let mut rows = Vec::new(alloc);
         let mut scratch = KeyBytes::new(alloc);
         for (id, form) in self.docs() {
-            if let Some(row) = row_in(alloc, &mut scratch, columns, id, form)? {
+            if let Some(row) = row_in(alloc, &mut scratch, columns, id, &form)? {
                 rows.push(row)?;
             }
         }

@@ -8,13 +8,13 @@ use Rattle.mg_scan.proofs.Own.{among_own}
 use Rattle.mg_scan.proofs.Sources.{on_late}
 use Rattle.mg_scan.proofs.lead_source.lead_of_documents.Goals as goal
 use Rattle.mg_shard.specs.Documents.{form_of}
-use Rattle.mg_value.specs.View.{items_view}
+use Rattle.mg_value.specs.Value.{item, no_items}
 
 pub returns-then-is_past_id-clause-end : goal.returns-then-is_past_id-clause-end
 returns-then-is_past_id-clause-end c =
     let s = c.args.search in
     let d = c.in-Some.document.now in
-    let key = items_view c.in-Some-id_key._key.now in
+    let key = item c.in-Some-id_key._key no_items in
     let id = c.id-id.result.now in
     on_late (is_late_row s.direction s.range.now) (holds_for everything d) (walked_documents (unasked s) c.args.documents.now) (id_row id) (walked_documents (unasked s) c.next.new.self)
     (sym c.is_past_id.ensures ∙ c.if-is_past_id.true)
@@ -24,7 +24,7 @@ pub returns-in-Some-clause-lead : goal.returns-in-Some-clause-lead
 returns-in-Some-clause-lead c =
     let s = c.args.search in
     let d = c.in-Some.document.now in
-    let key = items_view c.in-Some-id_key._key.now in
+    let key = item c.in-Some-id_key._key no_items in
     let id = c.id-id.result.now in
     let rest = walked_documents (unasked s) c.next.new.self in
     on_lead (is_late_row s.direction s.range.now) (holds_for everything d) (walked_documents (unasked s) c.args.documents.now) (id_row id) rest

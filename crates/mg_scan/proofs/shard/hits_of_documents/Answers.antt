@@ -9,7 +9,7 @@ use Rattle.mg_scan.proofs.Steps.{held, hits_one, neither, one_left, room, walk_e
 use Rattle.mg_scan.proofs.shard.hits_of_documents.Goals as goal
 use Rattle.mg_shard.specs.Documents.{kept_entry, id_of, kept_of}
 use Rattle.mg_shard.specs.declared.document.Document.{Document}
-use Rattle.mg_value.specs.View.{items_view}
+use Rattle.mg_value.specs.Value.{item, no_items}
 
 pub returns-clause-rows : goal.returns-clause-rows
 returns-clause-rows c =
@@ -26,7 +26,7 @@ returns-then-is_over_at_id-clause-rows c =
     let s = c.args.search in
     let ds = c.args.shard.now.documents in
     let d = c.in-Some.document.now in
-    let key = items_view c.in-Some-id_key._key.now in
+    let key = item c.in-Some-id_key._key no_items in
     let id = c.id-id.result.now in
     let hits = l.hits.items in
     let r = id_row id in
@@ -43,7 +43,7 @@ loop-document-preserved c =
     let s = c.args.search in
     let ds = c.args.shard.now.documents in
     let d = c.in-Some.document.now in
-    let key = items_view c.in-Some-id_key._key.now in
+    let key = item c.in-Some-id_key._key no_items in
     let id = c.id-id.result.now in
     let hits = l.hits.items in
     let r = id_row id in

@@ -6,7 +6,7 @@ use Rattle.mg_scan.proofs.Own.{among_own}
 use Rattle.mg_scan.proofs.Sources.{among_none, on_hit, on_late, on_miss}
 use Rattle.mg_scan.proofs.source.next_of_documents.Goals as goal
 use Rattle.mg_shard.specs.declared.document.Document.{Document}
-use Rattle.mg_value.specs.View.{items_view}
+use Rattle.mg_value.specs.Value.{item, no_items}
 
 pub loop-document-preserved-in_default-id_key : goal.loop-document-preserved-in_default-id_key
 loop-document-preserved-in_default-id_key c =
@@ -21,7 +21,7 @@ pub returns-then-is_past_id-clause-end : goal.returns-then-is_past_id-clause-end
 returns-then-is_past_id-clause-end c =
     let s = c.args.search in
     let d = c.in-Some.document.now in
-    let key = items_view c.in-Some-id_key._key.now in
+    let key = item c.in-Some-id_key._key no_items in
     let id = c.id-id.result.now in
     on_late (is_late_row s.direction s.range.now) (holds_for s.normal.now d) (walked_documents s c.args.documents.now) (id_row id) (walked_documents s c.next.new.self)
     (sym c.is_past_id.ensures ∙ c.if-is_past_id.true)
@@ -34,7 +34,7 @@ pub returns-then-is_some-clause-hit : goal.returns-then-is_some-clause-hit
 returns-then-is_some-clause-hit c =
     let s = c.args.search in
     let d = c.in-Some.document.now in
-    let key = items_view c.in-Some-id_key._key.now in
+    let key = item c.in-Some-id_key._key no_items in
     let id = c.id-id.result.now in
     on_hit (is_late_row s.direction s.range.now) (holds_for s.normal.now d) (walked_documents s c.args.documents.now) (id_row id) (walked_documents s c.next.new.self) c.hit_of-hit.result
     (sym c.is_past_id.ensures ∙ c.if-is_past_id.false) c.hit_of-hit.ensures.row
@@ -50,7 +50,7 @@ pub loop-document-preserved : goal.loop-document-preserved
 loop-document-preserved c =
     let s = c.args.search in
     let d = c.in-Some.document.now in
-    let key = items_view c.in-Some-id_key._key.now in
+    let key = item c.in-Some-id_key._key no_items in
     let id = c.id-id.result.now in
     record {
       left = λ ds kept. (subst (λ (xs : List Document). AreKept ds xs) c.in-Some.ensures.steps (c.loop-document.invariant.left ds kept)).1;

@@ -3,7 +3,6 @@ use Rattle.std.proofs.Math.ListN.{drop_of_length-le}
 use Rattle.mg_index.specs.Definition.{Steps}
 use Rattle.mg_path.specs.Part.{part_of}
 use Rattle.mg_value.specs.Value.{Items, Value, item}
-use Rattle.mg_value.specs.View.{view}
 use Rattle.mg_shard.specs.Rows.{row_key}
 use Rattle.mg_shard.proofs.Keyed.{row_key-more}
 use Rattle.mg_shard.proofs.Keys.{drop_item}
@@ -12,8 +11,8 @@ use Rattle.mg_shard.proofs.index.have_same_key.Goals as goal
 pub loop-column-preserved : goal.loop-column-preserved
 loop-column-preserved c = λ rest.
     let l = c.loop-column in
-    let form = view c.args.form.now in
-    let other = view c.args.other.now in
+    let form = c.args.form.now in
+    let other = c.args.other.now in
     let column = c.column-item.result in
     let more = drop (l.column-index + 1) c.args.columns.now in
     let step : drop l.column-index c.args.columns.now ≡ column ∷ more = drop_item c.args.columns.now l.column-index column c.loop-column-test.true c.column-item.is in
@@ -27,4 +26,4 @@ pub returns : goal.returns
 returns c = λ yes.
     let l = c.loop-column in
     let none : drop l.column-index c.args.columns.now ≡ [] = drop_of_length-le c.args.columns.now c.loop-column-test.false in
-    l.invariant (ap (λ (cs : List Steps). row_key cs (view c.args.form.now)) none ∙ sym (ap (λ (cs : List Steps). row_key cs (view c.args.other.now)) none))
+    l.invariant (ap (λ (cs : List Steps). row_key cs c.args.form.now) none ∙ sym (ap (λ (cs : List Steps). row_key cs c.args.other.now) none))
