@@ -1,15 +1,9 @@
 -- The bytes of things one after another.
-use Rattle.std.proofs.Common.{Result, Ok, Err, OnErr, ◌≡◌, ℕ, zero, suc, ◌+◌, ◌/◌, ◌%◌, ◌<◌, ◌≤◌, arith, List, [], ◌∷◌, ◌++◌, drop, get_or, length, IsUtf8, Ordering, Less, string_bytes, String, Global, true, false, refl, sym, ap, ◌∙◌, append_assoc}
+use Rattle.std.proofs.Common.{Result, Ok, Err, OnErr, ◌≡◌, ℕ, zero, suc, ◌+◌, ◌/◌, ◌%◌, ◌<◌, ◌≤◌, arith, List, [], ◌∷◌, ◌++◌, drop, get_or, length, IsUtf8, Ordering, true, false, refl, sym, ap, ◌∙◌, append_assoc}
 use Rattle.std.proofs.lemmas.List.{drop_more}
-use Rattle.std.specs.List.{AllByRecursion}
-use Rattle.std.specs.List.Sorted.{IsStrictlySortedBy}
-use Rattle.std.specs.Map.{keys_of}
-use Rattle.std.specs.String.{string_cmp}
-use Rattle.mg_value.specs.Held.{AllAfter}
 use Rattle.mg_value.specs.Value.{Value, null, flag, whole, text, list, object, Items, no_items, item, Members, no_members, member}
-use Rattle.mg_value.specs.View.{view, items_view, members_view}
+use Rattle.mg_value.specs.View.{view, items_view}
 use Rattle.mg_value.specs.declared.value.Json.{Json}
-use Rattle.mg_value.proofs.Views.{Entry}
 use Rattle.mg_collate.specs.Row.{RowValue}
 use Rattle.mg_rows.specs.Bytes.{bytes_order, big_endian, sign_turned, text_before, value_before, items_before, members_before, columns_before, row_bytes}
 use Rattle.mg_rows.specs.Stored.{IsStored, AreStored, IsKey, IsRow}
