@@ -75,6 +75,7 @@ impl<'a, T: Keyed> Iterator for Back<'a, T> {
 
     ghost remaining = { λ s. at_most (length s) };
 
+    #[inline(always)]
     fn next(&mut self) -> Option<&'a T> {
         let run = self.run;
         if run.len() > 0 {

@@ -26,6 +26,7 @@ impl<'a, T: Keyed> Model for Iter<'a, T> {
 }
 
 // What is left of a run after its first element, or the run that comes next.
+#[inline(always)]
 fn rest_of<'a, T: Keyed>(pages: &'a Pages<T>, run: &'a [T]) -> &'a [T]
     requires { 0 < length run.now }
     ensures { (x : T) (xs : List T) → run.now ≡ x ∷ xs
@@ -77,6 +78,7 @@ impl<'a, T: Keyed> Iterator for Iter<'a, T> {
 
     ghost remaining = { λ s. at_most (length s) };
 
+    #[inline(always)]
     fn next(&mut self) -> Option<&'a T> {
         let run = self.run;
         if run.len() > 0 {

@@ -7,6 +7,7 @@ use std::alloc::AllocError;
 use std::cmp::Ordering;
 
 impl Element for RowBytes {
+    #[inline(always)]
     fn again(&self) -> Result<RowBytes, AllocError> {
         match RowBytes::again(self) {
             Ok(row) => Ok(row),
@@ -14,6 +15,7 @@ impl Element for RowBytes {
         }
     }
 
+    #[inline(always)]
     fn owners(&self) -> usize {
         self.sharers()
     }

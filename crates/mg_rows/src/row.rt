@@ -77,6 +77,7 @@ impl RowBytes {
     /// An equal row: one of up to 45 bytes is a copy of these, and a longer one shares them.
     ///
     /// Errors: `NoMemory` where a row of more bytes has 2^64 - 1 copies. Takes no memory.
+    #[inline(always)]
     pub fn again(&self) -> Result<RowBytes, NoMemory>
         ensures { IfOk result (λ row. row ≡ self.now) }
     {
@@ -142,6 +143,7 @@ impl RowBytes {
     }
 
     // How many copies share the row's block; 1 where it has none.
+    #[inline(always)]
     pub(crate) fn sharers(&self) -> usize {
         self.bytes.sharers()
     }

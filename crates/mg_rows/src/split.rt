@@ -67,6 +67,7 @@ impl SplitBytes {
     }
 
     /// The same bytes. Takes no memory.
+    #[inline(always)]
     pub(crate) fn again(&self) -> Result<SplitBytes, NoMemory>
         ensures { IfOk result (λ split. split ≡ self.now) }
     {
@@ -75,11 +76,13 @@ impl SplitBytes {
     }
 
     /// How many copies share the memory; 1 where there is none.
+    #[inline(always)]
     pub(crate) fn sharers(&self) -> usize {
         sharers_of(&self.held)
     }
 }
 
+#[inline(always)]
 fn sharers_of(held: &Held) -> usize {
     match held {
         Held::Inline(_, _, _) => 1,
@@ -140,6 +143,7 @@ fn end_of(held: &Held) -> usize
     }
 }
 
+#[inline(always)]
 fn hold_again(held: &Held) -> Result<Held, NoMemory>
     requires { IsSound held.now }
     ensures bytes { IfOk result (λ again. held_bytes again ≡ held_bytes held.now) }

@@ -98,6 +98,7 @@ impl<'a, T: Keyed> Iterator for Walk<'a, T> {
 
     ghost remaining = { λ s. at_most (length s) };
 
+    #[inline(always)]
     fn next(&mut self) -> Option<&'a T> {
         match &mut self.way {
             Way::Up(things) => things.next(),
@@ -162,6 +163,7 @@ impl<'a> Iterator for Documents<'a> {
 
     ghost remaining = { λ s. at_most (length s) };
 
+    #[inline(always)]
     fn next(&mut self) -> Option<&'a Document> {
         match self.documents.next() {
             Some(document) => Some(document.get()),
