@@ -35,7 +35,7 @@ pub(crate) fn shown(
     tree: &RevTree,
 ) -> Result<Json, NoMemory>
     ensures { IfOk result (λ v. (id : List ℕ) (h : Paths) → StandsFor tree.now h
-        → view v ≡ shown_of (query_seen query.now) (record { id = id; form = form; history = h })) }
+        → view v ≡ shown_of (query_seen query.now) (record { id = id; form = form.entry; history = h })) }
 {
     if query.conflicts {
         let whole = with_conflicts(alloc, form.copy(alloc)?, tree)?;
