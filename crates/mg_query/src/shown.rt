@@ -58,7 +58,7 @@ fn parts_in(alloc: Global, fields: &[Path], document: Json) -> Result<Json, NoMe
 
 // The same of a document that is lent.
 fn parts_of(alloc: Global, fields: &[Path], document: Part<'_>) -> Result<Json, NoMemory>
-    ensures { IfOk result (λ v. view v ≡ projected fields.now document) }
+    ensures { IfOk result (λ v. view v ≡ projected fields.now document.entry) }
 {
     if fields.is_empty() {
         document.copy(alloc)
