@@ -16,7 +16,7 @@ not_answered value page_fault.NoUsableIndex r h = ap (told_or_refused value) h
 not_answered value page_fault.BadBookmark r h = ap (told_or_refused value) h
 not_answered value page_fault.NoMemory r h = tt
 
--- the reason why there is no text of a page is the reason why there is no page
+-- if there is no text of the page for this reason, there is no page for this reason
 no_text : (e : PageError) (r : Result Page Unanswered) → Refuses e (text_of r) → Refuses e r
 no_text page_fault.NoUsableIndex (Ok p) h = absurd cc
 no_text page_fault.NoUsableIndex (Err why) h = ap (λ r. as_page why r) h

@@ -199,7 +199,7 @@ abbrev pub replies_of : World → List Asked → List Answer
 replies_of w [] = []
 replies_of w (c ∷ cs) = reply_of w c ∷ replies_of (next w c) cs
 
--- the world that commands leave, executed in order
+-- the world after commands, executed in order
 abbrev pub world_after : World → List Asked → World
 world_after w [] = w
 world_after w (c ∷ cs) = world_after (next w c) cs

@@ -22,6 +22,6 @@ other_answers cs answers = []
 abbrev pub ReshardsChangeNoReply : Type 0
 ReshardsChangeNoReply = (w : World) (cs : List Asked) → other_answers cs (replies_of w cs) ≡ replies_of w (without_reshards cs)
 
--- reshards change no world: it is the one that the other commands leave
+-- reshards do not change the world that the other commands leave
 abbrev pub ReshardsChangeNoWorld : Type 0
 ReshardsChangeNoWorld = (w : World) (cs : List Asked) → world_after w cs ≡ world_after w (without_reshards cs)

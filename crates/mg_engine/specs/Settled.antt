@@ -27,7 +27,7 @@ IsSettled r next = is_some next ≡ accepts r
 abbrev pub shard_without : List ℕ → List ℕ → ShardView → ShardView
 shard_without ddoc name s = record s { definitions = without_definition ddoc name s.definitions }
 
--- a state with an index over all its shards
+-- a state with an index on all its shards
 abbrev pub state_with : IndexDefinition → Shown → Shown
 state_with d s = record s { catalog = with_definition d s.catalog; shards = map (with_index d) s.shards }
 

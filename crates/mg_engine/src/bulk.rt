@@ -18,7 +18,7 @@ pub(crate) struct Bulk<'a> {
     pub(crate) documents: &'a [Json],
 }
 
-/// Reads the shape of a bulk. `None` if the body has another shape, or a document is not an object.
+/// Reads a body as a bulk, without its edits. `None` if the body has another shape, or a document is not an object.
 pub(crate) fn read_bulk(body: &Json) -> Option<Bulk<'_>>
     ensures { option_map bulk_seen result ≡ bulk_of (view body.now) }
 {

@@ -15,7 +15,7 @@ pub enum Command {
     DropIndex { ddoc: String, name: String },
     /// Lists the indexes.
     ListIndexes,
-    /// A query: `{"selector":{..},"fields":[..],"sort":[..],"limit":..,"skip":..,"bookmark":..,"use_index":..,"conflicts":..}`.
+    /// Answers a query: `{"selector":{..},"fields":[..],"sort":[..],"limit":..,"skip":..,"bookmark":..,"use_index":..,"conflicts":..}`.
     Find(Json),
     /// Explains a query: which index serves it, and which range of the index it looks at.
     Explain(Json),

@@ -107,7 +107,7 @@ fn edit_one<P: Placement>(
     Ok(Outcome { id, reply })
 }
 
-// Finishes the drafts of all shards. A shard whose draft touched no document stays, shared.
+// Finishes the drafts of all shards. A shard whose draft touched no document is kept, and shared.
 fn finished(
     alloc: Global,
     drafts: Vec<Draft<'_>>,
@@ -124,7 +124,7 @@ fn finished(
     Ok(left)
 }
 
-// Finishes the draft of a shard. If it touched no document, the shard stays, shared.
+// Finishes the draft of a shard. If it touched no document, the shard is kept, and shared.
 fn left_by(alloc: Global, draft: Draft<'_>, shard: &Arc<Shard>) -> Result<Arc<Shard>, NoMemory>
     requires { draft.shard ≡ arc_value shard.now }
     ensures { IfOk result (λ s. Leaves draft.entry (arc_value s)) }

@@ -56,10 +56,10 @@ impl<P: Placement + Drop> Engine<P> {
         Ok(Engine { placement, state })
     }
 
-    /// Executes one command and returns its reply. Where memory is refused, nothing has changed.
+    /// Executes one command and returns its reply. Where memory is refused, nothing changes.
     ///
     /// The number of workers, 1 to 32, does not change the reply. It is a maximum: a query that is not worth a second thread runs on
-    /// the caller's.
+    /// the thread of the caller.
     ///
     /// Cost: a bulk costs its edits, each with its document and its rows. A query costs its page if an index serves it, otherwise the
     /// documents that it looks at until the page is found. A new index, or another number of shards, costs every document.
@@ -113,8 +113,8 @@ impl<P: Placement + Drop> Engine<P> {
         reply
     }
 
-    /// Returns the reply to a read, with at most `workers` workers: a query that is not worth a second thread runs on the caller's.
-    /// Cost: as of `step`.
+    /// Returns the reply to a read, with at most `workers` workers: a query that is not worth a second thread runs on the thread of the
+    /// caller. Cost: as of `step`.
     pub fn reply<R: Threads + Sync>(
         &self,
         rt: &R,

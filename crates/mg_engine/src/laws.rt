@@ -15,7 +15,7 @@ pub fn reshards_change_no_reply()
     ensures { ReshardsChangeNoReply }
 {}
 
-/// Reshards change no world: it is the one that the other commands leave.
+/// Reshards do not change the world that the other commands leave.
 pub fn reshards_change_no_world()
     ensures { ReshardsChangeNoWorld }
 {}

@@ -21,7 +21,7 @@ pub(crate) enum ReadBulk {
     Refused(Refusal),
 }
 
-/// A command that was read ahead: the edits of a bulk, nothing of other commands. Contracts see it as what the command asks.
+/// A command, with the edits of its body if it is a bulk. Contracts see it as what the command asks.
 #[derive(Drop)]
 pub struct Prepared<'a> {
     pub(crate) command: &'a Command,

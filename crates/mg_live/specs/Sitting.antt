@@ -45,8 +45,8 @@ Reads name old c (Some a) new = IsLater old new × (a ≡ reply_of (world_of nam
 abbrev pub tally_after : ℕ → Answer → ℕ
 tally_after tally a = if is_accepted a then tally + 1 else tally
 
--- the write is answered after a list of commits, of which the seat had seen a prefix. The seat has then seen this list; if the write was
--- accepted, it is at the end of the list, and the seat's tally counts it
+-- the write is answered after a list of commits, of which the seat had seen a prefix. The seat has then seen this list and, if the write
+-- was accepted, the write as its last commit, which the seat's tally counts
 pub record Written (name : List ℕ) (old : Sitting) (c : Asked) (a : Answer) (new : Sitting) : Type 0 where
   pub commits : List Commit
   pub later : IsPrefix old.seen commits

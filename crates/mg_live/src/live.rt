@@ -213,7 +213,7 @@ where
     Snapshot<P>: Absorb<(), State = ()>,
 {
     /// Opens an empty database named `db`, with 1 to 64 shards, on which `placement` places the documents, and 1 to 16 seats, which are
-    /// numbered from 0. The ledger has one part for each seat. `ends` ends the database once it and all its seats are dropped.
+    /// numbered from 0. The ledger has one part for each seat. `ends` ends the database once this `Live` and all seats are dropped.
     ///
     /// Errors: `NoMemory` where a growth was refused. Cost: the number of shards and of seats, and the name.
     pub fn open(

@@ -34,7 +34,7 @@ pub(crate) type Reads<D, P> = Reader<Snapshot<P>, (), Ours<D, P>>;
 pub type Writes<D, P> = Writer<Snapshot<P>, (), (), Ours<D, P>>;
 
 /// Publishes a snapshot in one step, which takes no memory and cannot fail. It waits for the readers that still look at the copy that
-/// the snapshot replaces, and returns this copy: dropping it may cost as much as what it does not share.
+/// the snapshot replaces, and returns this copy: dropping it may cost as much as what it alone holds.
 pub(crate) fn publish<D: Database, P: Placement + Drop, R: Wait>(
     rt: &R,
     writer: &mut Writes<D, P>,

@@ -101,7 +101,7 @@ where
 {
     /// Catches up with what is published, and returns the database after the commits that the seat has then seen. It waits for nobody.
     ///
-    /// Errors: `NoMemory` where the snapshot cannot be had. Cost: the same for any documents.
+    /// Errors: `NoMemory` where the snapshot cannot be taken. Cost: the same for any documents.
     pub fn snapshot(&mut self) -> Result<Snapshot<P>, NoMemory>
         ensures later { IsLater self.old self.new }
         ensures snapshot { IfOk result (λ s. StandsAfter P.place D.db D.shards s self.new.seen) }
@@ -231,7 +231,7 @@ where
 
     /// Catches up with all commits, under the writer's lock, and returns what another seat can `learn`: the list that is published then.
     ///
-    /// Errors: `NoMemory` where the seat is ahead of what is published; then it is as it was.
+    /// Errors: `NoMemory` where the seat is ahead of what is published; then the seat is as it was.
     pub fn share<R: Wait>(&mut self, rt: &R) -> Result<Seen<D>, NoMemory>
         ensures later { IsLater self.old self.new }
         ensures seen { IfOk result (λ s. s ≡ self.new.seen) }

@@ -6,14 +6,14 @@ use Rattle.mg_engine.specs.Commands.{Asked, Answer, is_write, reply_of, replies_
 use Rattle.mg_machine.specs.Machine.{Commit, Event, publish, enter, answer, told, Machine, opened, seen_by, commands_of, world_of, happens, machine_after}
 use Rattle.mg_engine.specs.Settled.{is_accepted}
 
--- the seats of an event are among these, which are numbered from 0
+-- the seats that an event names exist: this many seats are numbered from 0
 abbrev pub IsAt : ℕ → Event → Type 0
 IsAt seats (publish seat c) = seat < seats
 IsAt seats (enter seat) = seat < seats
 IsAt seats (answer seat c) = seat < seats
 IsAt seats (told seat by) = (seat < seats) × (by < seats)
 
--- the seats of all events are among these
+-- the seats that the events name exist
 abbrev pub AreAt : ℕ → List Event → Type 0
 AreAt seats [] = Unit {0}
 AreAt seats (e ∷ es) = IsAt seats e × AreAt seats es

@@ -53,7 +53,7 @@ shards_of opened cs = shards_after_all opened (commands_of cs)
 abbrev pub are_full : List Commit → Bool
 are_full cs = length cs == 18446744073709551615
 
--- the reply to a write after these commits. If there can be no more commits, this is refused before anything else
+-- the reply to a write after these commits. If there can be no more commits, it is `TooLarge`, before any other refusal
 abbrev pub write_reply : List ℕ → List Commit → Asked → Answer
 write_reply name cs c = if are_full cs then refused TooLarge else reply_of (world_of name cs) c
 
