@@ -79,7 +79,7 @@ where
         }
     }
 
-    /// Applies a bulk of edits, by 1 to 32 workers.
+    /// Applies a bulk of edits, on the thread of the caller. `workers` is 1 to 32 and has no effect.
     pub fn bulk<R: Wait + Threads + Sync>(&mut self, rt: &R, body: &Json, workers: usize) -> Reply
         requires some { 1 ≤ workers }
         requires most { workers ≤ 32 }
@@ -108,7 +108,7 @@ where
         }
     }
 
-    /// Drops the index of a design document and a name, by 1 to 32 workers.
+    /// Drops the index of a design document and a name, on the thread of the caller. `workers` is 1 to 32 and has no effect.
     pub fn drop_index<R: Wait + Threads + Sync>(
         &mut self,
         rt: &R,
