@@ -1,4 +1,4 @@
--- Trees of parsed text whose values are whole, a list's and an object's part at a time.
+-- Parse trees all of whose numbers are whole, one item or member at a time.
 use Rattle.std.proofs.Common.{◌≡◌, ℕ, ℤ, List, [], ◌∷◌, ◌++◌, Option, Some, None, option_map, option_and_then, Global, refl, ap, ◌∙◌}
 use Rattle.json.specs.Value.{value_view, items_view as tree_items}
 use Rattle.json.specs.declared.value.Value.{Value as Tree}
