@@ -75,7 +75,7 @@ impl<X: Drop> Deref for Shared<X> {
 }
 
 /// Prefetch: reads the reference count of each element, and returns their sum, wrapped at 64 bits. Cache misses of reads overlap,
-/// but those of updates follow one another. So elements are read here before they are copied or dropped.
+/// but those of updates follow one another; so this runs before elements are copied or dropped.
 pub fn owners_of<T: Element>(elements: &[T]) -> usize {
     let mut owners = 0usize;
     for element in elements {

@@ -17,7 +17,7 @@ number_parts_at : (o : Option Num) (z : ℤ) → option_and_then as_i64 o ≡ So
 number_parts_at None z e = absurd cc
 number_parts_at (Some n) z e = (n, refl, e)
 
--- the number behind a numeral
+-- a numeral that is whole is a number that is held as an i64
 pub number_parts : (s : List ℕ) (z : ℤ) → whole_number_of s ≡ Some z → (n : Num) × (number_of s ≡ Some n) × (as_i64 n ≡ Some z)
 number_parts s z e = number_parts_at (number_of s) z e
 
