@@ -1,4 +1,4 @@
--- The UTF-8 bytes of texts are in the order of their code points.
+-- Texts have the same order by their UTF-8 bytes as by their code points.
 use Rattle.std.proofs.Common.{◌≡◌, ℕ, ◌+◌, ◌/◌, ◌%◌, ◌<◌, ◌≤◌, inl, inr, List, [], ◌∷◌, ◌++◌, Ordering, Less, Equal, Greater, nat_cmp, refl, sym, ap, ◌∙◌, lt-ltb, le-ltb, arith}
 use Rattle.std.proofs.Math.Nat.{div-div-eq-div-mul}
 use Rattle.std.proofs.lemmas.Bool.{cond-true, cond-false, cases_lt}
@@ -22,7 +22,7 @@ encode_four : (c : ℕ) → 65536 ≤ c → encode_utf8 c ≡ (240 + c / 262144)
 unfolding encode_utf8
 encode_four c low = cond-false _ _ _ (le-ltb c 128 (omega arith)) ∙ cond-false _ _ _ (le-ltb c 2048 (omega arith)) ∙ cond-false _ _ _ (le-ltb c 65536 low)
 
--- how many bytes a character takes, with what they are
+-- the UTF-8 bytes of a character, by their number
 data Bytes (c : ℕ) : Type 0 where
   one : c < 128 → encode_utf8 c ≡ c ∷ [] → Bytes c
   two : 128 ≤ c → c < 2048 → encode_utf8 c ≡ (192 + c / 64) ∷ (128 + c % 64) ∷ [] → Bytes c
@@ -48,7 +48,7 @@ first_below x y s t h = ap (λ o. ordering_then o (slice_cmp nat_cmp s t)) (sym 
 first_same : (x y : ℕ) (s t : List ℕ) → x ≡ y → slice_cmp nat_cmp s t ≡ Less → slice_cmp nat_cmp (x ∷ s) (y ∷ t) ≡ Less
 first_same x y s t e h = ap (λ o. ordering_then o (slice_cmp nat_cmp s t)) (sym (nat_cmp_is x y Equal e)) ∙ h
 
--- the first byte decides, or else the next
+-- the first bytes decide, or the next where they are equal
 then_next : (x y : ℕ) (s t : List ℕ) → x ≤ y → (x ≡ y → slice_cmp nat_cmp s t ≡ Less) → slice_cmp nat_cmp (x ∷ s) (y ∷ t) ≡ Less
 then_next x y s t h next = elim (cases_lt x y) [ inl k ↦ first_below x y s t k | inr k ↦ let e : x ≡ y = omega arith in first_same x y s t e (next e) ]
 

@@ -32,7 +32,7 @@ pub directed_ties : (direction : Direction) (a b : RowValue) → directed_order 
 directed_ties Asc a b h = same_rows a b h
 directed_ties Desc a b h = same_rows a b (was_equal (row_value_order a b) h)
 
--- ---- descending is ascending from its end
+-- ---- descending order is ascending order reversed
 
 rises_append : (direction : Direction) (rows : List RowValue) (row : RowValue) → Rises (directed_order direction) rows → AllByRecursion (λ r. is_gt (directed_order direction r row) ≡ false) rows
     → Rises (directed_order direction) (rows ++ row ∷ [])

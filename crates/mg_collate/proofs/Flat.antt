@@ -22,7 +22,7 @@ then_assoc Less p q = refl
 then_assoc Equal p q = refl
 then_assoc Greater p q = refl
 
--- lists that agree as far as they go, and then s and t
+-- two numbers decide, and then s and t
 whole_cut : (o p : Ordering) → ordering_then o p ≡ ordering_then (ordering_then o Equal) p
 whole_cut o p = ap (λ x. ordering_then x p) (sym (then_equal o))
 
@@ -70,7 +70,7 @@ above_zero (object ms) s t = refl
 abbrev Cut : Value → Value → Type 0
 Cut v w = (s t : List ℤ) → cmp (flat v ++ s) (flat w ++ t) ≡ ordering_then (value_order v w) (cmp s t)
 
--- a value, and then lists that are cut so too
+-- a value and then a list decide before s and t, where each of them does
 pair_cut : (v w : Value) (xs ys s t : List ℤ) → Cut v w → cmp (xs ++ s) (ys ++ t) ≡ ordering_then (cmp xs ys) (cmp s t)
     → cmp ((flat v ++ xs) ++ s) ((flat w ++ ys) ++ t) ≡ ordering_then (cmp (flat v ++ xs) (flat w ++ ys)) (cmp s t)
 pair_cut v w xs ys s t cut rest =

@@ -1,4 +1,4 @@
--- Sorting by a total order whose ties are equal: a list in order is known by how often each element stands in it.
+-- Sorting by a total order that ties only equal elements: how often each element occurs determines a list in order.
 use Rattle.std.proofs.Common.{◌≡◌, ℕ, zero, suc, ◌+◌, ◌<◌, List, [], ◌∷◌, ◌++◌, length, get_or, Bool, true, false, cond, if◌then◌else◌, Ordering, Less, Equal, Greater, is_eq, is_lt, is_gt, refl, sym, ap, ap₂, ◌∙◌, subst, arith}
 use Rattle.std.specs.Cmp.{IsTotalOrder}
 use Rattle.std.specs.List.{AllByRecursion}
@@ -18,7 +18,7 @@ abbrev pub Rises : {X : Type 0} → (X → X → Ordering) → List X → Type 0
 Rises order [] = Unit {0}
 Rises order (x ∷ xs) = NoneBelow order x xs × Rises order xs
 
--- how often x stands in the list
+-- how often x occurs in the list
 abbrev pub times : {X : Type 0} → (X → X → Ordering) → X → List X → ℕ
 times order x [] = 0
 times order x (y ∷ ys) = cond (is_eq (order x y)) (1 + times order x ys) (times order x ys)
@@ -124,7 +124,7 @@ pub times_permutation : {X : Type 0} (order : X → X → Ordering) (x : X) (xs 
 times_permutation order x xs ys h =
     let counted = is_count_by (times order x) (λ y. is_eq (order x y)) refl (λ _ _. refl) in counted ys ∙ sum_by-IsPermutation (λ y. cond (is_eq (order x y)) 1 0) xs ys h ∙ sym (counted xs)
 
--- ---- two lists in order with the same elements are one
+-- ---- two lists in order with the same elements are equal
 
 below_next : {X : Type 0} (order : X → X → Ordering) → IsTotalOrder order → (x y z : X) (a : Ordering) → order y z ≡ a → order x y ≡ Less → is_gt a ≡ false → order x z ≡ Less
 below_next order o x y z Less e h k = o.trans x y z h e
@@ -135,7 +135,7 @@ none_of : {X : Type 0} (order : X → X → Ordering) (x : X) (ys : List X) → 
 none_of order x [] h = refl
 none_of order x (y ∷ ys) h = ap (λ a. cond (is_eq a) (1 + times order x ys) (times order x ys)) h.0 ∙ none_of order x ys h.1
 
--- x is below a list in order that begins above it
+-- x does not occur in a list in order that begins above it
 none_above : {X : Type 0} (order : X → X → Ordering) → IsTotalOrder order → (x y : X) (ys : List X) → order x y ≡ Less → NoneBelow order y ys → times order x (y ∷ ys) ≡ 0
 none_above order o x y ys e h =
     none_of order x (y ∷ ys) (e, all_weaker (λ z. is_gt (order y z) ≡ false) (λ z. order x z ≡ Less) (λ z k. below_next order o x y z (order y z) refl e k) ys h)
@@ -163,7 +163,7 @@ same_list order o ties (x ∷ xs) (y ∷ ys) h k same =
     let e = ties x y (same_heads order o x y xs ys (order x y) refl h.0 k.0 same) in
     ap₂ (λ z zs. z ∷ zs) e (same_list order o ties xs ys h.1 k.1 (λ z. cancel (is_eq (order z x)) _ _ (same z ∙ ap (λ w. times order z (w ∷ ys)) (sym e))))
 
--- ---- sorting, of lists with the same elements
+-- ---- sorting lists with the same elements
 
 pub sorted_of_same : {X : Type 0} (order : X → X → Ordering) → IsTotalOrder order → ((x y : X) → order x y ≡ Equal → x ≡ y) → (xs ys : List X)
     → ((z : X) → times order z xs ≡ times order z ys) → sorted order xs ≡ sorted order ys
@@ -171,7 +171,7 @@ sorted_of_same order o ties xs ys same =
     same_list order o ties (sorted order xs) (sorted order ys) (rises_sorted order o xs) (rises_sorted order o ys)
     (λ z. times_permutation order z xs (sorted order xs) (permutation_sorted order xs) ∙ same z ∙ sym (times_permutation order z ys (sorted order ys) (permutation_sorted order ys)))
 
--- a list in order is what sorting gives of each list with its elements
+-- a list in order is the sorted form of every list with the same elements
 pub one_in_order : {X : Type 0} (order : X → X → Ordering) → IsTotalOrder order → ((x y : X) → order x y ≡ Equal → x ≡ y) → (xs ys : List X)
     → IsPermutation xs ys → IsSorted order ys → ys ≡ sorted order xs
 one_in_order order o ties xs ys h k =
@@ -181,6 +181,6 @@ inserted_first : {X : Type 0} (order : X → X → Ordering) (x : X) (ys : List 
 inserted_first order x [] h = refl
 inserted_first order x (y ∷ ys) h = ap (λ b. if b then y ∷ sorted_with order x ys else x ∷ y ∷ ys) h.0
 
--- an element with none below it comes first
+-- an element that no other is below comes first
 pub sorted_least : {X : Type 0} (order : X → X → Ordering) (x : X) (xs : List X) → NoneBelow order x xs → sorted order (x ∷ xs) ≡ x ∷ sorted order xs
 sorted_least order x xs h = inserted_first order x (sorted order xs) (all_sorted order (λ y. is_gt (order x y) ≡ false) xs h)

@@ -1,4 +1,4 @@
--- Only equal values are tied.
+-- Only equal values tie.
 use Rattle.std.proofs.Common.{◌≡◌, ◌↔◌, ℕ, ℤ, List, [], ◌∷◌, ◌++◌, Ordering, Less, Equal, Greater, true, false, nat_cmp, ◌<ℤ◌, ◌<◌, refl, sym, ap, ap₂, ◌∙◌}
 use Rattle.std.specs.Cmp.Lexicographic.{slice_cmp}
 use Rattle.std.specs.Cmp.{IsTotalOrder}

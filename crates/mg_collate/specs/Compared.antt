@@ -1,4 +1,4 @@
--- For private clauses: how the code compares two values of one type, and of two.
+-- For private clauses: how the code compares two objects, and two values of different types.
 use Rattle.std.specs.Prelude.{ℕ, true, false}
 use Rattle.std.specs.declared.cmp.Ordering.{Ordering}
 use Rattle.mg_value.specs.Value.{Value, null, flag, whole, text, list, object, Members}

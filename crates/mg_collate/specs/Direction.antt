@@ -4,7 +4,7 @@ use Rattle.std.specs.declared.cmp.Ordering.{Ordering}
 use Rattle.mg_collate.specs.declared.direction.Direction.{Direction}
 use Rattle.mg_collate.specs.declared.direction.Direction.TheVariants.{Asc, Desc}
 
--- an order as it stands in a direction: descending reverses it
+-- an ascending order, turned to a direction: descending reverses it
 abbrev pub directed : Direction → Ordering → Ordering
 directed Asc order = order
 directed Desc order = ordering_reverse order

@@ -1,5 +1,5 @@
 -- The order of values, after the order of JSON types in CouchDB's view collation: null, false, true, numbers, strings,
--- arrays, objects. Unlike there, strings are ordered by their bytes, and members by name.
+-- arrays, objects. Unlike in CouchDB, strings are ordered by their bytes, and members by name.
 -- Each value is written out as a list of whole numbers, and these lists are ordered as words are in a dictionary.
 use Rattle.std.specs.Prelude.{ℕ, suc, ℤ, pos, List, [], ◌∷◌, ◌++◌, true, false}
 use Rattle.std.specs.Ordering.{int_cmp}
@@ -7,12 +7,12 @@ use Rattle.std.specs.declared.cmp.Ordering.{Ordering}
 use Rattle.std.specs.Cmp.Lexicographic.{slice_cmp}
 use Rattle.mg_value.specs.Value.{Value, null, flag, whole, text, list, object, Items, no_items, item, Members, no_members, member}
 
--- a string: each byte plus 1, so that the 0 at its end is below them
+-- a string: each byte plus 1, then 0, which is below every byte
 abbrev pub flat_text : List ℕ → List ℤ
 flat_text [] = pos 0 ∷ []
 flat_text (b ∷ s) = pos (suc b) ∷ flat_text s
 
--- first the type, null 1 up to objects 7, and then what the value holds
+-- first the type, from 1 for null to 7 for objects, and then what the value holds
 abbrev mutual
   pub flat : Value → List ℤ
   flat null = pos 1 ∷ []

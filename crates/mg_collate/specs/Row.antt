@@ -20,7 +20,7 @@ RowValue = Items × List ℕ
 abbrev pub row_view : Row → RowValue
 row_view r = (items_view r.key.items, string_bytes r.id)
 
--- the rows that these stand for
+-- what the rows of a list stand for
 abbrev pub rows_view : List Row → List RowValue
 rows_view rows = map row_view rows
 
@@ -44,17 +44,17 @@ row_order = on row_view row_value_order
 abbrev pub directed_order : Direction → RowValue → RowValue → Ordering
 directed_order direction a b = directed direction (row_value_order a b)
 
--- ---- the laws that Rust's traits of comparison ask for
+-- ---- the laws that Rust's comparison traits require
 
--- it is a total order
+-- the order of row values is total
 pub row_value_order_total : IsTotalOrder row_value_order
 row_value_order_total = then_total (on_total (λ r. flat (list r.0)) (lists_total int_cmp_total)) (on_total (λ r. r.1) nat_list_cmp_total)
 
--- it is a total order of the code's rows
+-- the order of the code's rows is total
 pub row_order_total : IsTotalOrder row_order
 row_order_total = on_total row_view row_value_order_total
 
--- rows that tie are alike
+-- `==` of rows is an equivalence
 pub row_equivalence : IsEquivalence (eq_by_cmp row_order)
 row_equivalence = eq_by_cmp_equiv row_order_total
 

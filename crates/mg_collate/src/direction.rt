@@ -11,11 +11,10 @@ impl Direction {
     ghost use Rattle.std.specs.Prelude.{◌≡◌};
     ghost use Rattle.mg_collate.specs.Direction.{directed};
 
-    /// An order of two things as it stands in this direction: as it is, or reversed where
-    /// descending. So `direction.apply(a.cmp(b))` is the order in which rows are listed, and
-    /// descending reverses keys and ids together.
+    /// Gives an ascending order back for `Asc`, and reversed for `Desc`. Rows are listed in the order
+    /// `direction.apply(a.cmp(b))`: descending reverses keys and ids together.
     ///
-    /// Cost: none. Takes no memory.
+    /// Cost: constant. Takes no memory.
     pub fn apply(self, order: Ordering) -> Ordering
         ensures { result ≡ directed self order }
     {

@@ -14,7 +14,7 @@ ghost use Rattle.mg_collate.specs.Sorted.{sorted_rows, IsInOrder};
 use crate::direction::Direction;
 use std::cmp::Ordering;
 
-/// Any two values compare, the one way as the other, and what is below a value is below all above it.
+/// The order of values is total: swapping two values reverses their order, and the order is transitive.
 pub fn order_is_total()
     ensures { IsTotalOrder value_order }
 {}
@@ -102,8 +102,8 @@ pub fn rows_are_ordered_in_both_directions()
         (ordering_reverse (slice_cmp nat_cmp a.1 b.1)) }
 {}
 
-/// Rows that are sorted are in order and are the rows that were given, each as often; and no other
-/// list is. Descending, they come the other way round.
+/// Sorted rows are in order, and are the given rows, each as often; no other list is both.
+/// Sorted descending, they are the reverse of the rows sorted ascending.
 pub fn rows_are_sorted_one_way()
     ensures in_order { (direction : Direction) (rows : List RowValue)
         → IsInOrder direction (sorted_rows direction rows) }

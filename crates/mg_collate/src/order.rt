@@ -24,7 +24,7 @@ pub fn compare(a: &Json, b: &Json) -> Ordering
     compare_of(a, b)
 }
 
-/// The order of a lent value and a value, as of `compare`. Takes no memory. Cost: as of `compare`.
+/// Compares a lent value with a `Json`, as `compare` does. Takes no memory. Cost: that of `compare`.
 #[cycle(compare)]
 pub fn compare_of<L: LentValue>(value: L, other: &Json) -> Ordering
     ensures { result ≡ value_order (L.value value) (view other.now) }
@@ -38,8 +38,7 @@ pub fn compare_of<L: LentValue>(value: L, other: &Json) -> Ordering
     }
 }
 
-/// The order of two keys, which is that of arrays: by the first value that differs, and a proper
-/// prefix is below.
+/// Compares two keys as arrays: by the first value that differs, and a proper prefix is below.
 ///
 /// Cost: one pass over both keys, up to the first difference. Takes no memory.
 #[inline]
@@ -120,7 +119,7 @@ fn rank_of<L: LentValue>(value: &L) -> u8
     }
 }
 
-/// The order of a text, as a string, and a value. Takes no memory. Cost: the text, up to the first difference.
+/// Compares a text, as a JSON string, with a value. Takes no memory. Cost: the text, up to the first difference.
 pub fn compare_text(text: &str, value: &Json) -> Ordering
     ensures { result ≡ value_order (string text.now) (view value.now) }
 {
@@ -135,7 +134,8 @@ pub fn compare_text(text: &str, value: &Json) -> Ordering
     }
 }
 
-/// The order of the key that is one text alone, as a string, and a key. Takes no memory. Cost: as of `compare_text`.
+/// Compares the key whose only value is this text, as a JSON string, with another key. Takes no memory.
+/// Cost: that of `compare_text`.
 pub fn compare_text_key(text: &str, key: &[Json]) -> Ordering
     ensures { result ≡ items_order (item (string text.now) no_items) (items_view key.now) }
 {

@@ -17,7 +17,7 @@ impl Row {
     ghost use Rattle.std.specs.Prelude.{◌≡◌, IfOk};
     ghost use Rattle.mg_collate.specs.Row.{row_view};
 
-    /// An equal row of its own.
+    /// A deep copy.
     ///
     /// Errors: `NoMemory` where a growth was refused. Cost: the size of the row.
     pub fn copy(&self, alloc: Global) -> Result<Row, NoMemory>

@@ -47,7 +47,7 @@ none_up_to : {X : Type 0} (order : X → X → Ordering) (x : X) (ys : List X) �
 none_up_to order x [] h = refl
 none_up_to order x (y ∷ ys) h = sum_by-cons (λ z. cond (is_le (order z x)) 1 0) y ys ∙ ap₂ (λ b n. cond b 1 0 + n) h.0 (none_up_to order x ys h.1)
 
--- nothing of a list in order that begins above x is up to x
+-- a list in order that begins above x has no element up to x
 none_from_above : {X : Type 0} (order : X → X → Ordering) → IsTotalOrder order → (x y : X) (ys : List X) → order x y ≡ Less → NoneBelow order y ys → up_to order x (y ∷ ys) ≡ 0
 none_from_above order o x y ys e h =
     let above : order y x ≡ Greater = o.antisymm y x ∙ ap ordering_reverse e in
@@ -90,7 +90,7 @@ late_left_out order o ties n (x ∷ late) kept h =
     let first = h.0 in
     late_inserted order o ties n x (sorted order (late ++ kept)) (rises_sorted order o (late ++ kept)) (omega arith) ∙ late_left_out order o ties n late kept h.1
 
--- ---- of a list in order, what is past the first elements comes late
+-- ---- in a list in order, the elements past the first ones come late
 
 all_dropped : {X : Type 0} (P : X → Type 0) (n : ℕ) (xs : List X) → AllByRecursion P xs → AllByRecursion P (drop n xs)
 all_dropped P zero xs h = h

@@ -1,4 +1,4 @@
--- Taking what comes first off lists that are in order.
+-- Taking the first element off lists that are in order.
 use Rattle.std.proofs.Common.{◌≡◌, ℕ, zero, suc, ◌+◌, ◌<◌, List, [], ◌∷◌, ◌++◌, length, get_or, set, take, All, Vec, Global, Bool, true, false, cond, if◌then◌else◌, Ordering, Less, Equal, Greater, is_eq, is_gt, Bor, refl, sym, ap, ◌∙◌, subst, arith}
 use Rattle.std.specs.Cmp.{IsTotalOrder}
 use Rattle.std.specs.List.{AllByRecursion}
@@ -41,13 +41,13 @@ begin_total order o = record { antisymm = begin_antisymm order o; trans = begin_
 abbrev pub NoneBegins : {X : Type 0} → (X → X → Ordering) → List X → List X → Type 0
 NoneBegins order xs ys = is_gt (begin_order order xs ys) ≡ false
 
--- x is below what is not below y
+-- an x that is below y is below all that are not below y
 below_next : {X : Type 0} (order : X → X → Ordering) → IsTotalOrder order → (x y z : X) (a : Ordering) → order y z ≡ a → order x y ≡ Less → is_gt a ≡ false → order x z ≡ Less
 below_next order o x y z Less e h k = o.trans x y z h e
 below_next order o x y z Equal e h k = sym (alike_right o y z x e) ∙ h
 below_next order o x y z Greater e h k = absurd cc
 
--- ---- how often an element stands in two lists
+-- ---- how often an element occurs in two lists
 
 one_more : (b : Bool) (m n k : ℕ) → m ≡ n + k → cond b (1 + m) m ≡ cond b (1 + n) n + k
 one_more true m n k h = omega arith
@@ -82,7 +82,7 @@ order_kept order o lists place x rest ordered k e =
 
 -- ---- what comes first of all
 
--- nothing of a list that rises is below x, where the list does not begin below it
+-- no element of a list that rises is below x, where the list does not begin below x
 none_in : {X : Type 0} (order : X → X → Ordering) → IsTotalOrder order → (x : X) (rest ys : List X) → NoneBegins order (x ∷ rest) ys → Rises order ys → NoneBelow order x ys
 none_in order o x rest [] h k = tt
 none_in order o x rest (y ∷ ys) h k = (h, all_weaker (λ z. is_gt (order y z) ≡ false) (λ z. is_gt (order x z) ≡ false) (λ z l. upto o x y z h l) ys k.0)
@@ -93,7 +93,7 @@ none_in_all order o x rest [] h k = tt
 none_in_all order o x rest (ys ∷ lists) h k =
     all_append (λ y. is_gt (order x y) ≡ false) ys (joined lists) (none_in order o x rest ys (h 0 (omega arith)) k.0) (none_in_all order o x rest lists (λ i l. h (suc i) (omega arith)) k.1)
 
--- all of a list that rises is above x, where the list begins above it
+-- all elements of a list that rises are above x, where the list begins above x
 all_above : {X : Type 0} (order : X → X → Ordering) → IsTotalOrder order → (x : X) (rest ys : List X) → begin_order order (x ∷ rest) ys ≡ Less → Rises order ys → AllByRecursion (λ y. is_gt (order y x) ≡ true) ys
 all_above order o x rest [] h k = tt
 all_above order o x rest (y ∷ ys) h k = (
@@ -101,7 +101,7 @@ all_above order o x rest (y ∷ ys) h k = (
   all_weaker (λ z. is_gt (order y z) ≡ false) (λ z. is_gt (order z x) ≡ true) (λ z l. ap is_gt (o.antisymm z x ∙ ap ordering_reverse (below_next order o x y z (order y z) refl h l))) ys k.0,
 )
 
--- what is above x is sorted behind it
+-- elements above x are sorted after x
 sorted_behind : {X : Type 0} (order : X → X → Ordering) (x : X) (ys zs more : List X) → AllByRecursion (λ y. is_gt (order y x) ≡ true) ys → sorted order zs ≡ x ∷ sorted order more
     → sorted order (ys ++ zs) ≡ x ∷ sorted order (ys ++ more)
 sorted_behind order x [] zs more h e = e
@@ -131,7 +131,7 @@ none_left order [] h = refl
 none_left order ([] ∷ lists) h = none_left order lists (λ i k. h (suc i) (omega arith))
 none_left order ((x ∷ xs) ∷ lists) h = absurd (let wrong : true ≡ false = h 0 (omega arith) in cc)
 
--- ---- the same of the rests themselves
+-- ---- taking the first element off the code's rests
 
 pub rest_at : {X : Type 0} (rests : List (Bor (List X))) (i : ℕ) (rest : Bor (List X)) → i < length rests → rest ≡ get_or rests i rest → rest.now ≡ get_or (rests_of rests) i []
 rest_at {X} rests i rest h e = ap (λ (r : Bor (List X)). r.now) e ∙ sym (get_or-map (λ (r : Bor (List X)). r.now) rests i rest [] h)
@@ -171,7 +171,7 @@ lent_more : {X : Type 0} (lent : List (Bor X)) (item : Bor X) (ys : List X) → 
 lent_more [] item ys = refl
 lent_more (x ∷ lent) item ys = ap (λ zs. x.now ∷ zs) (lent_more lent item ys)
 
--- what was lent and what is left stay the whole when one more is lent
+-- what was taken, and then what is left, stays the whole result when one more is taken
 pub one_more_lent : {X : Type 0} (order : X → X → Ordering) (all : List X) (lent more : List (Bor X)) (item : Bor X) (rests seen left : List (Bor (List X))) → all ≡ lent_of lent ++ sorted order (joined (rests_of rests)) → seen ≡ rests
     → sorted order (joined (rests_of seen)) ≡ item.now ∷ sorted order (joined (rests_of left)) → more ≡ lent ++ item ∷ [] → all ≡ lent_of more ++ sorted order (joined (rests_of left))
 one_more_lent order all lent more item rests seen left e same first m =

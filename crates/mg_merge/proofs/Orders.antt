@@ -10,14 +10,14 @@ not_less Less h = absurd (h refl)
 not_less Equal h = refl
 not_less Greater h = refl
 
--- the element at a place, whatever stands for one beyond the end
+-- the element at a place within the list, whatever the default is
 at_place : {X : Type 0} (xs : List X) (place : ℕ) (x d : X) → place < length xs → x ≡ get_or xs place x → x ≡ get_or xs place d
 at_place {X} xs place x d k e = e ∙ get_or_default xs place x d k
 
 pub list_at : {X : Type 0} (lists : List (Vec X Global)) (place : ℕ) (list : Vec X Global) (d : List X) → place < length lists → list ≡ get_or lists place list → list.items ≡ get_or (contents_of lists) place d
 list_at {X} lists place list d k e = ap (λ (l : Vec X Global). l.items) e ∙ sym (get_or-map (λ (l : Vec X Global). l.items) lists place list d k)
 
--- x is the one at place, and other the one before it
+-- x is the element at `place`, and `other` the one before it
 pub out_of_order : {X : Type 0} (order : X → X → Ordering) (xs : List X) (place : ℕ) (x other : X) → 0 < place → place < length xs → x ≡ get_or xs place x → other ≡ get_or xs (place - 1) other
     → order x other ≡ Less → IsSorted order xs → ⊥
 out_of_order order xs place x other low high here before less ordered =

@@ -1,4 +1,4 @@
--- Pulling what comes first from sources that are in order.
+-- Pulling the first thing from sources that are in order.
 use Rattle.std.proofs.Common.{◌≡◌, ℕ, zero, suc, ◌+◌, ◌<◌, ◌≤◌, List, [], ◌∷◌, ◌++◌, length, get_or, set, map, take, All, Option, None, Some, option_map, IfSome, IfNone, Ordering, Bool, true, false, if◌then◌else◌, append_assoc, refl, sym, ap, ap₂, ◌∙◌, subst, arith}
 use Rattle.std.specs.Ordering.{is_gt}
 use Rattle.std.proofs.lemmas.List.{get_or-map, length-map, length-set, map-append, map-set, length-append}
@@ -13,7 +13,7 @@ use Rattle.mg_merge.proofs.Heads.{first_taken, none_left, order_kept}
 use Rattle.mg_merge.proofs.Queues.{begins_first, first_enters, others_climb}
 use Rattle.mg_merge.proofs.Rows.{by_total}
 
--- ---- what each source has still to give
+-- ---- what each source has left
 
 pub comings_size : {X : Type 0} (heads : List (Option X)) (rests : List (List X)) → length heads ≡ length rests → length (comings heads rests) ≡ length heads
 comings_size [] rests h = sym h
@@ -33,7 +33,7 @@ comings_set (x ∷ heads) [] k head rest h = absurd (omega (arith, h))
 comings_set (x ∷ heads) (r ∷ rests) zero head rest h = refl
 comings_set (x ∷ heads) (r ∷ rests) (suc k) head rest h = ap (λ ls. coming x r ∷ ls) (comings_set heads rests k head rest (omega (arith, h)))
 
--- one more source that something was pulled from
+-- what the sources have left stays the same when the head of one more is pulled
 pub comings_next : {X : Type 0} (heads : List (Option X)) (rests : List (List X)) (head : Option X) (rest : List X) → length heads < length rests → get_or rests (length heads) [] ≡ coming head rest
     → comings (heads ++ head ∷ []) (set rests (length heads) rest) ≡ comings heads rests
 comings_next heads [] head rest h e = absurd (omega arith)
@@ -50,7 +50,7 @@ rows_at row [] k = refl
 rows_at row (head ∷ heads) zero = refl
 rows_at row (head ∷ heads) (suc k) = rows_at row heads k
 
--- what came before is what was pulled, and then what comes now
+-- what was left before is what was pulled, and then what is left now
 pub was_coming : {X : Type 0} (row : X → RowValue) (pulled : Option X) (old new : List RowValue) → IfSome pulled (λ x. old ≡ row x ∷ new) → IfNone pulled (old ≡ []) → old ≡ coming (option_map row pulled) new
 was_coming row None old new h k = k
 was_coming row (Some x) old new h k = h
@@ -94,7 +94,7 @@ front row heads rests p h l =
     let size = length-map heads (option_map row) in
     comings_at (map (option_map row) heads) rests p (size ∙ h) (omega (arith, size, l)) ∙ ap (λ o. coming o (get_or rests p [])) (rows_at row heads p)
 
--- the first source has nothing left, so none has
+-- where the first source of the queue has nothing left, no source has
 pub all_ended : {X : Type 0} (row : X → RowValue) (direction : Direction) (heads : List (Option X)) (rests : List (List RowValue)) (p : ℕ) (queue : List ℕ) → length heads ≡ length rests
     → AreInTurn (order_by row direction) (firsts_of heads) (length (firsts_of heads)) (p ∷ queue) → get_or heads p None ≡ None → joined (comings (map (option_map row) heads) rests) ≡ []
 all_ended row direction heads rests p queue h turns e =
@@ -113,7 +113,7 @@ none_in_turn row order [] (rest ∷ rests) queue h turns e = absurd (omega (arit
 none_in_turn row order (head ∷ heads) rests [] h turns e = absurd (let there = turns.each 0 (omega arith) in cc)
 none_in_turn row order (head ∷ heads) rests (n ∷ queue) h turns e = absurd (omega (arith, e))
 
--- what the sources have still to give, after one was pulled from
+-- what the sources have left, after a pull from one of them
 pulled_set : {X : Type 0} (row : X → RowValue) (heads : List (Option X)) (rests : List (List RowValue)) (p : ℕ) (pulled : Option X) (new : List RowValue) → length heads ≡ length rests
     → comings (map (option_map row) (set heads p pulled)) (set rests p new) ≡ set (comings (map (option_map row) heads) rests) p (coming (option_map row pulled) new)
 pulled_set row heads rests p pulled new h =
@@ -162,7 +162,7 @@ pulled_climb row direction heads p queue pulled turns =
     subst (λ lists. Climbs (turn_order (order_by row direction) lists) queue) (sym (map-set (λ head. coming head []) heads p pulled))
     (others_climb (order_by row direction) (by_total row direction) (firsts_of heads) (length (firsts_of heads)) p queue (coming pulled []) turns)
 
--- ---- the same of the sources themselves
+-- ---- a pull from the code's sources
 
 pub front_at : {X : Type 0} (heads : List (Option X)) (p : ℕ) (head d : Option X) → p < length heads → head ≡ get_or heads p d → get_or heads p None ≡ head
 front_at [] p head d l e = absurd (omega arith)
@@ -223,7 +223,7 @@ at_end P (x ∷ xs) y d py h (suc k) l = at_end P xs y d py (λ j m. h (suc j) (
 pub all_more : {X : Type 0} (P : X → Type 0) (xs : List X) (y : X) → All P xs → P y → All P (xs ++ y ∷ [])
 all_more P xs y h py = λ k d l. at_end P xs y d py (λ j m. h j d m) k l
 
--- the first of each source: one more is pulled from
+-- the heads, after the head of one more source is pulled
 pub from_next : {S T : Type 0} (gives : S → T → Type 0) (start : List S) (heads : List (Option T)) (sources : List S) (pulled : Option T) (s new : S) → AreFrom gives start heads sources → length heads < length sources → s ≡ get_or sources (length heads) s
     → IfSome pulled (gives s) → ((x : T) → gives new x → gives s x) → AreFrom gives start (heads ++ pulled ∷ []) (set sources (length heads) new)
 from_next gives start heads sources pulled s new h l e given same =

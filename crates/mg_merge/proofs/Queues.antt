@@ -43,7 +43,7 @@ then_decides Less b e h = refl
 then_decides Equal b e h = absurd cc
 then_decides Greater b e h = absurd cc
 
--- only a list itself has its turn
+-- lists whose turns tie are the same list
 turn_ties : {X : Type 0} (order : X → X → Ordering) (lists : List (List X)) (j k : ℕ) → turn_order order lists j k ≡ Equal → j ≡ k
 turn_ties order lists j k h = nat_equal j k (then_equal (begin_order order (get_or lists j []) (get_or lists k [])) (nat_cmp j k) h)
 
@@ -56,7 +56,7 @@ climbs_up o t (x ∷ xs) zero (suc j) d h l k = ap is_gt (all_at (λ y. o x y �
 climbs_up o t (x ∷ xs) (suc i) zero d h l k = absurd (omega arith)
 climbs_up o t (x ∷ xs) (suc i) (suc j) d h l k = climbs_up o t xs i j d h.1 (omega arith) (omega arith)
 
--- what is after one is after those before it
+-- what is after an element is after those before that element
 pub still_after : {X : Type 0} (o : X → X → Ordering) → IsTotalOrder o → (x y z : X) → is_gt (o y z) ≡ false → is_gt (o x z) ≡ true → is_gt (o x y) ≡ true
 still_after o t x y z h k = elim (two (is_gt (o x y))) [ inl e ↦ e | inr e ↦ absurd (let wrong : true ≡ false = sym k ∙ upto t x y z e h in cc) ]
 
@@ -69,11 +69,11 @@ placed o x d (y ∷ ys) (suc place) k after before =
     ap (λ zs. y ∷ zs) (placed o x d ys place (omega arith) (λ i l. after (suc i) (omega arith)) (λ i l m. before (suc i) (omega arith) (omega arith)))
     ∙ ap (λ b. if b then y ∷ sorted_with o x ys else x ∷ y ∷ ys) (sym (after 0 (omega arith)))
 
--- what a test told of a turn
+-- the result of a test, as a fact about the order
 pub told : (a r : Ordering) (b c : Bool) → r ≡ a → b ≡ is_gt r → b ≡ c → is_gt a ≡ c
 told a r b c e f h = sym (ap is_gt e) ∙ sym f ∙ h
 
--- ---- a queue that one more number entered
+-- ---- a queue after one more number has entered it
 
 all_either : {X : Type 0} (P : X → Type 0) (b : Bool) (xs ys : List X) → AllByRecursion P xs → AllByRecursion P ys → AllByRecursion P (if b then xs else ys)
 all_either P true xs ys h k = h
@@ -129,7 +129,7 @@ is_in-inserted o k x (y ∷ ys) =
 pub none_entered : {X : Type 0} (order : X → X → Ordering) (lists : List (List X)) → AreInTurn order lists 0 []
 none_entered order lists = record { climbs = tt; within = tt; each = λ k l. absurd (omega arith) }
 
--- the number after those that stand in the queue
+-- the next number enters a queue that has all lower numbers
 pub next_entered : {X : Type 0} (order : X → X → Ordering) → IsTotalOrder order → (lists : List (List X)) (size : ℕ) (queue : List ℕ) → AreInTurn order lists size queue
     → AreInTurn order lists (size + 1) (sorted_with (turn_order order lists) size queue)
 next_entered order o lists size queue h = record {
@@ -210,7 +210,7 @@ first_enters order o lists size p queue rest h =
       each = λ k l. is_in-inserted turns k p queue ∙ h.each k l;
     }
 
--- ---- the same of the rests themselves
+-- ---- queues of the code's rests
 
 pub first_out : {X : Type 0} (order : X → X → Ordering) (lists : List (List X)) (size : ℕ) (queue others : List ℕ) (p : ℕ) → 0 < length queue → p ≡ get_or queue 0 p → others ≡ remove queue 0
     → AreInTurn order lists size queue → AreInTurn order lists size (p ∷ others)

@@ -1,4 +1,4 @@
--- Things that have rows, and the rows that they have.
+-- Things that have rows, and their rows.
 use Rattle.std.proofs.Common.{◌≡◌, ℕ, ◌+◌, List, [], ◌∷◌, ◌++◌, get_or, map, take, All, Bool, true, false, if◌then◌else◌, is_gt, is_lt, Vec, Global, refl, sym, ap, ap₂, ◌∙◌, subst, arith}
 use Rattle.std.specs.Cmp.{IsTotalOrder}
 use Rattle.std.proofs.lemmas.Cmp.{on_total}
@@ -11,7 +11,7 @@ use Rattle.mg_collate.specs.Sorted.{IsInOrder, sorted_with, sorted, sorted_rows}
 use Rattle.mg_collate.proofs.Directed.{directed_total}
 use Rattle.mg_merge.specs.Merged.{IsInOrderBy, contents_of, joined, lists_view, merged, merged_by, order_by}
 
--- their order is total
+-- the order of things by their rows is total
 pub by_total : {X : Type 0} (row : X → RowValue) (direction : Direction) → IsTotalOrder (order_by row direction)
 by_total row direction = on_total row (directed_total direction)
 
@@ -35,7 +35,7 @@ map_joined : {X : Type 0} (row : X → RowValue) (lists : List (List X)) → map
 map_joined row [] = refl
 map_joined row (xs ∷ lists) = map-append row xs (joined lists) ∙ ap (λ ys. map row xs ++ ys) (map_joined row lists)
 
--- so the rows of a merge are the merge of the rows
+-- the rows of a merge are the merge of the rows
 pub rows_of_merged : {X : Type 0} (row : X → RowValue) (direction : Direction) (count : ℕ) (lists : List (List X)) → map row (merged_by row direction count lists) ≡ merged direction count (map (map row) lists)
 rows_of_merged row direction count lists =
     sym (take-map row count (sorted (order_by row direction) (joined lists))) ∙ ap (take count) (map_sorted row direction (joined lists) ∙ ap (sorted_rows direction) (map_joined row lists))

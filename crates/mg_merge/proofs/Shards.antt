@@ -1,4 +1,4 @@
--- The rows of documents, however these are dealt to shards.
+-- The rows of documents do not depend on how the documents are distributed over shards.
 use Rattle.std.proofs.Common.{◌≡◌, ℕ, ◌+◌, List, [], ◌∷◌, take, Ordering, sum_by, refl, sym, ap, ap₂, ◌∙◌}
 use Rattle.std.specs.List.{flat_map}
 use Rattle.std.specs.List.Sorted.{IsPermutation}
@@ -14,7 +14,7 @@ use Rattle.mg_merge.specs.Merged.{joined, merged}
 use Rattle.mg_merge.specs.Sharding.{Document, rows_of, lists_of}
 use Rattle.mg_merge.proofs.Heads.{times_append}
 
--- how often a row stands in the rows of documents
+-- how often a row occurs in the rows of documents
 times_flat_map : (order : RowValue → RowValue → Ordering) (z : RowValue) (rows : Document → List RowValue) (documents : List Document)
     → times order z (flat_map rows documents) ≡ sum_by (λ document. times order z (rows document)) documents
 times_flat_map order z rows [] = refl
@@ -31,7 +31,7 @@ times_lists direction z rows (shard ∷ shards) =
     ∙ sym (times_append (directed_order direction) z (flat_map rows shard) (flat_map rows (joined shards)))
     ∙ ap (times (directed_order direction) z) (sym (flat_map-append rows shard (joined shards)))
 
--- however documents are dealt to shards, the rows of the shards' lists are the rows of all documents
+-- however documents are distributed over shards, the rows of the shards' lists are the rows of all documents
 pub any_dealing : (direction : Direction) (rows : Document → List RowValue) (documents : List Document) (shards : List (List Document)) → IsPermutation documents (joined shards)
     → sorted_rows direction (joined (lists_of direction rows shards)) ≡ rows_of direction rows documents
 any_dealing direction rows documents shards h =
@@ -40,7 +40,7 @@ any_dealing direction rows documents shards h =
     ∙ sum_by-IsPermutation (λ document. times (directed_order direction) z (rows document)) documents (joined shards) h
     ∙ sym (times_flat_map (directed_order direction) z rows documents))
 
--- and a merge of the lists gives the first of them
+-- a merge of the shards' lists gives the first rows of all documents
 pub first_of_any_dealing : (direction : Direction) (rows : Document → List RowValue) (documents : List Document) (shards : List (List Document)) (count : ℕ) → IsPermutation documents (joined shards)
     → merged direction count (lists_of direction rows shards) ≡ take count (rows_of direction rows documents)
 first_of_any_dealing direction rows documents shards count h = ap (take count) (any_dealing direction rows documents shards h)

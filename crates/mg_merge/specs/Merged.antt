@@ -9,33 +9,33 @@ use Rattle.mg_collate.specs.declared.row.Row.{Row}
 use Rattle.mg_collate.specs.Row.{RowValue, directed_order, rows_view}
 use Rattle.mg_collate.specs.Sorted.{sorted, sorted_rows}
 
--- the lists, each with what stands in it
+-- the contents of each list
 abbrev pub contents_of : {X : Type 0} → List (Vec X Global) → List (List X)
 contents_of lists = map (λ list. list.items) lists
 
--- the lists, each with the rows that it stands for
+-- the rows that each list stands for
 abbrev pub lists_view : List (Vec Row Global) → List (List RowValue)
 lists_view lists = map (λ list. rows_view list.items) lists
 
--- what stands in all lists, one list after the other
+-- the contents of all lists, one list after the other
 abbrev pub joined : {X : Type 0} → List (List X) → List X
 joined lists = flat_map (λ list. list) lists
 
--- the lists joined and put in a direction's order, and of that the first `count` rows
+-- the first `count` rows of all lists, in a direction's order
 abbrev pub merged : Direction → ℕ → List (List RowValue) → List RowValue
 merged direction count lists = take count (sorted_rows direction (joined lists))
 
--- ---- the same of things that have rows: `row` says which row each has
+-- ---- the merge of things that have rows: `row` gives the row of each thing
 
--- their order in a direction: that of their rows
+-- the order of things in a direction: that of their rows
 abbrev pub order_by : {X : Type 0} → (X → RowValue) → Direction → X → X → Ordering
 order_by row direction a b = directed_order direction (row a) (row b)
 
--- none stands after one whose row the direction lists later
+-- no thing stands after one whose row the direction lists later
 abbrev pub IsInOrderBy : {X : Type 0} → (X → RowValue) → Direction → List X → Type 0
 IsInOrderBy row direction = IsSorted (order_by row direction)
 
--- the first `count` of all lists together, in the order of their rows; of those whose rows are equal, what stands in an
--- earlier list comes first, and of one list what stands earlier there
+-- the first `count` things of all lists, in the order of their rows; of things with equal rows those of an earlier list
+-- come first, and those of one list in the order of the list
 abbrev pub merged_by : {X : Type 0} → (X → RowValue) → Direction → ℕ → List (List X) → List X
 merged_by row direction count lists = take count (sorted (order_by row direction) (joined lists))

@@ -1,4 +1,4 @@
--- Sources that things are pulled from, one after the other: what waits at the front of each, and what is still to come.
+-- Sources that things are pulled from: the head of each, which is pulled and not yet taken, and what is still to come.
 use Rattle.std.specs.Prelude.{◌≡◌, ℕ, ◌<◌, List, [], ◌∷◌, Option, None, Some, IfSome, All, get_or, length, map, option_map}
 use Rattle.std.specs.Borrow.{Bor}
 use Rattle.mg_collate.specs.declared.direction.Direction.{Direction}
@@ -7,20 +7,20 @@ use Rattle.mg_collate.specs.Sorted.{IsInOrder}
 use Rattle.mg_merge.specs.Merged.{order_by}
 use Rattle.mg_merge.specs.Rests.{AreInTurn}
 
--- a source's things, where one of them waits at its front, or none is left
+-- what a source has left: its head and its rest; without a head nothing is left
 abbrev pub coming : {X : Type 0} → Option X → List X → List X
 coming None rest = []
 coming (Some x) rest = x ∷ rest
 
--- what waits at the front of each source, as lists
+-- the head of each source, as a list of at most one thing
 abbrev pub firsts_of : {X : Type 0} → List (Option X) → List (List X)
 firsts_of heads = map (λ head. coming head []) heads
 
--- the same of what is lent
+-- a borrowed head, as a list of at most one thing
 abbrev pub lent_first : {X : Type 0} → Option (Bor X) → List X
 lent_first head = coming (option_map (λ x. x.now) head) []
 
--- what each source has still to give: what waits at its front, and its rest; sources from which nothing was pulled yet come after the others
+-- what each source has left: its head and its rest; from the sources after the last head nothing was pulled yet
 abbrev pub comings : {X : Type 0} → List (Option X) → List (List X) → List (List X)
 comings [] rests = rests
 comings (head ∷ heads) [] = []
@@ -30,12 +30,12 @@ comings (head ∷ heads) (rest ∷ rests) = coming head rest ∷ comings heads r
 abbrev pub IsGivenBy : {S T : Type 0} → (S → T → Type 0) → List S → T → Type 0
 IsGivenBy {S} gives sources x = (k : ℕ) × (k < length sources) × ((d : S) → gives (get_or sources k d) x)
 
--- what waits at the fronts, and what the sources give now, is of a kind that one of the sources at the start gives
+-- the heads, and what the sources give now, are of a kind that one of the sources at the start gives
 pub record AreFrom {S T : Type 0} (gives : S → T → Type 0) (start : List S) (heads : List (Option T)) (sources : List S) : Type 0 where
   pub fronts : (k : ℕ) → k < length heads → IfSome (get_or heads k None) (IsGivenBy gives start)
   pub later : (k : ℕ) → k < length sources → (d : S) (x : T) → gives (get_or sources k d) x → IsGivenBy gives start x
 
--- the merge is under way: each source has a front, what it has still to give is in order, and the queue has the sources in turn
+-- a merge is under way: the head of each source was pulled, what it has left is in order, and the queue has the sources in turn
 pub record IsAhead {T : Type 0} (row : T → RowValue) (direction : Direction) (heads : List (Option T)) (rests : List (List RowValue)) (queue : List ℕ) : Type 0 where
   pub size : length heads ≡ length rests
   pub order : All (IsInOrder direction) (comings (map (option_map row) heads) rests)

@@ -6,11 +6,11 @@ use Rattle.std.specs.declared.cmp.Ordering.TheVariants.{Less, Equal, Greater}
 use Rattle.std.specs.Borrow.{Bor}
 use Rattle.std.specs.Ordering.{is_gt, nat_cmp, on, then_cmp}
 
--- the rests
+-- the contents of the rests
 abbrev pub rests_of : {X : Type 0} → List (Bor (List X)) → List (List X)
 rests_of rests = map (λ rest. rest.now) rests
 
--- what is lent
+-- the borrowed things
 abbrev pub lent_of : {X : Type 0} → List (Bor X) → List X
 lent_of lent = map (λ x. x.now) lent
 
@@ -21,16 +21,16 @@ begin_order order [] (y ∷ ys) = Greater
 begin_order order (x ∷ xs) [] = Less
 begin_order order (x ∷ xs) (y ∷ ys) = order x y
 
--- which of two lists is taken from first, by their numbers: the one that begins earlier, or else the lower number
+-- which of two lists is taken from first, by their numbers: the one that begins earlier, otherwise the lower number
 abbrev pub turn_order : {X : Type 0} → (X → X → Ordering) → List (List X) → ℕ → ℕ → Ordering
 turn_order order lists = then_cmp (on (λ k. get_or lists k []) (begin_order order)) nat_cmp
 
--- each comes before all that stand after it
+-- each element is below all that come after it
 abbrev pub Climbs : {X : Type 0} → (X → X → Ordering) → List X → Type 0
 Climbs order [] = Unit {0}
 Climbs order (x ∷ xs) = AllByRecursion (λ y. order x y ≡ Less) xs × Climbs order xs
 
--- whether a number stands in a queue
+-- whether a number is in a queue
 abbrev pub is_in : ℕ → List ℕ → Bool
 is_in k [] = false
 is_in k (n ∷ ns) = nat_eq k n || is_in k ns
@@ -41,7 +41,7 @@ pub record AreInTurn {X : Type 0} (order : X → X → Ordering) (lists : List (
   pub within : AllByRecursion (λ k. k < size) queue
   pub each : (k : ℕ) → k < size → is_in k queue ≡ true
 
--- of the first `size` lists none begins before the one at `first`, and those before that one begin later
+-- no list of the first `size` begins before the one at `first`, and those before that one begin later
 pub record BeginsFirst {X : Type 0} (order : X → X → Ordering) (lists : List (List X)) (size first : ℕ) : Type 0 where
   pub least : (k : ℕ) → k < size → is_gt (begin_order order (get_or lists first []) (get_or lists k [])) ≡ false
   pub before : (k : ℕ) → k < first → begin_order order (get_or lists first []) (get_or lists k []) ≡ Less

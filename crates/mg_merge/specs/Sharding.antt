@@ -1,4 +1,4 @@
--- Documents that are dealt to shards, each of which lists its own rows.
+-- Documents that are distributed over shards, each of which lists its own rows.
 use Rattle.std.specs.Prelude.{ℕ, List, map}
 use Rattle.std.specs.List.{flat_map}
 use Rattle.mg_value.specs.Value.{Value}
@@ -10,7 +10,7 @@ use Rattle.mg_collate.specs.Sorted.{sorted_rows}
 abbrev pub Document : Type 0
 Document = List ℕ × Value
 
--- the rows of documents in a direction's order; `rows` says which rows each document has
+-- the rows of documents in a direction's order; `rows` gives the rows of each document
 abbrev pub rows_of : Direction → (Document → List RowValue) → List Document → List RowValue
 rows_of direction rows documents = sorted_rows direction (flat_map rows documents)
 

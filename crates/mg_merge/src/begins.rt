@@ -1,4 +1,4 @@
-//! What lists begin with, which is all that a merge compares.
+//! The first things of lists, which are all that a merge compares.
 ghost use Rattle.std.specs.Prelude.{◌≡◌, ◌<◌, List, [], get_or, length};
 ghost use Rattle.mg_merge.specs.Merged.{order_by};
 ghost use Rattle.mg_merge.specs.Pulled.{firsts_of, lent_first};
@@ -8,16 +8,16 @@ use crate::ranked::Ranked;
 use mg_collate::Direction;
 use std::cmp::Ordering;
 
-// Lists of ranked things, as far as their beginnings are concerned.
+// Lists of ranked things, of which only the first thing of each list is seen.
 pub(crate) trait Begins<T: Ranked> {
-    // the lists, of which only what they begin with counts
+    // the lists, of which only the first thing of each matters
     ghost lists: { Self → List (List T) };
 
     // How many lists there are.
     fn count(&self) -> usize
         ensures { result ≡ length (lists self.now) };
 
-    // Which of two lists begins with an earlier row; one at its end begins after all others.
+    // Compares the first rows of two lists, in the direction's order; a list at its end is after all others.
     fn begin(&self, list: usize, other: usize, direction: Direction) -> Ordering
         requires list { list < length (lists self.now) }
         requires other { other < length (lists self.now) }
@@ -50,7 +50,7 @@ impl<T: Ranked> Begins<T> for Vec<Option<T>> {
     }
 }
 
-// Which of two comes first; nothing comes after all.
+// Compares the first things of two lists, in the direction's order; `None` is after all others.
 fn begin<T: Ranked>(item: Option<&T>, other: Option<&T>, direction: Direction) -> Ordering
     ensures { result ≡ begin_order (order_by T.row_of direction)
         (lent_first item.entry) (lent_first other.entry) }

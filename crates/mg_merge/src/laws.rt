@@ -1,4 +1,5 @@
-//! The laws of the merge: it does not matter how documents are dealt to lists, nor what follows the first rows of each.
+//! The laws of the merge: its result does not depend on how documents are distributed over lists, nor on what follows the
+//! first rows of each list.
 ghost use Rattle.std.specs.Prelude.{◌≡◌, ℕ, List, All, map, take};
 ghost use Rattle.std.specs.List.Sorted.{IsPermutation};
 ghost use Rattle.mg_collate.specs.Row.{RowValue};
@@ -9,8 +10,8 @@ ghost use Rattle.mg_merge.specs.Sharding.{Document, rows_of, lists_of};
 use crate::ranked::Ranked;
 use mg_collate::Direction;
 
-/// It does not matter on which shard a document is, nor how many rows it has: to sort what all
-/// shards list is to sort the rows of all documents, and no row is lost or doubled by the dealing.
+/// It does not matter which shard has a document, nor how many rows the document has: the lists of all
+/// shards, joined and sorted, are the sorted rows of all documents, with no row lost or repeated.
 /// So a merge of the lists gives the first rows of all documents.
 pub fn any_sharding()
     ensures joined_and_sorted { (direction : Direction) (rows : Document → List RowValue)
@@ -26,7 +27,7 @@ pub fn any_sharding()
 {}
 
 /// Lists that are in order may be cut at the count before they are merged: they stay in order, and
-/// the merge gives the same rows. So a shard hands over no more rows than a page takes.
+/// the merge gives the same rows. So a shard need not hand over more rows than a page has.
 pub fn cut_lists()
     ensures in_order { (direction : Direction) (count : ℕ) (lists : List (List RowValue))
         → All (IsInOrder direction) lists

@@ -1,4 +1,4 @@
-//! The ordered merge of rows, as CouchDB's coordinator merges what shards list: the first of all.
+//! The ordered merge of rows, as CouchDB's coordinator merges the lists of its shards: the first rows of all lists.
 #![tactic(auto)]
 
 mod begins;

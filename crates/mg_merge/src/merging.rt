@@ -12,15 +12,14 @@ use mg_collate::{Direction, Row};
 use mg_value::NoMemory;
 use std::alloc::Global;
 
-/// Of all rows of the lists, put together in the direction's order, the first `take`: fewer only where the
-/// lists hold fewer, and none lost or doubled. Beside them stand the lengths of the
-/// lists and of the result. Each list has to be in that order, which `are_in_order` tests; it may be
-/// empty.
+/// Merges the lists, and returns their first `take` rows in the direction's order (fewer only where
+/// the lists have fewer, and none lost or repeated), and the lengths of the lists and of the result.
+/// Each list must be in that order, which `are_in_order` tests; it may be empty.
 ///
 /// Errors: `NoMemory` where a growth was refused.
-/// Cost: for each row handed out a copy of it, and for it and for each list a number of comparisons
-/// that grows with the logarithm of the number of lists; with one list there is none. Of the rows
-/// beyond the first `take` only the first one left of each list is looked at, and none is copied.
+/// Cost: a copy of each row of the result; for each of these rows, and for each list, a number of
+/// comparisons that grows with the logarithm of the number of lists, and none with one list. Of the
+/// other rows only the first one left of each list is read, and none is copied.
 pub fn merge(
     alloc: Global,
     lists: &[Vec<Row>],
@@ -39,15 +38,15 @@ pub fn merge(
     Ok((rows, work))
 }
 
-/// The first `take` of all lists together, in the direction's order of their rows: fewer only where
-/// the lists hold fewer, and each as often as it stands in the lists. Of those whose rows are equal,
-/// what stands in an earlier list comes first. Beside them stand the lengths of the lists and of the
-/// result. Each list has to be in that order, which `all_are_in_order` tests; it may be empty.
+/// Merges the lists, and returns their first `take` things in the direction's order of their rows
+/// (fewer only where the lists have fewer, and each as often as in the lists), and the lengths of the
+/// lists and of the result. Of things with equal rows, those of an earlier list come first. Each list
+/// must be in that order, which `all_are_in_order` tests; it may be empty.
 ///
 /// Errors: `NoMemory` where a growth was refused.
-/// Cost: for each one handed out, and for each list, a number of comparisons that grows with the
-/// logarithm of the number of lists; with one list there is none. No row is copied. Takes room for
-/// what is found, however large `take` is, and for a slice and a number for each list.
+/// Cost: for each thing of the result, and for each list, a number of comparisons that grows with the
+/// logarithm of the number of lists, and none with one list. No row is copied. Takes memory for the
+/// result, however large `take` is, and for a slice and a number for each list.
 pub fn merge_all<T: Ranked + Copy>(
     alloc: Global,
     lists: &[Vec<T>],
@@ -66,7 +65,7 @@ pub fn merge_all<T: Ranked + Copy>(
     Ok((items, work))
 }
 
-// What comes first, lent from the lists.
+// The first `take` things, borrowed from the lists.
 fn first_lent<'a, T: Ranked>(
     alloc: Global,
     lists: &'a [Vec<T>],
@@ -92,7 +91,7 @@ fn first_lent<'a, T: Ranked>(
     Ok(lent)
 }
 
-// What one list begins with: there is nothing to compare.
+// The first things of a single list: there is nothing to compare.
 fn first_of_one<'a, T>(alloc: Global, list: &'a [T], count: usize) -> Result<Vec<&'a T>, NoMemory>
     ensures { IfOk result (λ lent. lent_of lent.items ≡ take count list.now) }
 {

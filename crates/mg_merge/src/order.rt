@@ -6,7 +6,7 @@ use crate::ranked::Ranked;
 use mg_collate::{Direction, Row};
 use std::cmp::Ordering;
 
-/// Whether each list is in the direction's order, as `merge` asks of its caller.
+/// Whether each list is in the direction's order, as `merge` requires.
 ///
 /// Cost: a comparison for each row. Takes no memory.
 pub fn are_in_order(lists: &[Vec<Row>], direction: Direction) -> bool
@@ -15,7 +15,7 @@ pub fn are_in_order(lists: &[Vec<Row>], direction: Direction) -> bool
     all_are_in_order(lists, direction)
 }
 
-/// Whether each list is in the direction's order, as `merge_all` asks of its caller.
+/// Whether each list is in the direction's order, as `merge_all` requires.
 ///
 /// Cost: a comparison for each thing. Takes no memory.
 pub fn all_are_in_order<T: Ranked>(lists: &[Vec<T>], direction: Direction) -> bool
@@ -40,7 +40,7 @@ fn is_in_order<T: Ranked>(items: &[T], direction: Direction) -> bool
     true
 }
 
-// Whether the direction lists the row of the one before that of the other.
+// Whether the direction lists the row of `item` before that of `other`.
 fn comes_before<T: Ranked>(item: &T, other: &T, direction: Direction) -> bool
     ensures { IsTrue result ↔ (order_by T.row_of direction item.now other.now ≡ Ordering.Less) }
 {

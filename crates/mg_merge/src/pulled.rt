@@ -1,4 +1,4 @@
-//! The merge that pulls from its sources as it needs: the first thing of each, then one for each that is taken.
+//! The merge that pulls from its sources only what it needs: the first thing of each, and then one for each that it takes.
 ghost use Rattle.std.specs.Prelude.{◌≡◌, ◌≤◌, ◌+◌, ◌∷◌, ◌++◌, [], List, Option, All, IfOk, IfSome, IfNone, OnOk, length, map, option_map, take};
 ghost use Rattle.mg_collate.specs.Row.{directed_order};
 ghost use Rattle.mg_collate.specs.Sorted.{IsInOrder, sorted};
@@ -12,17 +12,17 @@ use mg_collate::Direction;
 use mg_value::NoMemory;
 use std::alloc::Global;
 
-// Room for results is taken for so many at first.
+// The first capacity of the result.
 const FIRST_ROOM: usize = 64;
 
-/// The first `take` of all sources together, in the direction's order of their rows: fewer only where
-/// the sources have fewer, and none lost or doubled. Beside them stands how many were pulled from the
-/// sources: at most `take`, and one more for each source. Each source has to be in that order; it may
-/// be empty.
+/// Merges the sources, and returns their first `take` things in the direction's order of their rows
+/// (fewer only where the sources have fewer, and none lost or repeated), and how many things were
+/// pulled from the sources: at most `take`, and one more for each source. Each source must be in that
+/// order; it may be empty.
 ///
 /// Errors: `NoMemory` where a growth was refused.
-/// Cost: what the sources need for the things that are pulled, and for each of them a number of
-/// comparisons that grows with the logarithm of the number of sources; with one source there is none.
+/// Cost: what the sources need for the things that are pulled, and for each of these a number of
+/// comparisons that grows with the logarithm of the number of sources, and none with one source.
 pub fn merge_pulled<T: Ranked + Copy, S: RowSource<T>>(
     alloc: Global,
     sources: &mut [S],
@@ -44,7 +44,7 @@ pub fn merge_pulled<T: Ranked + Copy, S: RowSource<T>>(
     Ok((items, pulled))
 }
 
-// Pulls the first of each source.
+// Pulls the first thing of each source; `None` for a source that has nothing.
 fn first_heads<T: Ranked + Copy, S: RowSource<T>>(
     alloc: Global,
     sources: &mut [S],
@@ -62,7 +62,7 @@ fn first_heads<T: Ranked + Copy, S: RowSource<T>>(
     Ok(heads)
 }
 
-// The first of all, where the first of each source was pulled.
+// Takes the first `take` things of all sources, after the first thing of each source was pulled.
 fn merge_ahead<T: Ranked + Copy, S: RowSource<T>>(
     alloc: Global,
     heads: &mut Vec<Option<T>>,
@@ -95,8 +95,8 @@ fn merge_ahead<T: Ranked + Copy, S: RowSource<T>>(
     Ok(items)
 }
 
-// Takes the head whose source is first in the queue, pulls that source's next, and puts the source's
-// number where its turn is now.
+// Takes the head of the source that is first in the queue, pulls that source's next thing, and puts the
+// source's number back into the queue. `None` where no source has anything left.
 fn pull_first<T: Ranked + Copy, S: RowSource<T>>(
     heads: &mut Vec<Option<T>>,
     sources: &mut [S],
@@ -136,7 +136,7 @@ fn pull_first<T: Ranked + Copy, S: RowSource<T>>(
     }
 }
 
-// How many heads wait.
+// How many things were pulled and not taken.
 fn waiting<T: Ranked + Copy>(heads: &[Option<T>]) -> usize
     ensures count { result ≡ length (joined (firsts_of heads.now)) }
     ensures within { result ≤ length heads.now }

@@ -1,7 +1,7 @@
-//! The numbers of the lists, in the order in which the lists are taken from.
+//! The queue of a merge: the numbers of the lists, in the order in which the lists are taken from.
 //!
-//! When a row was taken, only its list has another turn: its place is found by halving, at one
-//! comparison of rows for each step, and at most the numbers of the other lists move.
+//! After a row is taken, only its list changes its place in the queue. Binary search finds the new
+//! place, with one comparison of rows for each step; at most the numbers of the other lists are moved.
 ghost use Rattle.std.specs.Prelude.{◌≡◌, ◌<◌, ◌≤◌, length, All, IfOk, OnOk};
 ghost use Rattle.std.specs.List.{insert};
 ghost use Rattle.mg_collate.specs.Sorted.{sorted_with};
@@ -15,7 +15,7 @@ use mg_value::NoMemory;
 use std::alloc::Global;
 use std::cmp::Ordering;
 
-// The numbers of all lists.
+// The queue of all lists.
 pub(crate) fn queue_of<T: Ranked, B: Begins<T>>(
     alloc: Global,
     lists: &B,
@@ -31,7 +31,7 @@ pub(crate) fn queue_of<T: Ranked, B: Begins<T>>(
     Ok(queue)
 }
 
-// Puts a number where its list's turn is.
+// Puts the number of a list into the queue, at its place in the order.
 pub(crate) fn enter<T: Ranked, B: Begins<T>>(
     queue: &mut Vec<usize>,
     lists: &B,
@@ -51,7 +51,7 @@ pub(crate) fn enter<T: Ranked, B: Begins<T>>(
     Ok(())
 }
 
-// The place at which the number keeps the queue in order, by halving.
+// The place at which the number keeps the queue in order, by binary search.
 fn place_of<T: Ranked, B: Begins<T>>(
     queue: &[usize],
     lists: &B,
@@ -79,7 +79,7 @@ fn place_of<T: Ranked, B: Begins<T>>(
     low
 }
 
-// Which of two lists is taken from first: of those that begin with equal rows the lower number.
+// The order of two lists in the queue: by their first rows, and where these are equal by number.
 fn turn<T: Ranked, B: Begins<T>>(
     lists: &B,
     list: usize,

@@ -10,7 +10,7 @@ use mg_collate::Direction;
 use mg_value::NoMemory;
 use std::alloc::Global;
 
-// All of the lists.
+// The rests at the start, which are the whole lists.
 pub(crate) fn whole_lists<'a, T>(
     alloc: Global,
     lists: &'a [Vec<T>],
@@ -24,8 +24,8 @@ pub(crate) fn whole_lists<'a, T>(
     Ok(rests)
 }
 
-// Takes what the direction lists first off the rest whose number is first in the queue, and puts
-// that number where its turn is now.
+// Takes the first thing off the rest whose number is first in the queue, and puts that number back
+// into the queue. `None` where nothing is left.
 pub(crate) fn take_first<'a, T: Ranked>(
     rests: &mut Vec<&'a [T]>,
     queue: &mut Vec<usize>,

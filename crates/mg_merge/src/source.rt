@@ -3,7 +3,7 @@ ghost use Rattle.mg_collate.specs.Row.{RowValue};
 
 use crate::ranked::Ranked;
 
-/// A source of things in a direction's order of their rows, which are found as they are asked for.
+/// A source of things in a direction's order of their rows, which finds each thing only when it is asked for it.
 pub trait RowSource<T: Ranked> {
     // the rows that are still to come
     ghost rest: { Self → List RowValue };

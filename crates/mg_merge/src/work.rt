@@ -4,7 +4,7 @@ use mg_value::NoMemory;
 use std::alloc::Global;
 use std::marker::Model;
 
-/// What a merge was handed, and what it gave: only a merge makes one.
+/// The lengths of the lists that a merge was given, and of its result. Only a merge makes one.
 #[derive(Debug, Drop)]
 pub struct Work {
     handed: Vec<u64>,
@@ -36,7 +36,7 @@ impl Work {
         self.taken
     }
 
-    // The work of a merge of these lists that gave so many.
+    // The work of a merge of these lists whose result has the length `taken`.
     pub(crate) fn of<T>(alloc: Global, lists: &[Vec<T>], taken: usize) -> Result<Work, NoMemory>
         ensures handed { IfOk result (λ w. w.handed ≡ map (λ l. length l.items) lists.now) }
         ensures taken { IfOk result (λ w. w.taken ≡ taken) }

@@ -39,7 +39,7 @@ filled_room head room tail at (row ∷ rows) e =
     ∙ filled_room (head ++ word at) (drop 4 room) (tail ++ row) (at + length row) rows left
     ∙ simp append_assoc
 
--- no row stands there yet
+-- filling in the places before any row is there gives the table
 pub filled_table : (table : ℕ) (rows : List (List ℕ)) (b : List ℕ) → table + 4 * length rows ≡ length b
     → filled table 0 rows b ≡ take table b ++ (places 0 rows ++ concat rows)
 filled_table table rows b e =
@@ -50,7 +50,7 @@ filled_table table rows b e =
     ∙ ap (λ n. filled n 0 rows (take table b ++ (drop table b ++ []))) (sym head)
     ∙ filled_room (take table b) (drop table b) [] 0 rows room
 
--- the rows that are left make the same of `b` as all rows make of `start`
+-- adding the rows left to `b` gives the same bytes as adding all rows to `start`
 pub record IsFilling (start : List ℕ) (table : ℕ) (rows : List (List ℕ)) (b : List ℕ) (place base : ℕ) (left : List (List ℕ)) : Type 0 where
   pub same : filled place (length b - base) left b ≡ filled table 0 rows start
   pub room : place + 4 * length left ≤ base

@@ -1,4 +1,4 @@
-// Parts are lent values: what is evaluated over these is evaluated over parts.
+// Parts are lent values, so that code which is generic over lent values works on them.
 use crate::array::Array;
 use crate::kind::Kind;
 use crate::object::Object;
@@ -15,7 +15,7 @@ impl<'a> LentValue for Part<'a> {
 
     type Object = Object<'a>;
 
-    // The object, and how many of its members the walk has come to.
+    // The object, and how many of its members the walk has passed.
     type Rest = (Object<'a>, usize);
 
     ghost value = { λ v. v };

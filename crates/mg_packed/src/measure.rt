@@ -1,4 +1,4 @@
-// How many bytes a value takes. The walk also shows that the value can be packed at all.
+// Counts the bytes of a packed value. The contracts also state what holds of every value that can be packed.
 ghost use Rattle.std.specs.Prelude.{◌≡◌, ◌+◌, length, FitsSigned, IfOk, OnOk};
 ghost use Rattle.std.specs.Int.{w64};
 ghost use Rattle.mg_value.specs.Value.{whole, text as string, list, object};
@@ -30,7 +30,7 @@ fn add(a: u32, b: u32) -> Result<u32, NoMemory>
     a.checked_add(b).ok_or(NoMemory)
 }
 
-// A text with its length, and `more` bytes beside it.
+// The size of a text, its length in four bytes, and `more` bytes.
 fn named_len(name: &str, more: u32) -> Result<u32, NoMemory>
     ensures { IfOk result (λ n. n ≡ 4 + length name.now + more) }
 {
@@ -44,7 +44,7 @@ fn text_len(text: &str) -> Result<u32, NoMemory>
     Ok(len)
 }
 
-// A number with its tag. The number is a parameter so that its range is known.
+// The size of a number with its tag. The number is a parameter so that proofs know its range.
 fn long_len(_number: i64) -> u32
     ensures len { result ≡ 9 }
     ensures fits { FitsSigned w64 _number }
@@ -94,7 +94,7 @@ fn measure_object(members: &BTreeMap<String, Json>) -> Result<u32, NoMemory>
     Ok(len)
 }
 
-// The tag and the count, and for each item its place and its bytes.
+// The size of the tag and the count, and for each item its place and its bytes.
 #[cycle(measure)]
 fn measure_items(items: &[Json]) -> Result<u32, NoMemory>
     ensures len { IfOk result (λ n. n ≡ 5 + items_size (items_view items.now)) }
@@ -107,7 +107,7 @@ fn measure_items(items: &[Json]) -> Result<u32, NoMemory>
     Ok(len)
 }
 
-// The tag and the count, and for each member its place, its name and its value's bytes.
+// The size of the tag and the count, and for each member its place, its name and its value's bytes.
 #[cycle(measure)]
 fn measure_members(members: &BTreeMap<String, Json>) -> Result<u32, NoMemory>
     ensures len { IfOk result (λ n. n ≡ 5 + members_size (members_view members.now.entries)) }

@@ -1,15 +1,15 @@
--- Pages and levels made one after another of what is in order.
+-- Building pages and levels, one after another, from elements in order.
 use Rattle.std.proofs.Common.{◌≡◌, List, [], ◌∷◌, ◌++◌, sym, ap, ◌∙◌, subst, append_assoc, append-nil}
 use Rattle.std.proofs.lemmas.List.Concat.{flat_map-append}
 use Rattle.std.specs.List.{flat_map}
 use Rattle.mg_pages.specs.Parts.{AreWhole}
 use Rattle.mg_pages.proofs.Sorted.{all_append}
 
--- one more part that is whole
+-- whole parts and one more whole part are all whole
 pub built_whole : {P : Type 0} (W : P → Type 0) (ps qs : List P) (p : P) → qs ≡ ps ++ p ∷ [] → AreWhole W ps → W p → AreWhole W qs
 built_whole W ps qs p e h w = subst (AreWhole W) (sym e) (all_append W ps (p ∷ []) h (w, tt))
 
--- what was left goes into one more part, but for the rest
+-- what was left to build from is one more part, and the rest
 pub built_seen : {P T : Type 0} (seen : P → List T) (ps qs : List P) (p : P) (left rest all : List T) → qs ≡ ps ++ p ∷ [] → left ≡ seen p ++ rest → flat_map seen ps ++ left ≡ all → flat_map seen qs ++ rest ≡ all
 built_seen seen ps qs p left rest all e l h =
     ap (λ us. flat_map seen us ++ rest) e ∙ ap (λ us. us ++ rest) (flat_map-append seen ps (p ∷ []) ∙ ap (λ us. flat_map seen ps ++ us) (append-nil (seen p)))

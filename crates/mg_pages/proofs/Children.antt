@@ -1,4 +1,4 @@
--- Children of a level: the last element that stands beside a part.
+-- Children of a level, and the last element beside each part.
 use Rattle.std.proofs.Common.{◌≡◌, ℕ, ◌+◌, ◌-◌, ◌<◌, List, [], ◌∷◌, ◌++◌, length, take, drop, get_or, false, Ordering, Less, Equal, is_lt, is_gt, Option, Some, None, IfSome, refl, sym, ap, ap₂, ◌∙◌, subst, arith, append_assoc, append-nil}
 use Rattle.std.proofs.lemmas.List.{drop_all, length-append}
 use Rattle.std.proofs.lemmas.List.Elements.{filter-append}
@@ -14,7 +14,7 @@ use Rattle.mg_pages.specs.declared.child.Node.{Node}
 use Rattle.mg_pages.proofs.Sorted.{above_first, found_cut, found_one, split_at, above_of_below, above_one_less, above_one_not, before_one}
 use Rattle.mg_pages.proofs.Parts.{mapped_at, mapped_length, whole_at, ascends_at, seen_split}
 
--- a child that stands in a level, by its last element and its part
+-- the i-th child of a level, as its last element and its part
 pub part_at : {T P : Type 0} (xs : List (Child T P)) (i : ℕ) (c : Child T P) (n : Node T P) → i < length xs → c ≡ get_or xs i c → n ≡ arc_value c.node → node_value n ≡ get_or (children xs) i (node_value n)
 part_at xs i c n l e v = mapped_at child_value xs i c (node_value n) l e (ap node_value v)
 
@@ -38,19 +38,19 @@ seen_some W seen (p ∷ ps) n h =
     let e = ap length h.0.1.is in
     omega (arith, length-append (seen p.1) (flat_map (child_seen seen) ps), length-append h.0.1.front (p.0 ∷ []), e)
 
--- the last of a list, at its last place
+-- the element at the last place is the last of a list
 pub last_at : {T : Type 0} (xs : List T) (x : T) → 0 < length xs → x ≡ get_or xs (length xs - 1) x → IsLast x xs
 last_at xs x n e =
     let i = length xs - 1 in
     let rest : drop (i + 1) xs ≡ [] = drop_all (i + 1) xs (omega arith) in
     record { front = take i xs; is = split_at xs i x (omega arith) e ∙ ap (λ us. take i xs ++ x ∷ us) rest }
 
--- the last of a list whose end is known
+-- the last of the end of a list is the last of the list
 pub last_of_end : {T : Type 0} (xs front ys : List T) (x : T) → xs ≡ front ++ ys → IsLast x ys → IsLast x xs
 last_of_end xs front ys x e it = record { front = front ++ it.front; is = e ∙ ap (λ us. front ++ us) it.is ∙ sym (append_assoc front it.front (x ∷ [])) }
 
 module _ {T : Type 0} (against : T → Ordering) (l : T) (xs : List T) (it : IsLast l xs) where
-  -- what is above a key that is below the last
+  -- the last is also the last of the elements above a key, where the key is below it
   above_last : against l ≡ Less → IsLast l (above against xs)
   above_last e = record {
     front = above against it.front;
@@ -63,37 +63,37 @@ module _ {T : Type 0} (against : T → Ordering) (l : T) (xs : List T) (it : IsL
       let low = before_one order against p it.front l [] (subst (Ascends order) it.is s) n in
       ap (above against) it.is ∙ filter-append (λ y. is_lt (against y)) it.front (l ∷ []) ∙ ap₂ (λ us vs. us ++ vs) (above_of_below against it.front low) (above_one_not against l [] n)
 
-  -- the last stays where the key is below it
+  -- a removal keeps the last, where the key is below it
   pub removed_below_last : against l ≡ Less → IsLast l (removed against xs)
   removed_below_last e = last_of_end (removed against xs) (below against xs) (above against xs) l refl (above_last e)
 
-  -- else the last of those below the key is the last
+  -- a removal leaves the elements below the key, where the key is not below the last
   pub removed_at_last : (order : T → T → Ordering) → IsProbe order against → Ascends order xs → is_lt (against l) ≡ false → removed against xs ≡ below against xs
   removed_at_last order p s n = ap (λ us. below against xs ++ us) (above_none order p s n) ∙ append-nil (below against xs)
 
 module _ {T : Type 0} (order : T → T → Ordering) (x l : T) (xs : List T) (it : IsLast l xs) where
-  -- the last stays where the new one is below it
+  -- an insertion keeps the last, where the new element is below it
   pub inserted_below_last : order x l ≡ Less → IsLast l (inserted order x xs)
   inserted_below_last e =
       let a = above_last (order x) l xs it e in
       last_of_end (inserted order x xs) (below (order x) xs ++ x ∷ []) (above (order x) xs) l (sym (append_assoc (below (order x) xs) (x ∷ []) (above (order x) xs))) a
 
-  -- else the new one is the last
+  -- the new element is the last, where it is not below the last
   pub inserted_at_last : IsTotalOrder order → Ascends order xs → is_lt (order x l) ≡ false → IsLast x (inserted order x xs)
   inserted_at_last o s n = record {
     front = below (order x) xs;
     is = ap (λ us. below (order x) xs ++ x ∷ us) (above_none (order x) l xs it order (probe_from_total o x) s n);
   }
 
--- a run that ends what is below the key ends what is left, where nothing is above the key
+-- the last of a run that ends a list is the last of the list
 pub removed_run_last : {T : Type 0} (xs low run : List T) (x : T) → xs ≡ low → IsEndRun run low → 0 < length run → x ≡ get_or run (length run - 1) x → IsLast x xs
 removed_run_last xs low run x e r n at = last_of_end xs r.rest run x (e ∙ r.is) (last_at run x n at)
 
--- where that run is empty, nothing is left
+-- where that run is empty, the list is empty
 pub removed_run_none : {T : Type 0} (xs low run : List T) → xs ≡ low → IsEndRun run low → length run ≡ 0 → xs ≡ []
 removed_run_none xs low run e r n = e ∙ r.some n
 
--- one of the elements of a part is one of all
+-- an element of one part is among the elements of all parts
 pub among_part : {P T : Type 0} (seen : P → List T) (ps : List P) (i : ℕ) (p : P) (x : T) → i < length ps → p ≡ get_or ps i p → IsAmong (seen p) x → IsAmong (flat_map seen ps) x
 among_part seen ps i p x l e it =
     let before = flat_map seen (take i ps) in
@@ -104,7 +104,7 @@ among_part seen ps i p x l e it =
       is = seen_split seen ps i p l e ∙ ap (λ us. before ++ (us ++ after)) it.is ∙ ap (λ us. before ++ us) (append_assoc it.front (x ∷ it.rest) after) ∙ sym (append_assoc before it.front (x ∷ (it.rest ++ after)));
     }
 
--- the one that ties is found
+-- an element that ties with the key is the one that is found
 pub found_among : {T : Type 0} (order : T → T → Ordering) (against : T → Ordering) → IsProbe order against → (xs : List T) (x : T) → Ascends order xs → IsAmong xs x → against x ≡ Equal → found against xs ≡ Some x
 found_among order against p xs x s it e =
     let rises = subst (Ascends order) it.is s in
@@ -112,7 +112,7 @@ found_among order against p xs x s it e =
     let high = above_first order against p it.front x it.rest rises (ap is_gt e) in
     ap (found against) it.is ∙ found_cut against it.front (x ∷ []) it.rest low high ∙ found_one against x e
 
--- what holds of the one that is there, by a step
+-- where P implies Q, an optional value with P has Q
 pub if_there : {A : Type 0} (P Q : A → Type 0) (o : Option A) → ((a : A) → P a → Q a) → IfSome o P → IfSome o Q
 if_there P Q None step h = h
 if_there P Q (Some a) step h = step a h

@@ -14,7 +14,7 @@ module _ {P T : Type 0} (seen : P → List T) where
   pub count_more : (ps : List P) (i : ℕ) (p : P) → i < length ps → p ≡ get_or ps i p → length (flat_map seen (take (i + 1) ps)) ≡ length (flat_map seen (take i ps)) + length (seen p)
   count_more ps i p l e = ap length (seen_take_more seen ps i p l e) ∙ length-append (flat_map seen (take i ps)) (seen p)
 
-  -- the parts before one and that part have no more than all
+  -- the parts up to the i-th have no more elements than all parts
   pub count_within : (ps : List P) (i : ℕ) (p : P) → i < length ps → p ≡ get_or ps i p → length (flat_map seen (take i ps)) + length (seen p) ≤ length (flat_map seen ps)
   count_within ps i p l e =
       let n = ap length (seen_split seen ps i p l e) in
@@ -24,7 +24,7 @@ module _ {P T : Type 0} (seen : P → List T) where
   count_cut ps k =
       sym (ap (λ qs. length (flat_map seen qs)) (take-append-drop k ps)) ∙ ap length (flat_map-append seen (take k ps) (drop k ps)) ∙ length-append (flat_map seen (take k ps)) (flat_map seen (drop k ps))
 
-  -- those below a key are all before its part, and some of that part
+  -- the elements below a key are all before its part, and those of its part that are below the key
   pub count_below_parts : (against : T → Ordering) (ps : List P) (i : ℕ) (p : P) → i < length ps → p ≡ get_or ps i p → AllBelow against (flat_map seen (take i ps)) → AllAbove against (flat_map seen (drop (i + 1) ps))
       → length (below against (flat_map seen ps)) ≡ length (flat_map seen (take i ps)) + length (below against (seen p))
   count_below_parts against ps i p l e low high =
@@ -38,7 +38,7 @@ below_over Less = refl
 below_over Equal = refl
 below_over Greater = refl
 
--- each element is above a key, or below it with its ties
+-- each element is above a key, or is not
 pub count_over : {T : Type 0} (against : T → Ordering) (xs : List T) → length (below (λ x. over (against x)) xs) + length (above against xs) ≡ length xs
 count_over against xs = length-filter_both (λ x. is_gt (over (against x))) (λ x. is_lt (against x)) (λ x. below_over (against x)) xs
 

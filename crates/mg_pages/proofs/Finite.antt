@@ -1,4 +1,4 @@
--- Elements in order as a finite map: what an insertion, a removal and a look-up are there.
+-- Elements in order as a finite map: look-up, insertion and removal are those of the map.
 use Rattle.std.proofs.Common.{◌≡◌, Bool, true, false, cond, not, ◌&&◌, T, List, [], ◌∷◌, ◌++◌, map, Some, None, option_map, Ordering, Less, Equal, Greater, is_eq, is_lt, is_gt, refl, sym, ap, ap₂, ◌∙◌, subst}
 use Rattle.std.proofs.lemmas.Cmp.{alike_right, eq_by_cmp_equiv, on_total}
 use Rattle.std.specs.Cmp.{IsTotalOrder}

@@ -1,4 +1,4 @@
--- Parts one after another.
+-- Lists of parts, and the elements of all of them.
 use Rattle.std.proofs.Common.{◌≡◌, ℕ, ◌+◌, ◌-◌, ◌<◌, ◌≤◌, suc, List, [], ◌∷◌, ◌++◌, length, map, take, drop, get_or, set, false, Ordering, Greater, is_gt, refl, sym, ap, ap₂, ◌∙◌, subst, arith, Result, Ok, Err, OnErr, append_assoc, append-nil}
 use Rattle.std.proofs.lemmas.List.{drop_more, take_more, take-append-drop, get_or-map, length-map, length-take, length-drop, length-set, drop-set-lt, get_or-set_same, drop_all, append_cancel_left, map-append, take-map, drop-map, map-set, take-set}
 use Rattle.std.proofs.lemmas.Grind.{common_steps}
@@ -11,7 +11,7 @@ use Rattle.mg_pages.specs.Runs.{continued, ended, IsRun, IsEndRun}
 use Rattle.mg_pages.specs.Parts.{IsLast, AreWhole}
 use Rattle.mg_pages.proofs.Sorted.{all_left, all_right, all_append, inserted_cut, found_cut, above_cut, above_suffix, continued_is, below_cut, below_prefix, ended_is, removed_cut, split_at, take_one_more, set_is, ascends_left, ascends_right, below_last, above_first}
 
--- the value of what stands in a list
+-- the i-th value of a mapped list is that of the i-th element
 pub mapped_at : {A X : Type 0} (f : A → X) (xs : List A) (i : ℕ) (a : A) (p : X) → i < length xs → a ≡ get_or xs i a → p ≡ f a → p ≡ get_or (map f xs) i p
 mapped_at f xs i a p l e v = v ∙ ap f e ∙ sym (get_or-map f xs i a p l)
 
@@ -25,7 +25,7 @@ module _ {P T : Type 0} (seen : P → List T) where
   pub seen_take_more : (ps : List P) (i : ℕ) (p : P) → i < length ps → p ≡ get_or ps i p → flat_map seen (take (i + 1) ps) ≡ flat_map seen (take i ps) ++ seen p
   seen_take_more ps i p l e = ap (flat_map seen) (take_one_more ps i p l e) ∙ flat_map-append seen (take i ps) (p ∷ []) ∙ ap (λ xs. flat_map seen (take i ps) ++ xs) (append-nil (seen p))
 
-  -- the last element of the last part
+  -- the last element of the last part is the last of all
   pub last_seen : (ps : List P) (p : P) (x : T) → 0 < length ps → p ≡ get_or ps (length ps - 1) p → IsLast x (seen p) → IsLast x (flat_map seen ps)
   last_seen ps p x some e it =
       let i = length ps - 1 in
@@ -37,7 +37,7 @@ module _ {P T : Type 0} (seen : P → List T) where
       }
 
   module _ (order : T → T → Ordering) (against : T → Ordering) (probe : IsProbe order against) where
-    -- a key that is above the last element of a part is above all as far as that part
+    -- a key that is above the last element of a part is above all elements of that part and of those before it
     pub below_part : (ps : List P) (i : ℕ) (p : P) (x : T) → i < length ps → p ≡ get_or ps i p → Ascends order (flat_map seen ps) → IsLast x (seen p) → against x ≡ Greater → AllBelow against (flat_map seen (take (i + 1) ps))
     below_part ps i p x l e s it g =
         let front = flat_map seen (take i ps) in
@@ -62,7 +62,7 @@ whole_at W ps i p l e h = (all_right W (take i ps) (p ∷ drop (i + 1) ps) (subs
 pub replaced : {X : Type 0} (xs : List X) (i : ℕ) (f b : X) → i < length xs → set (take (i + 1) xs ++ b ∷ drop (i + 1) xs) i f ≡ take i xs ++ f ∷ b ∷ drop (i + 1) xs
 replaced xs i f b l = grind (arith, common_steps, set_is, take_more)
 
--- halves in the place of a part
+-- a list of values after one part is replaced by two halves
 pub mapped_replaced : {A X : Type 0} (v : A → X) (xs : List A) (i : ℕ) (f b : A) → i < length xs → map v (set (take (i + 1) xs ++ b ∷ drop (i + 1) xs) i f) ≡ take i (map v xs) ++ v f ∷ v b ∷ drop (i + 1) (map v xs)
 mapped_replaced v xs i f b l =
     ap (map v) (replaced xs i f b l) ∙ map-append v (take i xs) (f ∷ b ∷ drop (i + 1) xs)
@@ -75,7 +75,7 @@ module _ {P T : Type 0} (seen : P → List T) where
       let rest = flat_map seen (drop (i + 1) ps) in
       flat_map-append seen (take i ps) (f ∷ b ∷ drop (i + 1) ps) ∙ ap (λ xs. front ++ xs) (sym (append_assoc (seen f) (seen b) rest) ∙ ap (λ xs. xs ++ rest) h) ∙ sym (seen_split seen ps i p l e)
 
-  -- one part changed
+  -- the elements after one part has changed
   pub seen_set : (ps : List P) (i : ℕ) (q : P) → i < length ps → flat_map seen (set ps i q) ≡ flat_map seen (take i ps) ++ (seen q ++ flat_map seen (drop (i + 1) ps))
   seen_set ps i q l = ap (flat_map seen) (set_is ps i q l) ∙ flat_map-append seen (take i ps) (q ∷ drop (i + 1) ps)
 
@@ -140,7 +140,7 @@ back_whole W ps us k e h = subst (AreWhole W) (sym e) (all_right W (take k ps) (
 pub seen_cut : {P T : Type 0} (seen : P → List T) (ps us vs : List P) (k : ℕ) → us ≡ take k ps → vs ≡ drop k ps → flat_map seen us ++ flat_map seen vs ≡ flat_map seen ps
 seen_cut seen ps us vs k d e = ap₂ (λ xs ys. flat_map seen xs ++ flat_map seen ys) d e ∙ sym (flat_map-append seen (take k ps) (drop k ps)) ∙ ap (flat_map seen) (take-append-drop k ps)
 
--- ---- one part of shared parts changed
+-- ---- a change in one of several shared parts
 
 pub put_whole : {A P : Type 0} (f : A → P) (W : P → Type 0) (xs : List A) (i : ℕ) (b : A) → i < length xs → AreWhole W (map f xs) → W (f b) → 0 < length (set xs i b) × AreWhole W (map f (set xs i b))
 put_whole f W xs i b l h w =
@@ -183,7 +183,7 @@ run_more run xs ys zs r n e = record {
 pub run_next : {X : Type 0} (before run xs ys zs : List X) → IsRun before xs → length before ≡ 0 → IsRun run ys → zs ≡ xs ++ ys → IsRun run zs
 run_next before run xs ys zs b n r e = subst (IsRun run) (sym (e ∙ ap (λ us. us ++ ys) (b.some n))) r
 
--- what is left of the parts from one on
+-- the elements of the parts from the i-th on
 pub seen_from : {P T : Type 0} (seen : P → List T) (ps : List P) (i : ℕ) (p : P) → i < length ps → p ≡ get_or ps i p → flat_map seen (drop i ps) ≡ seen p ++ flat_map seen (drop (i + 1) ps)
 seen_from seen ps i p l e = ap (flat_map seen) (drop_more ps i p l ∙ ap (λ q. q ∷ drop (i + 1) ps) (sym e))
 
@@ -214,7 +214,7 @@ pub removed_one : {X : Type 0} (xs : List X) (i : ℕ) → take i xs ++ drop (su
 removed_one xs i = let e : suc i ≡ i + 1 = omega arith in ap (λ k. take i xs ++ drop k xs) e
 
 module _ {A P T : Type 0} (f : A → P) (seen : P → List T) where
-  -- a removal in one part
+  -- a removal in one part is a removal in the list of all elements
   pub seen_removed : (against : T → Ordering) (xs : List A) (i : ℕ) (a b : A) → i < length xs → a ≡ get_or xs i a
       → AllBelow against (flat_map seen (take i (map f xs))) → AllAbove against (flat_map seen (drop (i + 1) (map f xs)))
       → seen (f b) ≡ removed against (seen (f a)) → flat_map seen (map f (set xs i b)) ≡ removed against (flat_map seen (map f xs))
@@ -226,7 +226,7 @@ module _ {A P T : Type 0} (f : A → P) (seen : P → List T) where
       ap (flat_map seen) (mapped_set f xs i b) ∙ seen_set seen (map f xs) i (f b) k ∙ ap (λ us. front ++ (us ++ rest)) h
       ∙ sym (ap (removed against) (seen_split seen (map f xs) i (f a) k (mapped_at f xs i a (f a) l e refl)) ∙ removed_cut against front (seen (f a)) rest low high)
 
-  -- a part of which nothing is left, taken out
+  -- taking out an empty part changes no elements
   pub seen_without : (xs : List A) (i : ℕ) (b : A) → i < length xs → seen (f b) ≡ [] → flat_map seen (map f (take i (set xs i b) ++ drop (suc i) (set xs i b))) ≡ flat_map seen (map f (set xs i b))
   seen_without xs i b l h =
       let ys = set xs i b in

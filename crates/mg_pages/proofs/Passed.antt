@@ -1,4 +1,4 @@
--- Elements that are passed over: the page of an element, and what is left of a list behind so many.
+-- Skipping elements: the page of an element, and what is left of a list after `count` elements.
 use Rattle.std.proofs.Common.{◌≡◌, ℕ, zero, suc, ◌+◌, ◌-◌, ◌<◌, ◌≤◌, List, [], ◌∷◌, ◌++◌, length, take, drop, get_or, min, reverse, Ordering, refl, sym, ap, ◌∙◌, subst, arith, append_assoc, append-nil}
 use Rattle.std.proofs.lemmas.List.{drop-append-le, drop-drop, drop_all, drop_at, drop_min, length-append, length-drop, length-reverse, length-take-le, reverse-append, take-append-drop, take-append-le, take_at}
 use Rattle.std.specs.Cmp.{IsTotalOrder}
@@ -30,7 +30,7 @@ page_part seen ps k p page place left i l e n it =
       within = it.within;
     }
 
--- ---- runs from a place on, and as far as one
+-- ---- runs from a place on, and up to a place
 
 drop_behind : {X : Type 0} (front ys : List X) (k : ℕ) → drop (length front + k) (front ++ ys) ≡ drop k ys
 drop_behind front ys k = sym (drop-drop k (length front) (front ++ ys)) ∙ ap (drop k) (drop_at front ys (length front) refl)
@@ -57,7 +57,7 @@ end_at_place page xs place i it =
       some = λ m. absurd (omega (arith, m, length-take-le (place + 1) page (omega (arith, it.within))));
     }
 
--- a run behind its first, and before its last
+-- a run without its first elements, and a run without its last
 pub run_within : {X : Type 0} (run ys : List X) (count : ℕ) → IsRun run ys → count < length run → IsRun (drop count run) (drop count ys)
 run_within run ys count r l = record {
   rest = r.rest;
@@ -76,7 +76,7 @@ end_within run ys count r l =
     }
 
 module _ {T : Type 0} (order : T → T → Ordering) (against : T → Ordering) (probe : IsProbe order against) where
-  -- the run from the place behind so many of what is above a key
+  -- the run of the elements above a key, after `count` of them
   pub run_passed : (page xs : List T) (place count first : ℕ) → Ascends order xs → first + (length (above against xs) - count) ≡ length xs → 0 < length (above against xs) - count → IsPageAt page place first xs
       → IsRun (drop place page) (drop count (above against xs))
   run_passed page xs place count first s n some it =
@@ -85,7 +85,7 @@ module _ {T : Type 0} (order : T → T → Ordering) (against : T → Ordering) 
       let at : first ≡ length cut.0 + count = omega (arith, n, some, ap length cut.1, length-append cut.0 ys) in
       subst (IsRun (drop place page)) (ap (λ k. drop k xs) at ∙ ap (drop (length cut.0 + count)) cut.1 ∙ drop_behind cut.0 ys count) (run_at_place page xs place first it)
 
-  -- the run as far as the place before the last so many of what is below a key
+  -- the run that ends the first `left` elements below a key
   pub end_passed : (page xs : List T) (place left : ℕ) → Ascends order xs → 0 < left → left ≤ length (below against xs) → IsPageAt page place (left - 1) xs → IsEndRun (take (place + 1) page) (take left (below against xs))
   end_passed page xs place left s some l it =
       let cut = below_prefix order against probe xs s in
@@ -98,7 +98,7 @@ run_none ys count l = run_whole [] (drop count ys) (sym (drop_all count ys l))
 pub end_none : {X : Type 0} (ys : List X) (left : ℕ) → left ≡ 0 → IsEndRun [] (take left ys)
 end_none ys left e = end_whole [] (take left ys) (sym (ap (λ k. take k ys) e))
 
--- ---- iterators behind so many elements
+-- ---- iterators after skipping elements
 
 reversed_short : {X : Type 0} (us : List X) (count : ℕ) → reverse (take (length us - count) us) ≡ drop count (reverse us)
 reversed_short us count =
@@ -114,7 +114,7 @@ module _ {T : Type 0} (order : T → T → Ordering) (xs : List T) where
   continued_none [] (suc count) e = refl
   continued_none (x ∷ run) count e = absurd (omega (arith, e))
 
-  -- within a run
+  -- skipping elements within a run
   pub continued_drop : (run : List T) (count : ℕ) → count < length run → continued order xs (drop count run) ≡ drop count (continued order xs run)
   continued_drop [] count l = absurd (omega (arith, l))
   continued_drop (x ∷ run) zero l = refl
@@ -129,7 +129,7 @@ module _ {T : Type 0} (order : T → T → Ordering) (xs : List T) where
   continued_last [] x = refl
   continued_last (y ∷ front) x = ap (λ us. y ∷ us) (after_front y front x)
 
-  -- behind a run whose last is x
+  -- skipping a run whose last is x, and `more` elements
   pub continued_behind : (run : List T) (x : T) (count more : ℕ) → IsLast x run → count ≡ length run + more → drop more (above (order x) xs) ≡ drop count (continued order xs run)
   continued_behind run x count more it n =
       let ys = above (order x) xs in
@@ -150,7 +150,7 @@ module _ {T : Type 0} (order : T → T → Ordering) (xs : List T) where
   ended_none [] (suc count) e = refl
   ended_none (x ∷ run) count e = absurd (omega (arith, e))
 
-  -- within a run
+  -- from the end, skipping elements within a run
   pub ended_take : (run : List T) (left count : ℕ) → left + count ≡ length run → 0 < left → reverse (ended order xs (take left run)) ≡ drop count (reverse (ended order xs run))
   ended_take [] left count n some = absurd (omega (arith, n, some))
   ended_take (x ∷ run) zero count n some = absurd (omega (arith, some))
@@ -160,7 +160,7 @@ module _ {T : Type 0} (order : T → T → Ordering) (xs : List T) where
       let m : length all - count ≡ length low + suc left = omega (arith, n, length-append low (x ∷ run)) in
       ap reverse (sym (ap (λ j. take j all) m ∙ take_behind low (x ∷ run) (suc left) (omega (arith, n)))) ∙ reversed_short all count
 
-  -- before a run whose first is x
+  -- from the end, skipping a run whose first is x, and `more` elements
   pub ended_before : (run : List T) (x : T) (count more : ℕ) → 0 < length run → x ≡ get_or run 0 x → count ≡ length run + more
       → reverse (take (length (below (order x) xs) - more) (below (order x) xs)) ≡ drop count (reverse (ended order xs run))
   ended_before [] x count more some at n = absurd (omega (arith, some))

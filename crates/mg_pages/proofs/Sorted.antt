@@ -94,7 +94,7 @@ module _ {T : Type 0} (against : T → Ordering) where
   filter_cut : (test : T → Bool) (front mid rest : List T) → filter test (front ++ (mid ++ rest)) ≡ filter test front ++ (filter test mid ++ filter test rest)
   filter_cut test front mid rest = filter-append test front (mid ++ rest) ∙ ap (λ xs. filter test front ++ xs) (filter-append test mid rest)
 
-  -- what is below all of front and above all of rest, is decided between them
+  -- where a key is above all of `front` and below all of `rest`, only `mid` has to be filtered
   pub below_cut : (front mid rest : List T) → AllBelow against front → AllAbove against rest → below against (front ++ (mid ++ rest)) ≡ front ++ below against mid
   below_cut front mid rest low high =
       filter_cut (λ x. is_gt (against x)) front mid rest ∙ ap₂ (λ us vs. us ++ (below against mid ++ vs)) (below_of_below front low) (below_of_above rest high)
@@ -230,7 +230,7 @@ pub above_one_not : {T : Type 0} (against : T → Ordering) (x : T) (xs : List T
 above_one_not against x xs e = ap (λ b. cond b (x ∷ above against xs) (above against xs)) e
 
 module _ {T : Type 0} (order : T → T → Ordering) (against : T → Ordering) (probe : IsProbe order against) where
-  -- what is above a key ends an ascending list
+  -- the elements above a key end an ascending list
   suffix_step : (x : T) (xs : List T) (r : Ordering) → against x ≡ r → Ascends order (x ∷ xs) → ((pre : List T) × (xs ≡ pre ++ above against xs)) → (pre : List T) × (x ∷ xs ≡ pre ++ above against (x ∷ xs))
   suffix_step x xs Less e s h =
       let n : is_gt (against x) ≡ false = ap is_gt e in
@@ -243,7 +243,7 @@ module _ {T : Type 0} (order : T → T → Ordering) (against : T → Ordering) 
   above_suffix (x ∷ xs) s = suffix_step x xs (against x) refl s (above_suffix xs s.1)
 
 module _ {T : Type 0} (order : T → T → Ordering) (o : IsTotalOrder order) where
-  -- what comes after an element of an ascending list is what is above it
+  -- in an ascending list, the elements after an element are those above it
   pub above_element : (pre : List T) (x : T) (rest : List T) → Ascends order (pre ++ x ∷ rest) → above (order x) (pre ++ x ∷ rest) ≡ rest
   above_element pre x rest s =
       let tie : order x x ≡ Equal = tied_itself o x in
@@ -320,13 +320,13 @@ module _ {T : Type 0} (order : T → T → Ordering) (against : T → Ordering) 
   prefix_step x xs true e s h = (h.0, ap (λ us. x ∷ us) h.1 ∙ sym (ap (λ us. us ++ h.0) (ap (λ b. cond b (x ∷ below against xs) (below against xs)) e)))
   prefix_step x xs false e s h = (x ∷ xs, sym (ap (λ us. us ++ x ∷ xs) (below_none x xs s e)))
 
-  -- what is below a key begins an ascending list
+  -- the elements below a key begin an ascending list
   pub below_prefix : (xs : List T) → Ascends order xs → (post : List T) × (xs ≡ below against xs ++ post)
   below_prefix [] s = ([], refl)
   below_prefix (x ∷ xs) s = prefix_step x xs (is_gt (against x)) refl s (below_prefix xs s.1)
 
 module _ {T : Type 0} (order : T → T → Ordering) (o : IsTotalOrder order) where
-  -- what comes before an element of an ascending list is what is below it
+  -- in an ascending list, the elements before an element are those below it
   below_element : (pre : List T) (x : T) (rest : List T) → Ascends order (pre ++ x ∷ rest) → below (order x) (pre ++ x ∷ rest) ≡ pre
   below_element pre x rest s =
       let tie : order x x ≡ Equal = tied_itself o x in
@@ -389,7 +389,7 @@ module _ {T : Type 0} (order : T → T → Ordering) (against : T → Ordering) 
   removed_present [] s a = absurd cc
   removed_present (x ∷ xs) s a = present_step x xs (against x) refl s a (removed_present xs s.1)
 
--- an insertion adds one element, and one that ties gives way
+-- an insertion adds one element, after an element that ties is removed
 pub inserted_length : {T : Type 0} (order : T → T → Ordering) (x : T) (xs : List T) → length (inserted order x xs) ≡ length (removed (order x) xs) + 1
 inserted_length order x xs = omega (arith, length-append (below (order x) xs) (x ∷ above (order x) xs), length-append (below (order x) xs) (above (order x) xs))
 

@@ -11,7 +11,7 @@ use Rattle.mg_pages.specs.Order.{IsProbe, probe_through}
 abbrev pub id_order : {T : Type 0} → (T → List ℕ) → T → T → Ordering
 id_order id = on id (slice_cmp nat_cmp)
 
--- an id against the id of an element
+-- the order of an id against the id of an element
 abbrev pub id_against : {T : Type 0} → (T → List ℕ) → List ℕ → T → Ordering
 id_against id key x = slice_cmp nat_cmp key (id x)
 

@@ -38,11 +38,11 @@ first_of_list (x ∷ xs) = Some x
 abbrev pub found : {T : Type 0} → (T → Ordering) → List T → Option T
 found against xs = first_of_list (filter (λ x. is_eq (against x)) xs)
 
--- the list with x in its place: one that ties gives way
+-- the list with x inserted, which replaces an element that ties
 abbrev pub inserted : {T : Type 0} → (T → T → Ordering) → T → List T → List T
 inserted order x xs = below (order x) xs ++ x ∷ above (order x) xs
 
--- the list without the one that ties with a key
+-- the list without the element that ties with a key
 abbrev pub removed : {T : Type 0} → (T → Ordering) → List T → List T
 removed against xs = below against xs ++ above against xs
 
@@ -73,7 +73,7 @@ probe_cases o a x y Greater e l n = cc
 pub probe_from_total : {T : Type 0} {order : T → T → Ordering} → IsTotalOrder order → (a : T) → IsProbe order (order a)
 probe_from_total {T} {order} o a = λ x y l n. probe_cases o a x y (order a x) refl l n
 
--- so is a value that is compared to a part of each element
+-- a value that is compared to a part of each element is a key
 pub probe_through : {T K : Type 0} {order : K → K → Ordering} → IsTotalOrder order → (part : T → K) (k : K) → IsProbe (λ x y. order (part x) (part y)) (λ x. order k (part x))
 probe_through o part k = λ x y l n. probe_from_total o k (part x) (part y) l n
 
@@ -87,7 +87,7 @@ not_above_over Less n = n
 not_above_over Equal n = cc
 not_above_over Greater n = n
 
--- so is a key with its ties on one side
+-- a key with its ties on one side is a key
 pub probe_under : {T : Type 0} (order : T → T → Ordering) (against : T → Ordering) → IsProbe order against → IsProbe order (λ x. under (against x))
 probe_under order against p = λ x y l n. ap under (p x y l (not_above_under (against x) n))
 

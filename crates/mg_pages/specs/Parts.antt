@@ -18,15 +18,15 @@ pub record IsLast {X : Type 0} (x : X) (xs : List X) : Type 0 where
 abbrev pub AreWhole : {P : Type 0} → (P → Type 0) → List P → Type 0
 AreWhole is_whole ps = AllByRecursion is_whole ps
 
--- a node: the element that is said to be its last, and the part
+-- what a node stands for: the element beside the part, and the part
 abbrev pub node_value : {T P : Type 0} → Node T P → T × P
 node_value n = (n.last, n.part)
 
--- a child is a node that is shared
+-- what a child stands for: that of the node that it shares
 abbrev pub child_value : {T P : Type 0} → Child T P → T × P
 child_value c = node_value (arc_value c.node)
 
--- children one after another
+-- what the children of a list stand for
 abbrev pub children : {T P : Type 0} → List (Child T P) → List (T × P)
 children cs = map child_value cs
 
@@ -50,30 +50,35 @@ module _ {P T : Type 0} (is_whole : P → Type 0) (seen : P → List T) where
     pub back : is_whole halves.1
     pub same : seen halves.0 ++ seen halves.1 ≡ seen p
 
--- the elements of a level and of a page, that none of their parts is empty, and that the count is that of the elements
+-- the elements of a level
 abbrev pub level_seen : {P T : Type 0} → (P → List T) → Level T P → List T
 level_seen seen l = flat_map (child_seen seen) (children l.parts.items)
 
+-- a level has parts, all of them whole, and its count is the number of its elements
 abbrev pub level_whole : {P T : Type 0} → (P → Type 0) → (P → List T) → Level T P → Type 0
 level_whole is_whole seen l = (0 < length l.parts.items) × (AreWhole (child_whole is_whole seen) (children l.parts.items) × (l.count ≡ length (level_seen seen l)))
 
+-- the elements of a page
 abbrev pub page_seen : {T : Type 0} → Page T → List T
 page_seen p = p.elements.items
 
+-- a page is not empty
 abbrev pub page_whole : {T : Type 0} → Page T → Type 0
 page_whole p = 0 < length p.elements.items
 
--- a part of the root, and the root
+-- a part of the root
 abbrev pub High : Type 0 → Type 0
 High T = Level T (Level T (Page T))
 
+-- the root
 abbrev pub Root : Type 0 → Type 0
 Root T = Level T (High T)
 
--- the elements of a part of the root, and that none of its parts is empty
+-- the elements of a part of the root
 abbrev pub high_seen : {T : Type 0} → High T → List T
 high_seen = level_seen (level_seen page_seen)
 
+-- a part of the root is whole
 abbrev pub high_whole : {T : Type 0} → High T → Type 0
 high_whole = level_whole (level_whole page_whole page_seen) (level_seen page_seen)
 
@@ -81,7 +86,7 @@ high_whole = level_whole (level_whole page_whole page_seen) (level_seen page_see
 abbrev pub root_seen : {T : Type 0} → Root T → List T
 root_seen r = level_seen high_seen r
 
--- nothing but the root itself may be empty, the elements ascend, and the root's count is theirs
+-- only the root itself may be empty, the elements ascend, and the root's count is their number
 pub record IsSound {T : Type 0} (order : T → T → Ordering) (r : Root T) : Type 0 where
   pub whole : AreWhole (child_whole high_whole high_seen) (children r.parts.items)
   pub sorted : Ascends order (root_seen r)

@@ -1,4 +1,4 @@
--- Words of the iterators: what is left where they hold a run, a piece of a sorted list.
+-- For the iterators: the elements that are left while an iterator holds a run, which is a piece of a sorted list.
 use Rattle.mg_pages.specs.Order.{above, below}
 use Rattle.std.specs.Prelude.{◌≡◌, ◌<◌, ◌+◌, ℕ, length, List, [], ◌∷◌, ◌++◌}
 use Rattle.std.specs.declared.cmp.Ordering.{Ordering}
@@ -15,7 +15,7 @@ pub record IsEndRun {X : Type 0} (run xs : List X) : Type 0 where
   pub is : xs ≡ rest ++ run
   pub some : length run ≡ 0 → xs ≡ []
 
--- a page is a piece of a list, and what stands at a place in the page stands at i in the list
+-- a page is a piece of a list, and the element at `place` in the page is at i in the list
 pub record IsPageAt {X : Type 0} (page : List X) (place i : ℕ) (xs : List X) : Type 0 where
   pub front : List X
   pub rest : List X
@@ -23,17 +23,17 @@ pub record IsPageAt {X : Type 0} (page : List X) (place i : ℕ) (xs : List X) :
   pub at : i ≡ length front + place
   pub within : place < length page
 
--- what is left of a run whose last was x, and then what is above the last of the run
+-- what is left of a run after its element x, and then the elements above the last of the run
 abbrev pub continued_after : {T : Type 0} → (T → T → Ordering) → List T → T → List T → List T
 continued_after order xs x [] = above (order x) xs
 continued_after order xs x (y ∷ run) = y ∷ continued_after order xs y run
 
--- a run of a list, and then what is above the last of the run
+-- a run of a list, and then the elements above the last of the run
 abbrev pub continued : {T : Type 0} → (T → T → Ordering) → List T → List T → List T
 continued order xs [] = []
 continued order xs (x ∷ run) = x ∷ continued_after order xs x run
 
--- what is below the first of a run of a list, and then the run
+-- the elements below the first of a run of a list, and then the run
 abbrev pub ended : {T : Type 0} → (T → T → Ordering) → List T → List T → List T
 ended order xs [] = []
 ended order xs (x ∷ run) = below (order x) xs ++ x ∷ run

@@ -1,4 +1,4 @@
--- Words of the search by halves: where a key stands in a list.
+-- For binary search: where a key belongs in a list.
 use Rattle.std.specs.Prelude.{◌≡◌, ℕ, ◌+◌, ◌<◌, ◌≤◌, length, take, drop, List, ◌∷◌, ◌++◌}
 use Rattle.std.specs.List.{AllByRecursion}
 use Rattle.std.specs.declared.cmp.Ordering.{Ordering}
@@ -21,7 +21,7 @@ pub record IsTie {T : Type 0} (against : T → Ordering) (xs : List T) (i : ℕ)
   pub before : AllBelow against (take i xs)
   pub after : AllAbove against (drop (i + 1) xs)
 
--- the key ties with no element, and has its place before the one at i
+-- the key ties with no element, and belongs before the element at i
 pub record IsGap {T : Type 0} (against : T → Ordering) (xs : List T) (i : ℕ) : Type 0 where
   pub within : i ≤ length xs
   pub before : AllBelow against (take i xs)

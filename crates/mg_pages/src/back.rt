@@ -1,4 +1,4 @@
-//! The elements of a collection from the last to the first.
+//! Iteration over a collection from the last element to the first.
 ghost use Rattle.std.specs.Prelude.{◌≡◌, ◌<◌, ◌∷◌, ◌++◌, [], drop, length, reverse};
 ghost use Rattle.std.specs.Iterator.{at_most};
 ghost use Rattle.std.specs.Map.Iter.{TakesFirst, deref};
@@ -8,7 +8,7 @@ use crate::keyed::Keyed;
 use crate::pages::Pages;
 use std::marker::Model;
 
-/// The elements of a collection that are left, from the last to the first.
+/// Iterates over a collection from the last element to the first. A clause sees the elements that are left.
 #[derive(Drop)]
 pub struct Back<'a, T: Keyed> {
     pages: &'a Pages<T>,
@@ -25,7 +25,7 @@ impl<'a, T: Keyed> Model for Back<'a, T> {
     ghost view = { λ it. reverse (ended T.order it.pages.now it.run.now) };
 }
 
-// What is left of a run before its last element, or the run that comes before.
+// Where to continue before `last`: with `run`, which is what is left before it, or with an earlier run.
 fn run_to<'a, T: Keyed>(pages: &'a Pages<T>, run: &'a [T], last: &'a T) -> &'a [T]
     ensures { ended T.order pages.now (run.now ++ last.now ∷ [])
         ≡ ended T.order pages.now result.now ++ last.now ∷ [] }
@@ -36,7 +36,7 @@ fn run_to<'a, T: Keyed>(pages: &'a Pages<T>, run: &'a [T], last: &'a T) -> &'a [
     pages.run_before(last)
 }
 
-// What is left of a run before its last so many elements, or the run that comes before them.
+// Where to continue after skipping the last `count` elements: with what is left of the run, or with an earlier run.
 fn run_ahead<'a, T: Keyed>(pages: &'a Pages<T>, run: &'a [T], count: usize) -> &'a [T]
     ensures { reverse (ended T.order pages.now result.now)
         ≡ drop count (reverse (ended T.order pages.now run.now)) }
@@ -59,7 +59,7 @@ impl<'a, T: Keyed> Back<'a, T> {
         Back { pages, run }
     }
 
-    /// Passes over so many elements. Cost: as of `Iter::advance`. Takes no memory.
+    /// Skips `count` elements. Cost: that of `Iter::advance`. Takes no memory.
     pub fn advance(&mut self, count: usize)
         ensures { self.new ≡ drop count self.old }
     {

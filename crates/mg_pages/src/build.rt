@@ -1,4 +1,4 @@
-//! Collections made of elements that are in order already.
+//! Builds collections from elements that are in order already.
 ghost use Rattle.std.specs.Prelude.{◌≡◌, ◌<◌, ◌^◌, length, IfOk};
 ghost use Rattle.std.specs.List.{flat_map};
 ghost use Rattle.mg_pages.specs.Parts.{children, child_seen, child_whole, page_seen, page_whole, level_seen, level_whole, AreWhole};
@@ -10,7 +10,7 @@ use crate::page::{Page, page_of};
 use crate::part::{LIMIT, Part};
 use std::alloc::{AllocError, Global};
 
-/// Full pages of the elements, but for the last.
+/// Groups the elements into pages. All pages but the last are full.
 pub fn paged<T: Keyed>(alloc: Global, elements: &[T]) -> Result<Vec<Child<T, Page<T>>>, AllocError>
     ensures whole { IfOk result (λ v. AreWhole (child_whole page_whole page_seen) (children v.items)) }
     ensures seen { IfOk result (λ v. flat_map (child_seen page_seen) (children v.items) ≡ elements.now) }
@@ -27,7 +27,7 @@ pub fn paged<T: Keyed>(alloc: Global, elements: &[T]) -> Result<Vec<Child<T, Pag
     Ok(pages)
 }
 
-/// Full levels of the parts, but for the last.
+/// Groups the parts into levels. All levels but the last are full.
 pub fn grouped<T: Keyed, P: Part<T>>(
     alloc: Global,
     parts: &[Child<T, P>],

@@ -1,4 +1,5 @@
-//! Parts as they stand in a level: shared, each with its last element beside it, so that a copy of a level counts once for each.
+//! The parts of a level: each is shared, together with its last element, so that a copy of a level changes one reference count
+//! for each part.
 ghost use Rattle.std.specs.Prelude.{◌≡◌, ◌<◌, [], true, false, is_some, length, List, IfOk, IsSome, OnOk, OnErr};
 ghost use Rattle.std.specs.Arc.{arc_value};
 ghost use Rattle.mg_pages.specs.Order.{Ascends, found, inserted, removed};
@@ -10,21 +11,21 @@ use crate::part::Part;
 use std::alloc::{AllocError, Global};
 use std::sync::Arc;
 
-/// A part with its last element beside it, so that a search need not look into the part.
+/// A part with its last element beside it, so that a search need not read the part.
 #[derive(Drop)]
 pub struct Node<T, P> {
     pub(crate) last: T,
     pub(crate) part: P,
 }
 
-/// A part as it stands in a level: shared with its last element, and the number of that element.
+/// A part of a level: shared, together with its last element, and with the hint of that element.
 #[derive(Drop)]
 pub struct Child<T, P> {
     pub(crate) node: Arc<Node<T, P>>,
     pub(crate) hint: u64,
 }
 
-// A part with its last element.
+// Makes a node of a part.
 fn node_of<T: Keyed, P: Part<T>>(part: P) -> Result<Node<T, P>, AllocError>
     requires { P.is_whole part }
     ensures whole { IfOk result (λ n. child_whole P.is_whole P.seen (node_value n)) }
@@ -34,7 +35,7 @@ fn node_of<T: Keyed, P: Part<T>>(part: P) -> Result<Node<T, P>, AllocError>
     Ok(Node { last, part })
 }
 
-/// A part as a child.
+/// Makes a child of a part.
 pub fn child_of<T: Keyed, P: Part<T>>(alloc: Global, part: P) -> Result<Child<T, P>, AllocError>
     requires { P.is_whole part }
     ensures whole { IfOk result (λ c. child_whole P.is_whole P.seen (child_value c)) }
@@ -46,7 +47,7 @@ pub fn child_of<T: Keyed, P: Part<T>>(alloc: Global, part: P) -> Result<Child<T,
     Ok(Child { node, hint })
 }
 
-// The same child, which shares the part.
+// Another child that shares the part.
 fn copy<T: Drop, P: Drop>(child: &Child<T, P>) -> Result<Child<T, P>, AllocError>
     ensures { IfOk result (λ c. child_value c ≡ child_value child.now) }
 {
@@ -55,7 +56,7 @@ fn copy<T: Drop, P: Drop>(child: &Child<T, P>) -> Result<Child<T, P>, AllocError
     Ok(Child { node, hint })
 }
 
-/// How many owners the nodes of children have in all, wrapped at 64 bits; for what `owners_of` is for.
+/// Prefetch, as `owners_of` is: reads the reference count of each child's node, and returns their sum, wrapped at 64 bits.
 pub fn owners_of_nodes<T: Drop, P: Drop>(parts: &[Child<T, P>]) -> usize {
     let mut owners = 0usize;
     for child in parts {
@@ -64,7 +65,7 @@ pub fn owners_of_nodes<T: Drop, P: Drop>(parts: &[Child<T, P>]) -> usize {
     owners
 }
 
-/// The same children, each of which shares its part, with room for one more.
+/// Copies the children, which share their parts, into a list with room for one more.
 pub fn copied_children<T: Drop, P: Drop>(
     alloc: Global,
     parts: &[Child<T, P>],
@@ -80,7 +81,7 @@ pub fn copied_children<T: Drop, P: Drop>(
     Ok(copies)
 }
 
-// The last of elements that end with `last`, once the element is among them.
+// The last element after `element` is put among elements that end with `last`.
 fn last_with<T: Keyed>(last: &T, element: &T) -> Result<T, AllocError>
     ensures { IfOk result (λ a. (xs : List T) → Ascends T.order xs → IsLast last.now xs
         → IsLast a (inserted T.order element.now xs)) }
@@ -94,7 +95,7 @@ fn last_with<T: Keyed>(last: &T, element: &T) -> Result<T, AllocError>
     Ok(kept)
 }
 
-// The last of the elements of a part that ends with `last`, once the one that ties with a key is gone.
+// The last element of a part that ends with `last`, after the element that ties with a key is removed.
 fn last_without<T: Keyed, P: Part<T>, Q: Probe<T>>(
     part: &P,
     last: &T,
@@ -119,7 +120,7 @@ fn last_without<T: Keyed, P: Part<T>, Q: Probe<T>>(
     Ok(kept)
 }
 
-// A part of its own with the same elements.
+// A node with a copy of the part.
 fn own_node<T: Keyed, P: Part<T>>(
     alloc: Global,
     node: &Node<T, P>,
@@ -133,7 +134,7 @@ fn own_node<T: Keyed, P: Part<T>>(
     Ok(Node { last, part })
 }
 
-// Puts an element into a part, and says whether one that ties gave way.
+// Puts an element into a part, and returns whether it replaced one that ties.
 fn put_in_node<T: Keyed, P: Part<T>>(
     alloc: Global,
     node: &mut Node<T, P>,
@@ -152,7 +153,7 @@ fn put_in_node<T: Keyed, P: Part<T>>(
     Ok(had)
 }
 
-// Takes the element that ties with a key out of a part, and says whether nothing is left.
+// Removes the element that ties with a key from a part, and returns whether the part is then empty.
 fn take_out_of_node<T: Keyed, P: Part<T>, Q: Probe<T>>(
     alloc: Global,
     node: &mut Node<T, P>,
@@ -173,7 +174,7 @@ fn take_out_of_node<T: Keyed, P: Part<T>, Q: Probe<T>>(
     Ok(emptied)
 }
 
-// The same where the part may be shared: it is copied then.
+// Like `put_in_node`, but copies the node first where others share it.
 fn put_shared<T: Keyed, P: Part<T>>(
     alloc: Global,
     node: &mut Arc<Node<T, P>>,
@@ -195,7 +196,7 @@ fn put_shared<T: Keyed, P: Part<T>>(
     Ok(had)
 }
 
-// The same for what is taken out.
+// Like `take_out_of_node`, but copies the node first where others share it.
 fn take_out_shared<T: Keyed, P: Part<T>, Q: Probe<T>>(
     alloc: Global,
     node: &mut Arc<Node<T, P>>,
@@ -219,7 +220,7 @@ fn take_out_shared<T: Keyed, P: Part<T>, Q: Probe<T>>(
     Ok(emptied)
 }
 
-/// Puts an element into a child, which is copied if others share it, and says whether one that ties gave way.
+/// Puts an element into a child, which is copied if others share it, and returns whether it replaced one that ties.
 pub fn put_into<T: Keyed, P: Part<T>>(
     alloc: Global,
     child: &mut Child<T, P>,
@@ -237,7 +238,8 @@ pub fn put_into<T: Keyed, P: Part<T>>(
     Ok(had)
 }
 
-/// Takes the element that ties with a key out of a child, which is copied if others share it, and says whether nothing is left.
+/// Removes the element that ties with a key from a child, which is copied if others share it, and returns whether the child is
+/// then empty.
 pub fn take_out_of<T: Keyed, P: Part<T>, Q: Probe<T>>(
     alloc: Global,
     child: &mut Child<T, P>,

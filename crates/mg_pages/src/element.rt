@@ -1,4 +1,4 @@
-//! What a page holds: elements in themselves, or blocks of memory that several pages share.
+//! The elements of pages: values that are stored in the page, or blocks of memory that several pages share.
 ghost use Rattle.std.specs.Prelude.{◌≡◌, IfOk};
 ghost use Rattle.std.specs.Arc.{arc_value};
 
@@ -8,19 +8,19 @@ use std::marker::Model;
 use std::ops::Deref;
 use std::sync::Arc;
 
-/// What stands in a page and can stand in another one too.
+/// An element that several pages can have.
 pub trait Element: Drop + Sized {
-    /// The same element once more: a copy of its bytes, or one more owner of its block. Takes no memory.
+    /// Duplicates the element: a copy of its bytes, or one more owner of its block. Takes no memory.
     fn again(&self) -> Result<Self, AllocError>
         ensures { IfOk result (λ e. e ≡ self.now) };
 
-    /// How many owners its block has, read from the block; 1 for an element that has none.
+    /// How many owners its block has, read from the block; 1 for an element that has no block.
     fn owners(&self) -> usize {
         1
     }
 }
 
-/// A value in a block of memory of its own, which all that have it share.
+/// A value in a block of memory that all its owners share.
 #[derive(Drop)]
 pub struct Shared<X: Drop> {
     arc: Arc<X>,
@@ -35,7 +35,7 @@ impl<X: Drop> Model for Shared<X> {
 }
 
 impl<X: Drop> Shared<X> {
-    /// The value in a block of its own. Errors: `NoMemory` where the block was refused.
+    /// Puts the value into a block of its own. Errors: `NoMemory` where the block was refused.
     pub fn new(alloc: Global, value: X) -> Result<Shared<X>, NoMemory>
         ensures { IfOk result (λ s. s ≡ value) }
     {
@@ -74,9 +74,8 @@ impl<X: Drop> Deref for Shared<X> {
     }
 }
 
-/// How many owners elements have in all, wrapped at 64 bits. A count that goes up or down waits until its block has come
-/// from memory, and the next one waits for it; counts that are only read are fetched side by side. So what is copied or dropped
-/// is looked at first.
+/// Prefetch: reads the reference count of each element, and returns their sum, wrapped at 64 bits. Cache misses of reads overlap,
+/// but those of updates follow one another; so this runs before elements are copied or dropped.
 pub fn owners_of<T: Element>(elements: &[T]) -> usize {
     let mut owners = 0usize;
     for element in elements {
@@ -85,7 +84,7 @@ pub fn owners_of<T: Element>(elements: &[T]) -> usize {
     owners
 }
 
-/// The same elements once more, with room for one more.
+/// Duplicates the elements, in a list with room for one more.
 pub fn copied<T: Element>(alloc: Global, elements: &[T]) -> Result<Vec<T>, AllocError>
     ensures { IfOk result (λ v. v.items ≡ elements.now) }
 {

@@ -1,15 +1,15 @@
-//! Numbers by which searches begin. Where one is wrong, a search takes longer and finds the same.
+//! Hints: numbers that say where a search begins. A wrong hint makes a search longer, but does not change its result.
 ghost use Rattle.std.specs.Prelude.{◌<◌, ◌≤◌};
 
 use crate::keyed::Keyed;
 use std::alloc::{AllocError, Global};
 
-/// The number of an element.
+/// The hint of an element.
 pub fn number_of<T: Keyed>(element: &T) -> u64 {
     <T as Keyed>::hint(element)
 }
 
-/// The number of a text: its first eight bytes, the first of them highest.
+/// The hint of a text: its first eight bytes, filled up with zeros, as a big-endian number.
 pub fn text_hint(text: &str) -> u64 {
     match text.as_bytes() {
         [a, b, c, d, e, f, g, h, ..] => u64::from_be_bytes([*a, *b, *c, *d, *e, *f, *g, *h]),
@@ -17,7 +17,7 @@ pub fn text_hint(text: &str) -> u64 {
     }
 }
 
-// The number of a text of less than eight bytes.
+// The hint of a text of fewer than eight bytes.
 fn short_hint(bytes: &[u8]) -> u64 {
     let mut hint = 0u64;
     for i in 0..8usize {
@@ -27,7 +27,7 @@ fn short_hint(bytes: &[u8]) -> u64 {
     hint
 }
 
-/// Where a search goes on: at the guess, then beside it, and then in the middle.
+/// The next place that a search looks at: the guess, then the places beside it, and then the middle.
 pub fn next_guess(low: usize, high: usize, guess: usize) -> usize
     requires { low < high }
     ensures low { low ≤ result }
@@ -45,25 +45,25 @@ pub fn next_guess(low: usize, high: usize, guess: usize) -> usize
     low + (high - low) / 2
 }
 
-/// Numbers beside elements.
+/// The hints of the elements of a page, in their order.
 #[derive(Drop)]
 pub struct Hints {
     numbers: Vec<u64>,
 }
 
 impl Hints {
-    /// None yet, with room for so many and one more.
+    /// No hints yet, with room for `count` and one more.
     pub fn with_room(alloc: Global, count: usize) -> Result<Hints, AllocError> {
         let numbers = Vec::with_capacity(alloc, count.saturating_add(1))?;
         Ok(Hints { numbers })
     }
 
-    /// The same numbers, with room for one more.
+    /// A copy of the hints, with room for one more.
     pub fn copied(&self, alloc: Global) -> Result<Hints, AllocError> {
         hints_of(alloc, &self.numbers)
     }
 
-    /// The numbers of the first so many elements, and those of the others, each with room for one more.
+    /// The hints of the first `count` elements, and those of the others, each with room for one more.
     pub fn halves(&self, alloc: Global, count: usize) -> Result<(Hints, Hints), AllocError> {
         let count = count.min(self.numbers.len());
         let (front, back) = self.numbers.split_at(count);
@@ -77,7 +77,7 @@ impl Hints {
         Ok(())
     }
 
-    /// Puts the number of an element in, where it has its place.
+    /// Inserts the hint of an element that is inserted at `i`.
     pub fn add_at(&mut self, i: usize, number: u64) -> Result<(), AllocError> {
         if i <= self.numbers.len() {
             self.numbers.insert(i, number)?;
@@ -85,14 +85,14 @@ impl Hints {
         Ok(())
     }
 
-    /// Takes the number of an element out.
+    /// Removes the hint of the element at `i`.
     pub fn drop_at(&mut self, i: usize) {
         if i < self.numbers.len() {
             self.numbers.remove(i);
         }
     }
 
-    /// Where the first number is that is not below one; in the middle of those that are the same.
+    /// The place of the first hint that is not below `number`; where several equal `number`, the middle one.
     pub fn guess(&self, number: u64) -> usize {
         let first = begin_of(&self.numbers, number);
         match self.numbers.get(first.saturating_add(1)) {
@@ -105,14 +105,14 @@ impl Hints {
     }
 }
 
-// These numbers, with room for one more.
+// Copies the hints, with room for one more.
 fn hints_of(alloc: Global, given: &[u64]) -> Result<Hints, AllocError> {
     let mut numbers = Vec::with_capacity(alloc, given.len().saturating_add(1))?;
     numbers.extend_from_slice(given)?;
     Ok(Hints { numbers })
 }
 
-// Where the first number is that is not below one.
+// The place of the first hint that is not below `number`.
 fn begin_of(numbers: &[u64], number: u64) -> usize {
     let mut low = 0;
     let mut high = numbers.len();

@@ -1,4 +1,4 @@
-//! The elements of a collection one after another.
+//! Iteration over a collection in ascending order.
 ghost use Rattle.std.specs.Prelude.{◌≡◌, ◌<◌, ◌∷◌, List, drop, length};
 ghost use Rattle.std.specs.Iterator.{at_most};
 ghost use Rattle.std.specs.Map.Iter.{TakesFirst, deref};
@@ -8,7 +8,7 @@ use crate::keyed::Keyed;
 use crate::pages::Pages;
 use std::marker::Model;
 
-/// The elements of a collection that are left, in their order.
+/// Iterates over a collection in ascending order. A clause sees the elements that are left.
 #[derive(Drop)]
 pub struct Iter<'a, T: Keyed> {
     pages: &'a Pages<T>,
@@ -25,7 +25,7 @@ impl<'a, T: Keyed> Model for Iter<'a, T> {
     ghost view = { λ it. continued T.order it.pages.now it.run.now };
 }
 
-// What is left of a run after its first element, or the run that comes next.
+// Where to continue after the first element of a run: with what is left of the run, or with the next run.
 #[inline(always)]
 fn rest_of<'a, T: Keyed>(pages: &'a Pages<T>, run: &'a [T]) -> &'a [T]
     requires { 0 < length run.now }
@@ -38,7 +38,7 @@ fn rest_of<'a, T: Keyed>(pages: &'a Pages<T>, run: &'a [T]) -> &'a [T]
     pages.run_after(&run[0])
 }
 
-// What is left of a run behind its first so many elements, or the run that comes behind them.
+// Where to continue after skipping the first `count` elements: with what is left of the run, or with a later run.
 fn run_behind<'a, T: Keyed>(pages: &'a Pages<T>, run: &'a [T], count: usize) -> &'a [T]
     ensures { continued T.order pages.now result.now
         ≡ drop count (continued T.order pages.now run.now) }
@@ -61,8 +61,8 @@ impl<'a, T: Keyed> Iter<'a, T> {
         Iter { pages, run }
     }
 
-    /// Passes over so many elements. Cost: none within a page, and else the logarithm of the number of elements and a read of the
-    /// count of each part before the place, at most 64 a level. Takes no memory.
+    /// Skips `count` elements. Cost: constant within a page; otherwise the logarithm of the number of elements, and a read of the
+    /// count of each part before the place, at most 64 for each level below the top. Takes no memory.
     pub fn advance(&mut self, count: usize)
         ensures { self.new ≡ drop count self.old }
     {

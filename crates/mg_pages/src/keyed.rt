@@ -7,13 +7,13 @@ ghost use Rattle.mg_pages.specs.Order.{IsProbe};
 use crate::element::Element;
 use std::cmp::Ordering;
 
-/// Elements with a total order. Elements that tie take each other's place.
+/// Elements with a total order. A collection has at most one of those that tie.
 pub trait Keyed: Element {
     // the order
     ghost order: { Self → Self → Ordering };
 
-    /// A number that rises with the order, as far as a number can. Searches begin by it: one that does not rise costs
-    /// time, and changes no answer.
+    /// The hint: a number that never falls as elements ascend, which says where searches begin. A hint that falls costs time,
+    /// but changes no result.
     fn hint(&self) -> u64 {
         0
     }
@@ -27,12 +27,12 @@ pub trait Keyed: Element {
 
 /// A key by which elements are looked up: it has one place in their order, where it may tie with an element.
 ///
-/// It need not be an element, nor hold one: an id that is lent is a key, and so is the begin of a range.
+/// It need not be an element, nor hold one: a borrowed id is a key, and so is the start of a range.
 pub trait Probe<T: Keyed> {
     // the order of the key against an element
     ghost against: { Self → T → Ordering };
 
-    /// The number of the key among those of the elements: where a search begins.
+    /// The hint of the key, in the order of the elements' hints: it says where a search begins.
     fn hint(&self) -> u64 {
         0
     }

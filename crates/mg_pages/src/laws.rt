@@ -9,8 +9,8 @@ ghost use Rattle.mg_pages.specs.Order.{Ascends, found, inserted, removed};
 
 use crate::identified::Identified;
 
-/// Elements that ascend by their ids are a finite map from ids to what the elements stand for: an insertion, a removal
-/// and a look-up are those of the map.
+/// Elements that ascend by their ids are a finite map from ids to what the elements stand for: look-up, insertion and
+/// removal are those of the map.
 pub fn ids_make_a_map<T: Identified, X>()
     ensures get { (value : T → X) (xs : List T) (id : List ℕ) → Ascends (id_order T.id) xs
         → get (finite (slice_cmp nat_cmp) T.id value xs) id ≡ option_map value (found (id_against T.id id) xs) }

@@ -1,4 +1,4 @@
-//! Levels of parts.
+//! Levels, whose parts are pages or lower levels.
 ghost use Rattle.std.specs.Prelude.{◌≡◌, ◌<◌, ◌≤◌, ◌+◌, ◌^◌, ◌∷◌, ◌++◌, [], true, false, is_some, length, take, drop, IfOk, IsSome, OnOk, OnErr};
 ghost use Rattle.std.specs.List.{flat_map};
 ghost use Rattle.mg_pages.specs.Order.{Ascends, found, inserted, removed};
@@ -14,7 +14,7 @@ use crate::keyed::{Keyed, Probe};
 use crate::part::{LIMIT, Part};
 use std::alloc::{AllocError, Global};
 
-/// Parts one after another, each with its last element beside it, and how many elements they have in all.
+/// Parts in order, each with its last element beside it, and the number of elements that they have in all.
 pub struct Level<T, P> {
     pub(crate) parts: Vec<Child<T, P>>,
     pub(crate) count: usize,
@@ -28,7 +28,7 @@ impl<T: Drop, P: Drop> Drop for Level<T, P> {
     }
 }
 
-// Where the first part is whose last element has no number below that of the key.
+// The place of the first part whose last element has a hint that is not below the key's.
 fn guess_among<T: Keyed, P: Part<T>, Q: Probe<T>>(parts: &[Child<T, P>], key: &Q) -> usize {
     if parts.len() < 2 {
         return 0;
@@ -47,8 +47,8 @@ fn guess_among<T: Keyed, P: Part<T>, Q: Probe<T>>(parts: &[Child<T, P>], key: &Q
     low
 }
 
-// The part in which a key has its place: what is before it is below the key, and what comes after it above.
-// Cost: a comparison each time the number of parts is halved. It looks into no part.
+// The part where a key belongs: the elements of earlier parts are below the key, those of later parts above it.
+// Cost: the logarithm of the number of parts, in comparisons with last elements. It reads no part.
 fn place<T: Keyed, P: Part<T>, Q: Probe<T>>(parts: &[Child<T, P>], key: &Q) -> usize
     requires some { 0 < length parts.now }
     requires whole { AreWhole (child_whole P.is_whole P.seen) (children parts.now) }
@@ -73,7 +73,7 @@ fn place<T: Keyed, P: Part<T>, Q: Probe<T>>(parts: &[Child<T, P>], key: &Q) -> u
     low
 }
 
-/// How many elements the parts have in all. Cost: for each part a read of its count, and of nothing else below it.
+/// How many elements the parts have in all. Cost: a read of the count of each part.
 pub fn count_of<T: Keyed, P: Part<T>>(parts: &[Child<T, P>]) -> usize
     requires whole { AreWhole (child_whole P.is_whole P.seen) (children parts.now) }
     requires few { length (flat_map (child_seen P.seen) (children parts.now)) < 2 ^ 64 }
@@ -87,7 +87,7 @@ pub fn count_of<T: Keyed, P: Part<T>>(parts: &[Child<T, P>]) -> usize
     count
 }
 
-// The count after an insertion, of one more where no element gave way.
+// The count after an insertion: `more`, or one less where an element was replaced.
 fn count_after_put(more: usize, had: bool) -> usize
     requires { 0 < more }
     ensures over { had ≡ true → result + 1 ≡ more }
@@ -96,7 +96,7 @@ fn count_after_put(more: usize, had: bool) -> usize
     if had { more - 1 } else { more }
 }
 
-// The first elements of the parts from one on, as many as one page has; none where there are no more parts.
+// The first elements of the parts from the i-th on, up to the end of their page; empty where there is no such part.
 fn run_from<T: Keyed, P: Part<T>>(parts: &[Child<T, P>], i: usize) -> &[T]
     requires { AreWhole (child_whole P.is_whole P.seen) (children parts.now) }
     ensures run { IsRun result.now (flat_map (child_seen P.seen) (drop i (children parts.now))) }
@@ -110,7 +110,7 @@ fn run_from<T: Keyed, P: Part<T>>(parts: &[Child<T, P>], i: usize) -> &[T]
     &[]
 }
 
-// The last elements of the parts before one, as many as one page has; none where there is no part before it.
+// The last elements of the parts before the i-th, from the start of their page; empty where there is no such part.
 fn run_upto<T: Keyed, P: Part<T>>(parts: &[Child<T, P>], i: usize) -> &[T]
     requires whole { AreWhole (child_whole P.is_whole P.seen) (children parts.now) }
     requires within { i ≤ length parts.now }
@@ -126,8 +126,8 @@ fn run_upto<T: Keyed, P: Part<T>>(parts: &[Child<T, P>], i: usize) -> &[T]
     &[]
 }
 
-/// The page of the element at a place among those of the parts, and where it stands there. Cost: for each part before it a read of
-/// its count.
+/// The page of the element at a place, counted over all the parts, and its place in that page. Cost: a read of the count of each
+/// part before it.
 pub fn page_among<T: Keyed, P: Part<T>>(parts: &[Child<T, P>], place: usize) -> (&[T], usize)
     requires whole { AreWhole (child_whole P.is_whole P.seen) (children parts.now) }
     requires within { place < length (flat_map (child_seen P.seen) (children parts.now)) }
@@ -145,7 +145,7 @@ pub fn page_among<T: Keyed, P: Part<T>>(parts: &[Child<T, P>], place: usize) -> 
     (&[], 0)
 }
 
-/// Takes the element that ties with a key out of the parts, and a part of which nothing is left.
+/// Removes the element that ties with a key from the parts, and its part where that is then empty.
 pub fn take_out_of_parts<T: Keyed, P: Part<T>, Q: Probe<T>>(
     alloc: Global,
     parts: &mut Vec<Child<T, P>>,
@@ -169,7 +169,7 @@ pub fn take_out_of_parts<T: Keyed, P: Part<T>, Q: Probe<T>>(
     Ok(())
 }
 
-// Puts two children in the place of one.
+// Replaces a child by two.
 fn replace<T: Drop, P: Drop>(
     parts: &mut Vec<Child<T, P>>,
     i: usize,
@@ -186,7 +186,7 @@ fn replace<T: Drop, P: Drop>(
     Ok(())
 }
 
-// Splits a part that has no room for an element, and says whether it did.
+// Splits a part if it has no room for an element, and returns whether it did.
 fn make_room<T: Keyed, P: Part<T>>(
     alloc: Global,
     parts: &mut Vec<Child<T, P>>,
@@ -214,7 +214,7 @@ fn make_room<T: Keyed, P: Part<T>>(
     }
 }
 
-// The part in which an element has its place, once one that has no room for it is split.
+// Finds the part where an element belongs, and splits it if it has no room.
 fn with_room<T: Keyed, P: Part<T>>(
     alloc: Global,
     parts: &mut Vec<Child<T, P>>,

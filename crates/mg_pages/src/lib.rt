@@ -1,4 +1,5 @@
-//! Ordered collections in shared pages: a share of one costs its top alone, and a change copies a page and the way to it.
+//! Ordered collections in shared pages: sharing one copies only its top level, and a change copies at most a page and the levels
+//! above it.
 #![tactic(auto)]
 
 mod back;

@@ -10,7 +10,7 @@ use crate::part::{LIMIT, Part};
 use std::alloc::{AllocError, Global};
 use std::cmp::Ordering;
 
-/// Some elements and their numbers.
+/// Elements in order, and their hints.
 pub struct Page<T: Element> {
     pub(crate) elements: Vec<T>,
     pub(crate) hints: Hints,
@@ -25,8 +25,8 @@ impl<T: Element> Drop for Page<T> {
     }
 }
 
-// Where the element is that ties with a key, or else where one would have its place.
-// Cost: a comparison each time the number of elements is halved.
+// The place of the element that ties with a key (`Ok`), or the place where such an element belongs (`Err`).
+// Cost: the logarithm of the number of elements, in comparisons. The search begins at `guess`.
 pub fn find<T: Keyed, Q: Probe<T>>(elements: &[T], key: &Q, guess: usize) -> Result<usize, usize>
     requires { Ascends T.order elements.now }
     ensures { MatchResult result (IsTie (Q.against key.now) elements.now) (IsGap (Q.against key.now) elements.now) }
@@ -44,7 +44,7 @@ pub fn find<T: Keyed, Q: Probe<T>>(elements: &[T], key: &Q, guess: usize) -> Res
     Err(low)
 }
 
-/// A page of the same elements once more, with room for one more.
+/// Makes a page of duplicates of the elements, with room for one more.
 pub fn page_of<T: Keyed>(alloc: Global, elements: &[T]) -> Result<Page<T>, AllocError>
     ensures { IfOk result (λ p. p.elements.items ≡ elements.now) }
 {

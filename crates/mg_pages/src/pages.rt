@@ -18,10 +18,10 @@ use mg_value::NoMemory;
 use std::alloc::{AllocError, Global};
 use std::marker::Model;
 
-// The top: levels of levels of pages.
+// The top of three levels above the pages.
 type Root<T> = Level<T, Level<T, Level<T, Page<T>>>>;
 
-// A level of one part.
+// Makes a level of one part.
 fn level_of<T: Keyed, P: Part<T>>(alloc: Global, part: P) -> Result<Level<T, P>, AllocError>
     requires { P.is_whole part }
     ensures whole { IfOk result (λ l. level_whole P.is_whole P.seen l) }
@@ -33,7 +33,7 @@ fn level_of<T: Keyed, P: Part<T>>(alloc: Global, part: P) -> Result<Level<T, P>,
     Ok(Level { parts, count })
 }
 
-// A root with one element.
+// Makes a root with one element.
 fn root_of<T: Keyed>(alloc: Global, element: T) -> Result<Root<T>, AllocError>
     ensures whole { IfOk result (λ r. level_whole high_whole high_seen r) }
     ensures seen { IfOk result (λ r. root_seen r ≡ element ∷ []) }
@@ -47,7 +47,7 @@ fn root_of<T: Keyed>(alloc: Global, element: T) -> Result<Root<T>, AllocError>
     Ok(root)
 }
 
-// Puts an element under a root that may be empty, and says whether one that ties gave way.
+// Puts an element under a root that may be empty, and returns whether it replaced one that ties.
 fn put<T: Keyed>(alloc: Global, root: &mut Root<T>, element: T) -> Result<bool, AllocError>
     requires { IsSound T.order root.old }
     ensures sound { IsSound T.order root.new }
@@ -63,7 +63,7 @@ fn put<T: Keyed>(alloc: Global, root: &mut Root<T>, element: T) -> Result<bool, 
     Ok(had)
 }
 
-// Takes an element out under a root that may be empty.
+// Removes the element that ties with a key from under a root that may be empty.
 fn take_out<T: Keyed, Q: Probe<T>>(
     alloc: Global,
     root: &mut Root<T>,
@@ -83,7 +83,7 @@ fn take_out<T: Keyed, Q: Probe<T>>(
     Ok(())
 }
 
-// The element that ties with a key, if the numbers lead to it: one comparison.
+// The element that ties with a key, if the hints lead to it. Cost: one comparison.
 fn tied<'a, T: Keyed, Q: Probe<T>>(root: &'a Root<T>, key: &Q) -> Option<&'a T>
     requires { IsSound T.order root.now }
     ensures { IfSome result (λ t. found (Q.against key.now) (root_seen root.now) ≡ Some t.now) }
@@ -98,7 +98,7 @@ fn tied<'a, T: Keyed, Q: Probe<T>>(root: &'a Root<T>, key: &Q) -> Option<&'a T>
     None
 }
 
-// One thing alone.
+// A list of one thing.
 fn vec_of<X: Drop>(alloc: Global, thing: X) -> Result<Vec<X>, AllocError>
     ensures { IfOk result (λ v. v.items ≡ thing ∷ []) }
 {
@@ -107,10 +107,10 @@ fn vec_of<X: Drop>(alloc: Global, thing: X) -> Result<Vec<X>, AllocError>
     Ok(things)
 }
 
-/// Elements in their order, no two of which tie.
+/// An ordered collection of elements, no two of which tie. A clause sees their list.
 ///
-/// They stand in pages of at most 64, below levels of at most 64 parts each. What several collections have in
-/// common they share, and what nobody else shares is changed in place.
+/// A page has at most 64 elements, and a level below the top at most 64 parts. Collections share the pages and levels
+/// that they have in common; pages and levels that no other collection shares are changed in place.
 #[derive(Drop)]
 pub struct Pages<T: Keyed> {
     root: Root<T>,
@@ -129,7 +129,7 @@ impl<T: Keyed> Model for Pages<T> {
 }
 
 impl<T: Keyed> Pages<T> {
-    /// No elements. Takes no memory.
+    /// An empty collection. Takes no memory.
     pub fn new(alloc: Global) -> Pages<T>
         ensures { result ≡ [] }
     {
@@ -141,9 +141,9 @@ impl<T: Keyed> Pages<T> {
         }
     }
 
-    /// The elements of a list that ascends, each of them once more, with no search for any.
+    /// Builds a collection of duplicates of the elements, which must ascend. All pages but the last are full.
     ///
-    /// Errors: `NoMemory` where a growth was refused. Cost: a step an element. The pages are full, but for the last.
+    /// Errors: `NoMemory` where a growth was refused. Cost: a step for each element, without a search.
     pub fn from_sorted(alloc: Global, elements: &[T]) -> Result<Pages<T>, NoMemory>
         requires { Ascends T.order elements.now }
         ensures { IfOk result (λ p. p ≡ elements.now) }
@@ -157,28 +157,28 @@ impl<T: Keyed> Pages<T> {
         })
     }
 
-    /// How many elements there are. Cost: none.
+    /// How many elements there are. Cost: constant.
     pub fn len(&self) -> usize
         ensures { result ≡ length self.now }
     {
         self.root.count
     }
 
-    /// Whether there is no element. Cost: none.
+    /// Whether there is no element. Cost: constant.
     pub fn is_empty(&self) -> bool
         ensures { IsTrue result ↔ (self.now ≡ []) }
     {
         self.root.count == 0
     }
 
-    /// The elements ascend: for proofs of callers. Does nothing.
+    /// Does nothing: its contract tells proofs of callers that the elements ascend.
     pub fn ascends(&self)
         ensures { Ascends T.order self.now }
     {
         let _ = &self.root;
     }
 
-    /// The element that ties with the key. Cost: one comparison where the numbers lead to it, and else the logarithm of the number
+    /// The element that ties with the key. Cost: one comparison where the hints lead to it, otherwise the logarithm of the number
     /// of elements. Takes no memory.
     pub fn get<Q: Probe<T>>(&self, key: &Q) -> Option<&T>
         ensures { option_map (λ t. t.now) result ≡ found (Q.against key.now) self.now }
@@ -192,8 +192,8 @@ impl<T: Keyed> Pages<T> {
         self.root.get(key)
     }
 
-    /// How many elements are below the key, told by the counts of the parts before its place. Cost: the logarithm of the number of
-    /// elements, and a step for each of these parts, at most 64 a level. Takes no memory.
+    /// How many elements are below the key, from the counts of the parts before its place. Cost: the logarithm of the number of
+    /// elements, and a step for each of these parts, at most 64 for each level below the top. Takes no memory.
     pub fn count_below<Q: Probe<T>>(&self, key: &Q) -> usize
         ensures { result ≡ length (below (Q.against key.now) self.now) }
     {
@@ -203,14 +203,14 @@ impl<T: Keyed> Pages<T> {
         self.root.count_below(key)
     }
 
-    /// How many elements are above the key. Cost: as of `count_below`. Takes no memory.
+    /// How many elements are above the key. Cost: that of `count_below`. Takes no memory.
     pub fn count_above<Q: Probe<T>>(&self, key: &Q) -> usize
         ensures { result ≡ length (above (Q.against key.now) self.now) }
     {
         self.root.count - self.count_below(&Over { key })
     }
 
-    // The first elements, as many as one page has.
+    // The first elements, up to the end of their page.
     pub(crate) fn first_run(&self) -> &[T]
         ensures run { IsRun result.now self.now }
         ensures ascends { Ascends T.order self.now }
@@ -221,7 +221,7 @@ impl<T: Keyed> Pages<T> {
         self.root.first_run()
     }
 
-    // The first elements above a key, as many as one page has.
+    // The first elements above a key, up to the end of their page.
     pub(crate) fn run_after<Q: Probe<T>>(&self, key: &Q) -> &[T]
         ensures run { IsRun result.now (above (Q.against key.now) self.now) }
         ensures ascends { Ascends T.order self.now }
@@ -232,7 +232,7 @@ impl<T: Keyed> Pages<T> {
         self.root.run_after(key)
     }
 
-    // The elements above a key behind the first so many, as many as one page has.
+    // The elements above a key after the first `count` of them, up to the end of their page.
     pub(crate) fn run_after_some<Q: Probe<T>>(&self, key: &Q, count: usize) -> &[T]
         ensures run { IsRun result.now (drop count (above (Q.against key.now) self.now)) }
         ensures ascends { Ascends T.order self.now }
@@ -253,7 +253,7 @@ impl<T: Keyed> Pages<T> {
         &[]
     }
 
-    /// The elements in their order. Cost: the logarithm of the number of elements, and then a step an element.
+    /// The elements in ascending order. Cost: the logarithm of the number of elements, and then a step for each element.
     pub fn iter(&self) -> Iter<'_, T>
         ensures { result ≡ self.now }
     {
@@ -261,7 +261,7 @@ impl<T: Keyed> Pages<T> {
         Iter::at(self, run)
     }
 
-    /// The elements above the key, in their order. Cost: one look-up, and then a step an element.
+    /// The elements above the key, in ascending order. Cost: one look-up, and then a step for each element.
     pub fn after<Q: Probe<T>>(&self, key: &Q) -> Iter<'_, T>
         ensures { result ≡ above (Q.against key.now) self.now }
     {
@@ -269,14 +269,14 @@ impl<T: Keyed> Pages<T> {
         Iter::at(self, run)
     }
 
-    /// The elements from the first that is not below the key, in their order. Cost: as of `after`.
+    /// The elements that are not below the key, in ascending order. Cost: that of `after`.
     pub fn from<Q: Probe<T>>(&self, key: &Q) -> Iter<'_, T>
         ensures { result ≡ from (Q.against key.now) self.now }
     {
         self.after(&Under { key })
     }
 
-    // The last elements, as many as one page has.
+    // The last elements, from the start of their page.
     pub(crate) fn last_run(&self) -> &[T]
         ensures run { IsEndRun result.now self.now }
         ensures ascends { Ascends T.order self.now }
@@ -287,7 +287,7 @@ impl<T: Keyed> Pages<T> {
         self.root.last_run()
     }
 
-    // The last elements below a key, as many as one page has.
+    // The last elements below a key, from the start of their page.
     pub(crate) fn run_before<Q: Probe<T>>(&self, key: &Q) -> &[T]
         ensures run { IsEndRun result.now (below (Q.against key.now) self.now) }
         ensures ascends { Ascends T.order self.now }
@@ -298,7 +298,7 @@ impl<T: Keyed> Pages<T> {
         self.root.run_before(key)
     }
 
-    // The elements below a key before the last so many, as many as one page has.
+    // The elements below a key before the last `count` of them, from the start of their page.
     pub(crate) fn run_before_some<Q: Probe<T>>(&self, key: &Q, count: usize) -> &[T]
         ensures run { IsEndRun result.now
             (take (length (below (Q.against key.now) self.now) - count) (below (Q.against key.now) self.now)) }
@@ -321,7 +321,7 @@ impl<T: Keyed> Pages<T> {
         &[]
     }
 
-    /// The elements from the last to the first. Cost: as of `iter`.
+    /// The elements from the last to the first. Cost: that of `iter`.
     pub fn back(&self) -> Back<'_, T>
         ensures { result ≡ reverse self.now }
     {
@@ -329,7 +329,7 @@ impl<T: Keyed> Pages<T> {
         Back::at(self, run)
     }
 
-    /// The elements below the key, from the last to the first. Cost: as of `after`.
+    /// The elements below the key, from the last to the first. Cost: that of `after`.
     pub fn before<Q: Probe<T>>(&self, key: &Q) -> Back<'_, T>
         ensures { result ≡ reverse (below (Q.against key.now) self.now) }
     {
@@ -337,17 +337,17 @@ impl<T: Keyed> Pages<T> {
         Back::at(self, run)
     }
 
-    /// The elements from the last that is not above the key, down to the first. Cost: as of `after`.
+    /// The elements that are not above the key, from the last to the first. Cost: that of `after`.
     pub fn upto<Q: Probe<T>>(&self, key: &Q) -> Back<'_, T>
         ensures { result ≡ reverse (upto (Q.against key.now) self.now) }
     {
         self.before(&Over { key })
     }
 
-    /// The same elements, all of them shared.
+    /// Another collection of the same elements, which shares all pages with this one.
     ///
-    /// Errors: `NoMemory` where a growth was refused. Cost: a copy of the top level alone, which has a part for each
-    /// 30,000 to 260,000 elements.
+    /// Errors: `NoMemory` where a growth was refused. Cost: a copy of only the top level, which has a part for each
+    /// 30,000 to 260,000 elements, and for fewer after removals, since parts are never joined.
     pub fn share(&self, alloc: Global) -> Result<Pages<T>, NoMemory>
         ensures { IfOk result (λ p. p ≡ self.now) }
     {
@@ -358,7 +358,7 @@ impl<T: Keyed> Pages<T> {
         })
     }
 
-    /// Puts an element in its place, and says whether one that ties gave way.
+    /// Inserts an element, and returns whether it replaced one that ties.
     ///
     /// Errors: `NoMemory` where a growth was refused, or where there are 2^64 - 1 elements; then nothing has changed.
     /// Cost: the logarithm of the number of elements, and a copy of each part on the way that others share.
@@ -371,10 +371,11 @@ impl<T: Keyed> Pages<T> {
         Ok(had)
     }
 
-    /// Takes out the element that ties with the key, and says whether there was one. Where there is none, nothing
-    /// is copied.
+    /// Removes the element that ties with the key, and returns whether there was one. Where there is no such element,
+    /// nothing is copied.
     ///
-    /// Errors: `NoMemory` where a growth was refused, and never where there is none; then nothing has changed. Cost: as of `insert`.
+    /// Errors: `NoMemory` where a growth was refused, but never where there is no such element; then nothing has changed.
+    /// Cost: that of `insert`.
     pub fn remove<Q: Probe<T>>(&mut self, alloc: Global, key: &Q) -> Result<bool, NoMemory>
         ensures had { IfOk result (λ had. had ≡ is_some (found (Q.against key.now) self.old)) }
         ensures ok { OnOk result (self.new ≡ removed (Q.against key.now) self.old) }

@@ -1,8 +1,8 @@
-//! Keys with their ties on one side.
+//! Keys just before, or just after, the element that they would tie with.
 use crate::keyed::{Keyed, Probe};
 use std::cmp::Ordering;
 
-/// A key that stands just before the element that ties with it.
+/// The place just before the element that ties with the key.
 #[derive(Drop)]
 pub struct Under<'a, Q> {
     pub key: &'a Q,
@@ -27,7 +27,7 @@ impl<'a, T: Keyed, Q: Probe<T>> Probe<T> for Under<'a, Q> {
     }
 }
 
-/// A key that stands just after the element that ties with it.
+/// The place just after the element that ties with the key.
 #[derive(Drop)]
 pub struct Over<'a, Q> {
     pub key: &'a Q,

@@ -9,7 +9,7 @@ use Rattle.mg_path.specs.Part.{pieces_of, before_first_step, is_empty, steps_of}
 abbrev pub ends_in_backslash : List ℕ → Bool
 ends_in_backslash step = eqb (get_or step (length step - 1) 0) 92
 
--- the pieces of a text, with `step` read of the first and the rest to come
+-- the pieces of a text, where `step` has been read of the first piece and the second argument is yet to be read
 abbrev pub continued : List ℕ → List ℕ → List (List ℕ)
 continued step [] = step ∷ []
 continued step (c ∷ cs) =
@@ -17,7 +17,7 @@ continued step (c ∷ cs) =
     (cond (ends_in_backslash step) (continued (take (length step - 1) step ++ 46 ∷ []) cs) (step ∷ continued [] cs))
     (continued (step ++ c ∷ []) cs)
 
--- the pieces, with more before the first
+-- the pieces, with `step` put before the first
 abbrev onto : List ℕ → List (List ℕ) → List (List ℕ)
 onto step [] = step ∷ []
 onto step (piece ∷ pieces) = (step ++ piece) ∷ pieces
@@ -45,7 +45,7 @@ onto-nil [] = refl
 onto-nil (c ∷ []) = onto-nil-last (eqb c 46) c
 onto-nil (c ∷ d ∷ cs) = onto-nil-cond (eqb c 46) (eqb c 92 && eqb d 46) c d (pieces_of (d ∷ cs)) (pieces_of cs)
 
--- the three cases of a cut
+-- the pieces by the first character: a dot, a plain character, or a backslash that escapes no dot
 pieces_of-dot : (cs : List ℕ) → pieces_of (46 ∷ cs) ≡ [] ∷ pieces_of cs
 pieces_of-dot [] = refl
 pieces_of-dot (d ∷ cs) = refl
@@ -100,11 +100,11 @@ mutual
     ]
   ]
 
--- at the start nothing is read
+-- at the start, with nothing read, the pieces are those of the text
 pub continued-start : (t : List ℕ) → continued [] t ≡ pieces_of t
 continued-start t = continued_plain t [] refl ∙ onto-nil t
 
--- whether a piece is empty among those of the rest of a text, and of the piece before it whether it is, and ends in a backslash
+-- whether any piece is empty, given whether the piece begun is empty and whether it ends in a backslash, and what is left of the text
 abbrev pub empty_from : Bool → Bool → List ℕ → Bool
 empty_from empty escaped [] = empty
 empty_from empty escaped (c ∷ cs) = cond (not (eqb c 46) || escaped) (empty_from false (eqb c 92) cs) (empty || empty_from true false cs)
@@ -117,14 +117,14 @@ is_empty-snoc : (step : List ℕ) (c : ℕ) → is_empty (step ++ c ∷ []) ≡ 
 is_empty-snoc [] c = refl
 is_empty-snoc (x ∷ step) c = refl
 
--- the same of what is left by a piece that has been begun
+-- with `rest` left, `empty_from` is right for every piece that may have been begun
 abbrev Told : List ℕ → Type 0
 Told rest = (step : List ℕ) → empty_from (is_empty step) (ends_in_backslash step) rest ≡ list_any is_empty (continued step rest)
 
 told_after : (cs step : List ℕ) (c : ℕ) → Told cs → empty_from false (eqb c 92) cs ≡ list_any is_empty (continued (step ++ c ∷ []) cs)
 told_after cs step c told = ap₂ (λ b x. empty_from b (eqb x 92) cs) (sym (is_empty-snoc step c)) (sym (last-snoc step c)) ∙ told (step ++ c ∷ [])
 
--- an escaped dot joins the piece, and another ends it
+-- an escaped dot joins the piece, and any other dot ends it
 told_at_dot : (cs step : List ℕ) (escaped : Bool) → Told cs
     → cond (false || escaped) (empty_from false false cs) (is_empty step || empty_from true false cs)
     ≡ list_any is_empty (cond escaped (continued (take (length step - 1) step ++ 46 ∷ []) cs) (step ∷ continued [] cs))
@@ -138,7 +138,7 @@ told_all (c ∷ cs) step = elim (same_or c 46) as (λ _. empty_from (is_empty st
   | inr no_dot ↦ rw no_dot (told_after cs step c (told_all cs))
 ]
 
--- at the start
+-- at the start, `empty_from` decides for the whole text
 pub empty_from-start : (t : List ℕ) → list_any is_empty (pieces_of t) ≡ empty_from true false t
 empty_from-start t = ap (λ ps. list_any is_empty ps) (sym (continued-start t)) ∙ sym (told_all t [])
 
@@ -154,7 +154,7 @@ cond_cases P false true d x y z w p q r s = q
 cond_cases P false false true x y z w p q r s = r
 cond_cases P false false false x y z w p q r s = s
 
--- no byte of another character is a dot
+-- no byte of a character other than a dot is a dot
 encode-no_dot : (c : ℕ) → c ≢ 46 → AllByRecursion (λ x. x ≢ 46) (encode c)
 unfolding encode
 encode-no_dot c h =
@@ -168,7 +168,7 @@ encode-no_dot c h =
 pub continued-letter : (c : ℕ) (step rest : List ℕ) → c ≢ 46 → continued step (encode c ++ rest) ≡ continued (step ++ encode c) rest
 continued-letter c step rest h = continued-plain_bytes (encode c) step rest (encode-no_dot c h)
 
--- the pieces are the steps, where none is empty
+-- there are no steps where a piece is empty; otherwise the steps are the pieces
 pub steps_of-none : (t : List ℕ) → list_any is_empty (pieces_of t) ≡ true → steps_of t ≡ None
 steps_of-none t h = rw h refl
 

@@ -1,4 +1,4 @@
--- A part that is placed under a name among members.
+-- Placing a part under a name among members.
 use Rattle.std.proofs.Common.{◌≡◌, ℕ, List, [], ◌∷◌, String, Global, Bool, Some, None, option_map, string_bytes, string_cmp, nat_cmp, Ordering, Less, Equal, Greater, refl, ap, ◌∙◌, sym}
 use Rattle.std.specs.Option.{unwrap_or}
 use Rattle.std.specs.Map.{set_value, lookup, keys_of}
@@ -36,7 +36,7 @@ put_there Less name e es old new o sorted is rest = absurd (cc (nothing_above na
 put_there Equal name e es old new o sorted is rest = rw o refl
 put_there Greater name e es old new o sorted is rest = rw o (ap (value.member (string_bytes e.0) (view e.1)) (rest (rw o at is)))
 
--- a value that is written at a name that is there is put there
+-- overwriting the value of a name that is there is `put`
 pub set_value-put : (name : List ℕ) (es : List Entry) (old new : Json) → IsStrictlySortedBy string_cmp (keys_of es) → lookup (at_name name) es ≡ Some old
     → members_view (set_value (at_name name) es new) ≡ put name (view new) (members_view es)
 unfolding IsStrictlySortedBy
@@ -44,21 +44,21 @@ set_value-put name [] old new sorted is = cc
 set_value-put name (e ∷ es) old new sorted is =
     put_there (slice_cmp nat_cmp name (string_bytes e.0)) name e es old new refl sorted is (λ there. set_value-put name es old new sorted.1 there)
 
--- what stands at the name, and the empty object where nothing does
+-- the value at the name, or the empty object where there is none
 there-some : (name : List ℕ) (es : List Entry) (old : Json) → lookup (at_name name) es ≡ Some old → unwrap_or (get_member name (members_view es)) (value.object value.no_members) ≡ view old
 there-some name es old is = ap (λ o. unwrap_or o (value.object value.no_members)) (sym (view-lookup name es) ∙ ap (option_map view) is)
 
 there-none : (name : List ℕ) (es : List Entry) → lookup (at_name name) es ≡ None → unwrap_or (get_member name (members_view es)) (value.object value.no_members) ≡ value.object value.no_members
 there-none name es is = ap (λ o. unwrap_or o (value.object value.no_members)) (sym (view-lookup name es) ∙ ap (option_map view) is)
 
--- the part is placed in what stands at the name
+-- the part is placed within the value at the name
 pub placed-there : (name : List ℕ) (deeper : List (List ℕ)) (part : Value) (es after : List Entry) (old new : Json)
     → view new ≡ placed deeper part (view old) → IsStrictlySortedBy string_cmp (keys_of es) → lookup (at_name name) es ≡ Some old → after ≡ set_value (at_name name) es new
     → value.object (members_view after) ≡ placed (name ∷ deeper) part (value.object (members_view es))
 placed-there name deeper part es after old new h sorted is e =
     ap value.object (ap members_view e ∙ set_value-put name es old new sorted is ∙ ap (λ v. put name v (members_view es)) (h ∙ ap (placed deeper part) (sym (there-some name es old is))))
 
--- the part is placed where nothing stands
+-- the part is placed at a new name
 pub placed-new : (name : List ℕ) (deeper : List (List ℕ)) (part : Value) (es after : List Entry) (key : String Global) (new : Json)
     → view new ≡ placed deeper part (value.object value.no_members) → lookup (at_name name) es ≡ None → string_bytes key ≡ name → after ≡ insert_entry string_cmp es key new
     → value.object (members_view after) ≡ placed (name ∷ deeper) part (value.object (members_view es))

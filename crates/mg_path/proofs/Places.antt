@@ -10,7 +10,7 @@ use Rattle.std.proofs.lemmas.Option.{slice_get_past}
 use Rattle.mg_value.specs.Value.{Value}
 use Rattle.mg_path.specs.Part.{item_place}
 
--- no array is long enough for a place that no machine number holds
+-- no array is long enough to have a place from 2^64 on
 pub none_so_far : (vs : List Value) (place : Option ℕ) → ((n : ℕ) → place ≡ Some n → 2 ^ 64 ≤ n) → length vs ≤ 2 ^ 64 → option_and_then (λ n. slice_get vs n) place ≡ None
 none_so_far vs None far short = refl
 none_so_far vs (Some n) far short =
@@ -36,7 +36,7 @@ read_place c cs (Err e) low h =
     let other : eqb c 48 ≡ false = grind arith in
     rw other (far_digits (all_ascii_digits (c ∷ cs)) (digits_value 10 (c ∷ cs)) (λ d s. h (d, omega arith, s)))
 
--- the number that is read of digits without a leading zero
+-- parsing digits without a leading zero gives the place
 pub parsed_place : {E : Type 0} (step : List ℕ) (r : Result ℕ E) (first : ℕ) → ParsesUnsigned 64 10 step r → slice_get step 0 ≡ Some first → 49 ≤ first
     → MatchOption (result_ok r) ((n : ℕ) → item_place step ≡ Some n → 2 ^ 64 ≤ n) (λ n. item_place step ≡ Some n)
 unfolding Named

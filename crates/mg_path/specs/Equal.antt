@@ -1,4 +1,4 @@
--- Equal paths: those with the same steps, as Rust's `PartialEq` and `Eq` ask for.
+-- Equality of paths, which is that of their steps, and the laws that Rust's `PartialEq` and `Eq` require.
 use Rattle.std.specs.Prelude.{ℕ, Bool, List, nat_eq}
 use Rattle.std.specs.Cmp.{IsEquivalence, IsPartialEquivalence, partial_equiv_from_equiv}
 use Rattle.std.specs.Cmp.Lexicographic.{pointwise}

@@ -20,13 +20,13 @@ abbrev pub is_empty : List ℕ → Bool
 is_empty [] = true
 is_empty (c ∷ cs) = false
 
--- the pieces, with one more character before those of the first
+-- the pieces, with the character c put before the first piece
 abbrev pub before_first_step : ℕ → List (List ℕ) → List (List ℕ)
 before_first_step c [] = (c ∷ []) ∷ []
 before_first_step c (step ∷ steps) = (c ∷ step) ∷ steps
 
--- what stands between the dots of a text, empty pieces too: a dot cuts, a backslash with a dot right after it is that
--- dot, and all else is itself
+-- the pieces of a text between its dots, including the empty ones; a backslash and a dot right after it are a dot
+-- within a piece
 abbrev pub pieces_of : List ℕ → List (List ℕ)
 pieces_of [] = [] ∷ []
 pieces_of (c ∷ []) = if is_dot c then [] ∷ [] ∷ [] else (c ∷ []) ∷ []
@@ -35,11 +35,11 @@ pieces_of (c ∷ d ∷ cs) =
     else if is_backslash c && is_dot d then before_first_step d (pieces_of cs)
     else before_first_step c (pieces_of (d ∷ cs))
 
--- the steps of a text: its pieces, none of which may be empty
+-- the steps of a text: its pieces; None where any piece is empty
 abbrev pub steps_of : List ℕ → Option (List (List ℕ))
 steps_of t = if list_any is_empty (pieces_of t) then None else Some (pieces_of t)
 
--- the step is made of decimal digits, of which the first is a `0` only where it is the only one
+-- the step is a decimal number without leading zeros
 abbrev pub is_place : List ℕ → Bool
 is_place [] = false
 is_place (c ∷ cs) = if c == 48 then is_empty cs else all_ascii_digits (c ∷ cs)
@@ -59,17 +59,17 @@ abbrev pub part_of : List (List ℕ) → Value → Option Value
 part_of [] v = Some v
 part_of (step ∷ steps) v = option_and_then (part_of steps) (part_at step v)
 
--- the value with the part at the steps, each the name of a member in the object before, in place of what stands there;
--- where some value on the way is no object, all stays as it is
+-- the value with the part placed under the steps, as names of nested objects, in place of what is there; nothing
+-- changes where a value on the way is not an object
 abbrev pub placed : List (List ℕ) → Value → Value → Value
 placed [] part v = part
 placed (step ∷ steps) part (object ms) = object (put step (placed steps part (unwrap_or (get_member step ms) (object no_members))) ms)
 placed (step ∷ steps) part v = v
 
--- what is projected so far, with the part at one more path, where it is there
+-- what is projected so far, with the part at one more path, if there is one
 abbrev pub with_part : Value → Value → List (List ℕ) → Value
 with_part v projected steps = option_map_or (λ part. placed steps part projected) (part_of steps v) projected
 
--- the parts of a value at the paths, in order, in an object that is empty at first
+-- the object that the parts of a value at the paths make, placed one after another
 abbrev pub projection_of : List (List (List ℕ)) → Value → Value
 projection_of paths v = fold (with_part v) (object no_members) paths

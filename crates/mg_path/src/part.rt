@@ -6,10 +6,10 @@ ghost use Rattle.mg_path.specs.Part.{part_of, part_at as part_of_step, item_plac
 
 use mg_value::{Json, Kind, LentValue};
 
-/// The part of the value that the steps lead to: the member that a step names, in an array the item
-/// at its place, from 0. None where it is missing. It is lent; no memory is taken.
+/// Finds the part of the value that the steps lead to: in an object a step names a member, in an array
+/// the place of an item, from 0. `None` where the part is missing. The part is borrowed; no memory is taken.
 ///
-/// Cost: each step once, with a look-up in an object or an array.
+/// Cost: for each step a look-up in an object or an array.
 #[inline]
 pub fn part_of<'a>(steps: &[String], value: &'a Json) -> Option<&'a Json>
     ensures { option_map (λ part. view part.now) result
@@ -18,7 +18,7 @@ pub fn part_of<'a>(steps: &[String], value: &'a Json) -> Option<&'a Json>
     part_at(steps, value)
 }
 
-/// The part of a lent value that the steps lead to, as of `part_of`. No memory is taken. Cost: as of `part_of`.
+/// Finds the part of a lent value, as `part_of` does. No memory is taken. Cost: that of `part_of`.
 pub fn part_at<L: LentValue>(steps: &[String], value: L) -> Option<L>
     ensures { option_map L.value result ≡ part_of (map string_bytes steps.now) (L.value value) }
 {
@@ -29,7 +29,7 @@ pub fn part_at<L: LentValue>(steps: &[String], value: L) -> Option<L>
     Some(part)
 }
 
-// The part of the value one step in.
+// The part of the value that one step leads to.
 fn step_in<L: LentValue>(step: &str, value: L) -> Option<L>
     ensures { option_map L.value result ≡ part_of_step step.now (L.value value) }
 {
@@ -53,7 +53,7 @@ fn item_at<L: LentValue>(step: &str, items: L::List) -> Option<L>
     }
 }
 
-// The place that the step names; none too where no array is that long.
+// The place that the step names; `None` also for a number that no `usize` holds, since no array is that long.
 fn place_of(step: &str) -> Option<usize>
     ensures { MatchOption result
         ((n : ℕ) → place_named step.now ≡ Some n → 2 ^ 64 ≤ n)

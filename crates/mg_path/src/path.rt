@@ -43,10 +43,10 @@ impl Eq for Path {
 }
 
 impl Path {
-    /// Reads a text such as `a.b.0`: steps between dots. `\.` is a dot within a step, and a
-    /// backslash before anything else a backslash.
+    /// Reads a text such as `a.b.0`, with dots between the steps. `\.` is a dot within a step; a
+    /// backslash before anything else is a backslash.
     ///
-    /// Errors: `Empty` for exactly the texts with an empty step, which is found before memory is taken;
+    /// Errors: `Empty` for exactly the texts with an empty step, before any memory is taken;
     /// `NoMemory` where a growth is refused.
     /// Cost: the length of the text. Source: the field syntax of CouchDB's `_find`.
     pub fn parse(alloc: Global, text: &str) -> Result<Path, PathError>
@@ -68,10 +68,10 @@ impl Path {
         &self.steps
     }
 
-    /// The part of the value at this path: the member that a step names, in an array the item at
-    /// its place, from 0. None where it is missing. It is lent; no memory is taken.
+    /// Finds the part of the value at this path: in an object a step names a member, in an array the
+    /// place of an item, from 0. `None` where the part is missing. The part is borrowed; no memory is taken.
     ///
-    /// Cost: each step once, with a look-up in an object or an array.
+    /// Cost: for each step a look-up in an object or an array.
     pub fn get<'a>(&self, value: &'a Json) -> Option<&'a Json>
         ensures { option_map (λ part. json_view part.now) result
             ≡ part_of self.now (json_view value.now) }
@@ -79,7 +79,7 @@ impl Path {
         part_of(&self.steps, value)
     }
 
-    /// The part at this path of a lent part that may be missing itself, as `get` finds it.
+    /// Finds the part at this path, as `get` does, in a lent part that may itself be missing.
     pub fn get_in<L: LentValue>(&self, part: Option<L>) -> Option<L>
         ensures { option_map L.value result
             ≡ option_and_then (part_of self.now) (option_map L.value part) }
@@ -87,7 +87,7 @@ impl Path {
         part_at(&self.steps, part?)
     }
 
-    /// An equal path. Errors: `NoMemory` where a growth is refused. Cost: its size.
+    /// A copy of the path. Errors: `NoMemory` where a growth is refused. Cost: the size of the path.
     pub fn copy(&self, alloc: Global) -> Result<Path, NoMemory>
         ensures { IfOk result (λ path. path ≡ self.now) }
     {

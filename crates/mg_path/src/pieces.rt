@@ -1,4 +1,4 @@
-//! What stands between the dots of a text.
+//! The pieces of a text between its dots.
 ghost use Rattle.std.specs.Prelude.{◌≡◌, map, string_bytes, IfOk};
 ghost use Rattle.std.specs.List.{list_any};
 ghost use Rattle.mg_path.specs.Part.{pieces_of, is_empty};
@@ -6,7 +6,7 @@ ghost use Rattle.mg_path.specs.Part.{pieces_of, is_empty};
 use mg_value::NoMemory;
 use std::alloc::Global;
 
-// Whether a piece is empty. Takes no memory.
+// Whether any piece of the text is empty. Takes no memory.
 pub(crate) fn has_empty_piece(text: &str) -> bool
     ensures { result ≡ list_any is_empty (pieces_of text.now) }
 {
@@ -26,7 +26,7 @@ pub(crate) fn has_empty_piece(text: &str) -> bool
     is_empty
 }
 
-// The pieces, empty ones too.
+// The pieces of the text, including the empty ones.
 pub(crate) fn pieces(alloc: Global, text: &str) -> Result<Vec<String>, NoMemory>
     ensures { IfOk result (λ pieces. map string_bytes pieces.items ≡ pieces_of text.now) }
 {

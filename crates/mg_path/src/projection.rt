@@ -10,9 +10,9 @@ use std::alloc::Global;
 use std::collections::BTreeMap;
 use std::mem;
 
-/// The parts of the lent value at the paths, in an object: each stands under its steps, as the names of
-/// nested objects, and a later path replaces what an earlier one put there. Nothing comes of a path
-/// whose part is missing, or on whose way an earlier path has put anything but an object.
+/// Builds an object from the parts of the lent value at the paths. Each part goes under the steps of its
+/// path, as names of nested objects; a later path replaces what an earlier one put there. A path is
+/// skipped where its part is missing, or where an earlier path put something other than an object on its way.
 ///
 /// Errors: `NoMemory` where a growth is refused.
 /// Cost: for each path its steps, and the size of its part, also where a later one replaces it.
@@ -30,7 +30,7 @@ pub fn project<L: LentValue>(alloc: Global, value: L, paths: &[Path]) -> Result<
     Ok(projected)
 }
 
-// The value with the part under the steps.
+// Places the part under the steps in the value; nothing changes where a value on the way is not an object.
 #[cycle(place)]
 fn place(alloc: Global, value: Json, steps: &[String], part: Json) -> Result<Json, NoMemory>
     ensures { IfOk result (λ filled. view filled

@@ -1,4 +1,4 @@
--- A place among rows is found by its bytes.
+-- A place among rows is found by a comparison of bytes.
 use Rattle.std.proofs.Common.{◌≡◌, ℕ, List, [], ◌∷◌, ◌++◌, length, Ordering, Less, Greater, refl, sym, ap, ap₂, ◌∙◌, arith}
 use Rattle.std.specs.Cmp.{nat_cmp_is}
 use Rattle.std.specs.Ordering.{ordering_then}
@@ -37,7 +37,7 @@ edge_cmp After ws id = above_items ws id
 
 -- ---- places
 
--- a place against a row, column by column
+-- the order of a place against a row, column by column
 front_cmp : (edge : Edge) (vs ws : Items) (id : List ℕ) → AreStored vs → AreStored ws
     → bytes_order (columns_before vs (edge_bytes edge)) (items_before ws id) ≡ ordering_then (items_order vs (first_columns vs ws)) (edge_order edge)
 front_cmp edge no_items ws id f g = edge_cmp edge ws id
@@ -51,7 +51,7 @@ pub bound_rows : (o : Ordering) (x y : List ℕ) (kept : PlaceOf x) (place : Edg
 bound_rows o x y kept place a is h e f =
     h ∙ ap₂ bytes_order kept.1.1 e ∙ front_cmp kept.0.0 kept.0.1 a.0 a.1 kept.1.0 f.0 ∙ ap (λ (p : Edge × Items). bound_order p.0 p.1 a) is
 
--- no bytes are below a text
+-- the empty list of bytes is below a text
 pub below_text : (none s rest : List ℕ) → length none ≡ 0 → bytes_order none (text_before s rest) ≡ Less
 below_text [] [] rest h = refl
 below_text [] (b ∷ s) rest h = refl
@@ -63,6 +63,6 @@ columns_joined : (vs ws : Items) (rest : List ℕ) → items_before (joined_item
 columns_joined no_items ws rest = refl
 columns_joined (item v vs) ws rest = ap (value_before v) (columns_joined vs ws rest)
 
--- the bytes of the first columns are the front of a row's
+-- the bytes of a row begin with those of its first columns
 pub row_front : (vs ws : Items) (id : List ℕ) → row_bytes (joined_items vs ws, id) ≡ columns_before vs [] ++ row_bytes (ws, id)
 row_front vs ws id = columns_joined vs ws id ∙ columns_append vs [] (items_before ws id)

@@ -1,4 +1,4 @@
--- Bytes that were written one after another stand so.
+-- Bytes that are written one after another.
 use Rattle.std.proofs.Common.{◌≡◌, ℕ, zero, suc, ◌+◌, ◌-◌, ◌<◌, ◌≤◌, List, [], ◌∷◌, ◌++◌, length, take, drop, slice_set, set, get_or, map, refl, sym, ap, ap₂, ◌∙◌, append_assoc, arith, length-append, length-drop}
 use borrow.Rule.Slice.PartMut.{put_mid}
 use Rattle.std.proofs.lemmas.List.{take_at, take_all, take_more_set, drop_at, length-set, length-map}
@@ -14,9 +14,9 @@ inside_bytes front back x y zs last n k e f room at =
     take-put_mid (length front + 1) k (slice_set (x ++ drop (length front) zs) (length front) last) y n (omega (arith, at, ap length f)) room3
     ∙ ap₂ ◌++◌ (take_more_set (x ++ drop (length front) zs) (length front) last room2 ∙ ap (λ s. s ++ last ∷ []) (take_at x (drop (length front) zs) (length front) same ∙ e)) f
 
--- ---- bytes that are raised one after another
+-- ---- bytes to each of which 1 is added, one after another
 
--- the first i are one more
+-- the bytes, with 1 added to each of the first i
 abbrev pub raised : ℕ → List ℕ → List ℕ
 raised i s = map suc (take i s) ++ drop i s
 
@@ -36,12 +36,12 @@ raised_all [] (suc i) h = refl
 raised_all (x ∷ s) zero h = absurd (omega (arith, h))
 raised_all (x ∷ s) (suc i) h = ap (λ y. suc x ∷ y) (raised_all s i (omega (arith, h)))
 
--- a text is its bytes, each one more, and then 0
+-- a text is stored as its bytes, each plus 1, and then 0
 pub text_raised : (s rest : List ℕ) → map suc s ++ 0 ∷ rest ≡ text_before s rest
 text_raised [] rest = refl
 text_raised (b ∷ s) rest = ap (λ y. suc b ∷ y) (text_raised s rest)
 
--- the part behind what stood there is the text that was put behind it
+-- the part after what was there before is the text that was appended
 pub part_behind : (all front text : List ℕ) (start : ℕ) → all ≡ front ++ text → start ≡ length front → take (length all - start) (drop start all) ≡ text
 part_behind all front text start e h =
     ap (λ s. take (length s - start) (drop start s)) e ∙ ap (take (length (front ++ text) - start)) (drop_at front text start (sym h))
@@ -50,7 +50,7 @@ part_behind all front text start e h =
 joined_cut : (x y more after : List ℕ) (n : ℕ) → length (x ++ y) ≡ n → take n (x ++ (y ++ more) ++ after) ≡ x ++ y
 joined_cut x y more after n h = ap (take n) (ap (λ s. s ++ after) (sym (append_assoc x y more)) ∙ append_assoc (x ++ y) more after) ∙ take_at (x ++ y) (more ++ after) n h
 
--- where that part is raised, what stood there is followed by the raised text
+-- where 1 is added to each byte of that part, what was there before is followed by the raised text
 pub raised_behind : (all front text part more after : List ℕ) (start n : ℕ) → all ≡ front ++ text → start ≡ length front → part ≡ map suc text → length all ≡ n
     → take n (take start all ++ (part ++ more) ++ after) ≡ front ++ map suc text
 raised_behind all front text part more after start n e h f size =

@@ -1,4 +1,4 @@
--- The bytes of things one after another.
+-- The bytes of values, keys and rows, one after another.
 use Rattle.std.proofs.Common.{Result, Ok, Err, OnErr, ◌≡◌, ℕ, zero, suc, ◌+◌, ◌/◌, ◌%◌, ◌<◌, ◌≤◌, arith, List, [], ◌∷◌, ◌++◌, drop, get_or, length, IsUtf8, Ordering, true, false, refl, sym, ap, ◌∙◌, append_assoc}
 use Rattle.std.proofs.lemmas.List.{drop_more}
 use Rattle.mg_value.specs.Value.{Value, null, flag, whole, text, list, object, Items, no_items, item, Members, no_members, member}
@@ -11,7 +11,7 @@ use Rattle.mg_rows.specs.Bound.{IsBound, edge_bytes}
 use Rattle.mg_rows.specs.Laws.{joined_items}
 use Rattle.mg_rows.specs.declared.edge.Edge.{Edge}
 
--- ---- what comes after may be joined on
+-- ---- what comes after can be appended
 
 high_append : (k n : ℕ) (s t : List ℕ) → big_endian k n (s ++ t) ≡ big_endian k n s ++ t
 high_append zero n s t = refl
@@ -44,7 +44,7 @@ pub columns_append : (vs : Items) (s t : List ℕ) → columns_before vs (s ++ t
 columns_append no_items s t = refl
 columns_append (item v vs) s t = ap (value_before v) (columns_append vs s t) ∙ value_append v (columns_before vs s) t
 
--- ---- a turn of a loop: what is left completes what is written
+-- ---- one turn of a loop: the bytes so far and those of what is left are all the bytes to write
 
 turn : (v : Value) (front out rest : List ℕ) → front ≡ out ++ value_before v rest → front ≡ (out ++ value_before v []) ++ rest
 turn v front out rest e = e ∙ ap (λ y. out ++ y) (value_append v [] rest) ∙ sym (append_assoc out (value_before v []) rest)
@@ -83,7 +83,7 @@ pub on_err_when : {T E P : Type 0} (r : Result T E) → P → OnErr r P
 on_err_when (Ok x) p = tt
 on_err_when (Err e) p = p
 
--- a column more is one more item
+-- the bytes of a key with one more column
 columns_more : (vs : Items) (v : Value) (rest : List ℕ) → columns_before (joined_items vs (item v no_items)) rest ≡ columns_before vs (value_before v rest)
 columns_more no_items v rest = refl
 columns_more (item w vs) v rest = ap (value_before w) (columns_more vs v rest)
@@ -106,12 +106,12 @@ row_joined x p a e h = e ∙ ap (λ (q : List ℕ × List ℕ). q.0 ++ q.1) h.1 
 pub rows_bytes : (x y : List ℕ) (a b : RowValue) (o : Ordering) → o ≡ bytes_order x y → x ≡ row_bytes a → y ≡ row_bytes b → o ≡ bytes_order (row_bytes a) (row_bytes b)
 rows_bytes x y a b o h e f = h ∙ ap (λ s. bytes_order s y) e ∙ ap (bytes_order (row_bytes a)) f
 
--- a key's columns with an end are its items with theirs
+-- the columns of a key and the byte that ends it are the bytes of its items
 columns_end : (vs : Items) (rest : List ℕ) → items_before vs rest ≡ columns_before vs (0 ∷ rest)
 columns_end no_items rest = refl
 columns_end (item v vs) rest = ap (value_before v) (columns_end vs rest)
 
--- the bytes of columns with an end, and those of an id, are the parts of a row
+-- the bytes of columns with the byte that ends a key, and those of an id, are the parts of a row
 pub made_row : (parts : List ℕ × List ℕ) (columns : List ℕ) (key : Items) (id : List ℕ) → IsKey columns key → IsUtf8 id → parts ≡ (columns ++ 0 ∷ [], id) → IsRow parts (key, id)
 made_row parts columns key id h utf8 split = (
   (h.0, utf8),

@@ -33,7 +33,7 @@ abbrev others : List ℕ → List ℕ
 others [] = []
 others (x ∷ xs) = xs
 
--- a value whose bytes begin with this tag, and go on so
+-- the bytes of the value are this tag and then the tail
 abbrev pub Shape : Value → ℕ → List ℕ → List ℕ → Type 0
 Shape null tag tail rest = (tag ≡ 1) × (tail ≡ rest)
 Shape (flag false) tag tail rest = (tag ≡ 2) × (tail ≡ rest)
@@ -77,7 +77,7 @@ true_at (flag true) tail rest tag h t = (refl, h.1)
 true_at (flag false) tail rest tag h t = absurd (omega (arith, h.0, t))
 true_at v tail rest tag h t = absurd (omega (arith, h.0, t))
 
--- what is shown where a value has a tag: the value of that type, its bytes, and what comes after
+-- proof by cases of the tag: the value has this type, with its bytes and what comes after
 pub whole_case : (P : Type 0) (v : Value) (tail rest : List ℕ) (tag : ℕ) → Shape v tag tail rest → tag ≡ 4 → IsStored v
     → ((z : ℤ) → whole z ≡ v → FitsSigned w64 z → tail ≡ big_endian 8 (sign_turned z) rest → P) → P
 whole_case P (whole z) tail rest tag h t stored go = go z refl stored h.1
@@ -153,7 +153,7 @@ items_go_on (item w ws) rest bytes tail after done new j vs tag e z stored h k n
     let p = read w (items_before ws rest) stored.0 h in
     (ws, stored.1, p.1, ap (λ x. joined_items (items_view x) ws) n ∙ joined_next done j ws ∙ ap (λ x. joined_items (items_view done) (item x ws)) p.0 ∙ k)
 
--- each value has a byte, and so has an array from any item on
+-- the bytes of a value are not empty, nor are those of an array from any item on
 pub value_some : (v : Value) (rest : List ℕ) → 0 < length (value_before v rest)
 value_some null rest = omega arith
 value_some (flag false) rest = omega arith
@@ -167,7 +167,7 @@ pub items_some : (ws : Items) (rest : List ℕ) → 0 < length (items_before ws 
 items_some no_items rest = omega arith
 items_some (item w ws) rest = value_some w (items_before ws rest)
 
--- what is shown where an item comes: its bytes, and what comes after
+-- the case where an item comes: its bytes, and what comes after
 pub items_case : (P : Type 0) (ws : Items) (rest bytes tail : List ℕ) (tag : ℕ) → bytes ≡ tag ∷ tail → 0 < tag → AreStored ws → bytes ≡ items_before ws rest
     → ((w : Value) (r : List ℕ) → IsStored w → bytes ≡ value_before w r → P) → P
 items_case P no_items rest bytes tail tag e z stored h go = let f : tag ≡ 0 = ap head_of (sym e ∙ h) in absurd (omega (arith, f, z))
@@ -187,7 +187,7 @@ after_last : (k : List ℕ) (done : Members) (l : List ℕ) (w : Value) (ns : Me
 after_last k no_members l w ns h = h.0
 after_last k (member m v ms) l w ns h = after_last k ms l w ns h.1
 
--- a name that ascends goes last
+-- a member whose name is above all names so far goes last
 put_ascending : (done : Members) (l : List ℕ) (w : Value) (ns : Members) → MembersAreStored (joined_members done (member l w ns)) → joined_members (put l w done) ns ≡ joined_members done (member l w ns)
 put_ascending no_members l w ns h = refl
 put_ascending (member k v ms) l w ns h =
@@ -214,7 +214,7 @@ pub members_some : (ns : Members) (rest : List ℕ) → 0 < length (members_befo
 members_some no_members rest = omega arith
 members_some (member l w ns) rest = omega arith
 
--- what is shown where a member comes: the bytes of its name, and then those of its value
+-- the case where a member comes: the bytes of its name, and then those of its value
 pub members_case : (P : Type 0) (done ns : Members) (rest bytes tail : List ℕ) (ms : Members) (tag : ℕ) → bytes ≡ tag ∷ tail → 0 < tag → MembersAreStored ms → bytes ≡ members_before ns rest
     → joined_members done ns ≡ ms
     → ((l : List ℕ) (w : Value) (r : List ℕ) → IsUtf8 l → IsStored w → tail ≡ text_before l (value_before w r) → P) → P

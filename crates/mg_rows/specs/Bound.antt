@@ -1,4 +1,4 @@
--- Places between rows: before or after all whose key begins with some values.
+-- Places between rows: before or after all rows whose key begins with some values.
 use Rattle.std.specs.Prelude.{◌≡◌, ℕ, List, [], ◌∷◌}
 use Rattle.std.specs.Ordering.{ordering_then}
 use Rattle.std.specs.declared.cmp.Ordering.{Ordering}
@@ -17,16 +17,16 @@ first_columns no_items columns = no_items
 first_columns (item v vs) no_items = no_items
 first_columns (item v vs) (item w ws) = item w (first_columns vs ws)
 
--- a place against the rows whose key begins with its values
+-- the order of a place against the rows whose key begins with its values
 abbrev pub edge_order : Edge → Ordering
 edge_order Before = Less
 edge_order After = Greater
 
--- a place against a row: by the first columns, and where these tie by the edge
+-- the order of a place against a row: by the first columns, and where these tie by the edge
 abbrev pub bound_order : Edge → Items → RowValue → Ordering
 bound_order edge values row = ordering_then (items_order values (first_columns values row.0)) (edge_order edge)
 
--- the bytes behind the values: none, or one that is above all that can follow them in a row
+-- the bytes after the values: none, or one byte that is above every byte that can follow them in a row
 abbrev pub edge_bytes : Edge → List ℕ
 edge_bytes Before = []
 edge_bytes After = 255 ∷ []

@@ -7,7 +7,7 @@ use Rattle.std.specs.Ordering.{nat_cmp}
 use Rattle.mg_value.specs.Value.{Value, null, flag, whole, text, list, object, Items, no_items, item, Members, no_members, member}
 use Rattle.mg_collate.specs.Row.{RowValue}
 
--- the order of bytes, as `memcmp` has it
+-- the order of bytes, which is that of `memcmp`
 abbrev pub bytes_order : List ℕ → List ℕ → Ordering
 bytes_order = slice_cmp nat_cmp
 
@@ -26,7 +26,7 @@ abbrev pub text_before : List ℕ → List ℕ → List ℕ
 text_before [] rest = 0 ∷ rest
 text_before (b ∷ s) rest = suc b ∷ text_before s rest
 
--- first the type, null 1 up to objects 7, and then what the value holds
+-- first the type, from 1 for null to 7 for objects, and then what the value holds
 abbrev mutual
   pub value_before : Value → List ℕ → List ℕ
   value_before null rest = 1 ∷ rest
@@ -47,7 +47,7 @@ abbrev mutual
   members_before no_members rest = 0 ∷ rest
   members_before (member k v ms) rest = 5 ∷ text_before k (value_before v (members_before ms rest))
 
--- the first columns of a key, one after another, with no end
+-- the first columns of a key, one after another, without the byte that ends a key
 abbrev pub columns_before : Items → List ℕ → List ℕ
 columns_before no_items rest = rest
 columns_before (item v vs) rest = value_before v (columns_before vs rest)
@@ -56,6 +56,6 @@ columns_before (item v vs) rest = value_before v (columns_before vs rest)
 abbrev pub row_bytes : RowValue → List ℕ
 row_bytes row = items_before row.0 row.1
 
--- the same in two parts: the bytes of the key, and those of the id
+-- the bytes of a row in two parts: those of the key, and those of the id
 abbrev pub row_parts : RowValue → List ℕ × List ℕ
 row_parts row = (items_before row.0 [], row.1)

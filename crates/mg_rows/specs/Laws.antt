@@ -5,19 +5,19 @@ use Rattle.mg_collate.specs.Row.{RowValue, row_value_order}
 use Rattle.mg_rows.specs.Bytes.{bytes_order, columns_before, row_bytes, value_before}
 use Rattle.mg_rows.specs.Stored.{IsStored, IsStoredRow, IsRow}
 
--- two rows are in the order of their bytes
+-- the order of the bytes of two rows is the order of the rows
 abbrev pub RowsAreInTheOrderOfTheirBytes : Type 0
 RowsAreInTheOrderOfTheirBytes = (a b : RowValue) → IsStoredRow a → IsStoredRow b → bytes_order (row_bytes a) (row_bytes b) ≡ row_value_order a b
 
--- the bytes of a value give the value, and what comes after them
+-- the bytes of a value determine the value, and what comes after it
 abbrev pub BytesGiveTheValue : Type 0
 BytesGiveTheValue = (a b : Value) (s t : List ℕ) → IsStored a → IsStored b → value_before a s ≡ value_before b t → (a ≡ b) × (s ≡ t)
 
--- the bytes of a row give the row
+-- the bytes of a row determine the row
 abbrev pub BytesGiveTheRow : Type 0
 BytesGiveTheRow = (a b : RowValue) → IsStoredRow a → IsStoredRow b → row_bytes a ≡ row_bytes b → a ≡ b
 
--- a key's bytes and an id's are those of one row
+-- the bytes of a key and those of an id determine the row
 abbrev pub PartsGiveTheRow : Type 0
 PartsGiveTheRow = (parts : List ℕ × List ℕ) (a b : RowValue) → IsRow parts a → IsRow parts b → a ≡ b
 

@@ -1,4 +1,4 @@
--- What bytes stand for, kept beside them: bytes are those of one row, one key or one place at most.
+-- What bytes stand for, for ghost fields beside them: bytes are those of at most one row, one key or one place.
 use Rattle.std.proofs.Common.{◌≡◌, ℕ, ◌<◌, List, [], ◌∷◌, Equal, Less, refl, sym, subst, ap, ap₂, ◌∙◌, arith, true, false, IsUtf8}
 use Rattle.std.specs.Prelude.{⊤}
 use Rattle.std.specs.Coded.{×_prop, Unit-prop, Coded-set, coded×, coded_list, coded_ℕ}
@@ -29,7 +29,7 @@ KeyOf bytes = (key : Items) × IsKey bytes key
 abbrev pub PlaceOf : List ℕ → Type 0
 PlaceOf bytes = (place : Edge × Items) × IsBound place.0 bytes place.1
 
--- ---- what is known of stored values has one proof at most
+-- ---- what is known of stored values has at most one proof
 
 AllAfter-prop : (k : List ℕ) (ms : Members) → IsProp (AllAfter k ms)
 AllAfter-prop k no_members = Unit-prop
@@ -69,17 +69,17 @@ IsBound-prop bytes place = ×_prop (AreStored-prop place.1) (bytes_prop bytes (c
 
 -- ---- bytes are those of one value
 
--- the bytes of a value, with what comes after, give the value
+-- the bytes of a value determine the value, and what comes after it
 pub one_value : (a b : Value) (s t : List ℕ) → IsStored a → IsStored b → value_before a s ≡ value_before b t → (a ≡ b) × (s ≡ t)
 one_value a b s t f g e =
     let p = both (value_order a b) (bytes_order s t) (sym (value_cmp a b s t f g) ∙ ap (bytes_order (value_before a s)) (sym e) ∙ tied_itself nat_list_cmp_total (value_before a s)) in
     (same a b p.0, same_text s t p.1)
 
--- and those of a row give the row
+-- the bytes of a row determine the row
 pub one_row : (a b : RowValue) → IsStoredRow a → IsStoredRow b → row_bytes a ≡ row_bytes b → a ≡ b
 one_row a b f g e = same_rows a b (sym (row_cmp a b f g) ∙ ap (bytes_order (row_bytes a)) (sym e) ∙ tied_itself nat_list_cmp_total (row_bytes a))
 
--- the bytes of a key, with their end, give the key
+-- the bytes of a key, with the byte that ends it, determine the key
 one_items : (a b : Items) → AreStored a → AreStored b → items_before a [] ≡ items_before b [] → a ≡ b
 one_items a b f g e = same_items a b (both (items_order a b) (bytes_order [] []) (sym (items_cmp a b [] [] f g) ∙ ap (bytes_order (items_before a [])) (sym e) ∙ tied_itself nat_list_cmp_total (items_before a []))).0
 
@@ -100,7 +100,7 @@ value_low (text s) rest = omega arith
 value_low (list vs) rest = omega arith
 value_low (object ms) rest = omega arith
 
--- no bytes are below each column and below the end of a key
+-- the empty list of bytes is below every column
 pub below_value : (v : Value) (rest : List ℕ) → bytes_order [] (value_before v rest) ≡ Less
 below_value null rest = refl
 below_value (flag false) rest = refl
@@ -110,14 +110,14 @@ below_value (text s) rest = refl
 below_value (list vs) rest = refl
 below_value (object ms) rest = refl
 
--- columns of a key, and what stands behind them, are those of one key
+-- what follows the columns determines the edge
 same_edge : (e f : Edge) → edge_bytes e ≡ edge_bytes f → e ≡ f
 same_edge Before Before h = refl
 same_edge After After h = refl
 same_edge Before After h = absurd cc
 same_edge After Before h = absurd cc
 
--- no column begins as what stands behind the columns
+-- no column begins with what follows the columns
 no_column : (e : Edge) (w : Value) (rest : List ℕ) → edge_bytes e ≡ value_before w rest → ⊥
 no_column Before w rest h = let e : Equal ≡ Less = ap (bytes_order []) h ∙ below_value w rest in absurd cc
 no_column After w rest h = let low = subst BeginsLow (sym h) (value_low w rest) in omega (arith, low)
@@ -148,7 +148,7 @@ KeyOf-prop bytes = λ x y. Σ_prop_path (IsKey-prop bytes) (one_key bytes x.0 y.
 pub PlaceOf-prop : (bytes : List ℕ) → IsProp (PlaceOf bytes)
 PlaceOf-prop bytes = λ x y. Σ_prop_path (IsBound-prop bytes) (one_place bytes x.0 y.0 x.1 y.1)
 
--- ---- what is kept is what the bytes are known to stand for
+-- ---- the ghost fields hold what the bytes are known to stand for
 
 pub the_row : (parts : List ℕ × List ℕ) (kept : RowOf parts) (row : RowValue) → IsRow parts row → kept.0 ≡ row
 the_row parts kept row h = one_row_of_parts parts kept.0 row kept.1 h

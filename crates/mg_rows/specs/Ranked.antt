@@ -1,5 +1,5 @@
--- The order of the bytes is that of the values. These lemmas stand here, and not with the other proofs, because they show
--- that bytes are those of one row, which the ghost fields of `Only` rest on.
+-- The order of the bytes is that of the values. These lemmas are here, and not with the other proofs, because the ghost
+-- fields of `Only` rest on them: they show that bytes are those of one row.
 use Rattle.std.proofs.Common.{◌≡◌, ℕ, zero, suc, ◌/◌, ◌%◌, ◌<◌, ℤ, pos, negsuc, ◌<ℤ◌, List, [], ◌∷◌, Ordering, Less, Equal, Greater, nat_cmp, true, false, refl, sym, ap, ap₂, ◌∙◌, arith}
 use Rattle.std.specs.Cmp.Lexicographic.{slice_cmp}
 use Rattle.std.specs.Cmp.{nat_cmp_is}

@@ -1,4 +1,4 @@
--- What a `Json` can hold: each number is of 64 bits, texts and names are UTF-8, and the names of an object ascend.
+-- What a `Json` can hold: each number has 64 bits, texts and names are UTF-8, and the names of an object ascend.
 use Rattle.std.specs.Prelude.{◌≡◌, ℕ, List, [], FitsSigned, IsUtf8, ⊤}
 use Rattle.std.specs.Int.{w64}
 use Rattle.mg_value.specs.Held.{AllAfter}
@@ -16,12 +16,12 @@ abbrev mutual
   IsStored (list vs) = AreStored vs
   IsStored (object ms) = MembersAreStored ms
 
-  -- each of the items
+  -- a `Json` can hold each of the items
   pub AreStored : Items → Type 0
   AreStored no_items = ⊤
   AreStored (item v vs) = IsStored v × AreStored vs
 
-  -- each of the members, whose names ascend
+  -- a `Json` can hold each of the members, and their names ascend
   pub MembersAreStored : Members → Type 0
   MembersAreStored no_members = ⊤
   MembersAreStored (member k v ms) = IsUtf8 k × AllAfter k ms × IsStored v × MembersAreStored ms
@@ -34,6 +34,6 @@ IsStoredRow row = AreStored row.0 × IsUtf8 row.1
 abbrev pub IsRow : List ℕ × List ℕ → RowValue → Type 0
 IsRow parts row = IsStoredRow row × (parts ≡ row_parts row)
 
--- these are the bytes of the columns of a key, with no end
+-- these are the bytes of the columns of a key, without the byte that ends it
 abbrev pub IsKey : List ℕ → Items → Type 0
 IsKey bytes key = AreStored key × (bytes ≡ columns_before key [])

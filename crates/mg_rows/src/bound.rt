@@ -7,7 +7,7 @@ use std::alloc::Global;
 use std::cmp::Ordering;
 use std::marker::Model;
 
-// A byte above each that stands after a column: a type is at most 7, and the end of a key is 0.
+// A byte above every byte that can follow a column in a row: a type is at most 7, and the end of a key is 0.
 const ABOVE_ALL: u8 = 255;
 
 ghost use Rattle.std.specs.Prelude.{◌≡◌, ◌++◌, OnOk};
@@ -54,7 +54,7 @@ impl Bound {
         Bound::of_columns(alloc, &columns, edge)
     }
 
-    // The place at the values whose bytes these are.
+    // Makes a place from the bytes of its values.
     pub(crate) fn of_columns(alloc: Global, columns: &[u8], edge: Edge) -> Result<Bound, NoMemory>
         requires { (values : Items) × IsKey columns.now values }
         ensures { (values : Items) → IsKey columns.now values
@@ -66,8 +66,8 @@ impl Bound {
         Ok(Bound { bytes })
     }
 
-    /// The order of the place and a row: `Less` where the row is after it, `Greater` where it is before it. It
-    /// compares bytes. Takes no memory.
+    /// Compares the place with a row: `Less` where the row is after the place, `Greater` where the row is before
+    /// it. It compares bytes. Takes no memory.
     pub fn against(&self, row: &RowBytes) -> Ordering
         ensures bytes { result
             ≡ bytes_order (columns_before self.now.1 (edge_bytes self.now.0)) (row_bytes row.now) }
@@ -76,13 +76,13 @@ impl Bound {
         self.bytes.as_slice().cmp(row.as_bytes())
     }
 
-    /// The number of the place among those of rows: where a search for it begins. Takes no memory.
+    /// The hint of the place, in the order of the hints of rows: it says where a search begins. Takes no memory.
     pub fn hint(&self) -> u64 {
         place_hint(self.bytes.as_slice())
     }
 }
 
-// What stands behind the values of a place.
+// Appends what follows the values of a place.
 fn write_edge(edge: Edge, bytes: &mut Vec<u8>) -> Result<(), NoMemory>
     ensures { OnOk result (bytes.new.items ≡ bytes.old.items ++ edge_bytes edge) }
 {

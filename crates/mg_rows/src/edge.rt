@@ -1,8 +1,8 @@
-/// On which side of the rows that begin with some values a place is.
+/// The side of a place: before or after the rows whose key begins with some values.
 #[derive(Clone, Copy, PartialEq, Eq, Debug)]
 pub enum Edge {
-    /// Below all of them: a range that begins here has them, and one that ends here has none of them.
+    /// Before all of them: a range that begins here has them, and a range that ends here has none of them.
     Before,
-    /// Above all of them: a range that begins here has none of them, and one that ends here has them.
+    /// After all of them: a range that begins here has none of them, and a range that ends here has them.
     After,
 }

@@ -1,4 +1,4 @@
-//! Rows as what pages hold.
+//! Rows as elements of pages.
 use crate::hint::row_hint;
 use crate::row::RowBytes;
 use mg_pages::{Element, Keyed};

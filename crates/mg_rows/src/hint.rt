@@ -1,30 +1,29 @@
-//! Numbers by which searches begin: they rise with the order of rows. Where one is wrong, a search takes longer and
-//! finds the same.
+//! Hints: numbers that say where a search begins, and that never fall as rows ascend. A wrong hint makes a search
+//! longer, but does not change its result.
 use mg_value::Json;
 
-// The bits of a number that are the type of a value. The others are of what the value holds.
+// The bits of a hint from this one up are the type of a value. The bits below are of what the value holds.
 const TYPE_SHIFT: u32 = 61;
 
-// The bits of a byte below its highest, eight times.
+// The lower seven bits of each of eight bytes.
 const LOW_BITS: u64 = 0x7f7f_7f7f_7f7f_7f7f;
 
-// 1, eight times: a text's bytes stand in a row as one more.
+// 1 in each of eight bytes: a row stores each byte of a text plus 1.
 const ONES: u64 = 0x0101_0101_0101_0101;
 
-// How many numbers on each side of 0 have a number of their own.
+// How many whole numbers on each side of 0 have a hint of their own.
 const NEAR: u64 = 1 << 59;
 
-// What the numbers of whole numbers end with that are at the upper end of these, or beyond.
+// The bits below the type, in the hint of the greatest of these whole numbers and of all above it.
 const FARTHEST: u64 = ((1 << 60) - 1) << 1;
 
-/// The number of a key: that of its first value.
+/// The hint of a key: that of its first value.
 pub fn key_hint(key: &[Json]) -> u64 {
     value_hint(key.first())
 }
 
-/// The number of a value: the type, and then what begins the value. It is that of each row whose key begins with the
-/// value, and it is even: where a search stands before or behind all of these, it begins by the odd number below or
-/// above.
+/// The hint of a value: the type, and then how the value begins. Every row whose key begins with the value has this
+/// hint. It is even: a place before or after all these rows can have the odd hint below or above.
 pub fn value_hint(value: Option<&Json>) -> u64 {
     match value {
         None => 0,
@@ -38,7 +37,7 @@ pub fn value_hint(value: Option<&Json>) -> u64 {
     }
 }
 
-/// The number of a row, by its bytes: that of the first value of its key.
+/// The hint of a row, from its bytes: that of the first value of its key.
 pub(crate) fn row_hint(bytes: &[u8]) -> u64 {
     match bytes {
         [4, a, b, c, d, e, f, g, h, ..] => turned_hint(u64::from_be_bytes([
@@ -53,8 +52,8 @@ pub(crate) fn row_hint(bytes: &[u8]) -> u64 {
     }
 }
 
-/// The number of a place, by its bytes: that of its first value. Where the number says all of this value, and the place
-/// has no other, it is the odd number below or above.
+/// The hint of a place, from its bytes: that of its first value. Where that hint determines the value, and the place
+/// has no other value, it is the odd hint below or above.
 pub(crate) fn place_hint(bytes: &[u8]) -> u64 {
     let number = row_hint(bytes);
     match bytes.get(first_end(bytes, number)) {
@@ -64,7 +63,7 @@ pub(crate) fn place_hint(bytes: &[u8]) -> u64 {
     }
 }
 
-// Where the first value ends, if its number says all of it; else a place before its end.
+// Where the first value ends, if its hint determines it; otherwise a position before its end.
 fn first_end(bytes: &[u8], number: u64) -> usize {
     match bytes.first() {
         None | Some(255) => 0,
@@ -75,7 +74,7 @@ fn first_end(bytes: &[u8], number: u64) -> usize {
     }
 }
 
-// Where the text ends whose type is the first byte, if it is of up to six bytes.
+// Where a text of up to six bytes ends; 0 for a longer one. The first byte is the type.
 fn text_end(bytes: &[u8]) -> usize {
     match bytes.iter().position(|byte| *byte == 0) {
         Some(place) if place < 8 => place + 1,
@@ -83,24 +82,24 @@ fn text_end(bytes: &[u8]) -> usize {
     }
 }
 
-// The number of a type alone.
+// The hint of a type, without what a value holds.
 fn typed(tag: u8) -> u64 {
     u64::from(tag.min(7)) << TYPE_SHIFT
 }
 
-// The number of a whole number whose sign bit is turned: all of it, unless it is beyond 2^59.
+// The hint of a whole number whose sign bit is turned. It determines the number, unless that is beyond 2^59.
 fn turned_hint(turned: u64) -> u64 {
     let lowest = (1 << 63) - NEAR;
     let near = turned.max(lowest).min((1 << 63) + NEAR - 1) - lowest;
     typed(4) | (near << 1)
 }
 
-// The number of a text, by the eight bytes that begin it as it stands in a row.
+// The hint of a text, from its first eight bytes as a row stores them.
 fn encoded_hint(front: u64) -> u64 {
     typed(5) | ((front >> 4) << 1)
 }
 
-// The eight bytes that begin a text as it stands in a row, and zeros behind its end.
+// The first eight bytes of a text as a row stores them, filled up with zeros.
 fn encoded_front(text: &[u8]) -> u64 {
     match text {
         [a, b, c, d, e, f, g, h, ..] => {
@@ -115,7 +114,7 @@ fn encoded_front(text: &[u8]) -> u64 {
     }
 }
 
-// The first eight bytes, and zeros where there are fewer.
+// The first eight bytes, filled up with zeros.
 fn front_of(bytes: &[u8]) -> u64 {
     let mut front = 0u64;
     for i in 0..8usize {
@@ -125,7 +124,7 @@ fn front_of(bytes: &[u8]) -> u64 {
     front
 }
 
-// The bytes before the first that is 0, and zeros.
+// The bytes before the first 0, filled up with zeros.
 fn ended(front: u64) -> u64 {
     // the highest bit of each byte that is 0
     let zeros = !((front & LOW_BITS).wrapping_add(LOW_BITS) | front | LOW_BITS);

@@ -1,4 +1,4 @@
-// The row that an id has among all documents, against bytes: its key is the id alone.
+// Compares bytes with the row that an id has among all documents, whose key is the id alone.
 ghost use Rattle.std.specs.Prelude.{◌≡◌, ◌∷◌};
 ghost use Rattle.mg_value.specs.Value.{no_items, item, text as text_value};
 ghost use Rattle.mg_rows.specs.Bytes.{bytes_order, text_before, row_bytes};
@@ -8,7 +8,7 @@ use std::cmp::Ordering;
 // The type of a string.
 const TEXT: u8 = 5;
 
-/// The order of bytes and those of the row that the id has. Takes no memory.
+/// Compares bytes with those of the id's row. Takes no memory.
 pub(crate) fn against_id_row(bytes: &[u8], id: &str) -> Ordering
     ensures { result ≡ bytes_order bytes.now (row_bytes (item (text_value id.now) no_items, id.now)) }
 {
@@ -21,7 +21,7 @@ pub(crate) fn against_id_row(bytes: &[u8], id: &str) -> Ordering
     }
 }
 
-// The same from behind the type of the string.
+// Compares bytes with those of the id's row after the type of the string.
 fn against_id(bytes: &[u8], id: &str) -> Ordering
     ensures { result ≡ bytes_order bytes.now (text_before id.now (0 ∷ id.now)) }
 {
@@ -39,7 +39,7 @@ fn against_id(bytes: &[u8], id: &str) -> Ordering
     against_end(left, id)
 }
 
-// The same from behind the bytes of the string.
+// Compares bytes with those of the id's row after the bytes of the string.
 fn against_end(bytes: &[u8], id: &str) -> Ordering
     ensures { result ≡ bytes_order bytes.now (0 ∷ 0 ∷ id.now) }
 {

@@ -8,10 +8,9 @@ use mg_value::{LentValue, NoMemory};
 use std::alloc::Global;
 use std::marker::Model;
 
-/// The bytes of a key that is put together, column by column, and made into rows. Contracts see its columns.
+/// The bytes of a key, which is built column by column and made into rows. Contracts see its columns.
 ///
-/// It is a scratch: it keeps its room when it is cleared, so that rows one after another take no memory for their
-/// keys.
+/// It is a buffer for reuse: it keeps its room when it is cleared, so that the keys of further rows take no memory.
 #[derive(Drop)]
 pub struct KeyBytes {
     bytes: Vec<u8>,
@@ -43,14 +42,14 @@ impl KeyBytes {
         }
     }
 
-    /// Takes out all columns. The room stays.
+    /// Removes all columns, and keeps the room.
     pub fn clear(&mut self)
         ensures { self.new ≡ no_items }
     {
         self.bytes.clear();
     }
 
-    /// Puts a column, a value that is lent, behind the others.
+    /// Appends a column, which is a lent value.
     ///
     /// Errors: `NoMemory` where a growth was refused; then the key has no columns. Cost: the size of the value.
     pub fn push<L: LentValue>(&mut self, column: L) -> Result<(), NoMemory>
@@ -62,7 +61,7 @@ impl KeyBytes {
         Ok(())
     }
 
-    /// The row of the key and the id of its document. A row of up to 45 bytes takes no memory.
+    /// Makes the row of the key and the id of a document. A row of up to 45 bytes takes no memory.
     ///
     /// Errors: `NoMemory` where a growth was refused. Cost: the size of the key and the id.
     pub fn row(&self, alloc: Global, id: &str) -> Result<RowBytes, NoMemory>

@@ -2,12 +2,12 @@
 ghost use Rattle.mg_rows.specs.Laws.{BytesGiveTheRow, BytesGiveTheValue, FirstColumnsAreAFront};
 ghost use Rattle.mg_rows.specs.Laws.{PartsGiveTheRow, RowsAreInTheOrderOfTheirBytes};
 
-/// Two rows are in the order of their bytes: by their keys, as arrays, and where these tie by their ids.
+/// The order of the bytes of rows is the order of the rows: by key, as arrays, and where keys tie by id.
 pub fn rows_are_in_the_order_of_their_bytes()
     ensures { RowsAreInTheOrderOfTheirBytes }
 {}
 
-/// The bytes of a value give the value and where they end, and the bytes of a row give its key and its id.
+/// The bytes of a value determine the value and where it ends, and the bytes of a row determine its key and its id.
 pub fn bytes_give_the_row()
     ensures values { BytesGiveTheValue }
     ensures rows { BytesGiveTheRow }

@@ -1,5 +1,5 @@
-// The values that bytes stand for, each with the bytes after it. Bytes that were written are read back (`value`), and
-// are never refused as `NotStored` (`stored`).
+// Reads values from bytes, each with the bytes after it. The bytes of a value are read back as the value (`value`),
+// and are never refused as `NotStored` (`stored`).
 ghost use Rattle.std.specs.Prelude.{◌≡◌, ◌<◌, ◌≤◌, [], List, ℕ, ℤ, IfOk, IfErr, IsUtf8, FitsSigned, length, string_bytes};
 ghost use Rattle.std.specs.Int.{w64};
 ghost use Rattle.mg_value.specs.Value.{Value, Items, Members};
@@ -12,7 +12,7 @@ use mg_value::Json;
 use std::alloc::Global;
 use std::collections::BTreeMap;
 
-// The key of a row.
+// Reads the key of a row from its bytes.
 pub(crate) fn read_key(alloc: Global, bytes: &[u8]) -> Result<Vec<Json>, DecodeError>
     ensures value { (vs : Items) → AreStored vs → bytes.now ≡ items_before vs []
         → IfOk result (λ key. items_view key.items ≡ vs) }
@@ -103,7 +103,7 @@ fn read_members(alloc: Global, bytes: &[u8]) -> Result<(BTreeMap<String, Json>, 
     Err(DecodeError::NotStored)
 }
 
-// A string, from behind its type.
+// Reads a string from the bytes after its type.
 fn read_text(alloc: Global, bytes: &[u8]) -> Result<(String, &[u8]), DecodeError>
     ensures value { (s : List ℕ) (rest : List ℕ) → bytes.now ≡ text_before s rest
         → IfOk result (λ p. (string_bytes p.0 ≡ s) × (p.1.now ≡ rest)) }
@@ -124,7 +124,7 @@ fn read_text(alloc: Global, bytes: &[u8]) -> Result<(String, &[u8]), DecodeError
     Err(DecodeError::NotStored)
 }
 
-// The text whose bytes these are.
+// Makes a text of its bytes.
 fn text_of(bytes: Vec<u8>) -> Result<String, DecodeError>
     ensures value { IfOk result (λ text. string_bytes text ≡ bytes.items) }
     ensures stored { IsUtf8 bytes.items → IfErr result (λ e. e ≡ DecodeError.NoMemory) }
@@ -135,7 +135,7 @@ fn text_of(bytes: Vec<u8>) -> Result<String, DecodeError>
     }
 }
 
-// A whole number, from behind its type.
+// Reads a whole number from the bytes after its type.
 fn read_whole(bytes: &[u8]) -> Result<(i64, &[u8]), DecodeError>
     ensures value { (z : ℤ) (rest : List ℕ) → FitsSigned w64 z
         → bytes.now ≡ big_endian 8 (sign_turned z) rest

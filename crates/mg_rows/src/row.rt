@@ -11,20 +11,20 @@ use std::alloc::Global;
 use std::cmp::Ordering;
 use std::marker::Model;
 
-// The bytes that are asked for at first: those of most keys.
+// The first size of the buffer, in bytes: most keys fit.
 const FIRST_ROOM: usize = 64;
 
-// The byte behind the columns of a key.
+// The byte after the columns of a key.
 const KEY_END: u8 = 0;
 
 /// A row of an index as one string of bytes: the values of its columns, and then the id of its document. Contracts
 /// see the row.
 ///
-/// Rows are in the order of their bytes, which is by key, as `mg_collate::compare_keys` orders keys, and where
-/// keys tie by the bytes of the id. A row of up to 45 bytes takes 48 bytes and no block of memory of its own; a
-/// longer one stands in a block that copies share. The bytes are the type of each value (null 1, false 2, true 3,
-/// numbers 4, strings 5, arrays 6, objects 7) and what it holds, then 0, then those of the id: a number takes 9
-/// bytes, a string two more than its own.
+/// The order of the bytes is the order of rows: by key, as `mg_collate::compare_keys` orders keys, and where keys
+/// tie by the bytes of the id. A row of up to 45 bytes takes 48 bytes and no block of memory; a longer one is in a
+/// block that copies share. The bytes are, for each column, the type of the value (null 1, false 2, true 3,
+/// numbers 4, strings 5, arrays 6, objects 7) and what it holds, then 0, and then the id. A number takes 9 bytes,
+/// a string two more than its own.
 ///
 /// Source: the order of JSON types in CouchDB's view collation, in an order-preserving encoding of tuples.
 #[derive(Drop)]
@@ -52,10 +52,10 @@ impl RowBytes {
     ghost use Rattle.mg_rows.specs.Bytes.{bytes_order, row_bytes};
     ghost use Rattle.mg_rows.specs.Stored.{IsKey, IsStoredRow};
 
-    /// The row of a key, one value for each column, and the id of its document.
+    /// Makes the row of a key, with one value for each column, and the id of a document.
     ///
     /// Errors: `NoMemory` where a growth was refused. Cost: the size of the key and the id; `KeyBytes` makes many
-    /// rows by one buffer.
+    /// rows with one buffer.
     pub fn of(alloc: Global, key: &[Json], id: &str) -> Result<RowBytes, NoMemory>
         ensures { IfOk result (λ row. row ≡ (items_view key.now, id.now)) }
     {
@@ -64,7 +64,7 @@ impl RowBytes {
         RowBytes::of_columns(alloc, &columns, id)
     }
 
-    // The row of the columns whose bytes these are.
+    // Makes a row from the bytes of its columns.
     pub(crate) fn of_columns(alloc: Global, columns: &[u8], id: &str) -> Result<RowBytes, NoMemory>
         requires { (key : Items) × IsKey columns.now key }
         ensures { (key : Items) → IsKey columns.now key
@@ -74,9 +74,9 @@ impl RowBytes {
         Ok(RowBytes { bytes })
     }
 
-    /// An equal row: one of up to 45 bytes is a copy of these, and a longer one shares them.
+    /// Duplicates the row: copies up to 45 bytes, and shares the block of a longer row.
     ///
-    /// Errors: `NoMemory` where a row of more bytes has 2^64 - 1 copies. Takes no memory.
+    /// Errors: `NoMemory` where a longer row has 2^64 - 1 copies. Takes no memory.
     #[inline(always)]
     pub fn again(&self) -> Result<RowBytes, NoMemory>
         ensures { IfOk result (λ row. row ≡ self.now) }
@@ -93,7 +93,7 @@ impl RowBytes {
         self.as_bytes().cmp(other.as_bytes())
     }
 
-    /// The order of the row and the one that an id has among all documents, whose key is the id alone. Takes no
+    /// Compares the row with the row that an id has among all documents, whose key is the id alone. Takes no
     /// memory. Cost: up to the first difference.
     pub fn order_of_id(&self, id: &str) -> Ordering
         ensures { result ≡ row_value_order self.now (item (text id.now) no_items, id.now) }
@@ -109,7 +109,7 @@ impl RowBytes {
         self.bytes.bytes()
     }
 
-    /// The id of the row's document. Takes no memory, and time that does not depend on the row.
+    /// The id of the row's document. Takes no memory. Cost: constant.
     pub fn id(&self) -> &str
         ensures { result.now ≡ self.now.1 }
     {
@@ -117,7 +117,7 @@ impl RowBytes {
         unsafe { str::from_utf8_unchecked(id) }
     }
 
-    /// The values of the row's columns.
+    /// Reads the values of the row's columns.
     ///
     /// Errors: `NoMemory` where a growth was refused. Cost: the size of the key.
     pub fn key(&self, alloc: Global) -> Result<Vec<Json>, NoMemory>
@@ -131,7 +131,7 @@ impl RowBytes {
         }
     }
 
-    /// The row with its values.
+    /// Reads the row: its values and its id.
     ///
     /// Errors: `NoMemory` where a growth was refused. Cost: the size of the row.
     pub fn row(&self, alloc: Global) -> Result<Row, NoMemory>
@@ -142,7 +142,7 @@ impl RowBytes {
         Ok(Row { key, id })
     }
 
-    // How many copies share the row's block; 1 where it has none.
+    // How many copies share the row's block; 1 where it has no block.
     #[inline(always)]
     pub(crate) fn sharers(&self) -> usize {
         self.bytes.sharers()

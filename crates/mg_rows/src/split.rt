@@ -1,4 +1,4 @@
-// Bytes in two parts that do not change: few of them stand in the value itself, more in memory that copies share.
+// Immutable bytes in two parts: up to 45 are stored in the value itself, more in a block that copies share.
 ghost use Rattle.std.specs.Prelude.{◌≡◌, ◌≤◌, ◌+◌, ◌++◌, [], ◌∷◌, IfOk, length, take};
 ghost use Rattle.mg_rows.specs.Split.{held_bytes, held_end, held_parts, IsSound};
 
@@ -7,7 +7,7 @@ use std::alloc::Global;
 use std::marker::Model;
 use std::sync::Arc;
 
-// How many bytes stand in the value itself. With them a row takes 48 bytes.
+// The most bytes that are stored in the value itself. A row then takes 48 bytes.
 const INLINE: usize = 45;
 
 #[derive(Drop)]
@@ -37,7 +37,7 @@ impl Model for SplitBytes {
 }
 
 impl SplitBytes {
-    /// The front with a last byte, and the back.
+    /// Makes the first part of `front` and the byte `last`, and the second part of `back`.
     pub(crate) fn of(
         alloc: Global,
         front: &[u8],
@@ -66,7 +66,7 @@ impl SplitBytes {
         lend(&self.held).split_at(end)
     }
 
-    /// The same bytes. Takes no memory.
+    /// Duplicates the bytes. Takes no memory.
     #[inline(always)]
     pub(crate) fn again(&self) -> Result<SplitBytes, NoMemory>
         ensures { IfOk result (λ split. split ≡ self.now) }
@@ -75,7 +75,7 @@ impl SplitBytes {
         Ok(SplitBytes { held })
     }
 
-    /// How many copies share the memory; 1 where there is none.
+    /// How many copies share the block; 1 where there is no block.
     #[inline(always)]
     pub(crate) fn sharers(&self) -> usize {
         sharers_of(&self.held)
@@ -107,7 +107,7 @@ fn hold(alloc: Global, front: &[u8], last: u8, back: &[u8]) -> Result<Held, NoMe
     Ok(Held::Shared(Arc::new(alloc, all)?, end))
 }
 
-// The bytes one after another, and zeros.
+// The bytes in order, filled up with zeros.
 fn inside(front: &[u8], last: u8, back: &[u8]) -> [u8; 45]
     requires { length front.now + 1 + length back.now ≤ 45 }
     ensures bytes { take (length front.now + 1 + length back.now) result

@@ -1,4 +1,4 @@
-// The bytes of values, added to a buffer. After an error some of them may stand there.
+// Appends the bytes of values to a buffer. After an error some of them may have been appended.
 ghost use Rattle.std.specs.Prelude.{◌≡◌, ◌++◌, [], ◌∷◌, suc, map, OnOk, OnErr, IsUtf8};
 ghost use Rattle.mg_value.specs.Value.{Items};
 ghost use Rattle.mg_value.specs.View.{items_view};
@@ -9,13 +9,13 @@ ghost use Rattle.mg_rows.specs.Only.{KeyOf};
 
 use mg_value::{Json, Kind, LentValue, NoMemory};
 
-// The byte behind a string: below each byte of one, which is stored as one more.
+// The byte after a string: below every byte of the string, since these are stored plus 1.
 const TEXT_END: u8 = 0;
 
-// The byte behind the items of an array, the members of an object, and the columns of a key: below each type.
+// The byte after the items of an array, the members of an object, and the columns of a key: below every type.
 const LIST_END: u8 = 0;
 
-// A column more of a key. After an error there are none.
+// Appends a column of a key. After an error the buffer is empty.
 pub(crate) fn write_column<L: LentValue>(column: L, out: &mut Vec<u8>) -> Result<(), NoMemory>
     ensures bytes { OnOk result
         (out.new.items ≡ out.old.items ++ value_before (L.value column) []) }
@@ -32,7 +32,7 @@ pub(crate) fn write_column<L: LentValue>(column: L, out: &mut Vec<u8>) -> Result
     }
 }
 
-// The first columns of a key, with no end.
+// Appends the first columns of a key, without the byte that ends a key.
 pub(crate) fn write_columns(columns: &[Json], out: &mut Vec<u8>) -> Result<(), NoMemory>
     ensures bytes { OnOk result
         (out.new.items ≡ out.old.items ++ columns_before (items_view columns.now) []) }
@@ -44,7 +44,7 @@ pub(crate) fn write_columns(columns: &[Json], out: &mut Vec<u8>) -> Result<(), N
     Ok(())
 }
 
-// The items of an array, with their end.
+// Appends the items of an array, and the byte that ends them.
 #[cycle(write_value)]
 fn write_items<L: LentValue>(items: L::List, out: &mut Vec<u8>) -> Result<(), NoMemory>
     ensures bytes { OnOk result (out.new.items ≡ out.old.items ++ items_before (L.items items) []) }
@@ -97,7 +97,7 @@ fn write_members<L: LentValue>(members: L::Object, out: &mut Vec<u8>) -> Result<
     Ok(())
 }
 
-// A string with its type, or the name of a member.
+// Appends a string with its type. The name of a member is written in the same way.
 fn write_text(text: &str, out: &mut Vec<u8>) -> Result<(), NoMemory>
     ensures bytes { OnOk result (out.new.items ≡ out.old.items ++ 5 ∷ text_before text.now []) }
     ensures utf8 { IsUtf8 text.now }
@@ -112,7 +112,7 @@ fn write_text(text: &str, out: &mut Vec<u8>) -> Result<(), NoMemory>
     Ok(())
 }
 
-// Makes each byte one more.
+// Adds 1 to each byte.
 fn raise(bytes: &mut [u8])
     requires { IsUtf8 bytes.old }
     ensures { bytes.new ≡ map suc bytes.old }
@@ -122,7 +122,7 @@ fn raise(bytes: &mut [u8])
     }
 }
 
-// A number with its type.
+// Appends a whole number with its type.
 fn write_whole(number: i64, out: &mut Vec<u8>) -> Result<(), NoMemory>
     ensures { OnOk result
         (out.new.items ≡ out.old.items ++ 4 ∷ big_endian 8 (sign_turned number) []) }

@@ -18,7 +18,7 @@ use Rattle.mg_value.specs.Text.{Reads, compact, data_items, data_members, data_o
 use Rattle.mg_value.proofs.Texts.{compact_text-data_of}
 use Rattle.mg_value.proofs.Written.{read-tokens_of, whole_of-data_of}
 
--- ---- each number is written as one
+-- ---- the decimal text of each number is a JSON number
 
 no_sign : (ds : List ℕ) → 48 < get_or ds 0 0 → (head ds == 45) ≡ false
 no_sign [] h = absurd (omega arith)
@@ -53,7 +53,7 @@ mutual
 pub printed : (v : Value) → print (tokens_of v) ≡ compact v
 printed v = print-outline (data_of v) ∙ compact_text-data_of v
 
--- the compact text of a value, where that is UTF-8 and nests at most 127 deep
+-- the compact text of a value reads as the value, where it is UTF-8 and nests at most 127 deep
 pub reads_compact : (v : Value) → IsHeld v → depth v ≤ 127 → IsUtf8 (compact v) → Reads (compact v) v
 reads_compact v held shallow utf8 =
     let same : tokens (compact v) ≡ tokens_of v = ap tokens (sym (printed v)) ∙ tokens-print (tokens_of v) (ArePrintable-json_tokens (outline (data_of v)) (numbers v held)) in

@@ -25,7 +25,7 @@ kept_or Less e es rest ms same = ap (member (string_bytes e.0) (view e.1)) same
 kept_or Equal e es rest ms same = refl
 kept_or Greater e es rest ms same = ap (member (string_bytes e.0) (view e.1)) same
 
--- what the map's removal leaves is the other members
+-- the map's removal leaves the other members
 pub members_view-remove_entry : (name : List ℕ) (es : List Entry) → members_view (remove_entry (is_at (λ k. slice_cmp nat_cmp name (string_bytes k))) es) ≡ without name (members_view es)
 members_view-remove_entry name [] = refl
 members_view-remove_entry name (e ∷ es) = kept_or (slice_cmp nat_cmp name (string_bytes e.0)) e es _ _ (members_view-remove_entry name es)

@@ -1,4 +1,4 @@
--- The text of a value, by that of its data.
+-- The compact text of a value is that of its data.
 use Rattle.std.proofs.Common.{◌≡◌, ◌∷◌, ◌++◌, Bool, true, false, pos, negsuc, refl, ap, ap₂}
 use Rattle.serde_json.specs.Written.{comma_if, compact_text, items_text, members_text}
 use Rattle.json.specs.Print.{quoted}

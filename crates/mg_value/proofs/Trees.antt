@@ -1,4 +1,4 @@
--- Trees of parsed text whose values are whole, a list's and an object's part at a time.
+-- Parse trees all of whose numbers are whole, one item or member at a time.
 use Rattle.std.proofs.Common.{◌≡◌, ℕ, ℤ, List, [], ◌∷◌, ◌++◌, Option, Some, None, option_map, option_and_then, Global, refl, ap, ◌∙◌}
 use Rattle.json.specs.Value.{value_view, items_view as tree_items}
 use Rattle.json.specs.declared.value.Value.{Value as Tree}
@@ -17,7 +17,7 @@ number_parts_at : (o : Option Num) (z : ℤ) → option_and_then as_i64 o ≡ So
 number_parts_at None z e = absurd cc
 number_parts_at (Some n) z e = (n, refl, e)
 
--- the number behind a numeral
+-- a numeral that is whole is a number that is held as an i64
 pub number_parts : (s : List ℕ) (z : ℤ) → whole_number_of s ≡ Some z → (n : Num) × (number_of s ≡ Some n) × (as_i64 n ≡ Some z)
 number_parts s z e = number_parts_at (number_of s) z e
 

@@ -1,4 +1,4 @@
--- A value, level by level, and a `BTreeMap` beside the members that it stands for.
+-- The view of a value, level by level, and the entries of a `BTreeMap` with the members that they stand for.
 use Rattle.std.proofs.Common.{◌≡◌, List, [], ◌∷◌, ◌++◌, String, Vec, BTreeMap, Global, Ordering, Less, Equal, Greater, string_bytes, string_cmp, nat_cmp, refl, ap, ◌∙◌, rules}
 use Rattle.std.proofs.lemmas.Cmp.{nat_list_cmp_total}
 use Rattle.std.specs.Cmp.Lexicographic.{slice_cmp}
@@ -35,7 +35,7 @@ below_middle : (first : Entry) (es : List Entry) (e : Entry) (more : List Entry)
 below_middle first [] e more h = h.0
 below_middle first (x ∷ es) e more h = below_middle first es e more h.1
 
--- a name that is above those before it goes last
+-- a member whose name is above all names so far goes last
 pub put_last : (done : List Entry) (e : Entry) (more : List Entry) → IsStrictlySortedBy string_cmp (keys_of (done ++ e ∷ more))
     → put (string_bytes e.0) (view e.1) (members_view done) ≡ members_view (done ++ e ∷ [])
 unfolding IsStrictlySortedBy

@@ -29,7 +29,7 @@ all_after : (k : String Global) (es : List Entry) → AllByRecursion (λ y. stri
 all_after k [] h = tt
 all_after k (e ∷ es) h = (h.0, all_after k es h.1)
 
--- the names after one of a map's are above it
+-- in a map, the names that follow a name are above it
 pub above_middle : (done : List Entry) (e : Entry) (more : List Entry) → IsStrictlySortedBy string_cmp (keys_of (done ++ e ∷ more)) → AllAfter (string_bytes e.0) (members_view more)
 unfolding IsStrictlySortedBy
 above_middle [] e more h = all_after e.0 more h.0

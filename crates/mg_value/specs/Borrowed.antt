@@ -1,4 +1,4 @@
--- For private clauses: trees of JSON text that are parsed as data whose numbers are whole.
+-- For private clauses: borrowed parse trees all of whose numbers are whole.
 use Rattle.std.specs.Prelude.{◌≡◌, ℕ, ℤ, List, Option, Some, option_and_then}
 use Rattle.json.specs.Json as json
 use Rattle.serde_json.specs.Data as parsed
@@ -7,18 +7,18 @@ use Rattle.serde_json.specs.Read.{number_of, of_json, of_items, of_members}
 use Rattle.mg_value.specs.Value.{Value, Items, Members}
 use Rattle.mg_value.specs.Text.{whole_of, whole_items, whole_members}
 
--- the number that a numeral is, where it is held as an i64
+-- the number of a numeral; None where it is not an i64
 abbrev pub whole_number_of : List ℕ → Option ℤ
 whole_number_of s = option_and_then as_i64 (number_of s)
 
--- the tree is parsed as data that is the value
+-- the tree stands for parsed data whose value is v
 abbrev pub IsWhole : json.Json → Value → Type 0
 IsWhole j v = (d : parsed.Data) × (of_json j ≡ Some d) × (whole_of d ≡ Some v)
 
--- so are the items of an array
+-- the items of an array in the tree stand for the items vs
 abbrev pub AreWholeItems : json.Items → Items → Type 0
 AreWholeItems js vs = (ds : parsed.Items) × (of_items js ≡ Some ds) × (whole_items ds ≡ Some vs)
 
--- and the members of an object, the last of a repeated name
+-- the members of an object in the tree stand for the members ms; the last of a repeated name counts
 abbrev pub AreWholeMembers : json.Members → Members → Type 0
 AreWholeMembers js ms = (ds : parsed.Members) × (of_members js parsed.no_members ≡ Some ds) × (whole_members ds ≡ Some ms)

@@ -8,11 +8,11 @@ use Rattle.mg_value.specs.Value.{Value, null, flag, whole, text, list, object, I
 abbrev pub Step : Type 0
 Step = (Bool ⊎ ℤ) ⊎ ((List ℕ ⊎ List ℕ) ⊎ ℕ)
 
--- values, arrays and objects that wait to be joined
+-- the stacks of values, arrays and objects that are not yet part of a larger value
 abbrev pub Stacks : Type 0
 Stacks = List Value × List Items × List Members
 
--- a whole value goes on its stack
+-- a finished value goes on its stack
 abbrev push : Value → Stacks → Stacks
 push v s = (v ∷ s.0, s.1, s.2)
 
@@ -38,7 +38,7 @@ abbrev join_object : List Value → List Items → List Members → Stacks
 join_object a b (ms ∷ c) = (object ms ∷ a, b, c)
 join_object a b [] = (a, b, [])
 
--- one step
+-- the stacks after one step
 abbrev build : Step → Stacks → Stacks
 build (inl (inl b)) s = push (flag b) s
 build (inl (inr z)) s = push (whole z) s
@@ -49,7 +49,7 @@ build (inr (inr n)) s =
     (cond (n == 1) (s.0, no_items ∷ s.1, s.2) (cond (n == 2) (join_item s.0 s.1 s.2) (cond (n == 3) (join_list s.0 s.1 s.2)
     (cond (n == 4) (s.0, s.1, no_members ∷ s.2) (join_object s.0 s.1 s.2)))))
 
--- the steps in turn
+-- the stacks after all the steps
 abbrev built : List Step → Stacks → Stacks
 built [] s = s
 built (x ∷ xs) s = built xs (build x s)
@@ -72,7 +72,7 @@ abbrev mutual
   members_steps no_members = inr (inr 4) ∷ []
   members_steps (member k v ms) = steps v ++ (members_steps ms ++ inr (inl (inr k)) ∷ [])
 
--- the value on top
+-- the value on top, or null
 abbrev top : List Value → Value
 top [] = null
 top (v ∷ a) = v

@@ -1,4 +1,4 @@
--- For private clauses: what a `Json` that the code holds is known to be, and the tokens that are written for it.
+-- For private clauses: what is known of every `Json` that the code holds, and the tokens that are written for it.
 use Rattle.std.specs.Prelude.{◌≡◌, ℕ, List, FitsSigned, ⊤}
 use Rattle.std.specs.Int.{w64}
 use Rattle.std.specs.Ordering.{nat_cmp}
@@ -43,7 +43,7 @@ abbrev mutual
 abbrev pub tokens_of : Value → List Token
 tokens_of v = json_tokens (outline (data_of v))
 
--- the closing bracket is one of them
+-- the tokens of an array's items, and of its closing bracket
 abbrev pub items_tokens_of : Items → List Token
 items_tokens_of vs = tree.items_tokens (items_outline (data_items vs))
 

@@ -1,10 +1,10 @@
--- The value that an opened value stands for.
+-- The value that a `Kind` stands for.
 use Rattle.std.specs.Prelude.{ℕ, List}
 use Rattle.mg_value.specs.Value.{Value, null, flag, whole, text, list, object, Items, Members}
 use Rattle.mg_value.specs.declared.kind.Kind.{Kind}
 use Rattle.mg_value.specs.declared.kind.Kind.TheVariants as made
 
--- the value, by what its text, its items and its members stand for
+-- the value of a `Kind`, from what its text, its items and its members stand for
 abbrev pub kind_value : {T I M : Type 0} → (T → List ℕ) → (I → Items) → (M → Members) → Kind T I M → Value
 kind_value bytes items members made.Null = null
 kind_value bytes items members (made.Flag b) = flag b

@@ -1,5 +1,5 @@
--- JSON texts (RFC 8259): which value a text is, and which text a value has. Reading is `serde_json`'s: UTF-8,
--- nested at most 127 deep, the last of a repeated member. The profile of this project asks that each number be an i64.
+-- JSON texts (RFC 8259): the value of a text, and the text of a value. Reading is `serde_json`'s: UTF-8, nested at
+-- most 127 deep, and the last of repeated members counts. This project also requires that each number is an i64.
 use Rattle.std.specs.Prelude.{◌≡◌, ℕ, List, [], ◌∷◌, ◌++◌, Bool, true, false, Option, Some, option_map, option_and_then, IsUtf8}
 use Rattle.std.specs.Fmt.{signed_decimal}
 use Rattle.json.specs.Print.{quoted, token_text}
@@ -11,7 +11,7 @@ use Rattle.serde_json.specs.Read.{read}
 use Rattle.serde_json.specs.Written.{comma_if}
 use Rattle.mg_value.specs.Value.{Value, null, flag, whole, text, list, object, Items, no_items, item, Members, no_members, member}
 
--- what was parsed as a value, where each number is held as an i64
+-- the value of parsed data; None where a number is not an i64
 abbrev mutual
   pub whole_of : Data → Option Value
   whole_of parsed.null = Some null
@@ -37,7 +37,7 @@ IsText bytes d = IsUtf8 bytes × (read bytes ≡ Some d)
 abbrev pub Reads : List ℕ → Value → Type 0
 Reads bytes v = (d : Data) × IsText bytes d × (whole_of d ≡ Some v)
 
--- what a text of the value is parsed as
+-- the data that a text of the value is parsed as
 abbrev mutual
   pub data_of : Value → Data
   data_of null = parsed.null
@@ -55,7 +55,7 @@ abbrev mutual
   data_members no_members = parsed.no_members
   data_members (member k v ms) = parsed.member k (data_of v) (data_members ms)
 
--- the text without white space; a string's escapes are the shortest that there are, with lower hex digits
+-- the text without white space; strings have the shortest escapes, with lower-case hex digits
 abbrev mutual
   pub compact : Value → List ℕ
   compact null = token_text Token.null
@@ -65,12 +65,12 @@ abbrev mutual
   compact (list vs) = 91 ∷ compact_items false vs
   compact (object ms) = 123 ∷ compact_members false ms
 
-  -- the rest of an array, with the closing bracket; a comma comes first where an item stands before
+  -- the rest of an array, with the closing bracket; a comma comes first where there is an item before
   pub compact_items : Bool → Items → List ℕ
   compact_items later no_items = 93 ∷ []
   compact_items later (item v vs) = comma_if later ++ (compact v ++ compact_items true vs)
 
-  -- the rest of an object, likewise
+  -- the rest of an object, with the closing brace; a comma comes first where there is a member before
   pub compact_members : Bool → Members → List ℕ
   compact_members later no_members = 125 ∷ []
   compact_members later (member k v ms) = comma_if later ++ (quoted k ++ 58 ∷ (compact v ++ compact_members true ms))

@@ -34,7 +34,7 @@ abbrev pub get_member : List ℕ → Members → Option Value
 get_member k no_members = None
 get_member k (member l v ms) = match_ordering (slice_cmp nat_cmp k l) (get_member k ms) (Some v) (get_member k ms)
 
--- the members but the one at the name k
+-- the members except the one at the name k
 abbrev pub without : List ℕ → Members → Members
 without k no_members = no_members
 without k (member l v ms) = match_ordering (slice_cmp nat_cmp k l) (member l v (without k ms)) ms (member l v (without k ms))
@@ -44,12 +44,12 @@ abbrev pub member_of : List ℕ → Value → Option Value
 member_of k (object ms) = get_member k ms
 member_of k v = None
 
--- an object with v at the name k; another value as it is
+-- an object with v at the name k; any other value stays as it is
 abbrev pub with_member : List ℕ → Value → Value → Value
 with_member k v (object ms) = object (put k v ms)
 with_member k v w = w
 
--- an object but its member at the name k; another value as it is
+-- an object without its member at the name k; any other value stays as it is
 abbrev pub without_member : List ℕ → Value → Value
 without_member k (object ms) = object (without k ms)
 without_member k v = v

@@ -15,7 +15,7 @@ abbrev pub members_of : List (String Global × Value) → Members
 members_of [] = no_members
 members_of (m ∷ ms) = member (string_bytes m.0) m.1 (members_of ms)
 
--- one level, with each value inside already seen as what it stands for
+-- one level of the view, where each value inside is already its view
 abbrev pub view_step : Json-F Value → Value
 view_step Json-F.Null = null
 view_step (Json-F.Flag b) = flag b
@@ -24,7 +24,7 @@ view_step (Json-F.Text s) = text (string_bytes s)
 view_step (Json-F.List v) = list (items_of v.items)
 view_step (Json-F.Object m) = object (members_of m.entries)
 
--- the value
+-- the value that a `Json` stands for
 abbrev pub view : Json → Value
 view = fold-Json Value view_step
 

@@ -1,8 +1,8 @@
--- For proofs: a size of values that falls from a value to its parts.
+-- For proofs: a size of values, by which every part is smaller than the whole.
 use Rattle.std.specs.Prelude.{ℕ, ◌+◌}
 use Rattle.mg_value.specs.Value.{Value, null, flag, whole, text, list, object, Items, no_items, item, Members, no_members, member}
 
--- each value inside counts
+-- 1 for each value inside, and 1 for the end of each array and object
 abbrev mutual
   pub weight : Value → ℕ
   weight null = 1

@@ -1,4 +1,4 @@
-// The first reading of a text: over a tree that borrows its strings, for texts all of whose numbers are whole.
+// The fast path of `read`, over a parse tree that borrows its strings. It gives up where any number is not an `i64`.
 ghost use Rattle.std.specs.Prelude.{◌≡◌, ◌<◌, ◌==◌, true, false, length, slice_index, Some, IsTrue, IfSome, option_and_then};
 ghost use Rattle.json.specs.Value.{value_view, items_view as tree_items, members_view as tree_members};
 ghost use Rattle.serde_json.specs.Find.{as_i64};
@@ -13,10 +13,10 @@ use json::{Reader, Scratch, Value as Tree};
 use std::alloc::Global;
 use std::collections::BTreeMap;
 
-// How deep arrays and objects nest at most, as `serde_json` reads them.
+// How deep arrays and objects may nest: the limit of `serde_json`.
 const MAX_DEPTH: usize = 127;
 
-// The value, where it is a text all of whose numbers are held as an `i64`.
+// The value of the text; `None` where it is not JSON, any of its numbers is not an `i64`, or memory ran out.
 pub(crate) fn read_whole(alloc: Global, text: &str) -> Option<Json>
     ensures { IfSome result (λ v. Reads text.now (view v)) }
 {
@@ -100,7 +100,7 @@ fn unsigned(numeral: &Numeral<'_>) -> Option<i64>
     numeral.to_i64(false)
 }
 
-// `-0` is a float.
+// `-0` counts as a float, so it gives `None`.
 fn negative(numeral: &Numeral<'_>) -> Option<i64>
     ensures { IfSome result
         (λ z. option_and_then as_i64 (number_from true numeral.now) ≡ Some z) }

@@ -6,7 +6,7 @@ use crate::value::Json;
 use std::alloc::Global;
 use std::collections::BTreeMap;
 
-// An equal value, each text and list of it in memory of its own.
+// A deep copy: it shares no memory with the value.
 #[cycle(copied)]
 pub(crate) fn copied(alloc: Global, value: &Json) -> Result<Json, NoMemory>
     ensures { IfOk result (λ v. view v ≡ view value.now) }
@@ -21,7 +21,7 @@ pub(crate) fn copied(alloc: Global, value: &Json) -> Result<Json, NoMemory>
     }
 }
 
-/// Equal values, in a list of their own.
+/// Copies the values, deeply, into a new list.
 ///
 /// Errors: `NoMemory` where a growth was refused. Cost: the size of the values.
 #[cycle(copied)]
@@ -50,7 +50,7 @@ fn copied_members(
     Ok(copies)
 }
 
-/// Equal texts, in a list of their own.
+/// Copies the texts into a new list.
 ///
 /// Errors: `NoMemory` where a growth was refused. Cost: the length of the texts.
 pub fn copy_texts(alloc: Global, texts: &[String]) -> Result<Vec<String>, NoMemory>

@@ -1,7 +1,7 @@
 use std::alloc::{AllocError, AllocFailed};
 use thiserror::Error;
 
-/// A growth was refused: the memory that was asked for could not be had.
+/// A growth was refused: the allocator did not give the memory that was asked for.
 #[derive(Clone, Copy, PartialEq, Eq, Debug, Drop, Error)]
 #[error("out of memory")]
 pub struct NoMemory;
@@ -21,12 +21,12 @@ impl<T: Drop> From<AllocFailed<T>> for NoMemory {
 /// Why bytes were not read as a value.
 #[derive(Clone, Copy, PartialEq, Eq, Debug, Drop, Error)]
 pub enum ReadError {
-    /// The bytes are no JSON text: not UTF-8, not of the grammar of RFC 8259, nested more than
-    /// 127 deep, or with a number too large for a 64-bit float.
+    /// The bytes are not a JSON text: they are not UTF-8, break the grammar of RFC 8259, nest more
+    /// than 127 deep, or hold a number too large for a 64-bit float.
     #[error("not a JSON text")]
     NotJson,
-    /// The bytes are a JSON text, and some number of its value is not held as an `i64`, as `1.5`,
-    /// `1.0`, `1e2`, `-0` or `9223372036854775808`.
+    /// The bytes are a JSON text, but a number of its value is not an `i64`: `1.5`, `1.0`, `1e2`,
+    /// `-0` and `9223372036854775808` are not.
     #[error("a number is not a whole number of 64 bits")]
     NotWhole,
     /// A growth was refused.

@@ -1,4 +1,4 @@
-/// A lent value, opened one level. Its texts are a `T`, its arrays an `I` and its objects an `M`.
+/// The kind of a lent value, with what it holds: a text as a `T`, an array as an `I`, an object as an `M`.
 #[derive(Drop)]
 pub enum Kind<T, I, M> {
     /// `null`.

@@ -6,11 +6,11 @@ use crate::value::Json;
 use std::alloc::Global;
 use std::collections::{BTreeMap, btree_map};
 
-/// A value that is lent: one that is read in place, from a tree of `Json` or from a block of memory.
-/// What is evaluated over it is written once, for every way to keep values.
+/// A borrowed JSON value, read in place from a tree of `Json` or from a block of memory.
+/// Code that is generic over it serves every way to keep values.
 ///
-/// No method but `to_json` takes memory. Cost: constant, but for `member` and `to_json`. Items and members are reached through the
-/// types of the opened value, so that its kind is looked at once.
+/// Only `to_json` takes memory. Cost: constant, except for `member` and `to_json`. Items and members are
+/// reached through what `kind` returns, so that a caller checks the kind once.
 pub trait LentValue: Sized + Drop {
     ghost use Rattle.std.specs.Prelude.{◌≡◌, ◌<◌, ℕ, List, Some, IfOk, MatchOption, length, option_map, slice_get};
     ghost use Rattle.mg_value.specs.Value.{Value, Items, Members, no_members, member, item_list, get_member};
@@ -24,7 +24,7 @@ pub trait LentValue: Sized + Drop {
     type List: Drop;
     /// The members of an object.
     type Object: Drop;
-    /// The members that a walk has not come to.
+    /// The members that a walk has not reached yet.
     type Rest: Drop;
 
     ghost value: { Self → Value };
@@ -37,21 +37,21 @@ pub trait LentValue: Sized + Drop {
 
     ghost rest: { Self.Rest → Members };
 
-    /// The same value, lent once more.
+    /// Borrows the value again.
     fn lend(&self) -> Self
         ensures { value result ≡ value self.now };
 
-    /// An equal value that owns its memory.
+    /// Copies the value into a `Json` that owns its memory.
     ///
     /// Errors: `NoMemory` where a growth was refused. Cost: the size of the value.
     fn to_json(&self, alloc: Global) -> Result<Json, NoMemory>
         ensures { IfOk result (λ copy. view copy ≡ value self.now) };
 
-    /// The value, opened one level.
+    /// The kind of the value, with its text, items or members.
     fn kind(&self) -> Kind<Self::Text, Self::List, Self::Object>
         ensures { kind_value bytes items members result ≡ value self.now };
 
-    /// The text, as it is lent.
+    /// The text as a `str`.
     fn as_str(text: &Self::Text) -> &str
         ensures { result.now ≡ bytes text.now };
 
@@ -68,21 +68,21 @@ pub trait LentValue: Sized + Drop {
     fn member(object: &Self::Object, name: &str) -> Option<Self>
         ensures { option_map value result ≡ get_member name.now (members object.now) };
 
-    /// A walk over the members, in the order of their names.
+    /// Starts a walk over the members, in the order of their names.
     fn walk(object: &Self::Object) -> Self::Rest
         ensures { rest result ≡ members object.now };
 
-    /// The names of the members ascend: what is ensured is known of every value that is kept. Does nothing.
+    /// Does nothing: its contract tells proofs that the names of an object's members ascend.
     fn ascends(object: &Self::Object)
         ensures { NamesAscend (members object.now) };
 
-    /// The name and the value of the next member of a walk; none at its end.
+    /// The name and the value of the next member of a walk; `None` at its end.
     fn next(walk: &mut Self::Rest) -> Option<(Self::Text, Self)>
         ensures { MatchOption result (rest walk.old ≡ no_members)
             (λ m. rest walk.old ≡ member (bytes m.0) (value m.1) (rest walk.new)) };
 }
 
-/// The same value, lent once more, where there is one. Cost: none.
+/// Borrows the value again, if there is one. Cost: constant.
 #[inline(always)]
 pub fn lend_part<L: LentValue>(part: &Option<L>) -> Option<L>
     ensures { option_map L.value result ≡ option_map L.value part.now }

@@ -11,15 +11,15 @@ use serde_json::{Map, Value};
 use std::alloc::Global;
 use std::collections::BTreeMap;
 
-/// Reads the value that the bytes are: a JSON text by RFC 8259 in UTF-8, with spaces as they come.
+/// Reads a JSON text (RFC 8259, in UTF-8), with any white space that the grammar allows.
 ///
-/// Arrays and objects nest at most 127 deep, as `serde_json` reads them. Of a member that comes
-/// twice in an object the last one counts, so `{"a":1.5,"a":1}` is `{"a":1}`.
+/// Arrays and objects may nest 127 deep, as in `serde_json`. Of members with the same name in an
+/// object the last one counts: `{"a":1.5,"a":1}` is `{"a":1}`.
 ///
-/// Errors: `NotJson` where the bytes are no such text, or a number is too large for a 64-bit float;
-/// `NotWhole` where they are one and some number of the value is not held as an `i64`, as `1.5`,
-/// `1.0`, `1e2`, `-0` or `9223372036854775808`; `NoMemory` where a growth was refused. Bytes that are
-/// not UTF-8, and the empty text, are refused as such before memory is taken.
+/// Errors: `NotJson` where the bytes are not such a text, or a number is too large for a 64-bit float;
+/// `NotWhole` where they are, but a number of the value is not an `i64` (`1.5`, `1.0`, `1e2`, `-0` and
+/// `9223372036854775808` are not); `NoMemory` where a growth was refused. Bytes that are not UTF-8, and
+/// the empty text, are `NotJson` even where there is no memory.
 /// Cost: the length of the text, and for each object its members times the logarithm of their count.
 pub fn read(alloc: Global, bytes: &[u8]) -> Result<Json, ReadError>
     ensures ok { IfOk result (λ v. Reads bytes.now (view v)) }
@@ -48,8 +48,8 @@ fn read_text(alloc: Global, text: &str) -> Result<Json, ReadError>
     }
 }
 
-// The same over a tree that has each number's value. It says why a text was refused, and reads those
-// in which a later member of the same name stands for one whose number is not whole.
+// The slow path of `read`, over a parse tree that has each number's value. It finds why a text is refused,
+// and reads texts where a number that is not whole belongs to a member that a later one replaces.
 fn read_again(alloc: Global, text: &str) -> Result<Json, ReadError>
     ensures ok { IfOk result (λ v. Reads text.now (view v)) }
     ensures not_json { result ≡ Err ReadError.NotJson → (d : Data) → ¬ IsText text.now d }
@@ -67,7 +67,7 @@ fn read_again(alloc: Global, text: &str) -> Result<Json, ReadError>
     }
 }
 
-// The texts and the names move: none is copied.
+// Moves the texts and the names, and copies none.
 #[cycle(whole)]
 fn whole(alloc: Global, value: Value) -> Result<Json, ReadError>
     ensures ok { IfOk result (λ v. whole_of (data_view value) ≡ Some (view v)) }

@@ -10,8 +10,8 @@ use std::mem::replace;
 
 /// A JSON value (RFC 8259) whose numbers are whole: what documents, selectors and replies are made of.
 ///
-/// Numbers are those of an `i64`. Texts and names are UTF-8. An object has each name once, and its
-/// members in the order of the code points of their names, whatever order they were put in.
+/// Every number is an `i64`. Texts and names are UTF-8. An object has each name once, and its members
+/// are ordered by the code points of their names, in whatever order they were put in.
 #[derive(PartialEq, Debug, Drop)]
 pub enum Json {
     /// `null`.
@@ -29,14 +29,14 @@ pub enum Json {
 }
 
 impl Json {
-    /// The object that has no member. Takes no memory.
+    /// The object without members. Takes no memory.
     pub fn empty_object(alloc: Global) -> Json
         ensures { view result ≡ object no_members }
     {
         Json::Object(BTreeMap::new(alloc))
     }
 
-    /// An equal value.
+    /// A deep copy.
     ///
     /// Errors: `NoMemory` where a growth was refused. Cost: the size of the value.
     pub fn copy(&self, alloc: Global) -> Result<Json, NoMemory>
@@ -45,8 +45,8 @@ impl Json {
         copy::copied(alloc, self)
     }
 
-    /// Lends the member of an object that has this name; none where the object has no such member,
-    /// or where the value is no object. Cost: the logarithm of the count of members.
+    /// Borrows the value of an object's member with this name; `None` where the object has no such
+    /// member, or the value is not an object. Cost: the logarithm of the count of members.
     pub fn member(&self, name: &str) -> Option<&Json>
         ensures { option_map (λ v. view v.now) result ≡ member_of name.now (view self.now) }
     {
@@ -56,8 +56,8 @@ impl Json {
         }
     }
 
-    /// Takes the member that has this name out of an object, and copies nothing; none where
-    /// `member` finds none, and then the value is as it was. Cost: that of `member`.
+    /// Removes the member with this name from an object and returns its value, without a copy; `None`
+    /// where `member` finds none, and then the value is as it was. Cost: that of `member`.
     pub fn take(&mut self, name: &str) -> Option<Json>
         ensures taken { option_map view result ≡ member_of name.now (view self.old) }
         ensures rest { view self.new ≡ without_member name.now (view self.old) }
@@ -75,7 +75,7 @@ impl Json {
         }
     }
 
-    /// Puts a member into an object, in the place of one that has this name. A value that is no
+    /// Puts a member into an object, and replaces one with the same name. A value that is not an
     /// object stays as it is.
     ///
     /// Errors: `NoMemory` where a growth was refused; then the value is as it was.

@@ -10,15 +10,15 @@ use json::Writer;
 use std::alloc::{AllocError, Global};
 use std::collections::BTreeMap;
 
-// The bytes that are asked for at first: the text of most documents fits.
+// The first size of the buffer, in bytes: the text of most documents fits.
 const FIRST_ROOM: usize = 256;
 
-/// The compact text of the value, which RFC 8259 allows and which `read` reads as the value again
-/// where it nests at most 127 deep.
+/// Writes the value as compact JSON text (RFC 8259). `read` gives the value back, where it nests at
+/// most 127 deep.
 ///
-/// There is no white space, members come by the code points of their names, and numbers are decimal.
-/// Only what RFC 8259 asks to be escaped is: the quote and the backslash by a backslash, and control
-/// characters by their letter (`\n` and the like) or, where they have none, as `\u001f` is written.
+/// There is no white space, members are ordered by the code points of their names, and numbers are
+/// decimal. Only what RFC 8259 requires is escaped: quotes and backslashes by a backslash, control
+/// characters by their letter (such as `\n`) or, where they have none, by their number (`\u001f`).
 ///
 /// Errors: `NoMemory` where a growth was refused. Cost: the length of the text, in one buffer that grows.
 pub fn write(alloc: Global, value: &Json) -> Result<Vec<u8>, NoMemory>
@@ -31,7 +31,7 @@ pub fn write(alloc: Global, value: &Json) -> Result<Vec<u8>, NoMemory>
     Ok(out.into_inner())
 }
 
-// Adds the tokens of the value to the text. Where it fails, some of them may be there.
+// Appends the tokens of the value to the text. Where it fails, some of them may have been written.
 #[cycle(write_value)]
 fn write_value(value: &Json, out: &mut Writer) -> Result<(), AllocError>
     ensures tokens { OnOk result (out.new.tokens ≡ out.old.tokens ++ tokens_of (view value.now)) }

@@ -6,7 +6,7 @@ use Rattle.mg_collate.specs.Order.{items_order}
 use Rattle.mg_collate.specs.Compared.{members_order}
 use Rattle.mg_collate.proofs.order.+compare.Given as goal
 
--- what is left decides
+-- the items left decide the order
 abbrev pub invariant-compare_items-loop-place : goal.invariant-compare_items-loop-place
 invariant-compare_items-loop-place g l =
     let vs = g.L.LentValue.items l.items in

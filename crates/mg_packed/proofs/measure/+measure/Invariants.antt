@@ -5,7 +5,7 @@ use Rattle.mg_packed.specs.Kept.{ItemsAreKept, MembersAreKept}
 use Rattle.mg_packed.specs.Sizes.{items_size, members_size}
 use Rattle.mg_packed.proofs.measure.+measure.Given as goal
 
--- what is left completes what is counted
+-- the bytes counted and those of the items left are all the bytes to count
 abbrev pub invariant-measure_items-loop-item : goal.invariant-measure_items-loop-item
 invariant-measure_items-loop-item l =
     let left = items_view (drop l.item-index l.items) in

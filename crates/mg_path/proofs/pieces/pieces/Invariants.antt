@@ -4,7 +4,7 @@ use Rattle.mg_path.specs.Part.{pieces_of}
 use Rattle.mg_path.proofs.Cutting.{continued}
 use Rattle.mg_path.proofs.pieces.pieces.Given as goal
 
--- the pieces are those that are done, and those from the piece begun on
+-- the pieces of the text are those that are finished, and those from the piece begun on
 abbrev pub invariant-loop-letter : goal.invariant-loop-letter
 invariant-loop-letter l = record {
   can_next : (goal.iterator-loop-letter).can_next l.letter-iterator;

@@ -4,7 +4,7 @@ use Rattle.mg_value.specs.View.{view}
 use Rattle.mg_path.specs.Part.{projection_of, with_part}
 use Rattle.mg_path.proofs.projection.project.Given as goal
 
--- the paths left make the projection of what is projected
+-- the paths left complete the projection
 abbrev pub invariant-loop-path : goal.invariant-loop-path
 invariant-loop-path g l =
     let v = g.L.LentValue.value l.value in

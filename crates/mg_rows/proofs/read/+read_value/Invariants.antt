@@ -22,7 +22,7 @@ decreases-read_items-loop-tag l = length l.left
 abbrev pub decreases-read_members-loop-tag : goal.decreases-read_members-loop-tag
 decreases-read_members-loop-tag l = length l.left
 
--- what is read and what is left are all
+-- the items read and the items left are all the items
 abbrev pub invariant-read_items-loop-tag : goal.invariant-read_items-loop-tag
 invariant-read_items-loop-tag l =
     (length l.left ≤ length l.fn.bytes)

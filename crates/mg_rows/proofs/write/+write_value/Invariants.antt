@@ -15,7 +15,7 @@ decreases-write_items g l = items_weight (g.L.LentValue.items l.items)
 abbrev pub decreases-write_members : goal.decreases-write_members
 decreases-write_members g l = members_weight (g.L.LentValue.members l.members)
 
--- what is left completes what is written
+-- the bytes so far and those of the items left are all the bytes to write
 abbrev pub invariant-write_items-loop-place : goal.invariant-write_items-loop-place
 invariant-write_items-loop-place g l =
     let vs = g.L.LentValue.items l.fn.items in

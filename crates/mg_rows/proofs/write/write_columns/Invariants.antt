@@ -4,7 +4,7 @@ use Rattle.mg_rows.specs.Stored.{AreStored}
 use Rattle.mg_value.specs.View.{items_view}
 use Rattle.mg_rows.proofs.write.write_columns.Given as goal
 
--- what is left completes what is written
+-- the bytes so far and those of the columns left are all the bytes to write
 abbrev pub invariant-loop-column : goal.invariant-loop-column
 invariant-loop-column l =
     let left = items_view (drop l.column-index l.columns) in

@@ -5,7 +5,7 @@ use Rattle.serde_json.proofs.OnLiterals.{serde_json_on_literals}
 use Rattle.serde_json.specs.View.{view as data_view}
 use Rattle.mg_value.proofs.reader.read_again.Goals as goal
 
--- the empty text is no value
+-- the empty text is not a JSON text
 is_some_text : (text : List ℕ) (d : Data) → read text ≡ Some d → 0 < length text
 unfolding serde_json_on_literals
 is_some_text [] d h = absurd cc

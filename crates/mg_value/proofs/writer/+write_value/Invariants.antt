@@ -4,7 +4,7 @@ use Rattle.mg_value.specs.View.{items_view, members_view}
 use Rattle.mg_value.proofs.Views.{Entry}
 use Rattle.mg_value.proofs.writer.+write_value.Given as goal
 
--- what is left completes what is written
+-- the tokens so far and those of the items left are all the tokens to write
 abbrev pub invariant-write_items-loop-item : goal.invariant-write_items-loop-item
 invariant-write_items-loop-item l =
     let left = items_view (drop l.item-index l.items) in

@@ -9,7 +9,7 @@ use Rattle.mg_value.proofs.Compact.{reads_compact}
 use Rattle.mg_value.proofs.Texts.{compact_text-data_of}
 use Rattle.mg_value.proofs.writer.write.Goals as goal
 
--- what the buffer held at the start was nothing
+-- the buffer was empty at the start
 pub returns-clause-text : goal.returns-clause-text
 returns-clause-text c =
     let v = view c.args.value.now in
