@@ -1,19 +1,19 @@
 -- One turn of each loop that compares arrays or objects.
-use Rattle.std.proofs.Common.{◌≡◌, ◌≢◌, ◌<◌, ◌≤◌, ℕ, zero, suc, ◌+◌, List, [], ◌∷◌, drop, get_or, length, Some, Ordering, Less, Equal, Greater, string_bytes, nat_cmp, refl, sym, ap, ap₂, ◌∙◌, arith}
+use Rattle.std.proofs.Common.{◌≡◌, ◌≢◌, ◌<◌, ◌≤◌, ℕ, zero, suc, ◌+◌, List, ◌∷◌, drop, get_or, length, Some, Ordering, Less, Equal, Greater, string_bytes, nat_cmp, refl, sym, ap, ap₂, ◌∙◌, arith}
 use Rattle.std.proofs.lemmas.List.{drop_more}
 use Rattle.std.proofs.Math.Seq.{drop-length}
 use Rattle.std.specs.Cmp.{nat_cmp_is}
 use Rattle.std.specs.Cmp.Lexicographic.{slice_cmp}
 use Rattle.std.specs.List.{slice_get}
 use Rattle.std.specs.Ordering.{ordering_then}
-use Rattle.mg_value.specs.Value.{Value, text, Items, no_items, item, Members, no_members, member, item_list}
+use Rattle.mg_value.specs.Value.{Value, Items, no_items, item, Members, member, item_list}
 use Rattle.mg_value.specs.View.{view, items_view, members_view}
 use Rattle.mg_value.specs.declared.value.Json.{Json}
 use Rattle.mg_value.proofs.Items.{items_past, past_item, past_all}
 use Rattle.mg_value.proofs.Views.{Entry}
 use Rattle.mg_collate.specs.Order.{value_order, items_order}
 use Rattle.mg_collate.specs.Compared.{members_order}
-use Rattle.mg_collate.proofs.Flat.{then_assoc, then_equal, items_order-item, items_order-below, items_order-above, members_order-member}
+use Rattle.mg_collate.proofs.Flat.{then_assoc, items_order-item, items_order-below, items_order-above, members_order-member}
 
 pub decided : (o p : Ordering) → o ≢ Equal → o ≡ ordering_then o p
 decided Less p h = refl
@@ -50,18 +50,3 @@ pub members_step : (ms rest : Members) (es left : List Entry) (k : List ℕ) (v 
 members_step ms rest es left k v e a b =
     ap₂ (λ x y. members_order x (members_view y)) a b ∙ members_order-member k (string_bytes e.0) v (view e.1) rest (members_view left)
     ∙ sym (then_assoc (slice_cmp nat_cmp k (string_bytes e.0)) (value_order v (view e.1)) _)
-
--- ---- the key of one text
-
-pub text_key_one : (s : List ℕ) (key : List Json) (v : Json) → length key ≡ 1 → v ≡ get_or key 0 v → value_order (text s) (view v) ≡ items_order (item (text s) no_items) (items_view key)
-text_key_one s [] v long e = absurd (omega (arith, long))
-text_key_one s (x ∷ []) v long e = ap (λ w. value_order (text s) (view w)) e ∙ sym (items_order-item (text s) (view x) no_items no_items ∙ then_equal (value_order (text s) (view x)))
-text_key_one s (x ∷ y ∷ key) v long e = absurd (omega (arith, long))
-
-pub text_key_more : (s : List ℕ) (key : List Json) (v : Json) → 1 < length key → v ≡ get_or key 0 v
-    → ordering_then (value_order (text s) (view v)) Less ≡ items_order (item (text s) no_items) (items_view key)
-text_key_more s [] v long e = absurd (omega (arith, long))
-text_key_more s (x ∷ []) v long e = absurd (omega (arith, long))
-text_key_more s (x ∷ y ∷ key) v long e =
-    ap (λ w. ordering_then (value_order (text s) (view w)) Less) e
-    ∙ sym (items_order-item (text s) (view x) no_items (items_view (y ∷ key)) ∙ ap (ordering_then (value_order (text s) (view x))) (items_order-below (view y) (items_view key)))

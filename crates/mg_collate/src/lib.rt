@@ -7,5 +7,5 @@ mod order;
 mod row;
 
 pub use direction::Direction;
-pub use order::{compare, compare_keys, compare_of, compare_text, compare_text_key};
+pub use order::{compare, compare_keys, compare_of, compare_text};
 pub use row::Row;

@@ -133,15 +133,3 @@ pub fn compare_text(text: &str, value: &Json) -> Ordering
         Json::Object(_) => Ordering::Less,
     }
 }
-
-/// Compares the key whose only value is this text, as a JSON string, with another key. Takes no memory.
-/// Cost: that of `compare_text`.
-pub fn compare_text_key(text: &str, key: &[Json]) -> Ordering
-    ensures { result ≡ items_order (item (string text.now) no_items) (items_view key.now) }
-{
-    match key {
-        [] => Ordering::Greater,
-        [value] => compare_text(text, value),
-        [value, ..] => compare_text(text, value).then(Ordering::Less),
-    }
-}

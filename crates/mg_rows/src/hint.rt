@@ -17,11 +17,6 @@ const NEAR: u64 = 1 << 59;
 // The bits below the type, in the hint of the greatest of these whole numbers and of all above it.
 const FARTHEST: u64 = ((1 << 60) - 1) << 1;
 
-/// The hint of a key: that of its first value.
-pub fn key_hint(key: &[Json]) -> u64 {
-    value_hint(key.first())
-}
-
 /// The hint of a value: the type, and then how the value begins. Every row whose key begins with the value has this
 /// hint. It is even: a place before or after all these rows can have the odd hint below or above.
 pub fn value_hint(value: Option<&Json>) -> u64 {

@@ -16,6 +16,6 @@ mod write;
 
 pub use bound::Bound;
 pub use edge::Edge;
-pub use hint::{key_hint, value_hint};
+pub use hint::value_hint;
 pub use key::KeyBytes;
 pub use row::RowBytes;

@@ -1,4 +1,4 @@
-use Rattle.std.proofs.Common.{◌≡◌, ◌+◌, ◌<◌, drop, length, string_bytes, nat_cmp, sym, ap, ap₂, ◌∙◌, rules, arith}
+use Rattle.std.proofs.Common.{◌≡◌, ◌+◌, drop, length, string_bytes, nat_cmp, sym, ap, ap₂, ◌∙◌, rules, arith}
 use Rattle.std.specs.Cmp.Lexicographic.{slice_cmp}
 use Rattle.std.specs.Ordering.{ordering_then}
 use Rattle.mg_value.specs.Value.{text, item_list}
