@@ -31,7 +31,7 @@ impl Bookmark {
     /// alphabet of base64 that URLs allow (RFC 4648), not padded. The design document of `_all_docs`
     /// is null, and the direction a word, `asc` or `desc`.
     ///
-    /// Errors: `NoMemory` where a growth was refused. Cost: the size of the key.
+    /// Errors: `NoMemory` if an allocation fails. Cost: the size of the key.
     pub fn encode(&self, alloc: Global) -> Result<String, NoMemory>
         ensures { IfOk result (λ t. string_bytes t ≡ spelled (bookmark_place self.now)) }
     {
@@ -55,7 +55,7 @@ impl Bookmark {
     /// for the beginning.
     ///
     /// Errors: `Invalid` for any other text, such as another spelling of the same array, or one of a
-    /// key that nests too deep for JSON to be read (127); `NoMemory` where a growth was refused.
+    /// key that nests too deep for JSON to be read (127); `NoMemory` if an allocation fails.
     /// Cost: the length of the text.
     pub fn decode(alloc: Global, text: &str) -> Result<Option<Bookmark>, BookmarkError>
         ensures none { (result ≡ Ok None) ↔ (text.now ≡ codes "nil") }

@@ -8,7 +8,7 @@ pub enum BookmarkError {
     /// The text is neither `nil` nor what `Bookmark::encode` writes.
     #[error("invalid bookmark")]
     Invalid,
-    /// A growth was refused.
+    /// An allocation failed.
     #[error("out of memory")]
     NoMemory,
 }

@@ -40,7 +40,7 @@ impl RowPlace<'_> {
     /// The text that a client gets for a page that ended with the row, as `Bookmark::encode` gives it
     /// for a bookmark of these parts. No part is copied but into the text.
     ///
-    /// Errors: `NoMemory` where a growth was refused. Cost: the size of the key.
+    /// Errors: `NoMemory` if an allocation fails. Cost: the size of the key.
     pub fn spell(&self, alloc: Global) -> Result<String, NoMemory>
         ensures { IfOk result (λ t. string_bytes t ≡ spelled (place_at self.now)) }
     {

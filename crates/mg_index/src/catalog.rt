@@ -89,7 +89,7 @@ impl Catalog {
     ///
     /// `Exists` is answered exactly where the same definition is there, with the same columns, path texts
     /// and direction; then nothing has changed.
-    /// Errors: `NoMemory` where a growth is refused; then nothing has changed. Cost: each definition once.
+    /// Errors: `NoMemory` if an allocation fails; then nothing has changed. Cost: each definition once.
     pub fn add(&mut self, definition: IndexDef) -> Result<Added, NoMemory>
         ensures ok { OnOk result (self.new ≡ with_definition definition self.old) }
         ensures exists { result ≡ Ok Added.Exists
@@ -132,7 +132,7 @@ impl Catalog {
         }
     }
 
-    /// An equal catalog. Errors: `NoMemory` where a growth is refused. Cost: its size.
+    /// An equal catalog. Errors: `NoMemory` if an allocation fails. Cost: its size.
     pub fn copy(&self, alloc: Global) -> Result<Catalog, NoMemory>
         ensures { IfOk result (λ c. c ≡ self.now) }
     {

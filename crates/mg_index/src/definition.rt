@@ -59,7 +59,7 @@ impl IndexDef {
     ///   there; `partitioned`, false if it is there. Other members are ignored.
     ///
     /// Errors: `Shape` for any other body, or a path with an empty step; then `Mixed` for columns in both
-    /// directions; `NoMemory` where a growth is refused, and never where the body has a fault. Cost: the size of the body.
+    /// directions; `NoMemory` if an allocation fails, and never where the body has a fault. Cost: the size of the body.
     /// Source: `_index` of CouchDB's API reference.
     pub fn read(alloc: Global, body: &Json) -> Result<IndexDef, IndexError>
         ensures reading { Gives (λ d. d) result (definition_of (json_view body.now)) }
@@ -102,7 +102,7 @@ impl IndexDef {
     /// The index as it is listed, with the texts of its paths as they were given:
     /// `{"ddoc":..,"def":{"fields":[{path: direction},..]},"name":..,"type":"json"}`.
     ///
-    /// Errors: `NoMemory` where a growth is refused. Cost: the size of the definition.
+    /// Errors: `NoMemory` if an allocation fails. Cost: the size of the definition.
     pub fn listed(&self, alloc: Global) -> Result<Json, NoMemory>
         ensures { IfOk result (λ v. json_view v ≡ listed_of self.now) }
     {
@@ -115,7 +115,7 @@ impl IndexDef {
         Ok(listed)
     }
 
-    /// An equal definition. Errors: `NoMemory` where a growth is refused. Cost: its size.
+    /// An equal definition. Errors: `NoMemory` if an allocation fails. Cost: its size.
     pub fn copy(&self, alloc: Global) -> Result<IndexDef, NoMemory>
         ensures { IfOk result (λ d. d ≡ self.now) }
     {

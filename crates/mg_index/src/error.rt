@@ -12,7 +12,7 @@ pub enum IndexError {
     /// Columns in both directions.
     #[error("an index has one direction")]
     Mixed,
-    /// A growth was refused.
+    /// An allocation failed.
     #[error("out of memory")]
     NoMemory,
 }

@@ -46,7 +46,7 @@ impl KeyRange {
     /// The bounds come from the atoms alone: `$eq`, `$lt`, `$lte`, `$gt` and `$gte`, and these and `$ne` in
     /// the negated sense as their opposites. The leading columns that an `$eq` bounds have its value, and
     /// the next column lies between its tightest bounds.
-    /// Errors: `NoMemory` where a growth is refused. Cost: the columns times the atoms, and each bound that
+    /// Errors: `NoMemory` if an allocation fails. Cost: the columns times the atoms, and each bound that
     /// is kept, which is copied once.
     pub fn of(alloc: Global, columns: &[Path], normal: &Normal) -> Result<KeyRange, NoMemory>
         ensures range { IfOk result (λ r. r ≡ range_of normal.now.atoms columns.now) }
@@ -123,7 +123,7 @@ impl KeyRange {
     /// The range as it is told: `{"empty":true}`, or `{"equal":[..],"lower":..,"upper":..}`, each limit as
     /// null or `{"inclusive":..,"value":..}`.
     ///
-    /// Errors: `NoMemory` where a growth is refused. Cost: the size of the values.
+    /// Errors: `NoMemory` if an allocation fails. Cost: the size of the values.
     pub fn to_json(&self, alloc: Global) -> Result<Json, NoMemory>
         ensures { IfOk result (λ v. json_view v ≡ range_value self.now) }
     {

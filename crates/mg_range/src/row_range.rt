@@ -50,7 +50,7 @@ impl<'a> Model for RowRange<'a> {
 impl KeyRange {
     /// The range with its ends as places among rows.
     ///
-    /// Errors: `NoMemory` where a growth is refused. Cost: the size of its values.
+    /// Errors: `NoMemory` if an allocation fails. Cost: the size of its values.
     pub fn in_rows(&self, alloc: Global) -> Result<RowRange<'_>, NoMemory>
         ensures { IfOk result (λ r. r ≡ self.now) }
     {
