@@ -1,4 +1,4 @@
--- The least of a list, found from the front on.
+-- The least of a list, found from the first item to the last.
 use Rattle.std.proofs.Common.{◌≡◌, ℕ, zero, suc, ◌+◌, ◌<◌, ◌≤◌, Bool, true, false, cond, List, [], ◌∷◌, length, get_or, drop, ◌⊎◌, inl, inr, ⊎_elim, Option, Some, None, slice_get, refl, sym, subst, ap, ◌∙◌, arith}
 use Rattle.std.proofs.lemmas.Bool.{false≢true}
 use Rattle.std.proofs.lemmas.Cmp.{upto, tied_itself, then_total, on_total, back_total, nat_cmp_total, nat_list_cmp_total}

@@ -133,7 +133,7 @@ in_order_at d e es h w Less eq = ((eq, below_all d e es eq h.0), h)
 in_order_at d e es h w Equal eq = (alike_all d e es eq h.0, h.1)
 in_order_at d e es h w Greater eq = (all_with (λ x. definition_order e x ≡ Less) d es (total.antisymm e d ∙ ap ordering_reverse eq) h.0, w)
 
--- with a definition more
+-- with one definition more
 pub IsCatalog-with : (d : IndexDefinition) (ds : List IndexDefinition) → IsCatalog ds → IsCatalog (with_definition d ds)
 IsCatalog-with d [] h = (tt, tt)
 IsCatalog-with d (e ∷ es) h = in_order_at d e es h (IsCatalog-with d es h.1) (definition_order d e) refl
@@ -150,7 +150,7 @@ in_order_without : (d : IndexDefinition) (ds more : List IndexDefinition) → Is
 in_order_without d ds more h w true = h
 in_order_without d ds more h w false = w
 
--- with one less
+-- with one definition less
 pub IsCatalog-without : (ddoc name : List ℕ) (ds : List IndexDefinition) → IsCatalog ds → IsCatalog (without_definition ddoc name ds)
 IsCatalog-without ddoc name [] h = tt
 IsCatalog-without ddoc name (d ∷ ds) h =

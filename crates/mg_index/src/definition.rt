@@ -19,8 +19,8 @@ use std::alloc::Global;
 use std::cmp::Ordering;
 use std::marker::Model;
 
-/// An index: the design document and the name that it is found by, its columns, one or more, and the
-/// direction that was given for them. An index is read in both directions.
+/// An index definition: the design document and the name that identify it, its columns, at least one, and
+/// the direction that was given for them. An index can be read in both directions.
 #[derive(Debug, Drop)]
 pub struct IndexDef {
     pub(crate) ddoc: String,
@@ -115,7 +115,7 @@ impl IndexDef {
         Ok(listed)
     }
 
-    /// An equal definition. Errors: `NoMemory` if an allocation fails. Cost: its size.
+    /// A copy of the definition. Errors: `NoMemory` if an allocation fails. Cost: its size.
     pub fn copy(&self, alloc: Global) -> Result<IndexDef, NoMemory>
         ensures { IfOk result (λ d. d ≡ self.now) }
     {
@@ -135,7 +135,7 @@ impl IndexDef {
         ddoc == self.ddoc.as_str() && name == self.name.as_str()
     }
 
-    // The order of definitions in a catalog.
+    // The order of definitions in a catalog: by design document, then name.
     pub(crate) fn order(&self, other: &IndexDef) -> Ordering
         ensures { result ≡ definition_order self.now other.now }
     {
@@ -143,7 +143,8 @@ impl IndexDef {
         by_ddoc.then(self.name.as_str().cmp(other.name.as_str()))
     }
 
-    /// Whether the definitions are the same: of one design document and name, with the same paths and direction. Takes no memory.
+    /// Whether the definitions are the same: they have the same design document, name, path texts, columns and direction. Takes
+    /// no memory.
     pub fn is_same(&self, other: &IndexDef) -> bool
         ensures { result ≡ is_same_definition self.now other.now }
     {
@@ -154,7 +155,7 @@ impl IndexDef {
     }
 }
 
-// The fault of a body for which memory was refused, or that refusal.
+// After an allocation failed: the fault of the body, or `NoMemory` if it has none.
 fn fault_or_refusal(body: &Json) -> IndexError
     ensures { result ≡ unwrap_or (result_err (definition_of (json_view body.now))) IndexError.NoMemory }
 {

@@ -9,7 +9,7 @@ pub enum IndexError {
     /// The body or a member has the wrong shape, or a path has an empty step.
     #[error("wrong shape")]
     Shape,
-    /// Columns in both directions.
+    /// The columns have both directions.
     #[error("an index has one direction")]
     Mixed,
     /// An allocation failed.

@@ -10,7 +10,7 @@ use std::alloc::Global;
 
 const DESIGN_FRONT: &str = "_design/";
 
-/// The name of a design document: the text, with `_design/` in front where it does not begin so.
+/// The name of a design document: the text, with `_design/` put before it if it does not begin with that.
 ///
 /// Errors: `NoMemory` if an allocation fails. Cost: the length of the text.
 pub fn design_document(alloc: Global, text: &str) -> Result<String, NoMemory>
@@ -84,7 +84,7 @@ fn direction_word(direction: Direction) -> &'static str
     }
 }
 
-// The digest of the fields' compact text, in lower hexadecimal.
+// The MD5 of the fields' compact text, in lower-case hexadecimal.
 pub(crate) fn fields_digest(
     alloc: Global,
     direction: Direction,

@@ -112,7 +112,7 @@ found_at p x xs y more true f g =
     (ap p (sym same) ∙ f, λ q h. ap q (sym same) ∙ (and_parts (q x) (list_all q xs) h).0)
 found_at p x xs y more false f g = ((more g).0, λ q h. (more g).1 q (and_parts (q x) (list_all q xs) h).1)
 
--- what is found is so
+-- an element that a search finds passes its test
 found : {X : Type 0} (p : X → Bool) (xs : List X) (y : X) → find p xs ≡ Some y → Found p xs y
 found p [] y e = absurd cc
 found p (x ∷ xs) y e = found_at p x xs y (found p xs y) (p x) refl e
