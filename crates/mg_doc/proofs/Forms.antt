@@ -61,7 +61,7 @@ ids_all (item (whole z) vs) = refl
 ids_all (item (list ws) vs) = refl
 ids_all (item (object ms) vs) = refl
 
--- the length of what was read, and this one where nothing was
+-- the length of what was read, or n if nothing was read
 abbrev length_or : ℕ → Option (List (List ℕ)) → ℕ
 length_or n None = n
 length_or n (Some ids) = length ids

@@ -21,7 +21,7 @@ Accepted = Revision × List Revision
 
 -- ---- a new edit
 
--- whether a leaf is there that is not deleted
+-- whether there is a leaf, and it is not deleted
 abbrev pub is_alive : Option Leaf → Bool
 is_alive None = false
 is_alive (Some l) = not l.deleted

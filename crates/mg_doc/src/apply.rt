@@ -16,7 +16,7 @@ use mg_revtree::{History, Rev, RevTree};
 use mg_value::Json;
 use std::alloc::Global;
 
-// Looks up a replica's path: its newest revision if the path is known whole, `None` if it is not but fits.
+// Looks up a replica's path: its newest revision if the path is known whole; `None` if it is not known whole, but fits.
 pub(crate) fn look_for(tree: &RevTree, path: &History) -> Result<Option<Rev>, EditError>
     ensures { (h : Paths) → StandsFor tree.now h → LooksFor h path.now result }
 {
@@ -177,7 +177,7 @@ fn extend_over(
     Ok(rev)
 }
 
-// The position over a base. A base at the last position is refused elsewhere.
+// The position over a base. `RevTree::extend` refuses a base at the last position.
 fn position_over(base: Option<&Rev>) -> u32
     ensures { (position_below (option_copied base.entry) == 4294967295) ≡ false
         → result ≡ position_below (option_copied base.entry) + 1 }

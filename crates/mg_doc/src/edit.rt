@@ -84,7 +84,7 @@ impl Edit {
         self.id.as_deref()
     }
 
-    /// Gives an edit without an id this id. Takes no memory.
+    /// Sets the id of an edit that has none. Takes no memory.
     pub fn with_id(self, id: String) -> Edit
         requires { self.id ≡ None }
         ensures { result ≡ record self { id = Some (string_bytes id) } }

@@ -50,16 +50,16 @@ impl Model for IndexDef {
 impl IndexDef {
     /// Reads the body of an `_index`, an object:
     ///
-    /// - `index`, an object whose `fields` is an array of one or more columns, each the text of a path,
-    ///   which is ascending, or `{path: "asc"}` or `{path: "desc"}`.
-    /// - `ddoc` and `name`, texts that are not empty. A `ddoc` without `_design/` in front gets it. An
-    ///   absent name is the MD5, in lower hexadecimal, of
-    ///   `{"fields":[{path: direction},..]}` as compact text, and an absent ddoc is `_design/` and that digest.
-    /// - `type`, `json` if it is there; `partial_filter_selector`, here or in `index`, `{}` if it is
-    ///   there; `partitioned`, false if it is there. Other members are ignored.
+    /// - `index`, an object whose `fields` is an array of one or more columns, each `{path: "asc"}`,
+    ///   `{path: "desc"}`, or the text of a path, which is ascending.
+    /// - `ddoc` and `name`, texts that are not empty; both may be absent. `_design/` is put before a `ddoc`
+    ///   that does not begin with it. An absent name is the MD5, in lower-case hexadecimal, of the compact
+    ///   text of `{"fields":[{path: direction},..]}`, and an absent ddoc is `_design/` and that digest.
+    /// - `type`, which is `json`; `partial_filter_selector`, here or in `index`, which is `{}`;
+    ///   `partitioned`, which is false. Each may be absent. Other members are ignored.
     ///
-    /// Errors: `Shape` for any other body, or a path with an empty step; then `Mixed` for columns in both
-    /// directions; `NoMemory` if an allocation fails, and never where the body has a fault. Cost: the size of the body.
+    /// Errors: `Shape` for any other body, or for a path with an empty step; then `Mixed` for columns in both
+    /// directions; `NoMemory` if an allocation fails and the body has no fault. Cost: the size of the body.
     /// Source: `_index` of CouchDB's API reference.
     pub fn read(alloc: Global, body: &Json) -> Result<IndexDef, IndexError>
         ensures reading { Gives (λ d. d) result (definition_of (json_view body.now)) }

@@ -69,7 +69,7 @@ any_said ss sense forms h =
     let fs = forms_view forms.items in
     subst (Says (λ x. is_no_arms ss || some_arm ss sense x) no_atoms) (sym (form_of-Any forms)) (λ x. ap₂ ◌||◌ (no_forms_said ss sense fs h) (some_said ss sense fs h x), λ steps. refl)
 
--- an object that has not just one member says what a conjunction does
+-- an object that does not have exactly one member asks what a conjunction asks
 pub object_said : (ss : List Sel) (sense : Sense) (f : FormValue) → (length ss ≡ 1 → ⊥)
     → Says (holds_in (every (arms_view ss)) sense) (atoms_in (every (arms_view ss)) sense) f
     → Says (holds_in (members (arms_view ss)) sense) (atoms_in (members (arms_view ss)) sense) f

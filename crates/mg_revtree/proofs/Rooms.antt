@@ -198,7 +198,7 @@ module _ (t : List ℕ) (x : Node) (ns : List Node) (till from : ℕ) where
 
 -- ---- a run joined, newest first
 
--- what stands for the links so far, and what is left of the run
+-- the links so far, which the nodes stand for, and what is left of the run
 pub record Goes (t : List ℕ) (start : ℕ) (ps : List Part) (i pos : ℕ) (now after : List Node) (ls : List Link) : Type 0 where
   pub so_far : List Link
   pub nodes : AreNodes (links_in t now) so_far

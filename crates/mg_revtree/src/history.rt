@@ -39,7 +39,7 @@ impl History {
         Some(History { start, ids })
     }
 
-    /// The newest revision.
+    /// A copy of the newest revision. Errors: `NoMemory` if an allocation fails.
     pub fn newest(&self) -> Result<Rev, NoMemory>
         ensures { IfOk result (λ rev. newest_of self.now ≡ Some rev) }
     {

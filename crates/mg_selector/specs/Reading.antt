@@ -13,7 +13,7 @@ use Rattle.mg_selector.specs.declared.error.SelError.TheVariants.{InvalidOperato
 use Rattle.mg_selector.specs.declared.word.Word.{Word}
 use Rattle.mg_selector.specs.declared.word.Word.TheVariants as word
 
--- the fault that a call returned is the defined one; `NoMemory` says nothing of it
+-- the result of the definition is the fault that a call returned; for `NoMemory` it may be anything
 abbrev pub Fails : {Y : Type 0} → SelError → Result Y SelError → Type 0
 Fails NoMemory r = Unit {0}
 Fails InvalidOperator r = r ≡ Err InvalidOperator
