@@ -87,7 +87,7 @@ fn preferred(definitions: &[IndexDef], atoms: &[Atom], sort: &[Path], hint: &Hin
     }
 }
 
-// The one that is preferred: the best so far, if there is one, or the other.
+// The preferred one of the best so far, if there is one, and the other.
 fn better<'a>(best: Option<Candidate<'a>>, other: Candidate<'a>) -> Candidate<'a>
     ensures described { (atoms : List AtomValue) (hint : HintValue) (ds : List IndexDefinition)
         → DescribesBest atoms hint ds best.entry → Describes atoms hint ds other.entry

@@ -41,8 +41,8 @@ impl Model for Normal {
 impl Normal {
     /// The normal form of the selector, with its atoms.
     ///
-    /// Errors: `NoMemory` if an allocation fails. Cost: the size of the selector, because each operator is
-    /// copied once, and for each atom the steps of its whole path.
+    /// Errors: `NoMemory` if an allocation fails. Cost: the size of the selector, with one copy of each
+    /// operator, and for each atom the steps of its whole path.
     /// Source: `$not`, `$and`, `$or` and `$nor` of CouchDB's `_find`.
     pub fn of(alloc: Global, selector: &Sel) -> Result<Normal, NoMemory>
         ensures { IfOk result (λ normal. IsNormalOf (selector_of selector.now) normal) }

@@ -118,7 +118,7 @@ all-next {X} P f n xs i x o lt is newest b holds =
     let same : link (f (get_or xs i x)) (newest_of rest) ≡ link (f x) o = ap (λ (s : List ℕ). link s (newest_of rest)) (ap f (sym is)) ∙ ap (link (f x)) (sym newest) in
     ap (λ (ys : List X). list_all P (links (run_from n (map f ys)))) (drop_more xs i x lt) ∙ ap (λ (c : Bool). c && list_all P (links rest)) (ap P same ∙ holds)
 
--- r is a parent in a run exactly where the run has r at r's position
+-- a revision below the newest of a run is a parent in it exactly if the run has it at its position
 pub parent_found : {X : Type 0} (f : X → List ℕ) (n : ℕ) (xs : List X) (r : Revision) (j : ℕ) (x : X) → r.0 + j ≡ n → 0 < j → j < length xs → length xs ≤ n + 1 → x ≡ get_or xs j x → is_eq (slice_cmp nat_cmp r.1 (f x)) ≡ has_child r (links (run_from n (map f xs)))
 parent_found f n xs r zero x at pos lt fits is = absurd (omega arith)
 parent_found f n xs r (suc k) x at pos lt fits is =

@@ -31,8 +31,8 @@ impl Model for Rev {
 impl Rev {
     /// Reads `N-id`, cut at the first hyphen: N in decimal, from 1 to 4,294,967,295, with no leading zero.
     ///
-    /// Errors: `Bad` for exactly the texts that are not a revision. Cost: the length of the text.
-    /// Source: revisions of CouchDB's API reference.
+    /// Errors: `Bad` for exactly the texts that are not a revision; `NoMemory` if an allocation fails.
+    /// Cost: the length of the text. Source: revisions of CouchDB's API reference.
     pub fn parse(alloc: Global, text: &str) -> Result<Rev, RevError>
         ensures ok { IfOk result (λ rev. revision_of text.now ≡ Some rev) }
         ensures bad { result ≡ Err RevError.Bad → revision_of text.now ≡ None }
