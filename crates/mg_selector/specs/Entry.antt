@@ -54,7 +54,7 @@ abbrev pub has_size : ℕ → Value → Bool
 has_size n (list vs) = length (item_list vs) == n
 has_size n v = false
 
--- a number whose remainder by d is r; the remainder has the number's own sign, and by 0 there is none
+-- a number whose remainder by d is r; the remainder has the number's own sign, and `$mod` does not take 0 as d
 abbrev pub has_remainder : ℤ → ℤ → Value → Bool
 has_remainder d r (whole z) = int_eq (int_rem z d) r
 has_remainder d r v = false
