@@ -8,8 +8,8 @@ use std::alloc::Global;
 use std::marker::Model;
 use std::sync::Arc;
 
-/// Links that the copies of a tree share, and that never change. Contracts see the list of them. An empty list takes no
-/// memory.
+/// Links that the copies of a tree share, and that never change. Contracts see the list of them. `None` is the empty list,
+/// which then takes no memory.
 #[derive(Drop)]
 pub struct Older {
     links: Option<Arc<Links>>,
