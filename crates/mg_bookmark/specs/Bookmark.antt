@@ -1,5 +1,5 @@
--- Bookmarks of a page, as in CouchDB's `_find`: a JSON array of what a page ended with, spelled in the URL-safe base64 of
--- RFC 4648, which is not padded here. Which array that is, is this project's own choice.
+-- Bookmarks of a page, as in CouchDB's `_find`: a JSON array that says what a page ended with, spelled in the URL-safe base64 of
+-- RFC 4648 without padding. What the array holds is this project's own choice.
 use Rattle.std.specs.Prelude.{◌≡◌, ◌≢◌, ℕ, ◌≤◌, List, [], codes, Option, Some, None, unwrap_or}
 use Rattle.std.specs.Str.{IsUtf8}
 use Rattle.base64.specs.GeneralPurpose.{encode_of}
@@ -41,8 +41,8 @@ spelled p = encode_of url_safe_no_pad (compact (place_value p))
 abbrev pub Spells : List ℕ → Place → Type 0
 Spells t p = (t ≡ spelled p) × Reads (compact (place_value p)) (place_value p)
 
--- the place is one that JSON text carries: the values of its key nest at most 125 deep, two less than a text that can be read, since the
--- array has them in an array; the key's numbers are i64, and its objects have their names in order; and each text is UTF-8
+-- JSON text can carry the place: the values of its key nest at most 125 deep, two less than a text that can be read, because they
+-- are in an array within the array; the key's numbers are i64, and its objects have their names in order; and each text is UTF-8
 pub record CanBeSpelled (p : Place) : Type 0 where
   pub shallow : items_depth p.key ≤ 125
   pub held : ItemsAreHeld p.key
@@ -53,8 +53,8 @@ pub record CanBeSpelled (p : Place) : Type 0 where
 
 -- ---- reading a text
 
--- what a text is read as that a client gives back: nothing more than the beginning for `nil`, the place whose spelling it is, or none where
--- it is no bookmark. That there is one such reading of each text, is a law
+-- the reading of a text that a client sends back: the beginning for `nil`, the place whose spelling it is, or `None` if it is not a
+-- bookmark; a law says that each text has exactly one reading
 abbrev pub IsReadAs : List ℕ → Option (Option Place) → Type 0
 IsReadAs t (Some None) = t ≡ codes "nil"
 IsReadAs t (Some (Some p)) = (t ≢ codes "nil") × Spells t p

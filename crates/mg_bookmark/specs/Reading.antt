@@ -1,4 +1,4 @@
--- The reading of a text as a function, by undoing the steps of the writing. That it gives what the text is read as, is a law.
+-- The reading of a text as a function, which undoes the steps of the writing. A law says that it gives the reading of each text.
 use Rattle.std.specs.Prelude.{ℕ, List, codes, ◌&&◌, Option, Some, None, option_map, option_and_then, if◌then◌else◌}
 use Rattle.std.specs.Str.{bytes_eq, is_utf8}
 use Rattle.base64.specs.GeneralPurpose.{decoded_of}
@@ -10,7 +10,7 @@ use Rattle.mg_collate.specs.declared.direction.Direction.{Direction}
 use Rattle.mg_collate.specs.declared.direction.Direction.TheVariants.{Asc, Desc}
 use Rattle.mg_bookmark.specs.Bookmark.{Place, place_value, spelled}
 
--- the design document that a value names: a text, or none where it is null
+-- the design document that a value names: a text, or `None` for null
 abbrev pub ddoc_in : Value → Option (Option (List ℕ))
 ddoc_in null = Some None
 ddoc_in (text s) = Some (Some s)
@@ -26,11 +26,11 @@ place_in (list (item d (item (text name) (item (text word) (item (list key) (ite
     option_and_then (λ ddoc. option_map (λ direction. record { ddoc = ddoc; name = name; direction = direction; key = key; id = id }) (direction_in word)) (ddoc_in d)
 place_in v = None
 
--- the value that UTF-8 bytes are a JSON text of
+-- the value of UTF-8 bytes that are a JSON text
 abbrev pub value_in : List ℕ → Option Value
 value_in bytes = if is_utf8 bytes then option_and_then whole_of (read bytes) else None
 
--- the place, where the text is its spelling, and its array is UTF-8
+-- the place, if the text is its spelling and its array is UTF-8
 abbrev pub if_spelled : List ℕ → Place → Option Place
 if_spelled t p = if bytes_eq t (spelled p) && is_utf8 (compact (place_value p)) then Some p else None
 
@@ -38,6 +38,6 @@ if_spelled t p = if bytes_eq t (spelled p) && is_utf8 (compact (place_value p)) 
 abbrev pub place_read : List ℕ → Option Place
 place_read t = option_and_then (if_spelled t) (option_and_then place_in (option_and_then value_in (decoded_of url_safe_no_pad t)))
 
--- what a text is read as
+-- the reading of a text
 abbrev pub bookmark_read : List ℕ → Option (Option Place)
 bookmark_read t = if bytes_eq t (codes "nil") then Some None else option_map Some (place_read t)

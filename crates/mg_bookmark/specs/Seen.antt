@@ -1,4 +1,4 @@
--- The place that a `Bookmark` stands for, and the one that a lent `RowPlace` does.
+-- The place that a `Bookmark` stands for, and the one that a `RowPlace` stands for.
 use Rattle.std.specs.Prelude.{ℕ, List, option_map, string_bytes}
 use Rattle.mg_value.specs.Value.{Items, item, no_items, text}
 use Rattle.mg_value.specs.View.{items_view}

@@ -7,16 +7,16 @@ use mg_collate::Direction;
 use mg_value::{Json, NoMemory};
 use std::alloc::Global;
 
-/// The place of a row in an index, read in a direction: what a page ended with.
+/// A bookmark: the last row of a page, as a place in an index that is read in a direction.
 #[derive(Debug, Drop)]
 pub struct Bookmark {
-    /// The design document of the index, none for `_all_docs`.
+    /// The design document of the index; `None` for `_all_docs`.
     pub ddoc: Option<String>,
     /// The name of the index.
     pub name: String,
     /// The direction in which the index is read.
     pub direction: Direction,
-    /// The row's key, one value a column.
+    /// The row's key, one value for each column.
     pub key: Vec<Json>,
     /// The document's id.
     pub id: String,
@@ -27,18 +27,18 @@ impl Bookmark {
     ghost use Rattle.mg_bookmark.specs.Reading.{bookmark_read};
     ghost use Rattle.mg_bookmark.specs.Seen.{place_at, bookmark_place};
 
-    /// The text that a client gets: the five parts as a JSON array, written compactly, in the
-    /// alphabet of base64 that URLs allow (RFC 4648), not padded. The design document of `_all_docs`
-    /// is null, and the direction a word, `asc` or `desc`.
+    /// The text that a client gets: the five parts as a compact JSON array, in URL-safe base64 without
+    /// padding (RFC 4648). The design document of `_all_docs` is null, and the direction is `asc` or
+    /// `desc`.
     ///
-    /// Errors: `NoMemory` where a growth was refused. Cost: the size of the key.
+    /// Errors: `NoMemory` if an allocation fails. Cost: the size of the key.
     pub fn encode(&self, alloc: Global) -> Result<String, NoMemory>
         ensures { IfOk result (λ t. string_bytes t ≡ spelled (bookmark_place self.now)) }
     {
         self.lent().spell(alloc)
     }
 
-    // The same place, its parts lent.
+    // The bookmark with its parts lent.
     pub(crate) fn lent(&self) -> RowPlace<'_>
         ensures { place_at result ≡ bookmark_place self.now }
     {
@@ -51,11 +51,11 @@ impl Bookmark {
         }
     }
 
-    /// Reads the text that a client gives back, as `encode` wrote it: none for `nil`, which stands
-    /// for the beginning.
+    /// Reads the text that a client sends back, as `encode` wrote it. `nil`, which stands for the
+    /// beginning, gives `None`.
     ///
-    /// Errors: `Invalid` for any other text, such as another spelling of the same array, or one of a
-    /// key that nests too deep for JSON to be read (127); `NoMemory` where a growth was refused.
+    /// Errors: `Invalid` for any other text, such as another spelling of the same array, or an array
+    /// that nests deeper than JSON may be read (127); `NoMemory` if an allocation fails.
     /// Cost: the length of the text.
     pub fn decode(alloc: Global, text: &str) -> Result<Option<Bookmark>, BookmarkError>
         ensures none { (result ≡ Ok None) ↔ (text.now ≡ codes "nil") }

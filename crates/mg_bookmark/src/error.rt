@@ -2,13 +2,13 @@ use mg_value::NoMemory;
 use std::alloc::{AllocError, AllocFailed};
 use thiserror::Error;
 
-/// Why a text is no bookmark.
+/// Why a text is not read as a bookmark.
 #[derive(Clone, Copy, PartialEq, Eq, Debug, Drop, Error)]
 pub enum BookmarkError {
     /// The text is neither `nil` nor what `Bookmark::encode` writes.
     #[error("invalid bookmark")]
     Invalid,
-    /// A growth was refused.
+    /// An allocation failed.
     #[error("out of memory")]
     NoMemory,
 }

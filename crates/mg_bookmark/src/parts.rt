@@ -1,4 +1,4 @@
-//! A bookmark's parts, in the array that is spelled.
+//! Reads a bookmark's parts from its JSON array.
 ghost use Rattle.std.specs.Prelude.{◌≡◌, ℕ, List, Option, Err, IfOk, option_map, string_bytes};
 ghost use Rattle.mg_value.specs.Value.{list, text, Items};
 ghost use Rattle.mg_value.specs.View.{view, items_view};
@@ -13,7 +13,7 @@ use mg_collate::Direction;
 use mg_value::{Json, copy_items};
 use std::alloc::Global;
 
-// The bookmark whose array the value is.
+// The bookmark whose array is this value.
 pub(crate) fn bookmark_in(alloc: Global, value: &Json) -> Result<Bookmark, BookmarkError>
     ensures ok { IfOk result (λ b. view value.now ≡ place_value (bookmark_place b)) }
     ensures invalid { result ≡ Err BookmarkError.Invalid

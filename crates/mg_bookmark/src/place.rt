@@ -9,7 +9,7 @@ use mg_collate::Direction;
 use mg_value::{Json, NoMemory};
 use std::alloc::Global;
 
-// The bytes that are asked for at first: the array of most rows fits.
+// The first capacity in bytes, in which the array of most rows fits.
 const FIRST_ROOM: usize = 256;
 
 /// The key of a row, lent.
@@ -17,14 +17,14 @@ const FIRST_ROOM: usize = 256;
 pub enum RowKey<'a> {
     /// The values of an index's columns.
     Columns(&'a [Json]),
-    /// The one text of the document's id, as in `_all_docs`.
+    /// The document's id as the only value, as in `_all_docs`.
     Id,
 }
 
-/// The place of a row in an index, read in a direction, with lent parts: what a `Bookmark` owns.
+/// The parts of a bookmark, lent: a place in an index that is read in a direction.
 #[derive(Clone, Copy)]
 pub struct RowPlace<'a> {
-    /// The design document of the index, none for `_all_docs`.
+    /// The design document of the index; `None` for `_all_docs`.
     pub ddoc: Option<&'a str>,
     /// The name of the index.
     pub name: &'a str,
@@ -37,10 +37,10 @@ pub struct RowPlace<'a> {
 }
 
 impl RowPlace<'_> {
-    /// The text that a client gets for a page that ended with the row, as `Bookmark::encode` gives it
-    /// for a bookmark of these parts. No part is copied but into the text.
+    /// The text that a client gets for a page that ended with this row, as `Bookmark::encode` gives it
+    /// for a bookmark of these parts. Parts are copied only into the text.
     ///
-    /// Errors: `NoMemory` where a growth was refused. Cost: the size of the key.
+    /// Errors: `NoMemory` if an allocation fails. Cost: the size of the key.
     pub fn spell(&self, alloc: Global) -> Result<String, NoMemory>
         ensures { IfOk result (λ t. string_bytes t ≡ spelled (place_at self.now)) }
     {
@@ -48,7 +48,7 @@ impl RowPlace<'_> {
         Ok(URL_SAFE_NO_PAD.encode(alloc, &text)?)
     }
 
-    // The compact text of the array that is spelled.
+    // The compact text of the bookmark's array.
     pub(crate) fn array_text(&self, alloc: Global) -> Result<Vec<u8>, NoMemory>
         ensures { IfOk result (λ b. b.items ≡ compact (place_value (place_at self.now))) }
     {

@@ -1,4 +1,4 @@
-//! What a text spells: from base64 to bytes, from the bytes to a value, and from the value to a bookmark.
+//! Decodes a text: from base64 to bytes, from the bytes to a JSON value, and from the value to a bookmark.
 ghost use Rattle.std.specs.Prelude.{◌≡◌, ◌↔◌, None, Err, IfOk, IsTrue};
 ghost use Rattle.base64.specs.GeneralPurpose.{decoded_of};
 ghost use Rattle.base64.specs.Engines.{url_safe_no_pad};
@@ -17,7 +17,7 @@ use base64::engine::general_purpose::URL_SAFE_NO_PAD;
 use mg_value::{Json, NoMemory, ReadError, read};
 use std::alloc::Global;
 
-// The bookmark that the text spells.
+// The bookmark that the text spells. Its array is written again, to refuse other spellings of the same array.
 pub(crate) fn spelled_by(alloc: Global, text: &str) -> Result<Bookmark, BookmarkError>
     ensures ok { IfOk result (λ b. Spells text.now (bookmark_place b)) }
     ensures invalid { result ≡ Err BookmarkError.Invalid → (p : Place) → ¬ Spells text.now p }

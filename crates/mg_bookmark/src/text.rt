@@ -1,4 +1,4 @@
-//! The JSON text of a bookmark's array, part by part. Each of these gives the buffer that it takes, with its part behind.
+//! The JSON text of a bookmark's array, part by part. Each function appends its part to the buffer, and returns the buffer.
 ghost use Rattle.std.specs.Prelude.{◌≡◌, ◌++◌, None, IfOk, option_map};
 ghost use Rattle.json.specs.Print.{quoted};
 ghost use Rattle.mg_value.specs.Text.{compact};

@@ -134,7 +134,7 @@ extended_is h d b named = elim (two (is_unnamed h named)) [ inl t ↦ rw t refl 
 pub first_is : (h : History) (named : Option Revision) → unplaced h (base_found h named) ≡ first_refusal h (New named)
 first_is h named = elim (two (is_unnamed h named)) [ inl t ↦ rw t refl | inr f ↦ rw f refl ]
 
--- why nothing is made over a base, as far as it shows before the revision is made
+-- why nothing is made over a base, as far as it is known before the revision is made
 pub base_refused : (h : History) (named : Option Revision) (refused : Refused) → base_found h named ≡ Err refused → first_refusal h (New named) ≡ Some refused
 base_refused h named refused e = sym (first_is h named) ∙ ap (unplaced h) e
 
@@ -165,7 +165,7 @@ refuses_new h e named x refused is k to =
     let said : accepted_by h e ≡ Err refused = rw is made in
     subst P (sym (ap refusal_told to ∙ told_error refused)) (ap newest_accepted said)
 
--- ---- what is seen of a replica's path
+-- ---- the look-up of a replica's path
 
 module _ (h : History) (e : Edit) (run : List Revision) (is : e.change ≡ Replica run) (t : Tree) where
   accepted_run : accepted_by h e ≡ replicated h run
@@ -186,7 +186,7 @@ module _ (h : History) (e : Edit) (run : List Revision) (is : e.change ≡ Repli
       let Q : List Revision → Type 0 = λ x. StandsFor t (with_path h (path_of x e.deleted e.body)) in
       (ap newest_accepted said, subst P (sym (ap (history_after h e) said)) (subst Q d.2 (whole_stands t h run e.deleted e.body k.1 s)))
 
--- want of memory for a path that fits
+-- memory runs out for a path that fits
 pub looks_want : (h : History) (run : List Revision) (r : Result (Option Revision) EditError) → fits h run ≡ true → IsErrAnd r (λ x. x ≡ no_memory) → LooksFor h run r
 looks_want h run (Ok o) f k = absurd k
 looks_want h run (Err x) f k = let P : EditError → Type 0 = λ y. Misfits h run (refusal_told y) in subst P (sym k) f

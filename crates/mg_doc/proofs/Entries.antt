@@ -44,7 +44,7 @@ equal Greater h = absurd cc
 same_name : (k l : List ℕ) → is_eq (slice_cmp nat_cmp k l) ≡ true → k ≡ l
 same_name k l h = exact_bytes k l (equal _ h)
 
--- a reserved member is none of the body's
+-- a reserved member is not one of the body's
 pub own_members-without : (k : List ℕ) (es : List Entry) → is_reserved k ≡ true → own_members (members_view (without k es)) ≡ own_members (members_view es)
 own_members-without k [] r = refl
 own_members-without k (e ∷ es) r = elim (two (is_eq (slice_cmp nat_cmp k (string_bytes e.0)))) [

@@ -14,7 +14,7 @@ pub there_unless_none : {A : Type 0} (o : Option A) → (o ≡ None → ⊥) →
 there_unless_none None some = absurd (some refl)
 there_unless_none (Some x) some = refl
 
--- a member that is there has its form, or there is none
+-- a member that is there is well formed, or the result is `None`
 pub there_or_none : {A : Type 0} (o : Option A) → cond (is_some o) (Some true) None ≡ option_map is_some (option_map Some o)
 there_or_none None = refl
 there_or_none (Some x) = refl
@@ -61,7 +61,7 @@ ids_all (item (whole z) vs) = refl
 ids_all (item (list ws) vs) = refl
 ids_all (item (object ms) vs) = refl
 
--- the length of what was read, and this one where nothing was
+-- the length of what was read, or n if nothing was read
 abbrev length_or : ℕ → Option (List (List ℕ)) → ℕ
 length_or n None = n
 length_or n (Some ids) = length ids
@@ -99,7 +99,7 @@ length_map : (js : List Json) → length (map view js) ≡ length js
 length_map [] = refl
 length_map (j ∷ js) = ap suc (length_map js)
 
--- the ids are a path's where they are at least one, at most as many as there are positions, and each is one
+-- the ids give a path if there are 1 to `start` of them, and each is the id of a revision
 pub path_of_ids : (n : ℕ) (js : List Json)
     → is_some (option_and_then (run_of n) (path_ids (items_view js))) ≡ (nat_lt 0 (length js) && (nat_le (length js) n && list_all is_id (map view js)))
 path_of_ids n js =

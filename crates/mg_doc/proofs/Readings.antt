@@ -41,7 +41,7 @@ read_of : {A : Type 0} (e : DocError) (o : Option A) (a : A) → or_fault e o �
 read_of e None a h = absurd cc
 read_of e (Some b) a h = cc
 
--- the change that a document asks for, of its two parts
+-- the change that a document asks for, from its two parts
 pub change_of_parts : (new_edit : Bool) (o : Option (Option Revision)) (p : Option (Option (List Revision))) (rev : Option Revision) (run : Option (List Revision)) → or_fault BadRev o ≡ Ok rev → or_fault BadRev p ≡ Ok run
     → option_and_then (λ a. option_and_then (change_by new_edit a) p) o ≡ change_by new_edit rev run
 change_of_parts new_edit o p rev run h k = rw (read_of BadRev o rev h, read_of BadRev p run k) refl

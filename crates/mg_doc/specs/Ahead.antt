@@ -1,4 +1,4 @@
--- For private clauses: what a new revision is made over, before a tree is asked.
+-- For private clauses: what a new revision is made over, as far as the edit alone says.
 use Rattle.std.specs.Prelude.{Option, None}
 use Rattle.mg_revtree.specs.Revision.{Revision}
 use Rattle.mg_doc.specs.declared.change.Change.{Change}

@@ -12,18 +12,18 @@ use Rattle.mg_doc.specs.declared.error.EditError.TheVariants.{Conflict as confli
 use Rattle.mg_doc.specs.declared.error.Refused.{Refused}
 use Rattle.mg_doc.specs.declared.error.Refused.TheVariants.{Conflict, BadHistory}
 
--- the refusal that an error tells. Want of memory is none
+-- the refusal that an error reports; `NoMemory` reports no refusal
 abbrev pub refusal_told : EditError → Option Refused
 refusal_told conflict = Some Conflict
 refusal_told bad_history = Some BadHistory
 refusal_told no_memory = None
 
--- the error that tells a refusal
+-- the error that reports a refusal
 abbrev pub error_of : Refused → EditError
 error_of Conflict = conflict
 error_of BadHistory = bad_history
 
--- an error of an edit: its refusal; or a growth was refused, and the edit was not refused before
+-- an error of an edit is right: it is the edit's refusal; or memory ran out, and the edit is not refused before that
 abbrev pub Refuses : History → Edit → Option Refused → Type 0
 Refuses h e (Some refused) = outcome_of h e ≡ Err refused
 Refuses h e None = first_refusal h e.change ≡ None
@@ -33,13 +33,13 @@ abbrev pub Applied : History → Edit → Result Revision EditError → Tree →
 Applied h e (Ok r) t = (outcome_of h e ≡ Ok r) × StandsFor t (edited h e)
 Applied h e (Err x) t = Refuses h e (refusal_told x)
 
--- whether a change is a replica's path that is known whole, which brings nothing
+-- whether a change is a replica's path that is known whole, which changes nothing
 abbrev pub is_known : History → Change → Bool
 is_known h (New named) = false
 is_known h (Replica run) = is_whole h run
 
--- what is seen of an edit before it is applied: a path that is known whole, after which the tree stands for the edited
--- history as it is; or that the edit is no such path, and is not refused so far; or its error
+-- what is foreseen of an edit: it is a path that is known whole, so that the tree already stands for the edited
+-- history; or it is no such path, and is not refused so far; or its error
 abbrev pub Foreseen : History → Edit → Result (Option Revision) EditError → Tree → Type 0
 Foreseen h e (Ok (Some r)) t = (outcome_of h e ≡ Ok r) × StandsFor t (edited h e)
 Foreseen h e (Ok None) t = (first_refusal h e.change ≡ None) × (is_known h e.change ≡ false)

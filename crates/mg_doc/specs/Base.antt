@@ -1,4 +1,4 @@
--- What the steps of an edit give: the base that is extended, and what is seen of a replica's path. They serve the code's parts.
+-- For private clauses: the results of the steps of an edit, which are the base that it extends and the look-up of its path.
 use Rattle.std.specs.Prelude.{◌≡◌, true, false, Bool, List, Option, Some, None, option_map, Result, Ok, Err, if◌then◌else◌}
 use Rattle.std.specs.Result.{result_err}
 use Rattle.mg_value.specs.Value.{Value}
@@ -13,7 +13,7 @@ use Rattle.mg_doc.specs.declared.error.EditError.{EditError}
 use Rattle.mg_doc.specs.declared.error.Refused.{Refused}
 use Rattle.mg_doc.specs.declared.error.Refused.TheVariants.{BadHistory, Conflict}
 
--- the base that is extended, or why none is
+-- the base that is extended, or why the edit is refused
 abbrev pub base_found : History → Option Revision → Result (Option Revision) Refused
 base_found h named = if is_unnamed h named then Err Conflict else Ok (base_of h named)
 
@@ -31,22 +31,22 @@ made_found h deleted body (Err refused) = Err refused
 abbrev pub extended_by : History → Bool → Value → Option Revision → Result Accepted Refused
 extended_by h deleted body named = made_found h deleted body (base_found h named)
 
--- why nothing is made over the base that is found, as far as it shows before the revision is made
+-- why nothing is made over the base that is found, as far as it is known before the revision is made
 abbrev pub unplaced : History → Result (Option Revision) Refused → Option Refused
 unplaced h (Ok base) = option_map refused_by (result_err (next_position h base))
 unplaced h (Err refused) = Some refused
 
--- a base that is copied, or why there is none
+-- a copied base, or why there is none
 abbrev pub CopyIs : Result (Option Revision) Refused → Result (Option Revision) EditError → Type 0
 CopyIs said (Ok base) = said ≡ Ok base
 CopyIs said (Err x) = Missing said (refusal_told x)
 
--- where an error tells that a path does not fit; where it tells nothing, the path fits
+-- a reported refusal of a path is that it does not fit; without a refusal the path fits
 abbrev pub Misfits : History → List Revision → Option Refused → Type 0
 Misfits h run (Some refused) = (refused ≡ BadHistory) × (fits h run ≡ false)
 Misfits h run None = fits h run ≡ true
 
--- a path that is known whole, another that fits, or one that does not
+-- the look-up of a path: it is known whole; or it is not, but fits; or it does not fit
 abbrev pub LooksFor : History → List Revision → Result (Option Revision) EditError → Type 0
 LooksFor h run (Ok (Some r)) = (newest_of run ≡ Some r) × (is_whole h run ≡ true)
 LooksFor h run (Ok None) = (fits h run ≡ true) × (is_whole h run ≡ false)

@@ -1,4 +1,4 @@
--- A path that an edit brings to a tree. These words serve private clauses.
+-- For private clauses: a path that an edit brings to a tree.
 use Rattle.std.specs.Prelude.{◌≡◌, List, ◌∷◌, Bool, Option, Some, None, Result, Ok, Err}
 use Rattle.mg_value.specs.Value.{Value}
 use Rattle.mg_revtree.specs.Revision.{Revision}
@@ -10,12 +10,12 @@ use Rattle.mg_doc.specs.Edit.{Accepted}
 use Rattle.mg_doc.specs.declared.error.EditError.{EditError}
 use Rattle.mg_doc.specs.declared.error.Refused.{Refused}
 
--- what is said where an error tells a refusal
+-- a reported refusal is the one that the definition gives
 abbrev pub Missing : {A : Type 0} → Result A Refused → Option Refused → Type 0
 Missing said (Some refused) = said ≡ Err refused
 Missing said None = Unit {0}
 
--- a path that is accepted, after which the tree stands for the history with it, or why none is
+-- a path is accepted, and the tree then stands for the history with it; or an error says why it is not
 abbrev pub Brings : History → Bool → Value → Result Accepted Refused → Result Revision EditError → Tree → Type 0
 Brings h deleted body said (Ok r) t = (rs : List Revision) × (said ≡ Ok (r, rs)) × StandsFor t (with_path h (path_of (r ∷ rs) deleted body))
 Brings h deleted body said (Err x) t = Missing said (refusal_told x)

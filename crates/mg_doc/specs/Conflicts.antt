@@ -10,7 +10,7 @@ use Rattle.mg_revtree.specs.Revision.{revision_text}
 abbrev pub leaf_text : Leaf → Value
 leaf_text l = text (revision_text l.rev)
 
--- a document with `_conflicts`, the revisions of these leaves; as it is where there are none
+-- a document with `_conflicts`, the revisions of these leaves; without leaves, the document as it is
 abbrev pub with_losers : List Leaf → Value → Value
 with_losers [] v = v
 with_losers (l ∷ ls) v = with_member (codes "_conflicts") (list (items_of (map leaf_text (l ∷ ls)))) v

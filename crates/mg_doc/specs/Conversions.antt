@@ -1,4 +1,4 @@
--- The errors of an edit that those of its tree become. They serve the conversions alone.
+-- For the conversions of errors: the error of an edit that an error of its tree becomes.
 use Rattle.mg_revtree.specs.declared.error.MergeError.{MergeError}
 use Rattle.mg_revtree.specs.declared.error.MergeError.TheVariants.{BadHistory as misfit, NoMemory as merge_refused}
 use Rattle.mg_revtree.specs.declared.error.TreeError.{TreeError}
@@ -6,12 +6,12 @@ use Rattle.mg_revtree.specs.declared.error.TreeError.TheVariants.{NotLeaf, Full,
 use Rattle.mg_doc.specs.declared.error.EditError.{EditError}
 use Rattle.mg_doc.specs.declared.error.EditError.TheVariants.{Conflict, BadHistory, NoMemory}
 
--- of a path that was not merged
+-- the error for a path that was not merged
 abbrev pub error_of_merge : MergeError → EditError
 error_of_merge misfit = BadHistory
 error_of_merge merge_refused = NoMemory
 
--- of a revision that was not made
+-- the error for a revision that was not made
 abbrev pub error_of_tree : TreeError → EditError
 error_of_tree NotLeaf = Conflict
 error_of_tree Full = BadHistory

@@ -1,4 +1,4 @@
--- The id of a revision that is made, after CouchDB's deterministic revision ids: an MD5 digest (RFC 1321) in lower hexadecimal.
+-- The id of a new revision, after CouchDB's deterministic revision ids: an MD5 digest (RFC 1321) in lower-case hexadecimal.
 use Rattle.std.specs.Prelude.{List, ℕ, Bool, Option, Some, None}
 use Rattle.md5.specs.Md5.{md5}
 use Rattle.hex.specs.Hex.{encode_lower}

@@ -12,8 +12,8 @@ use Rattle.mg_doc.specs.declared.change.Change.TheVariants.{New, Replica}
 use Rattle.mg_doc.specs.declared.error.DocError.{DocError}
 use Rattle.mg_doc.specs.declared.error.DocError.TheVariants.{BadMember, BadId, BadRev, NoMemory}
 
--- what a document of a bulk asks for: its id, if it has one; its change, a new revision (over the one that is named,
--- if one is) or the path of a replica, newest first; whether it is a deletion; and its body
+-- what a document of a bulk asks for: its id, if it has one; its change, which is a new revision (over the named one, if
+-- there is one) or the path of a replica, newest first; whether it is a deletion; and its body
 pub record Edit : Type 0 where
   pub id : Option (List ℕ)
   pub change : Change
@@ -33,7 +33,7 @@ is_special k =
     list_any (bytes_eq k)
     (codes "_id" ∷ codes "_rev" ∷ codes "_revisions" ∷ codes "_deleted" ∷ codes "_conflicts" ∷ codes "_deleted_conflicts" ∷ codes "_revs_info" ∷ codes "_local_seq" ∷ [])
 
--- whether each reserved name is one of those
+-- whether each reserved name is one that a document may have
 abbrev pub has_known_names : Members → Bool
 has_known_names ms = list_all (λ m. not (is_reserved m.0) || is_special m.0) (member_list ms)
 
@@ -42,9 +42,9 @@ abbrev pub own_members : Members → Members
 own_members no_members = no_members
 own_members (member k v ms) = if is_reserved k then own_members ms else member k v (own_members ms)
 
--- ---- the mark, the id and the path. None is a fault
+-- ---- the mark, the id and the path; `None` is a fault
 
--- `_deleted`: true or false, and false where it is absent
+-- `_deleted`: true or false; false if it is absent
 abbrev pub mark_of : Option Value → Option Bool
 mark_of None = Some false
 mark_of (Some (flag b)) = Some b
@@ -55,7 +55,7 @@ abbrev pub is_document_id : List ℕ → Bool
 is_document_id [] = false
 is_document_id (b ∷ s) = not (b == 95)
 
--- `_id`: such a text, if it is there
+-- `_id`: a text that may be an id, if it is there
 abbrev pub id_of : Option Value → Option (Option (List ℕ))
 id_of None = Some None
 id_of (Some (text s)) = if is_document_id s then Some (Some s) else None
@@ -77,7 +77,7 @@ path_ids no_items = Some []
 path_ids (item (text s) vs) = option_map (λ ids. s ∷ ids) (path_ids vs)
 path_ids (item v vs) = None
 
--- the ids from a position down, the position at most 4,294,967,295
+-- the path whose newest revision is at a position, which is at most 4,294,967,295
 abbrev pub run_at : Option Value → Option Value → Option (List Revision)
 run_at (Some (whole (pos start))) (Some (list ids)) = if nat_le start 4294967295 then option_and_then (run_of start) (path_ids ids) else None
 run_at start ids = None
@@ -88,12 +88,12 @@ revisions_of None = Some None
 revisions_of (Some (object ms)) = option_map Some (run_at (get_member (codes "start") ms) (get_member (codes "ids") ms))
 revisions_of (Some v) = None
 
--- the revision that a new edit names: `_revisions` goes before `_rev`
+-- the revision that a new edit names: if both are there, `_revisions` decides, not `_rev`
 abbrev pub named_by : Option Revision → Option (List Revision) → Option Revision
 named_by rev None = rev
 named_by rev (Some run) = newest_of run
 
--- the path that a replica gives, in the same way. It has to give one
+-- the path that a replica gives, by the same rule; it has to give one
 abbrev pub path_by : Option Revision → Option (List Revision) → Option (List Revision)
 path_by rev (Some run) = Some run
 path_by rev None = option_map (λ r. r ∷ []) rev
@@ -102,7 +102,7 @@ path_by rev None = option_map (λ r. r ∷ []) rev
 abbrev pub change_by : Bool → Option Revision → Option (List Revision) → Option Change
 change_by new_edit rev run = if new_edit then Some (New (named_by rev run)) else option_map Replica (path_by rev run)
 
--- the same from `_rev` and `_revisions`: both have to be well formed where they are there
+-- the change that `_rev` and `_revisions` ask for; each has to be well formed if it is there
 abbrev pub change_given : Bool → Members → Option Change
 change_given new_edit ms =
     option_and_then (λ rev. option_and_then (change_by new_edit rev) (revisions_of (get_member (codes "_revisions") ms)))
@@ -132,14 +132,14 @@ members_read new_edit ms =
     then_read (or_fault BadRev (change_given new_edit ms)) (λ change.
     Ok (record { id = id; change = change; deleted = deleted; body = object (own_members ms) }))))
 
--- a document that is an object; nothing else is one
+-- the edit that a value asks for; a document is an object
 abbrev pub edit_of : Bool → Value → Result Edit DocError
 edit_of new_edit (object ms) = members_read new_edit ms
 edit_of new_edit v = Err BadMember
 
 -- ---- where memory may be refused
 
--- what a reading gives: what the definition says, unless a growth was refused
+-- a reading gives what the definition says, unless an allocation failed
 abbrev pub Gives : {A : Type 0} → Result A DocError → Result A DocError → Type 0
 Gives said (Ok a) = said ≡ Ok a
 Gives said (Err NoMemory) = Unit {0}
@@ -147,7 +147,7 @@ Gives said (Err BadMember) = said ≡ Err BadMember
 Gives said (Err BadId) = said ≡ Err BadId
 Gives said (Err BadRev) = said ≡ Err BadRev
 
--- the fault of a document whose revision was not read
+-- the fault of a document for an error of its revision
 abbrev pub fault_of_rev : RevError → DocError
 fault_of_rev Bad = BadRev
 fault_of_rev rev_refused = NoMemory

@@ -21,12 +21,12 @@ Accepted = Revision × List Revision
 
 -- ---- a new edit
 
--- whether a leaf is there that is not deleted
+-- whether there is a leaf, and it is not deleted
 abbrev pub is_alive : Option Leaf → Bool
 is_alive None = false
 is_alive (Some l) = not l.deleted
 
--- it names no revision, though its document is there
+-- whether it names no revision, though its document is there
 abbrev pub is_unnamed : History → Option Revision → Bool
 is_unnamed h named = is_none named && is_alive (winner_of h)
 
@@ -35,26 +35,26 @@ abbrev pub base_of : History → Option Revision → Option Revision
 base_of h None = option_map (λ l. l.rev) (winner_of h)
 base_of h (Some r) = Some r
 
--- how an edit is refused whose revision is not made
+-- the refusal of an edit for the refusal of its revision
 abbrev pub refused_by : Refusal → Refused
 refused_by NotLeaf = Conflict
 refused_by Full = BadHistory
 refused_by Known = Conflict
 
--- why it is refused, if it is: it names no revision, though its document is there; or no revision of this id is made over its base
+-- why it is refused, if it is: it names no revision, though its document is there; or its base refuses a revision of this id
 abbrev pub refusal_over : History → Option Revision → List ℕ → Option Refused
 refusal_over h named id = if is_unnamed h named then Some Conflict else option_map refused_by (refusal_of h (base_of h named) id)
 
--- the path that it brings: the revision of this id over a base, or the first of a document, and behind it the base
+-- the path that it brings: the revision of this id, and after it the base, if there is one
 abbrev pub made_over : Option Revision → List ℕ → Accepted
 made_over base id = (next_revision base id, option_to_list base)
 
--- what is accepted, if it is not refused
+-- the accepted path, unless there is a refusal
 abbrev pub unless : Option Refused → Accepted → Result Accepted Refused
 unless None accepted = Ok accepted
 unless (Some refused) accepted = Err refused
 
--- the path that it brings by the id that its base and its body give, or why it is refused
+-- the path that it brings, its id the digest over its base and its body; or why it is refused
 abbrev pub extended : History → Bool → Value → Option Revision → Result Accepted Refused
 extended h deleted body named =
     let base = base_of h named in
@@ -63,14 +63,14 @@ extended h deleted body named =
 
 -- ---- an edit that a replica made
 
--- its path is accepted where it fits
+-- its path is accepted if it fits
 abbrev pub replicated : History → List Revision → Result Accepted Refused
 replicated h [] = Err BadHistory
 replicated h (r ∷ rs) = if fits h (r ∷ rs) then Ok (r, rs) else Err BadHistory
 
 -- ---- either
 
--- the path that is accepted, or why none is
+-- the accepted path, or why the edit is refused
 abbrev pub accepted_of : History → Bool → Value → Change → Result Accepted Refused
 accepted_of h deleted body (New named) = extended h deleted body named
 accepted_of h deleted body (Replica run) = replicated h run
@@ -83,7 +83,7 @@ abbrev pub history_after : History → Edit → Result Accepted Refused → Hist
 history_after h e (Ok a) = with_path h (path_of (a.0 ∷ a.1) e.deleted e.body)
 history_after h e (Err refused) = h
 
--- the history after the edit. A refusal leaves it as it was
+-- the history after the edit; a refusal leaves it as it was
 abbrev pub edited : History → Edit → History
 edited h e = history_after h e (accepted_by h e)
 
@@ -98,7 +98,7 @@ outcome_of h e = newest_accepted (accepted_by h e)
 
 -- ---- what is refused before a revision is made
 
--- every refusal but that of a made revision that is known
+-- every refusal but that of a made revision that is already known
 abbrev pub first_refusal : History → Change → Option Refused
 first_refusal h (New named) = if is_unnamed h named then Some Conflict else option_map refused_by (result_err (next_position h (base_of h named)))
 first_refusal h (Replica run) = if fits h run then None else Some BadHistory

@@ -1,4 +1,4 @@
--- The document that is served, after CouchDB's `GET` of a document: what the winner holds, with `_id` and `_rev` beside it.
+-- The document that is served, after CouchDB's `GET` of a document: the winner's body with `_id` and `_rev`.
 use Rattle.std.specs.Prelude.{ℕ, List, codes, Option, Some, None, option_and_then, if◌then◌else◌}
 use Rattle.mg_value.specs.Value.{Value, text, with_member}
 use Rattle.mg_revtree.specs.Revision.{revision_text}
@@ -8,7 +8,7 @@ use Rattle.mg_revtree.specs.History.{History, Leaf, winner_of}
 abbrev pub served_form : List ℕ → Leaf → Value
 served_form id l = with_member (codes "_id") (text id) (with_member (codes "_rev") (text (revision_text l.rev)) l.body)
 
--- a winner's form, none where it is deleted
+-- what is served of a winner: nothing if it is deleted
 abbrev pub shown_leaf : List ℕ → Leaf → Option Value
 shown_leaf id l = if l.deleted then None else Some (served_form id l)
 

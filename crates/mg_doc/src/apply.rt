@@ -16,7 +16,7 @@ use mg_revtree::{History, Rev, RevTree};
 use mg_value::Json;
 use std::alloc::Global;
 
-// Looks for a replica's path: its newest revision where it is known whole, and none where it fits and is not.
+// Looks up a replica's path: its newest revision if the path is known whole; `None` if it is not known whole, but fits.
 pub(crate) fn look_for(tree: &RevTree, path: &History) -> Result<Option<Rev>, EditError>
     ensures { (h : Paths) → StandsFor tree.now h → LooksFor h path.now result }
 {
@@ -44,7 +44,7 @@ pub(crate) fn merge(
     Ok(rev)
 }
 
-// The same with a copy of the body.
+// Merges the path of a replica, with a copy of the body.
 pub(crate) fn merge_by_copy(
     alloc: Global,
     tree: &mut RevTree,
@@ -59,7 +59,7 @@ pub(crate) fn merge_by_copy(
     Ok(merge(tree, path, deleted, body)?)
 }
 
-// Whether a revision may be made over a named one, or where none is named.
+// Checks whether a revision may be made over the named one, or without a name. Does not check whether it is already known.
 pub(crate) fn check_base(tree: &RevTree, named: Option<&Rev>) -> Result<(), Refused>
     ensures ok { OnOk result ((h : Paths) → StandsFor tree.now h → first_refusal h (New (option_copied named.entry)) ≡ None) }
     ensures err { IfErr result (λ e. (h : Paths) → StandsFor tree.now h → first_refusal h (New (option_copied named.entry)) ≡ Some e) }
@@ -69,7 +69,7 @@ pub(crate) fn check_base(tree: &RevTree, named: Option<&Rev>) -> Result<(), Refu
     Ok(())
 }
 
-// What is extended: the named revision, or where none is named a deleted winner, or nothing.
+// The base that is extended: the named revision; if none is named, a deleted winner, or nothing in an empty tree.
 fn base_over<'a>(tree: &'a RevTree, named: Option<&'a Rev>) -> Result<Option<&'a Rev>, Refused>
     ensures { (h : Paths) → StandsFor tree.now h → base_found h (option_copied named.entry) ≡ result_map_both option_copied (λ e. e) result }
 {
@@ -79,7 +79,7 @@ fn base_over<'a>(tree: &'a RevTree, named: Option<&'a Rev>) -> Result<Option<&'a
     }
 }
 
-// What is extended where no revision is named.
+// The base that is extended if no revision is named.
 fn base_unnamed(tree: &RevTree) -> Result<Option<&Rev>, Refused>
     ensures { (h : Paths) → StandsFor tree.now h → base_found h None ≡ result_map_both option_copied (λ e. e) result }
 {
@@ -93,7 +93,7 @@ fn base_unnamed(tree: &RevTree) -> Result<Option<&Rev>, Refused>
     }
 }
 
-// The same, copied.
+// A copy of the base that is extended if no revision is named.
 fn copied_base(alloc: Global, tree: &RevTree) -> Result<Option<Rev>, EditError>
     ensures { (h : Paths) → StandsFor tree.now h → CopyIs (base_found h None) result }
 {
@@ -103,7 +103,8 @@ fn copied_base(alloc: Global, tree: &RevTree) -> Result<Option<Rev>, EditError>
     }
 }
 
-// Makes a revision over the named one, or where none is named. Its id may have been made ahead, over the named one or over nothing.
+// Makes a revision over the named one, or over the base that is found without a name. Its id may have been made ahead, over the
+// named revision or over nothing.
 pub(crate) fn extend(
     alloc: Global,
     tree: &mut RevTree,
@@ -127,7 +128,7 @@ pub(crate) fn extend(
     }
 }
 
-// What was made over nothing, where nothing is extended.
+// Keeps an id that was made ahead over nothing, if nothing is extended.
 fn over_nothing(ahead: Option<String>, base: Option<&Rev>) -> Option<String>
     ensures { IfSome result (λ id. (ahead ≡ Some id) × (option_copied base.entry ≡ None)) }
 {
@@ -137,7 +138,7 @@ fn over_nothing(ahead: Option<String>, base: Option<&Rev>) -> Option<String>
     }
 }
 
-// The same with a copy of the body.
+// Makes a revision as `extend` does, with a copy of the body and with no id made ahead.
 pub(crate) fn extend_by_copy(
     alloc: Global,
     tree: &mut RevTree,
@@ -153,7 +154,7 @@ pub(crate) fn extend_by_copy(
     Ok(extend(alloc, tree, named, deleted, body, None)?)
 }
 
-// Makes a revision over a base, or the first of a document.
+// Makes a revision over a base, or the first revision of a document.
 fn extend_over(
     alloc: Global,
     tree: &mut RevTree,
@@ -176,7 +177,7 @@ fn extend_over(
     Ok(rev)
 }
 
-// The position over a base that has not the last one.
+// The position over a base. `RevTree::extend` refuses a base at the last position.
 fn position_over(base: Option<&Rev>) -> u32
     ensures { (position_below (option_copied base.entry) == 4294967295) ≡ false
         → result ≡ position_below (option_copied base.entry) + 1 }

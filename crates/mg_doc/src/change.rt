@@ -7,14 +7,14 @@ use std::alloc::Global;
 /// What an edit does to the revisions of its document.
 #[derive(Debug, Drop)]
 pub enum Change {
-    /// A new revision is made, over the one that is named, if one is.
+    /// A new revision is made, over the named one if there is one.
     New(Option<Rev>),
     /// The path of a replica is accepted.
     Replica(History),
 }
 
 impl Change {
-    // An equal change. Cost: a named revision, or the length of the path.
+    // A copy of the change. Cost: the length of the named revision, or of the path.
     pub(crate) fn copy(&self, alloc: Global) -> Result<Change, NoMemory>
         ensures { IfOk result (λ change. change ≡ self.now) }
     {
@@ -25,7 +25,7 @@ impl Change {
     }
 }
 
-// The revision that is named, if one is, copied.
+// A copy of the named revision, if there is one.
 fn copied(alloc: Global, named: Option<&Rev>) -> Result<Option<Rev>, NoMemory>
     ensures { IfOk result (λ copy. copy ≡ option_copied named.entry) }
 {

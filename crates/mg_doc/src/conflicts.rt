@@ -9,11 +9,11 @@ use mg_revtree::{Leaf, RevTree};
 use mg_value::{Json, NoMemory};
 use std::alloc::Global;
 
-/// A document with its conflicts beside it: `_conflicts`, the texts of the revisions of its losers, which are the leaves
-/// beside the winner that are not deleted, in their order. A document without losers is handed back as it came, and so
-/// is a value that is no object.
+/// Adds `_conflicts` to a document: an array of the revisions of its losers, as texts, best first. The losers are the leaves
+/// beside the winner that are not deleted. A document without losers comes back as it was, and so does a value that is not
+/// an object.
 ///
-/// Where there are none, no memory is needed. Cost: the number of the leaves, and the length of the texts. Source:
+/// Without losers, no memory is needed. Cost: the number of the leaves, and the length of the texts. Source:
 /// `conflicts` of `GET` and `_find` in CouchDB's API reference.
 pub fn with_conflicts(alloc: Global, document: Json, tree: &RevTree) -> Result<Json, NoMemory>
     ensures shown { IfOk result

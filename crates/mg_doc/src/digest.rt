@@ -10,8 +10,8 @@ use mg_revtree::Rev;
 use mg_value::{Json, NoMemory, write};
 use std::alloc::Global;
 
-/// The id of a new revision over a parent, or of a document's first: 32 lower hexadecimal digits of
-/// the MD5 of `[deleted, parent, body]` as compact text, the parent as its text or null.
+/// The id of a new revision over a parent, or of a document's first revision: the MD5 of the compact text of
+/// `[deleted, parent, body]`, in 32 lower-case hexadecimal digits. The parent is its text `N-id`, or null.
 ///
 /// Cost: the length of the body's text. Source: CouchDB's deterministic revision ids, RFC 1321.
 pub fn rev_id(
@@ -34,7 +34,8 @@ pub fn rev_id(
     Ok(hex::encode(alloc, hasher.finalize())?)
 }
 
-// The id of the revision that a new edit makes, where it extends what it names, or nothing. None of a replica's change.
+// The id of the revision that a new edit makes if it extends the revision that it names, or nothing. `None` for a replica's
+// change.
 pub(crate) fn id_ahead(
     alloc: Global,
     change: &Change,
@@ -49,7 +50,7 @@ pub(crate) fn id_ahead(
     }
 }
 
-// The id that was made ahead, and else the one that is made now.
+// The id that was made ahead; if there is none, one that is made now.
 pub(crate) fn id_over(
     alloc: Global,
     ahead: Option<String>,
@@ -66,7 +67,7 @@ pub(crate) fn id_over(
     }
 }
 
-// The compact text of a parent, as a text or null.
+// The parent in JSON: its text, or null.
 fn parent_text(alloc: Global, parent: Option<&Rev>) -> Result<Vec<u8>, NoMemory>
     ensures { IfOk result (λ b. b.items ≡ compact (text_of_parent (option_copied parent.entry))) }
 {

@@ -8,10 +8,11 @@ use mg_revtree::{Leaf, RevTree};
 use mg_value::{Json, NoMemory};
 use std::alloc::Global;
 
-/// The document that is served for an id: what the winning revision holds, and `_id` and `_rev` beside it. None where
-/// that revision deletes the document, or where the tree is empty.
+/// The document that is served for an id: the body of the winning revision with `_id` and `_rev`. `None` if that revision
+/// deletes the document, or if the tree is empty.
 ///
-/// Where there is none, no memory is needed. Cost: a copy of the body. Source: `GET` of a document in CouchDB's API reference.
+/// If there is no document, no memory is needed. Cost: a copy of the body. Source: `GET` of a document in CouchDB's API
+/// reference.
 pub fn served(alloc: Global, id: &str, tree: &RevTree) -> Result<Option<Json>, NoMemory>
     ensures served { IfOk result
         (λ o. (h : Paths) → StandsFor tree.now h → option_map view o ≡ served_of id.now h) }

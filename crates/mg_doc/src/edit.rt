@@ -25,7 +25,7 @@ pub struct Edit {
     change: Change,
     deleted: bool,
     body: Json,
-    // the id of the revision that a new edit makes, where it extends what it names, or nothing
+    // the id of the revision that a new edit makes if it extends the revision that it names, or nothing
     ahead: Option<String>,
 }
 
@@ -52,21 +52,20 @@ impl Model for Edit {
 }
 
 impl Edit {
-    /// Reads a document of a bulk, an object; its members are moved, none is copied.
+    /// Reads a document of a bulk, which is an object. Its members are moved, not copied.
     ///
     /// - `_id`: a text that is not empty and does not begin with an underscore. It may be absent.
     /// - `_rev`: the text `N-id` of a revision; `_revisions`: `{"start":N,"ids":[..]}`, a path,
-    ///   newest first, which counts where both are there. A replica has to give one of them.
-    /// - `_deleted`: true or false, and false where it is absent.
+    ///   newest first. If both are there, `_revisions` decides. A replica has to give one of them.
+    /// - `_deleted`: true or false; false if it is absent.
     /// - `_conflicts`, `_deleted_conflicts`, `_revs_info` and `_local_seq` are dropped.
     /// - The members whose names do not begin with an underscore are the body.
     ///
-    /// Errors, the first fault in this order: `BadMember` for another member that begins with an
-    /// underscore or for a bad `_deleted`, `BadId` for a bad `_id`, `BadRev` for a bad `_rev` or
-    /// `_revisions`, or for neither of them from a replica; `NoMemory` where a growth is refused, and never where the
-    /// document has a fault.
-    /// Cost: the number of the members and the length of the path, and of a new edit the length of its body's text, since the id of its
-    /// revision is made here, before a tree is asked. Source: CouchDB's `_bulk_docs`.
+    /// Errors, the first fault in this order: `BadMember` for any other member that begins with an
+    /// underscore, or for a bad `_deleted`; `BadId` for a bad `_id`; `BadRev` for a bad `_rev` or
+    /// `_revisions`, or if a replica gives neither; `NoMemory` if an allocation fails and the document has no fault.
+    /// Cost: the number of the members and the length of the path; for a new edit also the length of its body's text, because
+    /// the id of its revision is made here. Source: CouchDB's `_bulk_docs`.
     pub fn read(alloc: Global, document: Json, new_edit: bool) -> Result<Edit, DocError>
         requires { is_object (view document) ≡ true }
         ensures edit { Gives (edit_of new_edit (view document)) result }
@@ -85,7 +84,7 @@ impl Edit {
         self.id.as_deref()
     }
 
-    /// The edit with an id, where it has none. Takes no memory.
+    /// Sets the id of an edit that has none. Takes no memory.
     pub fn with_id(self, id: String) -> Edit
         requires { self.id ≡ None }
         ensures { result ≡ record self { id = Some (string_bytes id) } }
@@ -106,8 +105,8 @@ impl Edit {
         }
     }
 
-    /// An equal edit, which makes the id of its revision when it is applied. Errors: `NoMemory` where a growth was refused. Cost: its id,
-    /// its path and its body.
+    /// A copy of the edit, which makes the id of its revision when it is applied. Errors: `NoMemory` if an allocation fails. Cost:
+    /// the lengths of its id, its path and its body.
     pub fn copy(&self, alloc: Global) -> Result<Edit, NoMemory>
         ensures { IfOk result (λ edit. edit ≡ self.now) }
     {
@@ -120,11 +119,11 @@ impl Edit {
         })
     }
 
-    /// Looks what the edit would do to the tree of its document, before the tree is copied or changed: the revision of a
-    /// path that is known whole, which would change nothing; none where the edit is to be applied; or why it is refused,
-    /// but for a new revision that would be known already, which `apply` finds.
+    /// Foresees what the edit does to the tree of its document, without changing the tree. Returns the newest revision of a
+    /// path that is known whole, because that changes nothing; `None` if the edit is to be applied.
     ///
-    /// Errors: those of `apply`; no refusal needs memory. Cost: a path's look-ups, or a look at the leaves.
+    /// Errors: those of `apply`, except the `Conflict` of a made revision that is already known, which only `apply` finds. No
+    /// refusal needs memory. Cost: the look-ups of a path, or one look-up among the leaves.
     pub fn look(&self, tree: &RevTree) -> Result<Option<Rev>, EditError>
         ensures { (h : Paths) → StandsFor tree.now h → Foreseen h self.now result tree.now }
     {
@@ -137,17 +136,17 @@ impl Edit {
         }
     }
 
-    /// Applies the edit to the tree of its document, and gives the revision that it brings.
+    /// Applies the edit to the tree of its document, and returns the revision that the edit brings.
     ///
-    /// A new edit makes a revision over the one that it names, which has to be a leaf; with none
-    /// named, over a deleted winner, or at position 1 where the document is not there. The path of
+    /// A new edit makes a revision over the one that it names, which has to be a leaf. If it names none, it
+    /// makes one over a deleted winner, or at position 1 in an empty tree. The path of
     /// a replica is merged; one that is known whole changes nothing.
     ///
-    /// Errors: `Conflict` where the named revision is no leaf, where none is named and the document
-    /// is there, or where the made revision is known; `BadHistory` where the extended leaf has the
-    /// last position, 4,294,967,295, or where a replica's path does not fit; and else `NoMemory` where a growth is
-    /// refused: but for a made revision that is known, no refusal needs memory. A refusal leaves the tree as it was.
-    /// Cost: a copy of the body, but for a path that is known whole, and a step of the tree.
+    /// Errors: `Conflict` if the named revision is not a leaf, if none is named but the winner is not
+    /// deleted, or if the made revision is already known; `BadHistory` if the extended leaf has the
+    /// last position, 4,294,967,295, or if a replica's path does not fit; else `NoMemory` if an allocation fails. No refusal needs
+    /// memory, except that of a made revision that is already known. An error leaves the tree as it was.
+    /// Cost: a copy of the body, unless the path is known whole, and the cost of `RevTree::extend` or `RevTree::merge`.
     /// Source: CouchDB's `_bulk_docs` with `new_edits` true and false.
     pub fn apply(&self, alloc: Global, tree: &mut RevTree) -> Result<Rev, EditError>
         ensures applied { (h : Paths) → StandsFor tree.old h → Applied h self.now result tree.new }
@@ -164,8 +163,8 @@ impl Edit {
         }
     }
 
-    /// Does what `apply` does, and moves the body into the tree where the edit is accepted. Cost: a step of the tree, and the length of the
-    /// body's text where a deleted winner is extended that the edit does not name.
+    /// Does what `apply` does, without a copy of the body. Cost: that of `RevTree::extend` or `RevTree::merge`, and the length of
+    /// the body's text if the edit extends a deleted winner that it does not name.
     pub fn bring(self, alloc: Global, tree: &mut RevTree) -> Result<Rev, EditError>
         ensures applied { (h : Paths) → StandsFor tree.old h → Applied h self result tree.new }
         ensures unchanged { OnErr result (tree.new ≡ tree.old) }
@@ -187,7 +186,7 @@ impl Edit {
     }
 }
 
-// The id, if there is one, copied.
+// A copy of the id, if there is one.
 fn copied_id(alloc: Global, id: Option<&str>) -> Result<Option<String>, NoMemory>
     ensures { IfOk result (λ copy. option_map string_bytes copy ≡ option_map (λ s. s.now) id.entry) }
 {

@@ -6,16 +6,16 @@ use thiserror::Error;
 /// Why a document of a bulk was not read.
 #[derive(Clone, Copy, PartialEq, Eq, Debug, Drop, Error)]
 pub enum DocError {
-    /// A reserved name that no document may have, or a `_deleted` of another type than a flag.
+    /// A member with a reserved name that no document may have, or a `_deleted` that is not true or false.
     #[error("Bad special document member.")]
     BadMember,
-    /// An `_id` that cannot be one: no text, the empty text, or one with an underscore in front.
+    /// The `_id` is not a text, is empty, or begins with an underscore.
     #[error("Bad document id.")]
     BadId,
-    /// A `_rev` or `_revisions` that is none, or neither of them where a replica sends the document.
+    /// `_rev` or `_revisions` is malformed, or a replica gives neither.
     #[error("Invalid rev format.")]
     BadRev,
-    /// A growth was refused.
+    /// An allocation failed.
     #[error("out of memory")]
     NoMemory,
 }
@@ -23,11 +23,11 @@ pub enum DocError {
 /// Why an edit is refused.
 #[derive(Clone, Copy, PartialEq, Eq, Debug, Drop, Error)]
 pub enum Refused {
-    /// The revision that is edited is no leaf, or the document is there and none was named; or the revision that the
-    /// edit makes is known already.
+    /// The named revision is not a leaf; or none is named, but the document is there; or the revision that the edit makes is
+    /// already known.
     #[error("Document update conflict.")]
     Conflict,
-    /// The path gives a known revision another parent, or no position is left.
+    /// The path gives a known revision another parent, or the extended leaf has the last position.
     #[error("Revision history does not fit the document.")]
     BadHistory,
 }
@@ -35,14 +35,14 @@ pub enum Refused {
 /// Why an edit was not applied.
 #[derive(Clone, Copy, PartialEq, Eq, Debug, Drop, Error)]
 pub enum EditError {
-    /// The revision that is edited is no leaf, or the document is there and none was named; or the revision that the
-    /// edit makes is known already.
+    /// The named revision is not a leaf; or none is named, but the document is there; or the revision that the edit makes is
+    /// already known.
     #[error("Document update conflict.")]
     Conflict,
-    /// The path gives a known revision another parent, or no position is left.
+    /// The path gives a known revision another parent, or the extended leaf has the last position.
     #[error("Revision history does not fit the document.")]
     BadHistory,
-    /// A growth was refused.
+    /// An allocation failed.
     #[error("out of memory")]
     NoMemory,
 }

@@ -1,4 +1,4 @@
-// Whether `_rev` and `_revisions` give a change, found before memory is needed, so that no want of memory hides a fault.
+// Whether `_rev` and `_revisions` give a change. This is found before memory is needed, so that `NoMemory` never hides a fault.
 ghost use Rattle.std.specs.Prelude.{◌≡◌, Some, codes, is_some, map, option_and_then, option_map, pos};
 ghost use Rattle.std.specs.List.{list_all};
 ghost use Rattle.mg_value.specs.Value.{get_member, whole};
@@ -13,7 +13,7 @@ use mg_value::Json;
 use std::alloc::Global;
 use std::collections::BTreeMap;
 
-// Whether the members give a change: both are well formed where they are there, and a replica gives one of them.
+// Whether the members give a change: each of the two is well formed if it is there, and a replica gives at least one.
 pub(crate) fn gives_change(alloc: Global, members: &BTreeMap<String, Json>, new_edit: bool) -> bool
     ensures { result ≡ is_some (change_given new_edit (members_view members.now.entries)) }
 {
@@ -22,7 +22,7 @@ pub(crate) fn gives_change(alloc: Global, members: &BTreeMap<String, Json>, new_
     is_change(new_edit, rev, path)
 }
 
-// Whether what is there of the two is enough, where neither has another form.
+// Whether `_rev` and `_revisions` are enough for a change. `None` stands for a malformed one.
 fn is_change(new_edit: bool, rev: Option<bool>, path: Option<bool>) -> bool
     ensures { result ≡ is_enough new_edit rev path }
 {
@@ -32,7 +32,7 @@ fn is_change(new_edit: bool, rev: Option<bool>, path: Option<bool>) -> bool
     }
 }
 
-// Whether `_rev` names a revision. None where it has another form.
+// Whether `_rev` is there; `None` if it is malformed.
 #[tactic(auto, using(crate::proofs::Forms::there_or_none))]
 fn names_revision(alloc: Global, member: Option<&Json>) -> Option<bool>
     ensures { result ≡ option_map is_some (rev_of (option_map (λ v. view v.now) member.entry)) }
@@ -44,7 +44,7 @@ fn names_revision(alloc: Global, member: Option<&Json>) -> Option<bool>
     }
 }
 
-// Whether a text is a revision. Its form is looked at before memory is taken.
+// Whether a text is a revision. `Rev::parse` checks the form before it allocates, so `NoMemory` means a good form.
 #[tactic(auto, using(crate::proofs::Forms::there_unless_none))]
 fn is_revision(alloc: Global, text: &str) -> bool
     ensures { result ≡ is_some (revision_of text.now) }
@@ -56,7 +56,7 @@ fn is_revision(alloc: Global, text: &str) -> bool
     }
 }
 
-// Whether `_revisions` gives a path. None where it has another form.
+// Whether `_revisions` is there; `None` if it is malformed.
 #[tactic(auto, using(crate::proofs::Forms::there_or_none))]
 fn gives_path(member: Option<&Json>) -> Option<bool>
     ensures { result ≡ option_map is_some (revisions_of (option_map (λ v. view v.now) member.entry)) }
@@ -68,7 +68,7 @@ fn gives_path(member: Option<&Json>) -> Option<bool>
     }
 }
 
-// Whether `start` and `ids` are those of a path.
+// Whether `start` and `ids` give a path.
 fn is_path(members: &BTreeMap<String, Json>) -> bool
     ensures { result ≡ is_some (run_at
         (get_member (codes "start") (members_view members.now.entries))
@@ -86,7 +86,7 @@ fn is_path_from(start: Option<&Json>, ids: Option<&Json>) -> bool
     }
 }
 
-// Whether the ids are those of a path from a position down.
+// Whether `ids` gives the ids of a path whose newest revision is at position `start`.
 fn is_path_at(start: u32, ids: Option<&Json>) -> bool
     ensures { result ≡ is_some (run_at (Some (whole (pos start))) (option_map (λ v. view v.now) ids.entry)) }
 {
@@ -96,7 +96,7 @@ fn is_path_at(start: u32, ids: Option<&Json>) -> bool
     }
 }
 
-// Whether these are ids, at least one, and at most as many as there are positions.
+// Whether these are 1 to `start` ids of revisions.
 #[tactic(auto, using(crate::proofs::Forms::path_of_ids))]
 fn is_path_of(start: u32, ids: &[Json]) -> bool
     ensures { result ≡ is_some (option_and_then (run_of start) (ids_of_path (items_view ids.now))) }

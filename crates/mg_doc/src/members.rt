@@ -7,7 +7,7 @@ use crate::error::DocError;
 use mg_value::Json;
 use std::collections::BTreeMap;
 
-// The mark of a document, where its reserved names are those of a document.
+// The deletion mark of a document. `BadMember` also if a reserved name is not one that a document may have.
 pub(crate) fn checked_mark(members: &BTreeMap<String, Json>) -> Result<bool, DocError>
     ensures { result ≡ mark_read (members_view members.now.entries) }
 {
@@ -17,7 +17,7 @@ pub(crate) fn checked_mark(members: &BTreeMap<String, Json>) -> Result<bool, Doc
     mark(members.get("_deleted")).ok_or(DocError::BadMember)
 }
 
-// The id of a document, taken out of its members.
+// Takes the id of a document out of its members. `None` if `_id` is malformed, `Some(None)` if it is absent.
 pub(crate) fn take_id(members: &mut BTreeMap<String, Json>) -> Option<Option<String>>
     ensures id { option_map (option_map string_bytes) result
         ≡ id_of (get_member (codes "_id") (members_view members.old.entries)) }
@@ -30,7 +30,7 @@ pub(crate) fn take_id(members: &mut BTreeMap<String, Json>) -> Option<Option<Str
     document_id(members.remove("_id"))
 }
 
-// Leaves the body's members: those whose names are not reserved.
+// Keeps only the body's members: those whose names are not reserved.
 pub(crate) fn keep_own(members: &mut BTreeMap<String, Json>)
     ensures { members_view members.new.entries ≡ own (members_view members.old.entries) }
 {
@@ -63,7 +63,7 @@ fn is_special(name: &str) -> bool
     )
 }
 
-// The mark that `_deleted` gives: true or false, and false where it is absent.
+// The mark that `_deleted` gives: true or false; false if it is absent.
 fn mark(member: Option<&Json>) -> Option<bool>
     ensures { result ≡ mark_of (option_map (λ v. view v.now) member.entry) }
 {
@@ -74,7 +74,7 @@ fn mark(member: Option<&Json>) -> Option<bool>
     }
 }
 
-// The id that `_id` gives, if it is there.
+// The id that `_id` gives. `None` if `_id` is malformed, `Some(None)` if it is absent.
 fn document_id(member: Option<Json>) -> Option<Option<String>>
     ensures { option_map (option_map string_bytes) result ≡ id_of (option_map view member) }
 {

@@ -11,8 +11,8 @@ use mg_value::Json;
 use std::alloc::Global;
 use std::collections::BTreeMap;
 
-// The change that a document asks for; of `_revisions` and `_rev` the first decides. A replica has to give a path.
-// `_revisions` is taken out of the members.
+// The change that a document asks for. If both `_revisions` and `_rev` are there, `_revisions` decides; a replica has to give
+// one of them. Takes `_revisions` out of the members.
 pub(crate) fn take_change(
     alloc: Global,
     members: &mut BTreeMap<String, Json>,
@@ -26,7 +26,7 @@ pub(crate) fn take_change(
     change_in(alloc, rev, revisions, new_edit)
 }
 
-// The change that a revision and a run ask for. The run goes first.
+// The change that a revision and a run ask for. If both are there, the run decides.
 fn change_in(
     alloc: Global,
     rev: Option<Rev>,
@@ -72,7 +72,7 @@ fn rev_in(alloc: Global, member: Option<&Json>) -> Result<Option<Rev>, DocError>
     }
 }
 
-// The path of one revision that was read.
+// The path that has this revision alone.
 fn path_of(alloc: Global, rev: Rev) -> Result<History, DocError>
     requires { IsRevision rev }
     ensures { Gives (Ok (rev ∷ [])) result }
@@ -105,7 +105,7 @@ fn path_in(alloc: Global, mut members: BTreeMap<String, Json>) -> Result<History
     path_at(alloc, start, members.remove("ids"))
 }
 
-// The position that `start` gives, if it is a whole number that is one.
+// The position that `start` gives: a whole number from 0 to 4,294,967,295.
 pub(crate) fn position(member: Option<&Json>) -> Option<u32>
     ensures { MatchOption result
         ((ids : Option Value) → run_at (option_map (λ v. view v.now) member.entry) ids ≡ None)
@@ -117,7 +117,7 @@ pub(crate) fn position(member: Option<&Json>) -> Option<u32>
     }
 }
 
-// The path from a position down.
+// The path whose newest revision is at position `start`.
 fn path_at(alloc: Global, start: u32, member: Option<Json>) -> Result<History, DocError>
     ensures { Gives
         (or_fault DocError.BadRev (run_at (Some (whole (pos start))) (option_map view member)))

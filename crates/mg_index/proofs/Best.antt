@@ -1,4 +1,4 @@
--- The least of a list, found from the front on.
+-- The least of a list, found from the first item to the last.
 use Rattle.std.proofs.Common.{◌≡◌, ℕ, zero, suc, ◌+◌, ◌<◌, ◌≤◌, Bool, true, false, cond, List, [], ◌∷◌, length, get_or, drop, ◌⊎◌, inl, inr, ⊎_elim, Option, Some, None, slice_get, refl, sym, subst, ap, ◌∙◌, arith}
 use Rattle.std.proofs.lemmas.Bool.{false≢true}
 use Rattle.std.proofs.lemmas.Cmp.{upto, tied_itself, then_total, on_total, back_total, nat_cmp_total, nat_list_cmp_total}
@@ -37,7 +37,7 @@ lesser_first {X} {R} o x y (Some z) = by_tests (is_gt (R x y)) (is_gt (R y z)) (
     by_tests false false true p q r = absurd (false≢true (sym (upto o x y z p q) ∙ r))
     by_tests false false false p q r = simp (p, q, r)
 
--- the order of preference is one
+-- the order of preference is a total order
 pub preference_total : (atoms : List Atom) (hint : Hint) → IsTotalOrder (preference atoms hint)
 preference_total atoms hint =
     then_total (back_total (on_total (is_hinted hint) bool_cmp_total))

@@ -133,7 +133,7 @@ in_order_at d e es h w Less eq = ((eq, below_all d e es eq h.0), h)
 in_order_at d e es h w Equal eq = (alike_all d e es eq h.0, h.1)
 in_order_at d e es h w Greater eq = (all_with (λ x. definition_order e x ≡ Less) d es (total.antisymm e d ∙ ap ordering_reverse eq) h.0, w)
 
--- with a definition more
+-- with one definition more
 pub IsCatalog-with : (d : IndexDefinition) (ds : List IndexDefinition) → IsCatalog ds → IsCatalog (with_definition d ds)
 IsCatalog-with d [] h = (tt, tt)
 IsCatalog-with d (e ∷ es) h = in_order_at d e es h (IsCatalog-with d es h.1) (definition_order d e) refl
@@ -150,7 +150,7 @@ in_order_without : (d : IndexDefinition) (ds more : List IndexDefinition) → Is
 in_order_without d ds more h w true = h
 in_order_without d ds more h w false = w
 
--- with one less
+-- with one definition less
 pub IsCatalog-without : (ddoc name : List ℕ) (ds : List IndexDefinition) → IsCatalog ds → IsCatalog (without_definition ddoc name ds)
 IsCatalog-without ddoc name [] h = tt
 IsCatalog-without ddoc name (d ∷ ds) h =
@@ -177,7 +177,7 @@ same_fields a b ddoc name texts columns direction =
     ∙ ap (λ x. made b.ddoc b.name x a.columns a.direction) texts ∙ ap (λ x. made b.ddoc b.name b.texts x a.direction) columns
     ∙ ap (λ x. made b.ddoc b.name b.texts b.columns x) direction
 
--- the test finds the same definition alone
+-- definitions that pass the test are the same
 pub same_definition : (a b : IndexDefinition) → is_same_definition a b ≡ true → a ≡ b
 same_definition a b h =
     let p = and_parts (is_at b.ddoc b.name a) (is_same a.direction b.direction && (path_eq a.texts b.texts && pointwise path_eq a.columns b.columns)) h in
@@ -191,17 +191,17 @@ same_definition a b h =
     let columns = (paths_eq-Decides a.columns b.columns).0 r.1 in
     same_fields a b ddoc name texts columns direction
 
--- and finds it
+-- a definition passes the test with itself
 pub finds_same : (a : IndexDefinition) → is_same_definition a a ≡ true
 finds_same a =
     ap₂ ◌&&◌ (ap₂ ◌&&◌ ((bytes_eq-Decides a.ddoc a.ddoc).1 refl) ((bytes_eq-Decides a.name a.name).1 refl))
     (ap₂ ◌&&◌ (is_same-itself a.direction) (ap₂ ◌&&◌ ((path_eq-Decides a.texts a.texts).1 refl) ((paths_eq-Decides a.columns a.columns).1 refl)))
 
--- the definition that was found is the one that is added
+-- if the found definition passes the test, it is the one that is added
 pub found_same : (d found : IndexDefinition) (o : Option IndexDefinition) → o ≡ Some found → is_same_definition d found ≡ true → o ≡ Some d
 found_same d found o h same = h ∙ ap (λ x. Some x) (sym (same_definition d found same))
 
--- or another one
+-- if the found definition does not pass the test, it is another one
 pub found_other : (d found : IndexDefinition) (o : Option IndexDefinition) → o ≡ Some found → is_same_definition d found ≡ false → o ≡ Some d → ⊥
 found_other d found o h other e =
     let equal : found ≡ d = cc (h, e) in
@@ -224,7 +224,7 @@ pub kept : (d : IndexDefinition) (ds : List IndexDefinition) → IsCatalog ds �
 kept d [] c at = absurd cc
 kept d (e ∷ es) c at = kept_at d e es c at (kept d es c.1) (definition_order d e) refl
 
--- the one that is found is the same
+-- a found definition that passes the test is the same
 the_same : (d : IndexDefinition) (o : Option IndexDefinition) → option_map_or (is_same_definition d) o false ≡ true → o ≡ Some d
 the_same d None h = absurd cc
 the_same d (Some e) h = found_same d e (Some e) refl h

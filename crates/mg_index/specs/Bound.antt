@@ -15,7 +15,7 @@ use Rattle.mg_index.specs.Definition.{Steps}
 use Rattle.mg_index.specs.declared.bound.Comparison.{Comparison}
 use Rattle.mg_index.specs.declared.bound.Comparison.TheVariants.{Below, AtMost, Exactly, AtLeast, Above}
 
--- a value of the column compares so with this value
+-- the values of a column have this comparison with this value
 pub record Bound : Type 0 where
   pub comparison : Comparison
   pub value : Value
@@ -23,7 +23,7 @@ pub record Bound : Type 0 where
 abbrev pub bound_by : Comparison → Value → Bound
 bound_by comparison value = record { comparison = comparison; value = value }
 
--- whether an order of two values is such a comparison
+-- whether the comparison allows this order of a value to the bound's value
 abbrev pub allows : Comparison → Ordering → Bool
 allows Below o = is_lt o
 allows AtMost o = is_le o
@@ -44,7 +44,7 @@ plain_bound (at_least v) = Some (bound_by AtLeast v)
 plain_bound (greater v) = Some (bound_by Above v)
 plain_bound o = None
 
--- the operator that holds of a part that is there where this one does not, of those that compare
+-- the opposite of an operator that compares: on a part that is there, it holds exactly if the operator does not
 abbrev pub opposite_of : Operator → Option Operator
 opposite_of (less v) = Some (at_least v)
 opposite_of (at_most v) = Some (greater v)
@@ -59,7 +59,7 @@ abbrev pub bound_in : Sense → Operator → Option Bound
 bound_in Plain o = plain_bound o
 bound_in Negated o = option_and_then plain_bound (opposite_of o)
 
--- the bound that the atom gives on the column, where it is asked of the part at that path
+-- the bound that the atom gives on the column, if it is on the part at that path
 abbrev pub bound_on : Steps → Atom → Option Bound
 bound_on column a = if path_eq a.steps column then bound_in a.sense a.operator else None
 
@@ -76,19 +76,19 @@ abbrev pub is_exactly : Comparison → Bool
 is_exactly Exactly = true
 is_exactly c = false
 
--- whether the bound does
+-- whether the bound allows one value alone
 abbrev pub is_exact : Bound → Bool
 is_exact b = is_exactly b.comparison
 
--- whether the atoms give such a bound on the column
+-- whether the atoms fix the value of the column: they give a bound on it that allows one value alone
 abbrev pub is_fixed : List Atom → Steps → Bool
 is_fixed atoms column = list_any is_exact (bounds_on atoms column)
 
--- whether they give any
+-- whether the atoms give any bound on the column
 abbrev pub is_bounded : List Atom → Steps → Bool
 is_bounded atoms column = list_any (λ b. true) (bounds_on atoms column)
 
--- how many columns are bounded: from the first on those whose value is fixed, and one more if the column after these has a bound
+-- how many columns are bounded: the leading ones whose value is fixed, and the next one if it has a bound
 abbrev pub bounded_count : List Atom → List Steps → ℕ
 bounded_count atoms [] = 0
 bounded_count atoms (c ∷ cs) = if is_fixed atoms c then suc (bounded_count atoms cs) else if is_bounded atoms c then 1 else 0

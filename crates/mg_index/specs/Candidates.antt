@@ -6,22 +6,22 @@ use Rattle.mg_index.specs.Choice.{Hint, is_hinted, lesser, preference}
 use Rattle.mg_index.specs.Definition.{IndexDefinition}
 use Rattle.mg_index.specs.declared.choice.Candidate.{Candidate}
 
--- the place is that of the definition
+-- the place, if there is one, is that of the best definition
 abbrev pub Names : List IndexDefinition → Option IndexDefinition → Option ℕ → Type 0
 Names ds best None = best ≡ None
 Names ds best (Some place) = (d : IndexDefinition) × (slice_get ds place ≡ Some d) × (best ≡ Some d)
 
--- what the candidate says of its definition is so
+-- the candidate is right about its definition: whether the hint names it, and how many of its columns are bounded
 pub record IsRanked (atoms : List Atom) (hint : Hint) (c : Candidate) : Type 0 where
   pub hinted : c.hinted ≡ is_hinted hint c.definition.now
   pub bounded : c.bounded ≡ bounded_count atoms c.definition.now.columns
 
--- it is so, and the definition stands at its place
+-- the candidate is right about its definition, and the definition is the one at its place
 pub record Describes (atoms : List Atom) (hint : Hint) (ds : List IndexDefinition) (c : Candidate) : Type 0 where
   pub ranked : IsRanked atoms hint c
   pub at : slice_get ds c.place ≡ Some c.definition.now
 
--- each is so described that is there
+-- the best candidate so far, if there is one, is right
 abbrev pub DescribesBest : List Atom → Hint → List IndexDefinition → Option Candidate → Type 0
 DescribesBest atoms hint ds None = Unit {0}
 DescribesBest atoms hint ds (Some c) = Describes atoms hint ds c

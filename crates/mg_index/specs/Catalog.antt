@@ -8,7 +8,7 @@ use Rattle.std.specs.declared.cmp.Ordering.{Ordering}
 use Rattle.std.specs.declared.cmp.Ordering.TheVariants.{Less}
 use Rattle.mg_index.specs.Definition.{IndexDefinition}
 
--- by design document, and where these tie by name
+-- orders by design document, then name
 abbrev pub definition_order : IndexDefinition → IndexDefinition → Ordering
 definition_order = then_cmp (on (λ d. d.ddoc) (slice_cmp nat_cmp)) (on (λ d. d.name) (slice_cmp nat_cmp))
 
@@ -20,7 +20,7 @@ is_at ddoc name d = bytes_eq ddoc d.ddoc && bytes_eq name d.name
 abbrev pub definition_at : List ℕ → List ℕ → List IndexDefinition → Option IndexDefinition
 definition_at ddoc name ds = find (is_at ddoc name) ds
 
--- the definitions with d in its place in the order, instead of one of the same design document and name
+-- the definitions with d at its place in the order, where d replaces one of the same design document and name
 abbrev pub with_definition : IndexDefinition → List IndexDefinition → List IndexDefinition
 with_definition d [] = d ∷ []
 with_definition d (e ∷ es) = match_ordering (definition_order d e) (d ∷ e ∷ es) (d ∷ es) (e ∷ with_definition d es)

@@ -1,6 +1,6 @@
--- Which index serves a query, after the selection of indexes and sorts in the CouchDB 3.x API reference: of the usable ones the
--- least in one total order, the index of all documents where there is none, if the sort allows it. How ties are decided is this
--- project's own choice.
+-- Which index serves a query, after the selection of indexes and sorts in the CouchDB 3.x API reference: the least usable one in a
+-- total order; if none is usable, the index of all documents, if the sort allows it. How ties are decided is this project's own
+-- choice.
 use Rattle.std.specs.Prelude.{ℕ, List, [], ◌∷◌, codes, Bool, true, false, not, ◌&&◌, ◌||◌, Option, Some, None, length, if◌then◌else◌}
 use Rattle.std.specs.List.{list_all, list_any, filter, starts_with}
 use Rattle.std.specs.Cmp.Lexicographic.{slice_cmp}
@@ -26,21 +26,21 @@ id_path = codes "_id" ∷ []
 abbrev pub rev_path : Steps
 rev_path = codes "_rev" ∷ []
 
--- the atom does not hold where its part is missing
+-- the atom fails if its part is missing
 abbrev pub needs_part : Atom → Bool
 needs_part a = not (operator_holds a.operator a.sense None)
 
--- the atom is asked of the column, and does not hold where that is missing
+-- the atom is on the column, and fails if that is missing
 abbrev pub asks_of : Steps → Atom → Bool
 asks_of column a = path_eq a.steps column && needs_part a
 
--- no document that a query with these atoms and this sort finds lacks the column: each document has it (`_id`, `_rev`), or the
--- sort names it, or some atom is asked of it that fails where the part is missing
+-- each document that a query with these atoms and this sort finds has the column: each document has it (`_id`, `_rev`), or the
+-- sort names it, or some atom on it fails if it is missing
 abbrev pub is_covered : List Atom → List Steps → Steps → Bool
 is_covered atoms sort column =
     path_eq column id_path || (path_eq column rev_path || (list_any (path_eq column) sort || list_any (asks_of column) atoms))
 
--- an index of these columns is usable for the query: each column is so covered, and they begin with the sort's paths
+-- an index of these columns is usable for the query: each column is covered, and the columns begin with the sort's paths
 abbrev pub is_usable : List Atom → List Steps → List Steps → Bool
 is_usable atoms sort columns = list_all (is_covered atoms sort) columns && starts_with path_eq columns sort
 
@@ -79,7 +79,7 @@ pub data Source : Type 0 where
   all_docs : Source
   defined : IndexDefinition → Source
 
--- the index of all documents, where it is usable
+-- the index of all documents, if it is usable
 abbrev pub all_docs_for : List Steps → Option Source
 all_docs_for sort = if all_docs_usable sort then Some all_docs else None
 

@@ -1,4 +1,4 @@
--- What the choice among usable indexes is: the least of them in a total order in which no two of a catalog tie.
+-- The choice among usable indexes: the least of them in a total order in which no two of a catalog tie.
 use Rattle.std.specs.Prelude.{◌≡◌, List, false, Some}
 use Rattle.std.specs.List.{All, Contains}
 use Rattle.std.specs.Cmp.{IsTotalOrder}
@@ -9,7 +9,7 @@ use Rattle.mg_normal.specs.Atoms.{Atom}
 use Rattle.mg_index.specs.Choice.{Hint, least, preference}
 use Rattle.mg_index.specs.Definition.{IndexDefinition}
 
--- it is one of the list, and stands above none of it
+-- x is in the list, and is not above any item of it
 abbrev pub IsLeast : {X : Type 0} → (X → X → Ordering) → List X → X → Type 0
 IsLeast order xs x = Contains xs x × All (λ y. is_gt (order x y) ≡ false) xs
 
@@ -17,7 +17,7 @@ IsLeast order xs x = Contains xs x × All (λ y. is_gt (order x y) ≡ false) xs
 abbrev pub PreferenceIsTotal : Type 0
 PreferenceIsTotal = (atoms : List Atom) (hint : Hint) → IsTotalOrder (preference atoms hint)
 
--- only definitions of one design document and name tie in it
+-- only definitions of the same design document and name tie in it
 abbrev pub PreferenceDecides : Type 0
 PreferenceDecides = (atoms : List Atom) (hint : Hint) (a b : IndexDefinition) → preference atoms hint a b ≡ Equal → (a.ddoc ≡ b.ddoc) × (a.name ≡ b.name)
 

@@ -6,7 +6,7 @@ use Rattle.mg_index.specs.Definition.{IndexDefinition}
 use Rattle.mg_index.specs.declared.catalog.Place.{Place}
 use Rattle.mg_index.specs.declared.catalog.Place.TheVariants.{At, Before}
 
--- the place is that of the definition of the same design document and name, or the one before which there is room for it
+-- the place of the definition of the same design document and name, or the place before which d is to be inserted
 abbrev pub IsPlaceOf : IndexDefinition → List IndexDefinition → Place → Type 0
 IsPlaceOf d ds (At n) = (n < length ds) × (with_definition d ds ≡ slice_set ds n d) × ((x : IndexDefinition) → definition_at d.ddoc d.name ds ≡ Some (slice_index_or ds n x))
 IsPlaceOf d ds (Before n) = (n ≤ length ds) × (with_definition d ds ≡ insert ds n d) × (definition_at d.ddoc d.name ds ≡ None)

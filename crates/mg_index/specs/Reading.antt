@@ -26,7 +26,7 @@ abbrev pub or_fault : {A : Type 0} → IndexError → Option A → Result A Inde
 or_fault e None = Err e
 or_fault e (Some x) = Ok x
 
--- what f gives of each, where it gives something of all
+-- what f gives of each item, if it gives something of all
 abbrev pub each_of : {A B : Type 0} → (A → Option B) → List A → Option (List B)
 each_of f [] = Some []
 each_of f (x ∷ xs) = option_and_then (λ y. option_map (λ ys. y ∷ ys) (each_of f xs)) (f x)
@@ -62,7 +62,7 @@ field_direction v = None
 
 -- ---- the columns
 
--- what the columns are: the texts of their paths, their steps, and their direction
+-- columns: the texts of their paths, their steps, and their direction
 pub record Columns : Type 0 where
   pub texts : List (List ℕ)
   pub steps : List Steps
@@ -73,7 +73,7 @@ is_same Asc Asc = true
 is_same Desc Desc = true
 is_same a b = false
 
--- the direction that all have, of one or more
+-- the direction that all columns have, of which there is at least one
 abbrev pub one_direction : List Direction → Result Direction IndexError
 one_direction [] = Err Shape
 one_direction (d ∷ ds) = if list_all (is_same d) ds then Ok d else Err Mixed
@@ -130,13 +130,13 @@ is_plain v =
 
 -- ---- the definition
 
--- what is given, or the digest of the fields; a design document that is not given is named by that digest too
+-- the definition of these columns; an absent name is the digest of the fields, and an absent design document is named by it too
 abbrev pub definition_named : Option (List ℕ) → Option (List ℕ) → Columns → IndexDefinition
 definition_named ddoc name c =
     let digest = fields_digest c.direction c.texts in
     record { ddoc = option_map_or design_document ddoc (design_front ++ digest); name = unwrap_or name digest; texts = c.texts; columns = c.steps; direction = c.direction }
 
--- the definition that a body is, or its fault
+-- the definition that a body gives, or its fault
 abbrev pub definition_of : Value → Result IndexDefinition IndexError
 definition_of v =
     if is_plain v then
@@ -146,12 +146,12 @@ definition_of v =
     Ok (definition_named ddoc name columns))))
     else Err Shape
 
--- a path's fault as the body's
+-- the fault of a body for a fault of a path
 abbrev pub fault_of_path : PathError → IndexError
 fault_of_path path_fault.Empty = Shape
 fault_of_path path_fault.NoMemory = NoMemory
 
--- what a call returned is what is read, unless a growth was refused
+-- a call returned what the definition gives, unless an allocation failed
 abbrev pub Gives : {X Y : Type 0} → (X → Y) → Result X IndexError → Result Y IndexError → Type 0
 Gives seen (Ok x) r = r ≡ Ok (seen x)
 Gives seen (Err NoMemory) r = Unit {0}

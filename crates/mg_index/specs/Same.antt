@@ -1,4 +1,4 @@
--- A test that two definitions are the same: of one design document and name, with the same paths and direction.
+-- A test that two definitions are the same: the same design document, name, path texts, columns and direction.
 use Rattle.std.specs.Prelude.{Bool, false, ◌&&◌, List}
 use Rattle.std.specs.Option.{option_map_or}
 use Rattle.std.specs.Cmp.Lexicographic.{pointwise}

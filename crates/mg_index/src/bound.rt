@@ -23,7 +23,7 @@ pub enum Comparison {
 }
 
 impl Comparison {
-    /// Whether an order of two values is such a comparison. Takes no memory.
+    /// Whether the comparison allows this order of a value to the bound's value. Takes no memory.
     pub fn allows(self, order: Ordering) -> bool
         ensures { result ≡ allows self order }
     {
@@ -40,16 +40,17 @@ impl Comparison {
 /// A bound on the values of a column: what an atom of a selector asks of them by the collation order.
 #[derive(Clone, Copy, Debug, Drop)]
 pub struct Bound<'a> {
-    /// How they compare with the value.
+    /// How the values of the column compare with the bound's value.
     pub comparison: Comparison,
     /// The value, lent by the atom.
     pub value: &'a Json,
 }
 
 impl<'a> Bound<'a> {
-    /// The bound that the atom gives on the column, if it is asked of the part at that path and bounds.
-    /// `$lt`, `$lte`, `$eq`, `$gte` and `$gt` bound, in the negated sense as their opposites, where `$ne`
-    /// counts as `$eq`; no other operator does. Takes no memory.
+    /// The bound that the atom gives on the column, if the atom is on the part at that path and its
+    /// operator bounds. `$lt`, `$lte`, `$eq`, `$gte` and `$gt` bound in the plain sense. In the negated
+    /// sense, `$lt`, `$lte`, `$gte` and `$gt` bound as their opposites, and `$ne` as `$eq`. Nothing else
+    /// bounds. Takes no memory.
     pub fn on(column: &Path, atom: &'a Atom) -> Option<Bound<'a>>
         ensures { option_map (λ b. bound_by b.comparison (view b.value.now)) result
             ≡ bound_on column.now (atom_view atom.now) }
@@ -62,7 +63,7 @@ impl<'a> Bound<'a> {
     }
 }
 
-// Whether the atom is asked of the part at the path.
+// Whether the atom is on the part at the path.
 pub(crate) fn is_asked_of(atom: &Atom, column: &Path) -> bool
     ensures { result ≡ path_eq (map string_bytes atom.now.steps.items) column.now }
 {
@@ -88,8 +89,8 @@ fn bound_of(op: &Op, negated: bool) -> Option<Bound<'_>>
     Some(Bound { comparison, value })
 }
 
-// How many columns are bounded: the leading ones whose value the atoms fix, and the next one where they
-// give any bound on it.
+// How many columns are bounded: the leading ones whose value the atoms fix, and the next one if they
+// give a bound on it.
 pub(crate) fn bounded_count(columns: &[Path], atoms: &[Atom]) -> usize
     ensures { result ≡ bounded_count (atoms_view atoms.now) columns.now }
 {

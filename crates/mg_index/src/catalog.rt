@@ -9,7 +9,7 @@ use std::alloc::Global;
 use std::cmp::Ordering;
 use std::marker::Model;
 
-/// The indexes of a database: at most one for each design document and name, in the order of these.
+/// The indexes of a database, sorted by design document, then name, with at most one for each such pair.
 #[derive(Debug, Drop)]
 pub struct Catalog {
     definitions: Vec<IndexDef>,
@@ -18,9 +18,9 @@ pub struct Catalog {
 /// What adding a definition did.
 #[derive(Clone, Copy, PartialEq, Eq, Debug, Drop)]
 pub enum Added {
-    /// The definition is new, or stands in the place of another of its design document and name.
+    /// The definition is new, or it replaced another one of its design document and name.
     Created,
-    /// The same definition was there.
+    /// The same definition was already there.
     Exists,
 }
 
@@ -58,7 +58,7 @@ impl Catalog {
 
     /// The definition of this design document and name, if there is one. Takes no memory.
     ///
-    /// Cost: each definition once. The design document is looked for as it is given.
+    /// Cost: each definition once. The design document is compared as it is given.
     pub fn find(&self, ddoc: &str, name: &str) -> Option<&IndexDef>
         ensures { option_map (λ d. d.now) result ≡ definition_at ddoc.now name.now self.now }
     {
@@ -87,9 +87,9 @@ impl Catalog {
 
     /// Adds the definition. Another one of its design document and name is replaced.
     ///
-    /// `Exists` is answered exactly where the same definition is there, with the same columns, path texts
+    /// Returns `Exists` exactly if the same definition was already there, with the same columns, path texts
     /// and direction; then nothing has changed.
-    /// Errors: `NoMemory` where a growth is refused; then nothing has changed. Cost: each definition once.
+    /// Errors: `NoMemory` if an allocation fails; then nothing has changed. Cost: each definition once.
     pub fn add(&mut self, definition: IndexDef) -> Result<Added, NoMemory>
         ensures ok { OnOk result (self.new ≡ with_definition definition self.old) }
         ensures exists { result ≡ Ok Added.Exists
@@ -115,10 +115,10 @@ impl Catalog {
         }
     }
 
-    /// Removes the definition of this design document and name, and says whether there was one. Takes no
+    /// Removes the definition of this design document and name, and returns whether there was one. Takes no
     /// memory.
     ///
-    /// Cost: each definition once. The design document is looked for as it is given.
+    /// Cost: each definition once. The design document is compared as it is given.
     pub fn remove(&mut self, ddoc: &str, name: &str) -> bool
         ensures removed { result ≡ is_some (definition_at ddoc.now name.now self.old) }
         ensures rest { self.new ≡ without_definition ddoc.now name.now self.old }
@@ -132,7 +132,7 @@ impl Catalog {
         }
     }
 
-    /// An equal catalog. Errors: `NoMemory` where a growth is refused. Cost: its size.
+    /// A copy of the catalog. Errors: `NoMemory` if an allocation fails. Cost: its size.
     pub fn copy(&self, alloc: Global) -> Result<Catalog, NoMemory>
         ensures { IfOk result (λ c. c ≡ self.now) }
     {
@@ -161,7 +161,7 @@ fn place_at(definitions: &[IndexDef], ddoc: &str, name: &str) -> Option<usize>
     None
 }
 
-// The place of a definition among those of a catalog.
+// The place of a definition in a catalog, or the place where it is to be inserted.
 fn place_of(definitions: &[IndexDef], definition: &IndexDef) -> Place
     requires { IsCatalog definitions.now }
     ensures { IsPlaceOf definition.now definitions.now result }

@@ -16,7 +16,7 @@ use mg_normal::{Atom, Normal};
 use mg_path::Path;
 use std::cmp::Ordering;
 
-/// What serves a query.
+/// The index that serves a query.
 #[derive(Clone, Copy, PartialEq, Eq, Debug, Drop)]
 pub enum Choice {
     /// The index of all documents, by id.
@@ -34,16 +34,15 @@ pub(crate) struct Candidate<'a> {
     bounded: usize,
 }
 
-/// The index that serves a query. Takes no memory.
+/// Chooses the index that serves a query. Takes no memory.
 ///
-/// An index can serve if no document that the query finds lacks one of its columns, and if the sort's paths are the
-/// first of these. No document lacks `_id` and `_rev`, and none that is found lacks what the sort names, or a part of
-/// which some atom is asked that fails where it is missing. Of the indexes that can serve, one that the hint names is
-/// before one that it does not name; then more bounded columns are before fewer, fewer columns before more, the lesser
-/// name before the greater, and so the lesser design document; the first one is taken. If none can, it is the index of
-/// all documents, for a query without a sort or with one by `_id` alone.
+/// An index is usable if its first columns are the sort's paths, and if every document that the query finds has all of its
+/// columns. A found document has `_id` and `_rev`, each path of the sort, and each part on which some atom fails if it is
+/// missing. Of the usable indexes, one that the hint names is preferred; then the one with more bounded columns, then with
+/// fewer columns, then with the lesser name, then with the lesser design document. If no index is usable, the index of all
+/// documents serves a query without a sort, or with a sort by `_id` alone.
 ///
-/// Errors: `NoUsableIndex` where that cannot serve either.
+/// Errors: `NoUsableIndex` if that index cannot serve either.
 /// Cost: for each definition its columns times the atoms. Source: the selection of indexes in CouchDB.
 pub fn choose(
     catalog: &Catalog,
@@ -88,7 +87,7 @@ fn preferred(definitions: &[IndexDef], atoms: &[Atom], sort: &[Path], hint: &Hin
     }
 }
 
-// The better of the two.
+// The preferred one of the best so far, if there is one, and the other.
 fn better<'a>(best: Option<Candidate<'a>>, other: Candidate<'a>) -> Candidate<'a>
     ensures described { (atoms : List AtomValue) (hint : HintValue) (ds : List IndexDefinition)
         → DescribesBest atoms hint ds best.entry → Describes atoms hint ds other.entry
@@ -107,7 +106,7 @@ fn better<'a>(best: Option<Candidate<'a>>, other: Candidate<'a>) -> Candidate<'a
     }
 }
 
-// The order of preference.
+// The order of preference; the lesser is preferred.
 fn order(a: &Candidate<'_>, b: &Candidate<'_>) -> Ordering
     ensures { (atoms : List AtomValue) (hint : HintValue)
         → IsRanked atoms hint a.now → IsRanked atoms hint b.now

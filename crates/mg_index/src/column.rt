@@ -82,7 +82,7 @@ fn read_directions(alloc: Global, fields: &[Json]) -> Result<Vec<Direction>, Ind
     Ok(directions)
 }
 
-// The direction that all have, of one or more.
+// The direction that all columns have. `Shape` without columns, `Mixed` if the directions differ.
 fn one_direction(directions: &[Direction]) -> Result<Direction, IndexError>
     ensures { Gives (λ d. d) result (shared_direction directions.now) }
 {

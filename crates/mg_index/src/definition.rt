@@ -19,8 +19,8 @@ use std::alloc::Global;
 use std::cmp::Ordering;
 use std::marker::Model;
 
-/// An index: the design document and the name that it is found by, its columns, one or more, and the
-/// direction that was given for them. An index is read in both directions.
+/// An index definition: the design document and the name that identify it, its columns, at least one, and
+/// the direction that was given for them. An index can be read in both directions.
 #[derive(Debug, Drop)]
 pub struct IndexDef {
     pub(crate) ddoc: String,
@@ -50,16 +50,16 @@ impl Model for IndexDef {
 impl IndexDef {
     /// Reads the body of an `_index`, an object:
     ///
-    /// - `index`, an object whose `fields` is an array of one or more columns, each the text of a path,
-    ///   which is ascending, or `{path: "asc"}` or `{path: "desc"}`.
-    /// - `ddoc` and `name`, texts that are not empty. A `ddoc` without `_design/` in front gets it. An
-    ///   absent name is the MD5, in lower hexadecimal, of
-    ///   `{"fields":[{path: direction},..]}` as compact text, and an absent ddoc is `_design/` and that digest.
-    /// - `type`, `json` if it is there; `partial_filter_selector`, here or in `index`, `{}` if it is
-    ///   there; `partitioned`, false if it is there. Other members are ignored.
+    /// - `index`, an object whose `fields` is an array of one or more columns, each `{path: "asc"}`,
+    ///   `{path: "desc"}`, or the text of a path, which is ascending.
+    /// - `ddoc` and `name`, texts that are not empty; both may be absent. `_design/` is put before a `ddoc`
+    ///   that does not begin with it. An absent name is the MD5, in lower-case hexadecimal, of the compact
+    ///   text of `{"fields":[{path: direction},..]}`, and an absent ddoc is `_design/` and that digest.
+    /// - `type`, which is `json`; `partial_filter_selector`, here or in `index`, which is `{}`;
+    ///   `partitioned`, which is false. Each may be absent. Other members are ignored.
     ///
-    /// Errors: `Shape` for any other body, or a path with an empty step; then `Mixed` for columns in both
-    /// directions; `NoMemory` where a growth is refused, and never where the body has a fault. Cost: the size of the body.
+    /// Errors: `Shape` for any other body, or for a path with an empty step; then `Mixed` for columns in both
+    /// directions; `NoMemory` if an allocation fails and the body has no fault. Cost: the size of the body.
     /// Source: `_index` of CouchDB's API reference.
     pub fn read(alloc: Global, body: &Json) -> Result<IndexDef, IndexError>
         ensures reading { Gives (λ d. d) result (definition_of (json_view body.now)) }
@@ -102,7 +102,7 @@ impl IndexDef {
     /// The index as it is listed, with the texts of its paths as they were given:
     /// `{"ddoc":..,"def":{"fields":[{path: direction},..]},"name":..,"type":"json"}`.
     ///
-    /// Errors: `NoMemory` where a growth is refused. Cost: the size of the definition.
+    /// Errors: `NoMemory` if an allocation fails. Cost: the size of the definition.
     pub fn listed(&self, alloc: Global) -> Result<Json, NoMemory>
         ensures { IfOk result (λ v. json_view v ≡ listed_of self.now) }
     {
@@ -115,7 +115,7 @@ impl IndexDef {
         Ok(listed)
     }
 
-    /// An equal definition. Errors: `NoMemory` where a growth is refused. Cost: its size.
+    /// A copy of the definition. Errors: `NoMemory` if an allocation fails. Cost: its size.
     pub fn copy(&self, alloc: Global) -> Result<IndexDef, NoMemory>
         ensures { IfOk result (λ d. d ≡ self.now) }
     {
@@ -135,7 +135,7 @@ impl IndexDef {
         ddoc == self.ddoc.as_str() && name == self.name.as_str()
     }
 
-    // The order of definitions in a catalog.
+    // The order of definitions in a catalog: by design document, then name.
     pub(crate) fn order(&self, other: &IndexDef) -> Ordering
         ensures { result ≡ definition_order self.now other.now }
     {
@@ -143,7 +143,8 @@ impl IndexDef {
         by_ddoc.then(self.name.as_str().cmp(other.name.as_str()))
     }
 
-    /// Whether the definitions are the same: of one design document and name, with the same paths and direction. Takes no memory.
+    /// Whether the definitions are the same: they have the same design document, name, path texts, columns and direction. Takes
+    /// no memory.
     pub fn is_same(&self, other: &IndexDef) -> bool
         ensures { result ≡ is_same_definition self.now other.now }
     {
@@ -154,7 +155,7 @@ impl IndexDef {
     }
 }
 
-// The fault of a body for which memory was refused, or that refusal.
+// After an allocation failed: the fault of the body, or `NoMemory` if it has none.
 fn fault_or_refusal(body: &Json) -> IndexError
     ensures { result ≡ unwrap_or (result_err (definition_of (json_view body.now))) IndexError.NoMemory }
 {

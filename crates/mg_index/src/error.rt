@@ -9,10 +9,10 @@ pub enum IndexError {
     /// The body or a member has the wrong shape, or a path has an empty step.
     #[error("wrong shape")]
     Shape,
-    /// Columns in both directions.
+    /// The columns have both directions.
     #[error("an index has one direction")]
     Mixed,
-    /// A growth was refused.
+    /// An allocation failed.
     #[error("out of memory")]
     NoMemory,
 }

@@ -69,7 +69,7 @@ fn is_column(field: &Json) -> bool
     }
 }
 
-// The fault of directions that are all there.
+// The fault of the directions of columns that each have one.
 fn direction_fault(fields: &[Json]) -> Option<IndexError>
     requires { is_some (each_of direction_given (map view fields.now)) ≡ true }
     ensures { result ≡ fault_of_directions (map view fields.now) }
@@ -83,7 +83,7 @@ fn direction_fault(fields: &[Json]) -> Option<IndexError>
     }
 }
 
-// `Mixed` where some of the others has not this direction.
+// `Mixed` if one of the others does not have this direction.
 fn mixed(direction: Direction, others: &[Json]) -> Option<IndexError>
     ensures { result ≡ (if list_all (gives_direction direction) (map view others.now) then None else Some IndexError.Mixed) }
 {

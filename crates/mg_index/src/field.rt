@@ -8,7 +8,7 @@ use mg_collate::Direction;
 use mg_value::Json;
 use std::collections::BTreeMap;
 
-/// Whether all the others are this direction. Takes no memory. Cost: their number.
+/// Whether all others have this direction. Takes no memory. Cost: their number.
 pub fn are_all(direction: Direction, others: &[Direction]) -> bool
     ensures { result ≡ list_all (are_same direction) others.now }
 {
@@ -45,7 +45,7 @@ pub fn field_path(field: &Json) -> Option<&str>
     }
 }
 
-/// A field's direction, if it has one: ascending where the field is a text. Takes no memory. Source: as of `field_path`.
+/// A field's direction, if it has one: ascending if the field is a text. Takes no memory. Source: as for `field_path`.
 pub fn field_direction(field: &Json) -> Option<Direction>
     ensures { result ≡ direction_given (view field.now) }
 {

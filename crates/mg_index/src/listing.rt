@@ -10,9 +10,9 @@ use std::alloc::Global;
 
 const DESIGN_FRONT: &str = "_design/";
 
-/// The name of a design document: the text, with `_design/` in front where it does not begin so.
+/// The name of a design document: the text, with `_design/` put before it if it does not begin with that.
 ///
-/// Errors: `NoMemory` where a growth is refused. Cost: the length of the text.
+/// Errors: `NoMemory` if an allocation fails. Cost: the length of the text.
 pub fn design_document(alloc: Global, text: &str) -> Result<String, NoMemory>
     ensures { IfOk result (λ t. string_bytes t ≡ design_of text.now) }
 {
@@ -26,7 +26,7 @@ pub fn design_document(alloc: Global, text: &str) -> Result<String, NoMemory>
 /// The index of all documents as it is listed:
 /// `{"ddoc":null,"def":{"fields":[{"_id":"asc"}]},"name":"_all_docs","type":"special"}`.
 ///
-/// Errors: `NoMemory` where a growth is refused. Source: `_index` of CouchDB's API reference.
+/// Errors: `NoMemory` if an allocation fails. Source: `_index` of CouchDB's API reference.
 pub fn all_docs_listed(alloc: Global) -> Result<Json, NoMemory>
     ensures { IfOk result (λ v. view v ≡ listed_all_docs) }
 {
@@ -84,7 +84,7 @@ fn direction_word(direction: Direction) -> &'static str
     }
 }
 
-// The digest of the fields' compact text, in lower hexadecimal.
+// The MD5 of the fields' compact text, in lower-case hexadecimal.
 pub(crate) fn fields_digest(
     alloc: Global,
     direction: Direction,

@@ -7,7 +7,7 @@ use crate::definition::IndexDef;
 use mg_collate::Direction;
 use mg_path::Path;
 
-/// The sort of a query: its paths, none where it asks for no order, and their direction.
+/// The sort of a query: its paths and their direction. Without a sort, there are no paths.
 #[derive(Debug, Drop)]
 pub struct Sort {
     pub paths: Vec<Path>,

@@ -13,7 +13,7 @@ use mg_value::{Json, NoMemory};
 use std::alloc::Global;
 use std::collections::BTreeMap;
 
-// The definition that a body is.
+// The definition that a body gives.
 pub(crate) fn read_definition(alloc: Global, body: &Json) -> Result<IndexDef, IndexError>
     ensures { Gives (λ d. d) result (definition_of (view body.now)) }
 {
@@ -49,7 +49,7 @@ pub(crate) fn text_given(value: Option<&Json>) -> Result<Option<&str>, IndexErro
     }
 }
 
-// The definition of these columns. What is not given is named by the digest of the fields.
+// The definition of these columns. An absent name or design document is named by the digest of the fields.
 fn named(
     alloc: Global,
     ddoc: Option<&str>,
@@ -77,7 +77,7 @@ fn named(
     })
 }
 
-// Whether the body asks for a JSON index of all documents.
+// Whether the body asks for a JSON index of all documents: no other type, no partial filter, not partitioned.
 pub(crate) fn is_plain(body: &Json) -> bool
     ensures { result ≡ asks_plainly (view body.now) }
 {

@@ -49,7 +49,7 @@ fn is_among(paths: &[Path], column: &Path) -> bool
     false
 }
 
-// Whether some atom does not hold where the column is missing.
+// Whether some atom fails if the column is missing.
 fn is_asked_of_some(atoms: &[Atom], column: &Path) -> bool
     ensures { result ≡ list_any (asks_of column.now) (atoms_view atoms.now) }
 {
@@ -61,14 +61,14 @@ fn is_asked_of_some(atoms: &[Atom], column: &Path) -> bool
     false
 }
 
-// Whether the atom does not hold where the column is missing.
+// Whether the atom fails if the column is missing.
 fn asks_of(column: &Path, atom: &Atom) -> bool
     ensures { result ≡ asks_of column.now (atom_view atom.now) }
 {
     is_asked_of(atom, column) && needs_part(atom)
 }
 
-// Whether the atom does not hold where its part is missing.
+// Whether the atom fails if its part is missing.
 fn needs_part(atom: &Atom) -> bool
     ensures { result ≡ part_is_needed (atom_view atom.now) }
 {
@@ -91,7 +91,7 @@ pub(crate) fn is_all_docs_usable(sort: &[Path]) -> bool
     }
 }
 
-// Whether the path is the one step.
+// Whether the path is this one step.
 fn is_member(path: &Path, name: &str) -> bool
     ensures { result ≡ path_eq path.now (name.now ∷ []) }
 {

@@ -1,4 +1,4 @@
--- Where a selector holds, its atoms do.
+-- If a selector holds, its atoms do.
 use Rattle.std.proofs.Common.{◌≡◌, ℕ, Bool, true, false, ◌||◌, List, [], ◌∷◌, ◌++◌, Option, Some, None, option_and_then, refl, ap, ◌∙◌}
 use Rattle.std.proofs.lemmas.Bool.{and_parts}
 use Rattle.std.proofs.lemmas.List.Elements.{All-nil, All-cons, All-append}
@@ -17,7 +17,7 @@ part_of-append steps more None = refl
 part_of-append [] more (Some v) = refl
 part_of-append (step ∷ steps) more (Some v) = part_of-append steps more (part_at step v)
 
--- of one arm, some arm is that arm
+-- if some arm of a single arm holds, that arm holds
 only_one : (b : Bool) → (b || false) ≡ true → b ≡ true
 only_one true h = refl
 only_one false h = h

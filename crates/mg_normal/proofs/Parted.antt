@@ -1,4 +1,4 @@
--- A form holds where its atoms and what else it asks do.
+-- A form holds exactly if its atoms and its rest hold.
 use Rattle.std.proofs.Common.{◌≡◌, ℕ, Bool, true, false, ◌&&◌, List, [], ◌∷◌, ◌++◌, length, take, map, String, Global, string_bytes, Option, Some, None, option_and_then, option_map, refl, ap, ap₂, sym, ◌∙◌}
 use Rattle.mg_value.specs.Value.{Value}
 use Rattle.mg_path.specs.Part.{part_of}
@@ -74,7 +74,7 @@ every_form-with_left : (r : Option FormValue) (fs : Forms) (x : Option Value) �
 every_form-with_left None fs x = refl
 every_form-with_left (Some f) fs x = refl
 
--- of the part at the steps
+-- a form holds of the part at the steps exactly if its atoms and its rest hold
 mutual
   parted : (f : FormValue) (steps : List (List ℕ)) (x : Option Value)
       → form_holds f (option_and_then (part_of steps) x) ≡ (all_hold x (form_atoms f steps) && rest_holds (rest_of f) (option_and_then (part_of steps) x))
@@ -99,7 +99,7 @@ parted_whole : (f : FormValue) (x : Option Value) → form_holds f x ≡ (all_ho
 parted_whole f None = parted f [] None
 parted_whole f (Some v) = parted f [] (Some v)
 
--- atoms and the rest of a form that says what a selector does hold where the selector does
+-- the atoms and the rest of a form that stands for a selector hold together exactly if the selector holds
 pub normal_meaning : (s : Selector) (f : FormValue) (atoms : List Atom) (rest : Option FormValue) → Says (holds_in s Plain) (atoms_in s Plain) f
     → atoms ≡ form_atoms f [] → rest ≡ rest_of f → (x : Option Value) → (all_hold x atoms && rest_holds rest x) ≡ holds_in s Plain x
 normal_meaning s f atoms rest says a r x = ap₂ (λ ys q. all_hold x ys && rest_holds q x) a r ∙ sym (parted_whole f x) ∙ says.0 x

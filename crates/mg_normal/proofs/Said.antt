@@ -63,13 +63,13 @@ all_said ss sense forms h =
     let fs = forms_view forms.items in
     subst (Says (every_arm ss sense) (arms_atoms ss sense)) (sym (form_of-All forms)) (every_said ss sense fs h, atoms_said ss sense fs h)
 
--- some of the forms, that some arm holds, where there is one
+-- some of the forms say that some arm holds, if there is an arm
 pub any_said : (ss : Arms) (sense : Sense) (forms : Vec Form Global) → AllSay ss sense (forms_view forms.items) → Says (λ x. is_no_arms ss || some_arm ss sense x) no_atoms (form_of (made.Any forms))
 any_said ss sense forms h =
     let fs = forms_view forms.items in
     subst (Says (λ x. is_no_arms ss || some_arm ss sense x) no_atoms) (sym (form_of-Any forms)) (λ x. ap₂ ◌||◌ (no_forms_said ss sense fs h) (some_said ss sense fs h x), λ steps. refl)
 
--- an object that has not just one member says what a conjunction does
+-- an object that does not have exactly one member asks what a conjunction asks
 pub object_said : (ss : List Sel) (sense : Sense) (f : FormValue) → (length ss ≡ 1 → ⊥)
     → Says (holds_in (every (arms_view ss)) sense) (atoms_in (every (arms_view ss)) sense) f
     → Says (holds_in (members (arms_view ss)) sense) (atoms_in (members (arms_view ss)) sense) f

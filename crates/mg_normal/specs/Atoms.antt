@@ -1,6 +1,6 @@
--- The atoms of a selector: operators that it asks in any case, each of the part at a whole path; index ranges come from them.
--- That an object of several members has none in the negated sense, and `$or` of one arm none in the plain one, is this project's
--- own choice. What stands inside `$elemMatch` and `$allMatch` is asked of elements, so that these are atoms themselves.
+-- The atoms of a selector: operators that have to hold for it to hold, each on the part at a whole path. Index ranges come from them.
+-- An object of several members has no atoms in the negated sense, and `$or` of one arm has none in the plain sense; this is the
+-- project's own choice. Operators inside `$elemMatch` and `$allMatch` are asked of elements, so `$elemMatch` and `$allMatch` are atoms.
 use Rattle.std.specs.Prelude.{ℕ, Bool, List, [], ◌∷◌, ◌++◌, Option, option_and_then}
 use Rattle.mg_value.specs.Value.{Value}
 use Rattle.mg_path.specs.Part.{part_of}
@@ -9,7 +9,7 @@ use Rattle.mg_selector.specs.Selector.{Selector, members, every, some, none, opp
 use Rattle.mg_selector.specs.declared.sense.Sense.{Sense}
 use Rattle.mg_selector.specs.declared.sense.Sense.TheVariants.{Plain, Negated}
 
--- an operator that is no combinator, asked in a sense of the part at the steps
+-- an operator, in a sense, on the part at the steps
 pub record Atom : Type 0 where
   pub steps : List (List ℕ)
   pub operator : Operator
@@ -22,10 +22,10 @@ atom_holds x a = operator_holds a.operator a.sense (option_and_then (part_of a.s
 abbrev mutual
   -- the atoms of a selector that is asked, in the sense, of the part at the steps
   pub atoms_in : Selector → Sense → List (List ℕ) → List Atom
-  -- of an object: its members' in the plain sense, and in the negated those of its only member
+  -- an object: the atoms of its members in the plain sense, those of its only member in the negated sense
   atoms_in (members ss) Plain steps = arms_atoms ss Plain steps
   atoms_in (members ss) Negated steps = only_atoms ss Negated steps
-  -- of arms: where all are asked, and none where one is enough
+  -- arms: the atoms of all arms if all have to hold, and none if one arm is enough
   atoms_in (every ss) Plain steps = arms_atoms ss Plain steps
   atoms_in (every ss) Negated steps = []
   atoms_in (some ss) Plain steps = []
@@ -38,12 +38,12 @@ abbrev mutual
   -- the operator itself
   atoms_in (asks o) sense steps = record { steps = steps; operator = o; sense = sense } ∷ []
 
-  -- those of each arm
+  -- the atoms of each arm
   pub arms_atoms : Arms → Sense → List (List ℕ) → List Atom
   arms_atoms no_arms sense steps = []
   arms_atoms (arm s ss) sense steps = atoms_in s sense steps ++ arms_atoms ss sense steps
 
-  -- those of the only arm
+  -- the atoms of the only arm
   pub only_atoms : Arms → Sense → List (List ℕ) → List Atom
   only_atoms (arm s no_arms) sense steps = atoms_in s sense steps
   only_atoms ss sense steps = []

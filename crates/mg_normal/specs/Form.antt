@@ -1,5 +1,5 @@
--- Selectors in which a negation stands on an operator alone, after the selector syntax of the CouchDB 3.x API reference and
--- De Morgan's laws. That no forms hold, also where one of them would do, is this project's own choice, as for selectors.
+-- Selectors in which only operators are negated, after the selector syntax of the CouchDB 3.x API reference and De Morgan's laws.
+-- An empty list of forms holds, even where one form would be enough; this is the project's own choice, as for selectors.
 use Rattle.std.specs.Prelude.{ℕ, Bool, true, false, ◌&&◌, ◌||◌, List, Option, option_and_then}
 use Rattle.mg_value.specs.Value.{Value}
 use Rattle.mg_path.specs.Part.{part_of}
@@ -8,11 +8,11 @@ use Rattle.mg_selector.specs.Selector.{Operator}
 use Rattle.mg_selector.specs.declared.sense.Sense.{Sense}
 
 mutual
-  -- what a selector asks, with no negation but that of an operator
+  -- a selector in which only operators are negated
   pub data Form : Type 0 where
     -- all of the forms
     all_of : Forms → Form
-    -- some of the forms, where there are any
+    -- some of the forms; an empty list holds
     any_of : Forms → Form
     -- the form on the part at the steps
     within : List (List ℕ) → Form → Form
@@ -30,7 +30,7 @@ is_no_forms no_forms = true
 is_no_forms (form f fs) = false
 
 abbrev mutual
-  -- the form holds of the part, where it is there
+  -- the form holds of the part, which may be missing
   pub form_holds : Form → Option Value → Bool
   form_holds (all_of fs) x = every_form fs x
   form_holds (any_of fs) x = is_no_forms fs || some_form fs x

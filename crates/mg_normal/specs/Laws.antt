@@ -1,4 +1,4 @@
--- What atoms are for: each is a condition that a document has to meet for the selector to hold, so that a search may begin with it.
+-- What atoms are for: a document has to meet each of them for the selector to hold, so a search may begin with them.
 use Rattle.std.specs.Prelude.{◌≡◌, true, Option}
 use Rattle.std.specs.List.{All}
 use Rattle.mg_value.specs.Value.{Value}
@@ -7,6 +7,6 @@ use Rattle.mg_selector.specs.Selector.{Selector}
 use Rattle.mg_selector.specs.declared.sense.Sense.TheVariants.{Plain}
 use Rattle.mg_normal.specs.Atoms.{atoms_of, atom_holds}
 
--- where a selector holds, each of its atoms does
+-- if a selector holds, each of its atoms does
 abbrev pub AtomsAreNecessary : Type 0
 AtomsAreNecessary = (s : Selector) (x : Option Value) → holds_in s Plain x ≡ true → All (λ a. atom_holds x a ≡ true) (atoms_of s)

@@ -1,4 +1,4 @@
--- What a normal form of a selector is: its atoms and what else it asks, which hold together of the same documents.
+-- The normal form of a selector: its atoms and the rest, which together hold of the same documents as the selector.
 use Rattle.std.specs.Prelude.{◌≡◌, Bool, true, ◌&&◌, List, Option, Some, None, refl}
 use Rattle.std.specs.Coded.{Coded, code_by, coded×, coded_list, coded_option}
 use Rattle.std.specs.List.{list_all}
@@ -23,16 +23,16 @@ normal_code = code_by (List Atom × Option Form) (coded× (coded_list atom_code)
 abbrev pub all_hold : Option Value → List Atom → Bool
 all_hold x atoms = list_all (atom_holds x) atoms
 
--- the form holds of the document, where there is a form
+-- the form holds of the document; true without a form
 abbrev pub rest_holds : Option Form → Option Value → Bool
 rest_holds None x = true
 rest_holds (Some f) x = form_holds f x
 
--- it holds of the document, where it is there
+-- the normal form holds of the document, which may be missing
 abbrev pub normal_holds : NormalForm → Option Value → Bool
 normal_holds n x = all_hold x n.atoms && rest_holds n.rest x
 
--- it is one of the selector
+-- the normal form is one of the selector: it holds of the same documents, and its atoms are the selector's
 pub record IsNormalOf (s : Selector) (n : NormalForm) : Type 0 where
   pub meaning : (x : Option Value) → normal_holds n x ≡ holds_in s Plain x
   pub atoms : n.atoms ≡ atoms_of s

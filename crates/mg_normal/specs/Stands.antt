@@ -8,24 +8,24 @@ use Rattle.mg_normal.specs.Atoms.{Atom, atoms_in}
 use Rattle.mg_normal.specs.Form.{Form, Forms, all_of, any_of, within, asked, no_forms, form, form_holds}
 
 abbrev mutual
-  -- the operators that the form asks, of the part at the steps, under no choice
+  -- the operators that have to hold for the form to hold, on the part at the steps
   pub form_atoms : Form → List (List ℕ) → List Atom
   form_atoms (all_of fs) steps = forms_atoms fs steps
   form_atoms (any_of fs) steps = []
   form_atoms (within more f) steps = form_atoms f (steps ++ more)
   form_atoms (asked o sense) steps = record { steps = steps; operator = o; sense = sense } ∷ []
 
-  -- those of each form
+  -- the atoms of each form
   pub forms_atoms : Forms → List (List ℕ) → List Atom
   forms_atoms no_forms steps = []
   forms_atoms (form f fs) steps = form_atoms f steps ++ forms_atoms fs steps
 
--- the forms as one, where there are any
+-- all of the forms as one form, if there are any
 abbrev pub all_left : Forms → Option Form
 all_left no_forms = None
 all_left (form f fs) = Some (all_of (form f fs))
 
--- the forms, after the one that is left, if it is
+-- the forms, with what is left of one more form in front, if anything is left
 abbrev pub with_left : Option Form → Forms → Forms
 with_left None fs = fs
 with_left (Some f) fs = form f fs

@@ -7,10 +7,10 @@ use mg_path::part_at;
 use mg_selector::{Op, Sense};
 use mg_value::LentValue;
 
-/// What a selector asks in any case: an operator, in a sense, of the part at a whole path.
+/// A condition that a document has to meet for a selector to hold: an operator, in a sense, on the part at a whole path.
 #[derive(Debug, Drop)]
 pub struct Atom {
-    /// The steps from the top of the document; none for the document itself.
+    /// The steps from the top of the document; empty for the document itself.
     pub steps: Vec<String>,
     /// The operator, with its argument.
     pub op: Op,
@@ -47,7 +47,7 @@ fn sense_of(negated: bool) -> Sense
     }
 }
 
-// Whether the sense is the negated one, as an atom marks it.
+// Whether the sense is the negated one.
 pub(crate) fn is_negated(sense: Sense) -> bool
     ensures { sense_of result ≡ sense }
 {

@@ -1,12 +1,12 @@
 use mg_path::Path;
 use mg_selector::{Op, Sense};
 
-/// What a selector asks, with no negation but that of an operator.
+/// A selector in which only operators are negated.
 #[derive(Debug, Drop)]
 pub(crate) enum Form {
     /// All of these.
     All(Vec<Form>),
-    /// Some of these, where there are any.
+    /// Some of these; an empty list holds.
     Any(Vec<Form>),
     /// The form on the part at the path.
     At(Path, Box<Form>),

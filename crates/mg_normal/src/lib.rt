@@ -1,4 +1,4 @@
-//! Selectors whose negations stand on their operators alone, and the atoms of selectors.
+//! The normal form of selectors, in which only operators are negated, and the atoms of selectors.
 #![tactic(auto)]
 
 mod atom;

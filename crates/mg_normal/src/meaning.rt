@@ -6,7 +6,7 @@ ghost use Rattle.mg_normal.specs.View.{form_of, forms_view};
 use crate::form::Form;
 use mg_value::{LentValue, lend_part};
 
-// Whether the form holds of the document, where there is a form.
+// Whether the form holds of the document; true without a form.
 pub(crate) fn rest_holds<L: LentValue>(rest: Option<&Form>, document: L) -> bool
     ensures { result ≡ rest_holds (option_map (λ f. form_of f.now) rest.entry) (Some (L.value document)) }
 {
@@ -41,7 +41,7 @@ fn every_form<L: LentValue>(forms: &[Form], part: Option<L>) -> bool
     true
 }
 
-// Or there is none.
+// True also for an empty list.
 #[cycle(holds)]
 fn some_form<L: LentValue>(forms: &[Form], part: Option<L>) -> bool
     ensures { result ≡ (is_no_forms (forms_view forms.now)

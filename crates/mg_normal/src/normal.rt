@@ -15,9 +15,9 @@ use std::alloc::Global;
 use std::marker::Model;
 
 /// A selector in its normal form: its negations are pushed inwards until each stands on an operator,
-/// and what it asks in any case stands apart, as atoms, from what it asks by choice.
+/// and the conditions that every match has to meet stand apart, as atoms, from the rest.
 ///
-/// An operator negated is not its complement: of a missing part neither holds, but for `$exists`.
+/// A negated operator is not the complement: on a missing part neither holds, except for `$exists`.
 /// An empty list of arms holds in both senses.
 #[derive(Debug, Drop)]
 pub struct Normal {
@@ -41,8 +41,8 @@ impl Model for Normal {
 impl Normal {
     /// The normal form of the selector, with its atoms.
     ///
-    /// Errors: `NoMemory` where a growth is refused. Cost: the size of the selector, each operator
-    /// being copied once, and for each atom the steps of its whole path.
+    /// Errors: `NoMemory` if an allocation fails. Cost: the size of the selector, with one copy of each
+    /// operator, and for each atom the steps of its whole path.
     /// Source: `$not`, `$and`, `$or` and `$nor` of CouchDB's `_find`.
     pub fn of(alloc: Global, selector: &Sel) -> Result<Normal, NoMemory>
         ensures { IfOk result (λ normal. IsNormalOf (selector_of selector.now) normal) }
@@ -56,8 +56,8 @@ impl Normal {
 
     /// Whether the selector holds of the document. No memory is taken.
     ///
-    /// Cost: each operator once, with the way to its part, an atom's from the top as far as the
-    /// document goes, and once more for each element that `$elemMatch` and `$allMatch` look at.
+    /// Cost: each operator once, with the way to its part, which for an atom begins at the top of the
+    /// document; inside `$elemMatch` and `$allMatch` once for each element that they look at.
     #[inline]
     pub fn holds(&self, value: &Json) -> bool
         ensures { result ≡ normal_holds self.now (Some (view value.now)) }
@@ -65,7 +65,7 @@ impl Normal {
         self.holds_of(value)
     }
 
-    /// Whether the selector holds of the lent document, as of `holds`. No memory is taken. Cost: as of `holds`.
+    /// Whether the selector holds of the lent document, as for `holds`. No memory is taken. Cost: as for `holds`.
     #[inline]
     pub fn holds_of<L: LentValue>(&self, value: L) -> bool
         ensures { result ≡ normal_holds self.now (Some (L.value value)) }
@@ -73,19 +73,20 @@ impl Normal {
         all_hold(&self.atoms, value.lend()) && rest_holds(self.rest.as_ref(), value)
     }
 
-    /// What the selector asks in any case, in reading order: the operators that are reached through
-    /// paths, `$not`, and all arms of what asks for all of them, which is an object, `$and` and
-    /// `$nor` in the plain sense, and `$or` in the negated. An object of one member is that member
-    /// in both senses. Nothing inside `$elemMatch` and `$allMatch` is taken. No memory is taken.
+    /// The conditions that every match has to meet, in reading order: the operators that are reached
+    /// through paths, `$not`, and lists of which all arms have to hold. Those lists are an object, `$and`
+    /// and `$nor` in the plain sense, and `$or` in the negated sense. An object of one member counts as
+    /// that member in both senses. Operators inside `$elemMatch` and `$allMatch` are left out. No memory
+    /// is taken.
     ///
-    /// Cost: none.
+    /// Cost: constant.
     pub fn atoms(&self) -> &[Atom]
         ensures { atoms_view result.now ≡ self.now.atoms }
     {
         &self.atoms
     }
 
-    /// Whether the selector asks anything besides its atoms. No memory is taken. Cost: none.
+    /// Whether the selector asks anything besides its atoms. No memory is taken. Cost: constant.
     pub fn has_rest(&self) -> bool
         ensures { result ≡ is_some self.now.rest }
     {

@@ -74,7 +74,7 @@ fn all_of(alloc: Global, arms: &[Sel], sense: Sense) -> Result<Form, NoMemory>
     Ok(Form::All(pushed_arms(alloc, arms, sense)?))
 }
 
-// Some arm in the sense, where there is any.
+// Some arm in the sense; an empty list holds.
 #[cycle(pushed)]
 fn any_of(alloc: Global, arms: &[Sel], sense: Sense) -> Result<Form, NoMemory>
     ensures { IfOk result (λ form. Says

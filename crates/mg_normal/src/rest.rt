@@ -9,9 +9,9 @@ use mg_path::Path;
 use mg_value::{NoMemory, copy_texts};
 use std::alloc::Global;
 
-// Moves the operators that the form asks under no choice into atoms, on the part at the steps, and
-// gives what else the form asks, if anything. The steps are lent: they are as they were at the end.
-// Where it fails, some of the atoms may be there, and some of the steps.
+// Moves the operators that have to hold for the form to hold into atoms, on the part at the steps, and
+// returns what else the form asks, if anything. On success the steps are as they were. On an error, some
+// atoms may have been added, and some steps.
 #[cycle(take_atoms)]
 pub(crate) fn take_atoms(
     alloc: Global,
@@ -46,7 +46,7 @@ pub(crate) fn take_atoms(
     }
 }
 
-// What is left of the forms, without those of which nothing is.
+// What is left of each form; a form of which nothing is left is dropped.
 #[cycle(take_atoms)]
 fn take_all(
     alloc: Global,
@@ -70,7 +70,7 @@ fn take_all(
     Ok(rest)
 }
 
-// The same of the form on the part at the path.
+// Does what `take_atoms` does, for a form on the part at the path.
 #[cycle(take_atoms)]
 fn take_below(
     alloc: Global,
@@ -96,7 +96,7 @@ fn take_below(
     Ok(Some(Form::At(path, Box::new(alloc, rest)?)))
 }
 
-// Adds copies of more steps. Where it fails, some of them may be there.
+// Appends copies of more steps. On an error, some of them may have been appended.
 fn extend(steps: &mut Vec<String>, more: &[String]) -> Result<(), NoMemory>
     ensures { OnOk result (map string_bytes steps.new.items
         ≡ map string_bytes steps.old.items ++ map string_bytes more.now) }

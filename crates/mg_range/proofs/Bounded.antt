@@ -1,4 +1,4 @@
--- What a bound says: where an atom bounds a column, it holds of a document exactly where the value of the column meets the bound.
+-- What a bound says: an atom that bounds a column holds of a document exactly if the value of the column meets the bound.
 use Rattle.std.proofs.Common.{◌≡◌, Bool, true, false, cond, not, ◌&&◌, ◌||◌, List, [], ◌∷◌, Option, Some, None, is_some, Ordering, Less, Equal, Greater, refl, sym, subst, ap, ◌∙◌}
 use Rattle.std.specs.List.{list_all, cons_option}
 use Rattle.std.specs.Ordering.{is_lt, is_le, is_eq, is_ne, is_ge, is_gt}

@@ -39,7 +39,7 @@ within_both None (Some u) v vs = placed true (is_within Desc u v)
 within_both (Some l) None v vs = placed (is_within Asc l v) true
 within_both (Some l) (Some u) v vs = placed (is_within Asc l v) (is_within Desc u v)
 
--- at one value, of which one limit is exclusive
+-- no value is within two limits of equal value of which one is exclusive
 none_at : (i j : Bool) (x : Ordering) → not (i && j) ≡ true → (admits i x && admits j (ordering_reverse x)) ≡ false
 none_at true true x h = absurd (false≢true h)
 none_at true false Less h = refl
@@ -50,7 +50,7 @@ none_at false j Equal h = refl
 none_at false true Greater h = refl
 none_at false false Greater h = refl
 
--- above the lower one, which is above the upper one
+-- no value is within two limits of which the lower is above the upper
 none_above : (i j : Bool) (x y : Ordering) → ((x ≡ Less → ⊥) → y ≡ Greater) → (admits i x && admits j (ordering_reverse y)) ≡ false
 none_above true j Less y h = refl
 none_above false j Less y h = refl
@@ -102,7 +102,7 @@ pub some_found : {X : Type 0} (p : X → Bool) (xs : List X) → list_any p xs �
 some_found p [] = refl
 some_found p (x ∷ xs) = find_at x (list_any p xs) (find p xs) (some_found p xs) (p x)
 
--- it passes, and all that pass a test of each element pass it there
+-- y passes the test p, and passes each test that all elements pass
 abbrev Found : {X : Type 0} → (X → Bool) → List X → X → Type 0
 Found {X} p xs y = (p y ≡ true) × ((q : X → Bool) → list_all q xs ≡ true → q y ≡ true)
 
@@ -112,7 +112,7 @@ found_at p x xs y more true f g =
     (ap p (sym same) ∙ f, λ q h. ap q (sym same) ∙ (and_parts (q x) (list_all q xs) h).0)
 found_at p x xs y more false f g = ((more g).0, λ q h. (more g).1 q (and_parts (q x) (list_all q xs) h).1)
 
--- what is found is so
+-- an element that a search finds passes its test
 found : {X : Type 0} (p : X → Bool) (xs : List X) (y : X) → find p xs ≡ Some y → Found p xs y
 found p [] y e = absurd cc
 found p (x ∷ xs) y e = found_at p x xs y (found p xs y) (p x) refl e
@@ -153,7 +153,7 @@ at_column : (bounds : List Bound) (o : Option Bound) → find is_exact bounds �
 at_column bounds None e rest v vs = has_between (tightest Asc bounds) (tightest Desc bounds) v vs ∙ sym (meets_tightest v bounds) ∙ and_true (meets_all v bounds)
 at_column bounds (Some b) e rest v vs = fixed_at bounds b rest v vs e (meets_all b.value bounds) refl
 
--- the range has a key of a value for each column exactly where that meets the bounds
+-- the range has a key, one value for each column, exactly if the key meets the bounds
 pub contained : (atoms : List Atom) (columns : List Steps) (key : List Value) → length key ≡ length columns → has_key (range_of atoms columns) key ≡ in_range atoms columns key
 contained atoms [] [] h = refl
 contained atoms [] (v ∷ vs) h = absurd (omega arith)

@@ -1,4 +1,4 @@
--- A row is below a range exactly where it is before the low end, and above it exactly where it is behind the high end.
+-- A row is below a range exactly if it is before the low end, and above it exactly if it is after the high end.
 use Rattle.std.proofs.Common.{◌≡◌, ℕ, Bool, true, false, not, ◌&&◌, List, [], ◌∷◌, Option, Some, None, Ordering, Less, Equal, Greater, refl, sym, ap, ◌∙◌, if◌then◌else◌}
 use Rattle.std.proofs.lemmas.Bool.{false≢true}
 use Rattle.std.specs.List.{find}
@@ -21,7 +21,7 @@ use Rattle.mg_rows.specs.declared.edge.Edge.TheVariants.{Before, After}
 
 -- ---- one value
 
--- an end whose first value stands at o to that of a row, and what comes after it at p
+-- an end whose first value has order o to that of a row, and the rest order p
 fixed_low : (o p : Ordering) (edge : Edge) (b : Bool) → b ≡ is_gt (ordering_then p (edge_order edge))
     → match_ordering (ordering_reverse o) true b false ≡ is_gt (ordering_then (ordering_then o p) (edge_order edge))
 fixed_low Less p edge b h = refl
@@ -34,7 +34,7 @@ fixed_high Less p edge b h = refl
 fixed_high Equal p edge b h = h
 fixed_high Greater p edge b h = refl
 
--- a limit whose value stands at o to that of a row
+-- a limit whose value has order o to that of a row
 limit_low : (inclusive : Bool) (o : Ordering) → not (admits inclusive (ordering_reverse o)) ≡ is_gt (ordering_then o (edge_order (if inclusive then Before else After)))
 limit_low true Less = refl
 limit_low true Equal = refl

@@ -1,4 +1,4 @@
--- A row stands to a range as it stands to the ends of the range.
+-- A row is before, within or past a range exactly as it is before, between or past the ends of the range.
 use Rattle.std.proofs.Common.{◌≡◌, Bool, true, false, Option, Some, None, refl, sym, ap, ap₂, ◌∙◌, if◌then◌else◌}
 use Rattle.std.specs.Ordering.{is_gt, is_lt}
 use Rattle.mg_collate.specs.Row.{RowValue}
@@ -28,7 +28,7 @@ below_is ends s row e = before_low s.equal s.lower row.0 row.1 ∙ ap (λ (x : B
 above_is : (ends : Ends) (s : Span) (row : RowValue) → ends_at ends ≡ ends_of s → is_past s.equal s.upper (item_list row.0) ≡ is_above (ends_at ends) row
 above_is ends s row e = past_high s.equal s.upper row.0 row.1 ∙ ap (λ (x : BothEnds). is_above x row) (sym e)
 
--- where a row stands to the range
+-- whether a row is before, within or past the range
 pub placed : (range : Range) (ends : Ends) (row : RowValue) → HasEnds range (Some ends) → place_of range (item_list row.0) ≡ place_at ends row
 placed None ends row h = absurd (let e = h.1 in cc)
 placed (Some s) ends row h =
@@ -40,7 +40,7 @@ before_at true p = refl
 before_at false true = refl
 before_at false false = refl
 
--- whether it is below the range
+-- whether a row is below the range
 pub placed_before : (range : Range) (ends : Ends) (row : RowValue) → HasEnds range (Some ends) → is_place_before (place_of range (item_list row.0)) ≡ is_below (ends_at ends) row
 placed_before range ends row h = ap is_place_before (placed range ends row h) ∙ before_at (is_below (ends_at ends) row) (is_above (ends_at ends) row)
 
@@ -50,7 +50,7 @@ past_at true false f = refl
 past_at false true f = refl
 past_at false false f = refl
 
--- whether it is above the range, of which it then is not below
+-- whether a row is above the range; then it is not below it
 pub placed_past : (range : Range) (ends : Ends) (row : RowValue) → HasEnds range (Some ends) → is_place_past (place_of range (item_list row.0)) ≡ is_above (ends_at ends) row
 placed_past None ends row h = absurd (let e = h.1 in cc)
 placed_past (Some s) ends row h =

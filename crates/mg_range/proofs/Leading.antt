@@ -16,7 +16,7 @@ decided_leading atoms (c ∷ cs) a =
     at_column (is_some (bound_on c a)) (is_fixed atoms c) (λ f. bounds_one (cond f (bounded_columns atoms cs) []) a) refl
     ∙ ap (λ d. is_some (bound_on c a) || (is_fixed atoms c && d)) (decided_leading atoms cs a)
 
--- so all of some atoms are decided where each bounds one of these columns
+-- all of some atoms are decided if each bounds one of these columns
 pub all_leading : (atoms : List Atom) (columns : List Steps) (some : List Atom) → list_all (is_decided atoms columns) some ≡ list_all (bounds_one (bounded_columns atoms columns)) some
 all_leading atoms columns [] = refl
 all_leading atoms columns (a ∷ some) = ap₂ (λ s t. s && t) (sym (decided_leading atoms columns a)) (all_leading atoms columns some)

@@ -63,7 +63,7 @@ pub same_value : (direction : Direction) (a b : Value) → order_from direction 
 same_value Asc a b h = (value_tie a b).0 h
 same_value Desc a b h = (value_tie a b).0 (was_equal (value_order a b) h)
 
--- what is not below b is above a, where a is below b
+-- if a is below b, what is not below b is above a
 above_at : {R : Value → Value → Ordering} (o : IsTotalOrder R) (v a b : Value) → R a b ≡ Less → (p : Ordering) → R v b ≡ p → (p ≡ Less → ⊥) → R v a ≡ Greater
 above_at o v a b h Less e not_less = absurd (not_less refl)
 above_at o v a b h Equal e not_less = o.congr v b a e ∙ o.antisymm b a ∙ ap ordering_reverse h
@@ -152,7 +152,7 @@ within_limits direction v [] = refl
 within_limits direction v (b ∷ bounds) =
     one_more direction v (limit_of direction b) (filter_map (limit_of direction) bounds) ∙ ap (λ c. limit_admits direction v b && c) (within_limits direction v bounds)
 
--- ---- the tightest, found from the front on
+-- ---- the tightest, found from the first to the last
 
 pub tightness_total : (direction : Direction) → IsTotalOrder (tightness direction)
 tightness_total direction =

@@ -35,7 +35,7 @@ none_left [] (suc i) e = refl
 none_left (v ∷ values) zero e = absurd (omega (arith, e))
 none_left (v ∷ values) (suc i) e = none_left values i (omega (arith, e))
 
--- all of them
+-- all of the values
 pub all_pushed : (all key : Items) (values : List Json) (i : ℕ) → i ≡ length values → joined_items key (items_view (drop i values)) ≡ all → key ≡ all
 all_pushed all key values i e sum = sym (joined_none key) ∙ ap (joined_items key) (sym (none_left values i e)) ∙ sum
 

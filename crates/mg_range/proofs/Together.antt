@@ -1,4 +1,4 @@
--- Keys in order have their places to a range in order.
+-- Among keys in order, those before a range come first, then those in it, then those past it.
 use Rattle.std.proofs.Common.{◌≡◌, ℕ, ◌≤◌, Bool, true, false, cond, not, List, [], ◌∷◌, Option, Some, None, Ordering, Less, Equal, Greater, refl, sym, ap, ◌∙◌, arith}
 use Rattle.std.proofs.lemmas.Bool.{false≢true}
 use Rattle.std.proofs.lemmas.Cmp.{alike_right, upto}
@@ -28,11 +28,11 @@ gt_is Less h = absurd (h refl)
 gt_is Equal h = absurd (h refl)
 gt_is Greater h = refl
 
--- what does not stand below something above x is above x
+-- what is not below something above x is above x
 above_too : {R : Value → Value → Ordering} (o : IsTotalOrder R) (v w x : Value) → is_gt (R v w) ≡ false → R v x ≡ Greater → R w x ≡ Greater
 above_too {R} o v w x h g = gt_is (R w x) (λ k. false≢true (sym (upto o v w x h k) ∙ ap is_gt g))
 
--- ---- a value that does not stand below another is within as many limits
+-- ---- a value that is not below another is within as many limits
 
 admits_reversed : (i : Bool) (o : Ordering) → is_gt o ≡ false → admits i Equal ≡ true → admits i (ordering_reverse o) ≡ true
 admits_reversed true Less h k = refl
@@ -87,7 +87,7 @@ not_above v w vs ws h = first_not_above (value_order v w) (items_order (items_of
 last_not_after : (o p : Ordering) → o ≡ Equal → is_le (ordering_then o p) ≡ true → is_le p ≡ true
 last_not_after o p e h = ap (λ x. is_le (ordering_then x p)) (sym e) ∙ h
 
--- behind values that both equal a third the keys are in order too
+-- if the first values of two keys in order both equal a third value, the rests of the keys are in order
 behind : (v w e : Value) (vs ws : List Value) → NotAfter (v ∷ vs) (w ∷ ws) → value_order v e ≡ Equal → value_order w e ≡ Equal → NotAfter vs ws
 behind v w e vs ws h p q = last_not_after (value_order v w) (items_order (items_of vs) (items_of ws)) (alike_right value_order_total w e v q ∙ p) (firsts v w vs ws h)
 
@@ -99,7 +99,7 @@ below_too v w e f q =
 
 -- ---- the low end
 
--- the first stands at o to a fixed value, the second at p
+-- the first value has order o to a fixed value, the second order p
 falls : (o p : Ordering) (a b : Bool) → (o ≡ Greater → p ≡ Greater) → (p ≡ Less → o ≡ Less) → (o ≡ Equal → p ≡ Equal → b ≡ true → a ≡ true)
     → match_ordering p true b false ≡ true → match_ordering o true a false ≡ true
 falls Less p a b f g h k = refl

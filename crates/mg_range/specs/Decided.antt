@@ -1,4 +1,4 @@
--- Which atoms a range decides: those whose bounds it is made of, so that of a document with a key they need not be asked.
+-- Which atoms a range decides: those whose bounds it is made of. They need not be asked of a document whose key is in the range.
 use Rattle.std.specs.Prelude.{List, [], ◌∷◌, Bool, false, not, ◌&&◌, ◌||◌, is_some, if◌then◌else◌}
 use Rattle.std.specs.List.{filter, list_all, list_any}
 use Rattle.mg_normal.specs.Atoms.{Atom}

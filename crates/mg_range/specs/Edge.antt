@@ -1,4 +1,4 @@
--- For private clauses: the limit that the code's stands for while the atoms lend it, and how the code comes to the tightest.
+-- For private clauses: the limit that an `Edge` of the code stands for, and how the code finds the tightest limit.
 use Rattle.std.specs.Prelude.{Option, Some, None, if◌then◌else◌}
 use Rattle.std.specs.Ordering.{match_ordering}
 use Rattle.mg_value.specs.View.{view}
@@ -9,11 +9,11 @@ use Rattle.mg_range.specs.declared.edge.Edge.{Edge}
 abbrev pub edge_seen : Edge → Limit
 edge_seen e = limit_at (view e.value.now) e.inclusive
 
--- the tighter of two limits: the one that the other admits, and of equal values the exclusive one
+-- the tighter of two limits: the one whose value is within the other; of equal values the exclusive one
 abbrev pub tighter : Direction → Limit → Limit → Limit
 tighter direction a b = match_ordering (order_from direction a.value b.value) b (if a.inclusive then b else a) a
 
--- the tighter of a limit, if there is one yet, and another
+-- the tighter of the tightest limit so far, if there is one, and another
 abbrev pub tightened : Direction → Option Limit → Limit → Option Limit
 tightened direction None b = Some b
 tightened direction (Some a) b = Some (tighter direction a b)

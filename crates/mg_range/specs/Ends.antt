@@ -5,7 +5,7 @@ use Rattle.mg_range.specs.Range.{Limit, Range, Span, is_crossed}
 use Rattle.mg_rows.specs.declared.edge.Edge.{Edge}
 use Rattle.mg_rows.specs.declared.edge.Edge.TheVariants.{Before, After}
 
--- the values of an end: the fixed ones, and behind them that of the limit, if there is one
+-- the values of an end: the fixed ones, and then that of the limit, if there is one
 abbrev pub end_values : List Value → Option Limit → Items
 end_values [] None = no_items
 end_values [] (Some l) = item l.value no_items

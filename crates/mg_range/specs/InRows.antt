@@ -23,7 +23,7 @@ ends_of s = (low_end s, high_end s)
 abbrev pub ends_at : Ends → BothEnds
 ends_at ends = (ends.low, ends.high)
 
--- where a row stands to them
+-- whether a row is before, between or past the ends
 abbrev pub place_at : Ends → RowValue → Place
 place_at ends row =
     if is_gt (bound_order ends.low.0 ends.low.1 row) then Before else if is_lt (bound_order ends.high.0 ends.high.1 row) then Past else Within

@@ -27,38 +27,38 @@ Has v path = IsSome (part_of path v)
 abbrev pub HasKey : List Steps → Value → List Value → Type 0
 HasKey columns v key = key_of columns v ≡ Some key
 
--- where an index is usable for a selector and a sort, and a document has `_id`, `_rev` and every path of the sort, and the selector
--- holds of it, then no column is missing in the document, and what stands there is a key of the range
+-- if an index is usable for a selector and a sort, and a document has `_id`, `_rev` and every path of the sort, and the selector
+-- holds of it, then the document has every column, and its key is in the range
 abbrev pub RangesAreComplete : Type 0
 RangesAreComplete =
     (s : Selector) (sort columns : List Steps) (v : Value) → is_usable (atoms_of s) sort columns ≡ true
     → Has v id_path → Has v rev_path → All (Has v) sort → holds_in s Plain (Some v) ≡ true
     → (key : List Value) × HasKey columns v key × (in_range (atoms_of s) columns key ≡ true)
 
--- a key that does not come after another in the order of keys has no later place to a range
+-- among keys in order, those before a range come first, then those in it, then those past it
 abbrev pub RangesStandTogether : Type 0
 RangesStandTogether =
     (range : Range) (a b : List Value) → is_le (items_order (items_of a) (items_of b)) ≡ true → place_rank (place_of range a) ≤ place_rank (place_of range b)
 
--- and so it is for rows in their order, which is by key and then by id
+-- among rows in order, which is by key and then by id, those before a range come first, then those in it, then those past it
 abbrev pub RowsStandTogether : Type 0
 RowsStandTogether =
     (range : Range) (a b : List Value) (i j : List ℕ) → is_le (row_value_order (items_of a, i) (items_of b, j)) ≡ true
     → place_rank (place_of range a) ≤ place_rank (place_of range b)
 
--- of a document that has a key at the columns, the atoms hold exactly where their range has the key and those hold that it does not decide
+-- if a document has a key at the columns, the atoms hold exactly if their range has the key and the undecided atoms hold
 abbrev pub RangeDecidesAtoms : Type 0
 RangeDecidesAtoms =
     (atoms : List Atom) (columns : List Steps) (v : Value) (key : List Value) → HasKey columns v key
     → all_hold (Some v) atoms ≡ (has_key (range_of atoms columns) key && all_hold (Some v) (undecided atoms columns))
 
--- so where it decides each atom, and a normal form asks nothing besides atoms, the form holds exactly where it has the key
+-- if the range decides each atom, and a normal form has nothing besides atoms, the form holds exactly if the range has the key
 abbrev pub RangeDecidesForm : Type 0
 RangeDecidesForm =
     (n : NormalForm) (columns : List Steps) (v : Value) (key : List Value) → is_some n.rest ≡ false → decides_of n.atoms columns ≡ true
     → HasKey columns v key → normal_holds n (Some v) ≡ has_key (range_of n.atoms columns) key
 
--- and so does a selector whose normal form it is
+-- a selector with such a normal form holds exactly if the range has the key
 abbrev pub RangeDecides : Type 0
 RangeDecides =
     (s : Selector) (n : NormalForm) (columns : List Steps) (v : Value) (key : List Value) → IsNormalOf s n

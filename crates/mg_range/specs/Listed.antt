@@ -1,4 +1,4 @@
--- The text of a range, as `_explain` tells it: `{"empty":true}`, or `{"equal":[..],"lower":..,"upper":..}` with each limit as null or
+-- A range in JSON, as `_explain` shows it: `{"empty":true}`, or `{"equal":[..],"lower":..,"upper":..}` with each limit as null or
 -- `{"inclusive":..,"value":..}`.
 use Rattle.std.specs.Prelude.{codes, true, Option, Some, None}
 use Rattle.mg_value.specs.Value.{Value, null, flag, list, object, no_members, member}

@@ -1,4 +1,4 @@
--- Where a key stands to a range, in the order of keys: before it, within it, or past it.
+-- Whether a key is before, within or past a range, in the order of keys.
 use Rattle.std.specs.Prelude.{ℕ, List, [], ◌∷◌, Bool, true, false, not, Option, Some, None, if◌then◌else◌}
 use Rattle.std.specs.Ordering.{is_ge, is_gt, match_ordering}
 use Rattle.std.specs.declared.cmp.Ordering.{Ordering}
@@ -10,7 +10,7 @@ use Rattle.mg_range.specs.Range.{Limit, Range, order_from}
 use Rattle.mg_range.specs.declared.place.Place.{Place}
 use Rattle.mg_range.specs.declared.place.Place.TheVariants.{Before, Within, Past}
 
--- an order of a value and a limit is within the limit
+-- a value with this order to a limit, which is inclusive or not, is within the limit
 abbrev pub admits : Bool → Ordering → Bool
 admits true order = is_ge order
 admits false order = is_gt order
@@ -19,8 +19,8 @@ admits false order = is_gt order
 abbrev pub is_within : Direction → Limit → Value → Bool
 is_within direction l v = admits l.inclusive (order_from direction v l.value)
 
--- the key is below the low end of a range: by its first value that differs from the fixed ones, and else by the lower limit; a key that
--- ends before is below
+-- the key is below the low end of a range: its first value that differs from a fixed one decides, else the lower limit; a key that
+-- ends before that is below
 abbrev pub is_before : List Value → Option Limit → List Value → Bool
 is_before (e ∷ es) lower (v ∷ vs) = match_ordering (value_order v e) true (is_before es lower vs) false
 is_before (e ∷ es) lower [] = true
@@ -28,7 +28,7 @@ is_before [] (Some l) (v ∷ vs) = not (is_within Asc l v)
 is_before [] (Some l) [] = true
 is_before [] None key = false
 
--- the key is above the high end of a range: likewise, by the upper limit; a key that ends before is not above
+-- the key is above the high end of a range: likewise, with the upper limit; a key that ends before that is not above
 abbrev pub is_past : List Value → Option Limit → List Value → Bool
 is_past (e ∷ es) upper (v ∷ vs) = match_ordering (value_order v e) false (is_past es upper vs) true
 is_past (e ∷ es) upper [] = false
@@ -36,11 +36,11 @@ is_past [] (Some u) (v ∷ vs) = not (is_within Desc u v)
 is_past [] (Some u) [] = false
 is_past [] None key = false
 
--- the place of a key to fixed values and limits
+-- whether a key is before, within or past the span of these fixed values and limits
 abbrev pub place_from : List Value → Option Limit → Option Limit → List Value → Place
 place_from equal lower upper key = if is_before equal lower key then Before else if is_past equal upper key then Past else Within
 
--- the place of a key to a range; all keys are past an empty one
+-- whether a key is before, within or past a range; all keys are past an empty range
 abbrev pub place_of : Range → List Value → Place
 place_of None key = Past
 place_of (Some s) key = place_from s.equal s.lower s.upper key

@@ -1,5 +1,5 @@
--- Key ranges: which keys of an index a query has to look at, from the bounds that its atoms give, as `range` of CouchDB's
--- `_explain` tells them. The rule is this project's own.
+-- Key ranges: which keys of an index a query has to look at, by the bounds that its atoms give. `range` of CouchDB's `_explain`
+-- shows them. The rule is this project's own.
 use Rattle.std.specs.Prelude.{List, [], ◌∷◌, Bool, true, false, not, ◌&&◌, Option, Some, None, option_map, refl, if◌then◌else◌}
 use Rattle.std.specs.Coded.{Coded, code_by, coded×, coded_bool, coded_list, coded_option}
 use Rattle.std.specs.List.{filter_map, find}
@@ -20,15 +20,15 @@ use Rattle.mg_index.specs.declared.bound.Comparison.TheVariants.{Below, AtMost, 
 
 -- ---- the range as a set of keys
 
--- the key, one value a column, is in the range: its values meet every bound on the bounded columns, which are the leading ones
--- whose value is fixed and the next one
+-- the key, one value for each column, is in the range: its values meet every bound on the bounded columns, which are the leading
+-- ones whose value is fixed and the next one
 abbrev pub in_range : List Atom → List Steps → List Value → Bool
 in_range atoms (c ∷ cs) (v ∷ vs) = meets_all v (bounds_on atoms c) && (if is_fixed atoms c then in_range atoms cs vs else true)
 in_range atoms columns key = true
 
 -- ---- the range by its tightest bounds
 
--- a limit on the values of a column: the value, and whether it is within the limit itself
+-- a limit on the values of a column: a value, and whether that value itself is within the limit
 pub record Limit : Type 0 where
   pub value : Value
   pub inclusive : Bool
@@ -36,7 +36,7 @@ pub record Limit : Type 0 where
 abbrev pub limit_at : Value → Bool → Limit
 limit_at value inclusive = record { value = value; inclusive = inclusive }
 
--- values of the columns before one, and limits on that
+-- the fixed values of the leading columns, and limits on the value of the next one
 pub record Span : Type 0 where
   pub equal : List Value
   pub lower : Option Limit
@@ -49,11 +49,11 @@ span_of equal lower upper = record { equal = equal; lower = lower; upper = upper
 abbrev pub Range : Type 0
 Range = Option Span
 
--- the order of values from below, and from above
+-- the order of values from below (`Asc`), and from above (`Desc`)
 abbrev pub order_from : Direction → Value → Value → Ordering
 order_from direction a b = directed direction (value_order a b)
 
--- whether a comparison limits from below, or from above, and then whether it allows the value itself
+-- whether a comparison allows the value itself; `None` if it gives no limit from below (`Asc`) or from above (`Desc`)
 abbrev pub inclusive_from : Direction → Comparison → Option Bool
 inclusive_from Asc Below = None
 inclusive_from Asc AtMost = None
@@ -74,7 +74,7 @@ limit_by direction comparison v = option_map (limit_at v) (inclusive_from direct
 abbrev pub limit_of : Direction → Bound → Option Limit
 limit_of direction b = limit_by direction b.comparison b.value
 
--- the order of limits from below, or from above, the tighter first: by the values, and of equal values the exclusive one
+-- the order of limits from below, or from above, the tighter first: by the values, then the exclusive one first
 abbrev pub tightness : Direction → Limit → Limit → Ordering
 tightness direction = then_cmp (flip_args (on (λ l. l.value) (order_from direction))) (on (λ l. l.inclusive) bool_cmp)
 
@@ -82,7 +82,7 @@ tightness direction = then_cmp (flip_args (on (λ l. l.value) (order_from direct
 abbrev pub tightest : Direction → List Bound → Option Limit
 tightest direction bounds = least (tightness direction) (filter_map (limit_of direction) bounds)
 
--- the lower limit is above the upper one, or at it where one of them is exclusive
+-- the lower limit is above the upper one, or equal to it while one of them is exclusive
 abbrev pub are_crossed : Limit → Limit → Bool
 are_crossed lower upper = match_ordering (value_order lower.value upper.value) false (not (lower.inclusive && upper.inclusive)) true
 
@@ -99,8 +99,8 @@ between lower upper = if is_crossed lower upper then None else Some (span_of [] 
 abbrev pub with_equal : Value → Range → Range
 with_equal v rest = option_map (λ s. span_of (v ∷ s.equal) s.lower s.upper) rest
 
--- the range of columns whose first one has these bounds: a fixed value that meets every bound stands in front of the range of the
--- others; where no value is fixed, the range is what is between the tightest limits
+-- the range of columns whose first one has these bounds: a fixed value that meets every bound is put before the range of the
+-- others; if no value is fixed, the range is what is between the tightest limits
 abbrev pub range_from : List Bound → Option Bound → Range → Range
 range_from bounds (Some fixed) rest = if meets_all fixed.value bounds then with_equal fixed.value rest else None
 range_from bounds None rest = between (tightest Asc bounds) (tightest Desc bounds)

@@ -1,4 +1,4 @@
--- The limits and the span that the code's stand for.
+-- The limit and the span that those of the code stand for.
 use Rattle.std.specs.Prelude.{List, ◌++◌, map, option_map}
 use Rattle.mg_value.specs.Value.{Value}
 use Rattle.mg_value.specs.View.{view}

@@ -9,9 +9,9 @@ use mg_index::Bound;
 use mg_normal::Atom;
 use mg_path::Path;
 
-/// Whether the range of these columns for the atoms decides this one of them: it bounds one of the bounded columns, which are the
-/// leading ones that an `$eq` bounds and the next one. Of a document that has a key at the columns it holds wherever the range has
-/// the key. Takes no memory. Cost: the columns times the atoms.
+/// Whether the range of these columns for the atoms decides this atom: the atom bounds one of the bounded columns, which are the
+/// leading ones that an `$eq` bounds and the next one. A decided atom holds of each document whose key at the columns is in the
+/// range. Takes no memory. Cost: the columns times the atoms.
 pub fn is_decided(columns: &[Path], atoms: &[Atom], atom: &Atom) -> bool
     ensures { result ≡ is_decided_by (atoms_view atoms.now) columns.now (atom_view atom.now) }
 {
@@ -50,8 +50,8 @@ fn bounds_one(columns: &[Path], atom: &Atom) -> bool
     false
 }
 
-/// Whether the range of these columns for the atoms decides each of them, so that the key of a document tells whether they hold.
-/// Takes no memory. Cost: the columns times the atoms: once to find the columns that are bounded, and for each atom a look at these.
+/// Whether the range of these columns for the atoms decides each atom. Then the key of a document shows whether all atoms hold.
+/// Takes no memory. Cost: the columns times the atoms.
 pub fn decides(columns: &[Path], atoms: &[Atom]) -> bool
     ensures { result ≡ decides_of (atoms_view atoms.now) columns.now }
 {

@@ -1,4 +1,4 @@
-// What the atoms of a selector ask of one column: limits, and values that are fixed. All is lent by the atoms.
+// What the atoms of a selector ask of one column: limits and fixed values, all lent by the atoms.
 ghost use Rattle.std.specs.Prelude.{◌≡◌, List, option_map};
 ghost use Rattle.std.specs.List.{cons_option, filter_map, find, fold};
 ghost use Rattle.mg_value.specs.View.{view};
@@ -21,7 +21,7 @@ pub(crate) struct Edge<'a> {
     pub(crate) inclusive: bool,
 }
 
-// The limit that the bound gives from below, or from above.
+// The limit that the bound gives from below (`Asc`) or from above (`Desc`), if it gives one.
 fn edge_of(direction: Direction, bound: Bound<'_>) -> Option<Edge<'_>>
     ensures { option_map edge_seen result
         ≡ limit_by direction bound.entry.comparison (view bound.entry.value.now) }
@@ -33,7 +33,7 @@ fn edge_of(direction: Direction, bound: Bound<'_>) -> Option<Edge<'_>>
     })
 }
 
-// Whether the comparison limits from there, and then whether it allows the value itself.
+// Whether the comparison allows the value itself. `None` if it gives no limit from below (`Asc`) or from above (`Desc`).
 fn inclusive_from(direction: Direction, comparison: Comparison) -> Option<bool>
     ensures { result ≡ inclusive_given direction comparison }
 {
@@ -55,7 +55,7 @@ fn inclusive_from(direction: Direction, comparison: Comparison) -> Option<bool>
     }
 }
 
-// The tighter of the two.
+// The tighter of two limits.
 fn tighter<'a>(direction: Direction, a: Edge<'a>, b: Edge<'a>) -> Edge<'a>
     ensures { edge_seen result ≡ tighter_of direction (edge_seen a.entry) (edge_seen b.entry) }
 {
@@ -66,7 +66,7 @@ fn tighter<'a>(direction: Direction, a: Edge<'a>, b: Edge<'a>) -> Edge<'a>
     }
 }
 
-// The tightest so far, with the limit that one more atom gives, if it gives one.
+// The tightest limit so far, after one more atom.
 fn tightened_by<'a>(
     direction: Direction,
     best: Option<Edge<'a>>,

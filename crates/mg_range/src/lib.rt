@@ -1,4 +1,4 @@
-//! Key ranges: which keys of an index a query looks at, and where a key stands to a range.
+//! Key ranges: which keys of an index a query looks at, and whether a key is before, within or past a range.
 #![tactic(auto)]
 
 mod decided;

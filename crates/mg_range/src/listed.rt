@@ -1,4 +1,4 @@
-// The range as it is told.
+// The range in JSON, as `_explain` shows it.
 ghost use Rattle.std.specs.Prelude.{◌≡◌, IfOk, None, Some, map, option_map};
 ghost use Rattle.mg_value.specs.Value.{list};
 ghost use Rattle.mg_value.specs.View.{view, items_view, items_of};

@@ -1,4 +1,4 @@
-/// Where a key stands to a range, in the order of keys.
+/// Whether a key is before, within or past a range, in the order of keys.
 #[derive(Clone, Copy, PartialEq, Eq, Debug, Drop)]
 pub enum Place {
     /// Below each key of the range.

@@ -18,7 +18,7 @@ use std::alloc::Global;
 use std::marker::Model;
 
 /// The keys of an index that a query looks at: the values of the leading columns, as far as the query
-/// fixes them, and limits on that of the next column. A range may be empty.
+/// fixes them, and limits on the value of the next column. A range may be empty.
 #[derive(Debug, Drop)]
 pub struct KeyRange {
     pub(crate) span: Option<Span>,
@@ -43,11 +43,11 @@ impl Model for KeyRange {
 impl KeyRange {
     /// The range of an index of these columns for a query.
     ///
-    /// The bounds come from the atoms alone: `$eq`, `$lt`, `$lte`, `$gt` and `$gte`, and these and `$ne` in
-    /// the negated sense as their opposites. The leading columns that an `$eq` bounds have its value, and
-    /// the next column lies between its tightest bounds.
-    /// Errors: `NoMemory` where a growth is refused. Cost: the columns times the atoms, and each bound that
-    /// is kept, which is copied once.
+    /// The bounds come from the atoms alone, as `Bound::on` gives them. A leading column that an `$eq` bounds
+    /// has its value, and the next column lies between its tightest bounds.
+    ///
+    /// Errors: `NoMemory` if an allocation fails. Cost: the columns times the atoms, and a copy of each bound
+    /// that is kept.
     pub fn of(alloc: Global, columns: &[Path], normal: &Normal) -> Result<KeyRange, NoMemory>
         ensures range { IfOk result (λ r. r ≡ range_of normal.now.atoms columns.now) }
         ensures keys { IfOk result (λ r. (key : List Value) → length key ≡ length columns.now
@@ -69,10 +69,10 @@ impl KeyRange {
         }
     }
 
-    /// Where the key stands to the range. Takes no memory. Cost: one pass over the key at most.
+    /// Whether the key is before, within or past the range. Takes no memory. Cost: one pass over the key at most.
     ///
-    /// In rows that are in order all that are before the range come first, then all that are in it, then
-    /// all that are past it, so that its ends are found by halves.
+    /// Among rows in order, all before the range come first, then all in it, then all past it. So a binary
+    /// search finds the ends of the range.
     pub fn place(&self, key: &[Json]) -> Place
         ensures { result ≡ place_of self.now (map json_view key.now) }
     {
@@ -82,8 +82,8 @@ impl KeyRange {
         }
     }
 
-    /// Where the key that is one text alone, as a string, stands to the range. Takes no memory. Cost: the
-    /// text, once for each limit at most.
+    /// Does what `place` does, for the key that is this one text. Takes no memory. Cost: at most one pass over
+    /// the text for each limit.
     pub fn place_of_text(&self, text: &str) -> Place
         ensures { result ≡ place_of self.now (string text.now ∷ []) }
     {
@@ -93,8 +93,8 @@ impl KeyRange {
         }
     }
 
-    /// The limit on the first column at which a pass in the direction enters the range: the value, and whether keys with the value
-    /// itself may be in the range. None where there is no limit on that side, or no key in the range. Takes no memory. Cost: none.
+    /// The limit on the first column at which a scan in the direction enters the range: the value, and whether keys with that value
+    /// may be in the range. `None` if there is no limit on that side, or if the range is empty. Takes no memory. Cost: constant.
     pub fn entered_at(&self, direction: Direction) -> Option<(&Json, bool)>
         ensures { option_map (λ l. limit_at (json_view l.0.now) l.1) result ≡ limit_entered direction self.now }
     {
@@ -109,8 +109,8 @@ impl KeyRange {
         Some((&limit.value, limit.inclusive))
     }
 
-    /// Whether a value that is fixed breaks another bound on its column, or the lower limit is above the
-    /// upper one, or at it where one of them is exclusive. Then no key is in the range. Takes no memory.
+    /// Whether the range is empty: a fixed value breaks another bound on its column, or the lower limit is
+    /// above the upper one, or equal to it while one of them is exclusive. Takes no memory.
     pub fn is_empty(&self) -> bool
         ensures { result ≡ is_none self.now }
     {
@@ -120,10 +120,10 @@ impl KeyRange {
         }
     }
 
-    /// The range as it is told: `{"empty":true}`, or `{"equal":[..],"lower":..,"upper":..}`, each limit as
-    /// null or `{"inclusive":..,"value":..}`.
+    /// The range in JSON, as `_explain` shows it: `{"empty":true}`, or `{"equal":[..],"lower":..,"upper":..}`,
+    /// each limit as null or `{"inclusive":..,"value":..}`.
     ///
-    /// Errors: `NoMemory` where a growth is refused. Cost: the size of the values.
+    /// Errors: `NoMemory` if an allocation fails. Cost: the size of the values.
     pub fn to_json(&self, alloc: Global) -> Result<Json, NoMemory>
         ensures { IfOk result (λ v. json_view v ≡ range_value self.now) }
     {

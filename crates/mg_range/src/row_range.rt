@@ -1,4 +1,4 @@
-//! Key ranges against rows that stand as bytes.
+//! Key ranges that are compared with rows kept as bytes.
 ghost use Rattle.std.specs.Prelude.{◌≡◌, [], IfOk, OnOk, map, option_map};
 ghost use Rattle.std.specs.Ordering.{is_gt, is_lt};
 ghost use Rattle.mg_value.specs.Value.{item_list};
@@ -19,14 +19,14 @@ use mg_value::{Json, NoMemory};
 use std::alloc::Global;
 use std::marker::Model;
 
-// The ends of a span: the rows in it are those after the low one and before the high one.
+// The ends of a span: the rows in it are those after the low end and before the high end.
 #[derive(Drop)]
 pub(crate) struct Ends {
     pub(crate) low: Bound,
     pub(crate) high: Bound,
 }
 
-/// A key range with its ends as places among rows, against which rows are compared by their bytes. Contracts see the range.
+/// A key range with its two ends as bytes, so that rows are compared with them byte by byte. Contracts see the range.
 #[derive(Drop)]
 pub struct RowRange<'a> {
     keys: &'a KeyRange,
@@ -48,9 +48,9 @@ impl<'a> Model for RowRange<'a> {
 }
 
 impl KeyRange {
-    /// The range with its ends as places among rows.
+    /// The range with its two ends as bytes.
     ///
-    /// Errors: `NoMemory` where a growth is refused. Cost: the size of its values.
+    /// Errors: `NoMemory` if an allocation fails. Cost: the size of its values.
     pub fn in_rows(&self, alloc: Global) -> Result<RowRange<'_>, NoMemory>
         ensures { IfOk result (λ r. r ≡ self.now) }
     {
@@ -67,8 +67,8 @@ impl<'a> RowRange<'a> {
         self.keys
     }
 
-    /// Where the key of the row stands to the range. Takes no memory. Cost: a comparison of bytes where the row is before the range, and
-    /// else two.
+    /// Whether the key of the row is before, within or past the range. Takes no memory. Cost: one comparison of bytes for a row
+    /// before the range, else two.
     pub fn place(&self, row: &RowBytes) -> Place
         ensures { result ≡ place_of self.now (item_list row.now.0) }
     {
@@ -133,7 +133,7 @@ fn is_past(ends: &Ends, row: &RowBytes) -> bool
     ends.high.against(row).is_lt()
 }
 
-// Where the row stands to the ends.
+// Whether the row is before, between or past the ends.
 fn place_between(ends: &Ends, row: &RowBytes) -> Place
     ensures { result ≡ place_at ends.now row.now }
 {
@@ -166,7 +166,7 @@ fn ends_of(alloc: Global, span: &Span) -> Result<Ends, NoMemory>
     Ok(Ends { low, high })
 }
 
-// The place on a side of the rows that begin with these values, and then that of the limit, if there is one.
+// The end before or after all rows whose key begins with these values and then, if there is a limit, the limit's value.
 fn end_at(
     alloc: Global,
     equal: &[Json],
@@ -182,7 +182,7 @@ fn end_at(
     Ok(key.bound(alloc, edge)?)
 }
 
-// Puts the values behind the columns of a key.
+// Appends the values to a key.
 fn push_all(key: &mut KeyBytes, values: &[Json]) -> Result<(), NoMemory>
     ensures { OnOk result (key.new ≡ joined_items key.old (items_view values.now)) }
 {
@@ -192,7 +192,7 @@ fn push_all(key: &mut KeyBytes, values: &[Json]) -> Result<(), NoMemory>
     Ok(())
 }
 
-// Puts the value of a limit there, if there is one.
+// Appends the value of a limit to a key, if there is one.
 fn push_limit(key: &mut KeyBytes, limit: Option<&Limit>) -> Result<(), NoMemory>
     ensures { OnOk result (key.new
         ≡ joined_items key.old (end_values [] (option_map (λ l. limit_seen l.now) limit.entry))) }
@@ -206,7 +206,7 @@ fn push_limit(key: &mut KeyBytes, limit: Option<&Limit>) -> Result<(), NoMemory>
     }
 }
 
-// The side of the low end.
+// Whether the low end is before or after the rows that have its values.
 fn low_edge(limit: Option<&Limit>) -> Edge
     ensures { result ≡ low_side (option_map (λ l. limit_seen l.now) limit.entry) }
 {
@@ -220,7 +220,7 @@ fn low_edge(limit: Option<&Limit>) -> Edge
     }
 }
 
-// The side of the high end.
+// Whether the high end is before or after the rows that have its values.
 fn high_edge(limit: Option<&Limit>) -> Edge
     ensures { result ≡ high_side (option_map (λ l. limit_seen l.now) limit.entry) }
 {

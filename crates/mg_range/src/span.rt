@@ -1,4 +1,4 @@
-// The keys between two limits, behind values that are fixed.
+// The keys that begin with fixed values and have their next value between two limits.
 ghost use Rattle.std.specs.Prelude.{◌≡◌, List, [], Some, IfOk, map, not, option_map};
 ghost use Rattle.mg_value.specs.View.{view};
 ghost use Rattle.mg_normal.specs.View.{atoms_view};
@@ -24,7 +24,7 @@ pub(crate) struct Limit {
     pub(crate) inclusive: bool,
 }
 
-// The values of the leading columns, and the limits on that of the next one.
+// The fixed values of the leading columns, and the limits on the value of the next one.
 #[derive(Debug, Drop)]
 pub(crate) struct Span {
     pub(crate) equal: Vec<Json>,
@@ -32,7 +32,7 @@ pub(crate) struct Span {
     pub(crate) upper: Option<Limit>,
 }
 
-// The span of the columns, none where no value can meet the bounds of the atoms.
+// The span of the columns; `None` if a fixed value breaks another bound on its column, or if the limits cross.
 pub(crate) fn span_of(
     alloc: Global,
     columns: &[Path],
@@ -59,7 +59,7 @@ pub(crate) fn span_of(
     }))
 }
 
-// The span of these values and limits, none where the limits cross.
+// The span of these values and limits; `None` if the limits cross.
 fn span_between(
     alloc: Global,
     equal: Vec<Json>,
@@ -79,7 +79,7 @@ fn span_between(
     }))
 }
 
-// Whether both limits are there, and no value is within both of them.
+// Whether both limits are there and cross: the lower is above the upper, or equal to it while one of them is exclusive.
 fn is_crossed(lower: Option<Edge<'_>>, upper: Option<Edge<'_>>) -> bool
     ensures { result ≡ is_cross (option_map edge_seen lower.entry) (option_map edge_seen upper.entry) }
 {
@@ -99,7 +99,7 @@ fn are_crossed(lower: Edge<'_>, upper: Edge<'_>) -> bool
     }
 }
 
-// The limit with a value of its own.
+// The limit with a copy of its value.
 fn kept(alloc: Global, edge: Option<Edge<'_>>) -> Result<Option<Limit>, NoMemory>
     ensures { IfOk result (λ l. option_map limit_seen l ≡ option_map edge_seen edge.entry) }
 {
@@ -112,7 +112,7 @@ fn kept(alloc: Global, edge: Option<Edge<'_>>) -> Result<Option<Limit>, NoMemory
     }
 }
 
-// Where the key stands to the span.
+// Whether the key is before, within or past the span.
 pub(crate) fn place_in(span: &Span, key: &[Json]) -> Place
     ensures { result ≡ place_from (map view span.now.equal.items) (option_map limit_seen span.now.lower)
         (option_map limit_seen span.now.upper) (map view key.now) }
@@ -130,7 +130,7 @@ pub(crate) fn place_in(span: &Span, key: &[Json]) -> Place
     place_at_limits(&span.lower, &span.upper, &key[span.equal.len()..])
 }
 
-// Where the rest of a key stands to the limits.
+// Whether the rest of a key is before, within or past the limits.
 pub(crate) fn place_at_limits(lower: &Option<Limit>, upper: &Option<Limit>, rest: &[Json]) -> Place
     ensures { result ≡ place_from [] (option_map limit_seen lower.now) (option_map limit_seen upper.now)
         (map view rest.now) }

@@ -1,4 +1,4 @@
-// Where the key that is one text alone stands to a span.
+// The key of one text alone, compared with a span.
 ghost use Rattle.std.specs.Prelude.{◌≡◌, [], ◌∷◌, map, option_map};
 ghost use Rattle.mg_value.specs.Value.{text as string};
 ghost use Rattle.mg_value.specs.View.{view};
@@ -11,7 +11,7 @@ use mg_collate::{Direction, compare_text};
 use mg_value::Json;
 use std::cmp::Ordering;
 
-// Where the key of one text stands to the span.
+// Whether the key of one text is before, within or past the span.
 pub(crate) fn place_in(span: &Span, text: &str) -> Place
     ensures { result ≡ place_from (map view span.now.equal.items) (option_map limit_seen span.now.lower)
         (option_map limit_seen span.now.upper) (string text.now ∷ []) }
@@ -26,7 +26,7 @@ pub(crate) fn place_in(span: &Span, text: &str) -> Place
     }
 }
 
-// Where a key that has ended stands to the values that are left, and to the limits.
+// Whether a key that has no more values is before, within or past the fixed values that are left and the limits.
 fn place_of_ended(equal: &[Json], lower: &Option<Limit>, upper: &Option<Limit>) -> Place
     ensures { result ≡ place_from (map view equal.now) (option_map limit_seen lower.now)
         (option_map limit_seen upper.now) [] }
@@ -37,7 +37,7 @@ fn place_of_ended(equal: &[Json], lower: &Option<Limit>, upper: &Option<Limit>) 
     }
 }
 
-// Where it stands to the limits.
+// Whether the key of one text is before, within or past the limits.
 fn place_of_text(lower: &Option<Limit>, upper: &Option<Limit>, text: &str) -> Place
     ensures { result ≡ place_from [] (option_map limit_seen lower.now) (option_map limit_seen upper.now)
         (string text.now ∷ []) }

@@ -69,7 +69,7 @@ refused_known h base id n e k = (let t : Some Known ≡ refusal_at (Ok n) id (al
 pub not_refused : (h : History) (base : Option Revision) (id : List ℕ) (n : ℕ) → Ok n ≡ next_position h base → is_known (n, id) (all_links h) ≡ false → None ≡ refusal_of h base id
 not_refused h base id n e k = (let t : None ≡ refusal_at (Ok n) id (all_links h) = rw k refl in t) ∙ ap (λ p. refusal_at p id (all_links h)) e ∙ refusal_is h base id
 
--- ---- what is answered
+-- ---- the result of an extension
 
 pub decides_refused : (o : Option Refusal) (refusal : Refusal) (r : Result (Unit {0}) TreeError) → Some refusal ≡ o → IsErrAnd r (λ e. e ≡ error_of refusal) → Decides o r
 decides_refused o refusal (Ok u) is h = absurd h
@@ -78,7 +78,7 @@ decides_refused o refusal (Err e) is h = subst (λ (x : Option Refusal). Decides
 pub decides_made : (o : Option Refusal) (r : Result (Unit {0}) TreeError) → None ≡ o → IsOkUnless r no_memory → Decides o r
 decides_made o r is h = subst (λ (x : Option Refusal). Decides x r) is h
 
--- want of memory
+-- memory runs out
 pub only_memory : (r : Result (Unit {0}) TreeError) → IsErrAnd r (λ e. e ≡ no_memory) → IsOkUnless r no_memory
 only_memory (Ok u) h = tt
 only_memory (Err e) h = h

@@ -83,7 +83,7 @@ pub below_none : (r : Revision) (ls : List Link) → IsBelow r ls → find r ls 
 below_none r [] h = refl
 below_none r (l ∷ ls) h = let e : same_revision r l.rev ≡ false = ap is_eq (h.0) in rw e (below_none r ls h.1)
 
--- where a revision would go, it is not
+-- a revision for which there is a gap is not found
 pub gap_none : (r : Revision) (ls : List Link) (i : ℕ) → IsGap r ls i → find r ls ≡ None
 gap_none r ls zero h = below_none r ls h
 gap_none r [] (suc i) h = absurd h

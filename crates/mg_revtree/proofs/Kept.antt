@@ -77,7 +77,7 @@ pub are_below-append : (r : Revision) (ls ms : List Link) → AreBelow r ls → 
 are_below-append r [] ms h k = k
 are_below-append r (l ∷ ls) ms h k = (h.0, are_below-append r ls ms h.1 k)
 
--- one more link goes behind those below it
+-- one more link goes after those below it
 pub with_passed : (l : Link) (ls ms : List Link) → AreBelow l.rev ls → with_link l (ls ++ ms) ≡ ls ++ with_link l ms
 with_passed l [] ms h = refl
 with_passed l (k ∷ ls) ms h = let e : revision_order l.rev k.rev ≡ Greater = reversed k.rev l.rev h.0 in rw e (ap (λ xs. k ∷ xs) (with_passed l ls ms h.1))

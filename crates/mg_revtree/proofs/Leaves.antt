@@ -83,7 +83,7 @@ apart-with l (m ∷ ls) h none =
     go Equal e f first rest = absurd (untied l m f e)
     go Greater e f first rest = rw e (none, h)
 
--- of leaves of different revisions those that are left
+-- what is looked up among the leaves that a test keeps, where all are of different revisions
 pub leaf_in-kept : (p : Leaf → Bool) (r : Revision) (ls : List Leaf) → AreApart ls → leaf_in r (filter p ls) ≡ option_and_then (λ m. if p (record { rev = r; deleted = m.0; body = m.1 }) then Some m else None) (leaf_in r ls)
 leaf_in-kept p r [] h = refl
 leaf_in-kept p r (l ∷ ls) h = elim (two (same_revision r l.rev)) [

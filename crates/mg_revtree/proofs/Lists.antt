@@ -114,7 +114,7 @@ leaf_in_is h r (l ∷ ls) m all e = elim (two (same_revision r l.rev)) [
   | inr f ↦ let k : leaf_in r ls ≡ Some m = rw f at e in leaf_in_is h r ls m all.1 k
 ]
 
--- a list of leaves that has each says of each revision what the history says
+-- a list that has each leaf gives each revision the mark and body that the history gives it
 says : (h : History) (ls : List Leaf) → AreLeavesOf h ls → ((l : Leaf) → IsLeaf h l → Has l ls) → (r : Revision) → leaf_in r ls ≡ leaf_at r h
 says h ls all each r = go (leaf_in r ls) refl (leaf_at r h) refl
   where

@@ -84,7 +84,7 @@ self_equal l Less e = absurd (let g : leaf_order l l ≡ Greater = leaf_total.an
 self_equal l Equal e = refl
 self_equal l Greater e = absurd (let g : leaf_order l l ≡ Less = leaf_total.antisymm l l ∙ ap ordering_reverse e in cc)
 
--- where k goes before a place, none ties with it
+-- if k goes before a place, no leaf ties with it
 no_tie : (k l : Leaf) (ls : List Leaf) (i : ℕ) → IsBetween k (l ∷ ls) i → leaf_order k l ≡ Equal → ⊥
 no_tie k l ls zero h e = let g : leaf_order k l ≡ Greater = leaf_total.antisymm k l ∙ ap ordering_reverse h.0 in cc
 no_tie k l ls (suc i) h e = let g : leaf_order k l ≡ Less = h.0 in cc
@@ -189,7 +189,7 @@ put_between l (m ∷ ls) zero h = let g : leaf_order l m ≡ Greater = leaf_tota
 put_between l [] (suc i) h = absurd h
 put_between l (m ∷ ls) (suc i) h = rw h.0 (ap (λ xs. m ∷ xs) (put_between l ls i h.1))
 
--- an option that tells where the leaf of a revision is
+-- an optional place of a revision's leaf is there exactly where the revision is a leaf
 pub leaf_told : (r : Revision) (ls : List Leaf) (o : Option ℕ) → IfSome o (λ i. (i < length ls) × IsLeafAt r ls i) → IfNone o (AreRanked ls → leaf_in r ls ≡ None) → AreRanked ls → is_some o ≡ is_some (leaf_in r ls)
 leaf_told r ls None found absent h = sym (ap is_some (absent h))
 leaf_told r ls (Some i) found absent h = sym (at_some r ls i found.1)

@@ -277,7 +277,7 @@ whole_stands t h rs d b e s =
       };
     }
 
--- the newest revision of such a path is known
+-- the newest revision of a path that is known whole is known
 pub whole_found : (h : History) (n : ℕ) (ids : List (List ℕ)) → 0 < length ids → is_whole h (run_from n ids) ≡ true → Known ≡ found_of h (run_from n ids)
 whole_found h n [] lt e = absurd (omega arith)
 whole_found h n (id ∷ ids) lt e =
@@ -290,7 +290,7 @@ agrees_held None o e = refl
 agrees_held (Some p) None e = refl
 agrees_held (Some p) (Some q) e = e
 
--- and it fits
+-- a path that is known whole fits
 pub whole_fits : (known ls : List Link) → are_held known ls ≡ true → fit known ls ≡ true
 whole_fits known [] e = refl
 whole_fits known (l ∷ ls) e =

@@ -94,7 +94,7 @@ below_append : (r : Revision) (ls ms : List Link) → IsBelow r ls → IsBelow r
 below_append r [] ms h k = k
 below_append r (l ∷ ls) ms h k = (h.0, below_append r ls ms h.1 k)
 
--- and so is the place where it would go, if it is below the others
+-- the place where a revision would go among the first links is that among all, if the revision is below the others
 pub gap_append : (r : Revision) (ls ms : List Link) (i : ℕ) → IsGap r ls i → IsBelow r ms → IsGap r (ls ++ ms) i
 gap_append r ls ms zero h k = below_append r ls ms h k
 gap_append r [] ms (suc i) h k = absurd h
@@ -109,7 +109,7 @@ gap_below r (l ∷ ls) (suc i) h = gap_below r ls i h.1
 pub gap_from : (r : Revision) (ls : List Link) (i : ℕ) → IsGap r ls i → AreFrom r.0 (drop i ls)
 gap_from r ls i h = below_from r (drop i ls) (gap_below r ls i h)
 
--- the first links of some in order
+-- the first links of sorted ones are sorted
 pub sorted_front : (ls ms : List Link) → AreSorted (ls ++ ms) → AreSorted ls
 sorted_front [] ms h = tt
 sorted_front (l ∷ ls) ms h = (below_front l.rev ls ms h.0, sorted_front ls ms h.1)
@@ -118,7 +118,7 @@ sorted_front (l ∷ ls) ms h = (below_front l.rev ls ms h.0, sorted_front ls ms 
     below_front r [] ms h = tt
     below_front r (k ∷ ks) ms h = (h.0, below_front r ks ms h.1)
 
--- and the last of them
+-- the last links of sorted ones are sorted
 pub sorted_back : (ls ms : List Link) → AreSorted (ls ++ ms) → AreSorted ms
 sorted_back [] ms h = h
 sorted_back (l ∷ ls) ms h = sorted_back ls ms h.1
@@ -198,7 +198,7 @@ module _ (t : List ℕ) (x : Node) (ns : List Node) (till from : ℕ) where
 
 -- ---- a run joined, newest first
 
--- what stands for the links so far, and what is left of the run
+-- the links so far, which the nodes stand for, and what is left of the run
 pub record Goes (t : List ℕ) (start : ℕ) (ps : List Part) (i pos : ℕ) (now after : List Node) (ls : List Link) : Type 0 where
   pub so_far : List Link
   pub nodes : AreNodes (links_in t now) so_far

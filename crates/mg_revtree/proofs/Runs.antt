@@ -80,7 +80,7 @@ no_child_below n (a ∷ b ∷ ids) r le fits = elim (two (same_revision r (n - 1
 abbrev pub IsRun : List Revision → Type 0
 IsRun rs = (r : Revision) → is_at r (newest_of rs) ≡ true → has_child r (links rs) ≡ false
 
--- that is so in a run
+-- the newest of a run is no parent in it
 pub run_is : (n : ℕ) (ids : List (List ℕ)) → length ids ≤ n + 1 → IsRun (run_from n ids)
 run_is n [] fits r e = refl
 run_is n (a ∷ ids) fits r e = let k : r.0 ≡ n = ap (λ (x : Revision). x.0) (same_is r (n, a) e) in no_child n (a ∷ ids) r (omega arith) fits
@@ -95,7 +95,7 @@ unknown_above n m s (a ∷ ids) lt = elim (two (same_revision (n, s) (m, a))) [
   | inr f ↦ rw f (unknown_above n (m - 1) s ids (omega arith))
 ]
 
--- nor is that before it
+-- a revision put before a run is not in it
 pub unknown_before : (n : ℕ) (s : List ℕ) (ids : List (List ℕ)) → length ids ≤ n → is_known (n, s) (links (run_from (n - 1) ids)) ≡ false
 unknown_before n s [] fits = refl
 unknown_before n s (a ∷ ids) fits = unknown_above n (n - 1) s (a ∷ ids) (omega arith)
@@ -110,7 +110,7 @@ pub newest_got : {X : Type 0} (f : X → List ℕ) (n : ℕ) (xs : List X) (i : 
 newest_got f n xs i None le = rw (drop_all i xs le) refl
 newest_got f n xs i (Some x) h = rw (drop_more xs i x.now h.0) (ap (λ (s : List ℕ). (let q : Option Revision = Some (n, s) in q)) (ap f (h.1 x.now)))
 
--- what is asked of each link of a run, where it holds of the first: asked of the rest
+-- a test of each link of a run that holds of the first is the test of the rest
 pub all-next : {X : Type 0} (P : Link → Bool) (f : X → List ℕ) (n : ℕ) (xs : List X) (i : ℕ) (x : X) (o : Option Revision) → i < length xs → x ≡ get_or xs i x → o ≡ newest_of (run_from (n - 1) (map f (drop (i + 1) xs))) → (b : Bool) → P (record { rev = (n, f x); parent = o }) ≡ b → list_all P (links (run_from n (map f (drop i xs)))) ≡ b && list_all P (links (run_from (n - 1) (map f (drop (i + 1) xs))))
 all-next {X} P f n xs i x o lt is newest b holds =
     let rest = run_from (n - 1) (map f (drop (i + 1) xs)) in
@@ -118,7 +118,7 @@ all-next {X} P f n xs i x o lt is newest b holds =
     let same : link (f (get_or xs i x)) (newest_of rest) ≡ link (f x) o = ap (λ (s : List ℕ). link s (newest_of rest)) (ap f (sym is)) ∙ ap (link (f x)) (sym newest) in
     ap (λ (ys : List X). list_all P (links (run_from n (map f ys)))) (drop_more xs i x lt) ∙ ap (λ (c : Bool). c && list_all P (links rest)) (ap P same ∙ holds)
 
--- the revision of a run at another's position tells whether that is a parent in it
+-- a revision below the newest of a run is a parent in it exactly if the run has it at its position
 pub parent_found : {X : Type 0} (f : X → List ℕ) (n : ℕ) (xs : List X) (r : Revision) (j : ℕ) (x : X) → r.0 + j ≡ n → 0 < j → j < length xs → length xs ≤ n + 1 → x ≡ get_or xs j x → is_eq (slice_cmp nat_cmp r.1 (f x)) ≡ has_child r (links (run_from n (map f xs)))
 parent_found f n xs r zero x at pos lt fits is = absurd (omega arith)
 parent_found f n xs r (suc k) x at pos lt fits is =

@@ -50,7 +50,7 @@ less_apart a r h = ap is_eq (revision_total.antisymm r a ∙ ap ordering_reverse
 pub equal_same : (a r : Revision) → revision_order a r ≡ Equal → same_revision r a ≡ true
 equal_same a r h = ap is_eq (revision_total.antisymm r a ∙ ap ordering_reverse h)
 
--- two revisions apart are not both r
+-- two different revisions are not both r
 pub apart : (r a b : Revision) → same_revision a b ≡ false → same_revision r b ≡ true → same_revision r a ≡ false
 apart r a b h k = elim (two (same_revision r a)) [
   | inl e ↦ absurd (let d : a ≡ b = sym (same_is r a e) ∙ same_is r b k in let f : same_revision a b ≡ true = subst (λ (x : Revision). same_revision a x ≡ true) d (same_refl a) in cc)

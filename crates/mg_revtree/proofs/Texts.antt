@@ -125,7 +125,7 @@ module _ (t : List ℕ) where
 
   -- ---- what is kept of a revision
 
-  -- the node at a revision's place tells what is kept of it
+  -- what is looked up for a revision is the parent of the node at its place
   pub kept-at : (pos : ℕ) (id : List ℕ) (ns : List Node) (i : ℕ) (x : Node) (o : Option (List ℕ)) → i < length ns → IsPlace (pos, id) (map (link_in t) ns) i → x ≡ get_or ns i x → parent_below x.pos o ≡ (link_in t x).parent → Some (parent_below pos o) ≡ find (pos, id) (map (link_in t) ns)
   kept-at pos id ns i x o lt place is h =
       let at : link_in t x ≡ get_or (map (link_in t) ns) i (link_in t x) = ap (link_in t) is ∙ sym (get_or-map (link_in t) ns i x (link_in t x) lt) in

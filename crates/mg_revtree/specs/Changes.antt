@@ -25,13 +25,13 @@ abbrev pub knows : History → Option Revision → Bool
 knows h None = false
 knows h (Some r) = is_known r (all_links h)
 
--- what a merge finds of the newest revision
+-- whether a merge finds the newest revision known or new
 abbrev pub found_of : History → List Revision → Merged
 found_of h rs = if knows h (newest_of rs) then Known_already else New
 
 -- ---- a new revision
 
--- where a new revision may be made: over a leaf, or with no parent where there is no leaf
+-- whether a new revision may be made: over a leaf, or without a parent if there is no leaf
 abbrev pub may_extend : History → Option Revision → Bool
 may_extend h None = is_none (winner_of h)
 may_extend h (Some r) = is_some (leaf_at r h)
@@ -60,20 +60,20 @@ next_position h base =
     if not (may_extend h base) then Err NotLeaf
     else (if position_below base == 4294967295 then Err Full else Ok (position_below base + 1))
 
--- why a new revision is not made, if it is not: there is no such leaf, its parent's position is the last, or it is known
+-- why a new revision is refused, if it is: there is no such leaf, its parent has the last position, or it is already known
 abbrev pub refusal_of : History → Option Revision → List ℕ → Option Refusal
 refusal_of h base id =
     if not (may_extend h base) then Some NotLeaf
     else (if position_below base == 4294967295 then Some Full
     else (if is_known (next_revision base id) (all_links h) then Some Known else None))
 
--- the error that tells a refusal
+-- the error that reports a refusal
 abbrev pub error_of : Refusal → TreeError
 error_of NotLeaf = not_leaf
 error_of Full = full
 error_of Known = known
 
--- a refusal is told, and where there is none, nothing is refused but memory
+-- the result reports this refusal; without a refusal it succeeds or runs out of memory
 abbrev pub Decides : Option Refusal → Result (Unit {0}) TreeError → Type 0
 Decides None result = IsOkUnless result no_memory
 Decides (Some refusal) result = result ≡ Err (error_of refusal)

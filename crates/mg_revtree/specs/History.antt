@@ -7,7 +7,7 @@ use Rattle.std.specs.declared.cmp.Ordering.{Ordering}
 use Rattle.mg_value.specs.Value.{Value}
 use Rattle.mg_revtree.specs.Revision.{Revision, revision_order, same_revision}
 
--- an accepted path: its revisions from the newest down, and what the newest has, its mark and its body
+-- an accepted path: its revisions, newest first, with the deletion mark and the body of the newest
 pub record Path : Type 0 where
   pub revs : List Revision
   pub deleted : Bool
@@ -34,7 +34,7 @@ abbrev pub links : List Revision → List Link
 links [] = []
 links (r ∷ rs) = record { rev = r; parent = newest_of rs } ∷ links rs
 
--- those of all paths
+-- the links of all paths
 abbrev pub all_links : History → List Link
 all_links = flat_map (λ p. links p.revs)
 
@@ -42,12 +42,12 @@ all_links = flat_map (λ p. links p.revs)
 abbrev pub is_known : Revision → List Link → Bool
 is_known r = list_any (λ l. same_revision r l.rev)
 
--- what comes behind a revision in a path, of the first path where something does
+-- the parent of a revision: what comes after it in the first path in which something does
 abbrev pub parent_of : Revision → List Link → Option Revision
 parent_of r [] = None
 parent_of r (l ∷ ls) = if same_revision r l.rev then option_or l.parent (parent_of r ls) else parent_of r ls
 
--- whether a place that may be empty has this revision
+-- whether an optional revision is this one
 abbrev pub is_at : Revision → Option Revision → Bool
 is_at r None = false
 is_at r (Some q) = same_revision r q
@@ -81,7 +81,7 @@ leaf_of h r = option_map (λ m. record { rev = r; deleted = m.0; body = m.1 }) (
 abbrev pub IsLeaf : History → Leaf → Type 0
 IsLeaf h l = leaf_at l.rev h ≡ Some (l.deleted, l.body)
 
--- the better is the greater: first one that is not deleted, among these the higher position, and there the greater id
+-- the better leaf is the greater: first the one that is not deleted, then the higher position, then the greater id
 abbrev pub leaf_order : Leaf → Leaf → Ordering
 leaf_order = then_cmp (on (λ l. not l.deleted) bool_cmp) (on (λ l. l.rev) revision_order)
 
@@ -89,7 +89,7 @@ leaf_order = then_cmp (on (λ l. not l.deleted) bool_cmp) (on (λ l. l.rev) revi
 abbrev pub tip_of : History → Path → Option Leaf
 tip_of h p = option_and_then (leaf_of h) (newest_of p.revs)
 
--- leaves, best first, with one more: one that ties with it is the same leaf
+-- leaves, best first, with one more; if one of them ties with it, that is the same leaf and is not added again
 abbrev pub ranked_with : Leaf → List Leaf → List Leaf
 ranked_with l [] = l ∷ []
 ranked_with l (m ∷ ms) = match_ordering (leaf_order l m) (m ∷ ranked_with l ms) (m ∷ ms) (l ∷ m ∷ ms)
@@ -114,7 +114,7 @@ winner_of h = first_of (leaves_of h)
 
 -- ---- when a path is accepted
 
--- whether a parent that is known and one that is given are not two different ones
+-- whether a given parent does not contradict the known one
 abbrev pub agrees : Option Revision → Option Revision → Bool
 agrees None q = true
 agrees (Some p) None = true
@@ -124,19 +124,19 @@ agrees (Some p) (Some q) = same_revision p q
 abbrev pub fit : List Link → List Link → Bool
 fit known ls = list_all (λ l. agrees (parent_of l.rev known) l.parent) ls
 
--- whether a path of these revisions contradicts no parent that is known already
+-- whether a path of these revisions contradicts no known parent
 abbrev pub fits : History → List Revision → Bool
 fits h rs = fit (all_links h) (links rs)
 
--- ---- when a path brings nothing
+-- ---- when a path changes nothing
 
--- whether a parent that is given, if one is, is the known one
+-- whether the given parent, if there is one, is the known one
 abbrev pub gives : Option Revision → Option Revision → Bool
 gives p None = true
 gives None (Some q) = false
 gives (Some p) (Some q) = same_revision p q
 
--- whether links are known: each revision, with the parent that it is given
+-- whether all links are known: each revision with its given parent
 abbrev pub are_held : List Link → List Link → Bool
 are_held known ls = list_all (λ l. is_known l.rev known && gives (parent_of l.rev known) l.parent) ls
 

@@ -6,12 +6,12 @@ use Rattle.std.specs.Option.{option_or}
 use Rattle.mg_revtree.specs.Revision.{Revision, revision_order}
 use Rattle.mg_revtree.specs.History.{Link}
 
--- links in order with one more: where its revision is there, its parent is taken if none is known, and else it goes to its place
+-- sorted links with one more: if its revision is there, that gets its parent if none is known; else the link goes to its place
 abbrev pub with_link : Link → List Link → List Link
 with_link l [] = l ∷ []
 with_link l (m ∷ ms) = match_ordering (revision_order l.rev m.rev) (l ∷ m ∷ ms) (record m { parent = option_or m.parent l.parent } ∷ ms) (m ∷ with_link l ms)
 
--- older links in order with newer ones
+-- sorted older links with newer ones joined
 abbrev pub with_links : List Link → List Link → List Link
 with_links older [] = older
 with_links older (l ∷ newer) = with_links (with_link l older) newer

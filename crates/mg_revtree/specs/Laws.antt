@@ -1,4 +1,4 @@
--- What holds of histories, as replicas meet them: CouchDB's replication and conflict model in the subject's own words.
+-- What holds of all histories, after the replication and conflict model of CouchDB.
 use Rattle.std.specs.Prelude.{◌≡◌, ℕ, ◌+◌, Bool, Option, None, List, [], ◌∷◌, ◌++◌, ◌⊎◌, true, false, Some}
 use Rattle.mg_value.specs.Value.{Value}
 use Rattle.mg_revtree.specs.Revision.{Revision, run_of}
@@ -40,7 +40,7 @@ pub record Agree (h g : History) : Type 0 where
   pub leaves : (r : Revision) → leaf_at r h ≡ leaf_at r g
   pub winners : winner_of h ≡ winner_of g
 
--- replicas that exchanged all they have agree
+-- replicas that have exchanged all their paths agree
 abbrev pub ReplicasAgree : Type 0
 ReplicasAgree = (h g : History) → SamePaths h g → SameMarks g → OneParent (all_links g) → Agree h g
 
@@ -57,11 +57,11 @@ AcceptedInEveryOrder = (h ps : List Path) → OneParent (all_links (h ++ ps)) �
 
 -- ---- what a path changes
 
--- with a path that is known whole, a history says what it said without it
+-- one more path that is known whole changes nothing
 abbrev pub KnownChangesNothing : Type 0
 KnownChangesNothing = (h : History) (p : Path) → is_whole h p.revs ≡ true → Agree (with_path h p) h
 
--- no revision is ever lost, nor its parent
+-- each known revision of h is known in g, and each known parent is the same
 pub record Keeps (h g : History) : Type 0 where
   pub revisions : (r : Revision) → is_known r (all_links h) ≡ true → is_known r (all_links g) ≡ true
   pub parents : (r q : Revision) → parent_of r (all_links h) ≡ Some q → parent_of r (all_links g) ≡ Some q
@@ -82,7 +82,7 @@ DeletedDoNotWin = (h : History) (w l : Leaf) → winner_of h ≡ Some w → IsLe
 
 -- ---- leaves and losers as lists
 
--- the lists are those of the leaves and of the losers, each once and best first, and there is no other such list
+-- `leaves_of` and `losers_of` list the leaves and the losers, each once and best first, and no other lists do
 pub record LeavesAreListed : Type 0 where
   pub leaves : (h : History) → AreLeaves h (leaves_of h)
   pub losers : (h : History) → AreLosers h (losers_of h)
@@ -97,12 +97,12 @@ Falls [] = Unit {0}
 Falls (r ∷ []) = Unit {0}
 Falls (r ∷ q ∷ rs) = (r.0 ≡ q.0 + 1) × Falls (q ∷ rs)
 
--- each run that a replica gives falls, and a new revision over its parent does
+-- the positions fall in each run that a replica gives, and in a new revision over its parent
 pub record PathsFall : Type 0 where
   pub runs : (n : ℕ) (ids : List (List ℕ)) (rs : List Revision) → run_of n ids ≡ Some rs → Falls rs
   pub extensions : (base : Option Revision) (id : List ℕ) (d : Bool) (b : Value) → Falls (extension base id d b).revs
 
--- all paths of a history fall
+-- the positions fall in all paths of a history
 abbrev pub AllFall : History → Type 0
 AllFall [] = Unit {0}
 AllFall (p ∷ h) = Falls p.revs × AllFall h

@@ -12,15 +12,15 @@ use Rattle.std.specs.declared.cmp.Ordering.{Ordering}
 abbrev pub Revision : Type 0
 Revision = ℕ × List ℕ
 
--- by the position, and at one position by the bytes of the id
+-- orders by the position, then by the bytes of the id
 abbrev pub revision_order : Revision → Revision → Ordering
 revision_order = then_cmp (on (λ r. r.0) nat_cmp) (on (λ r. r.1) (slice_cmp nat_cmp))
 
--- whether two revisions are one
+-- whether two revisions are equal
 abbrev pub same_revision : Revision → Revision → Bool
 same_revision a b = is_eq (revision_order a b)
 
--- whether a byte is a character of an id: ASCII, with no space and no control character
+-- whether a byte is a character of an id: printable ASCII other than the space
 abbrev pub is_id_byte : ℕ → Bool
 is_id_byte b = nat_le 33 b && nat_le b 126
 

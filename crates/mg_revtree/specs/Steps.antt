@@ -7,16 +7,16 @@ use Rattle.std.specs.Option.{option_or}
 use Rattle.mg_revtree.specs.History.{Link, Leaf, agrees, gives, leaf_order}
 use Rattle.mg_revtree.specs.Tree.{BeforeAll, IsBelow, leaf_in}
 
--- what is kept of a revision after one more link of it
+-- the looked-up parent of a revision after one more link of that revision
 abbrev pub joined : Option (Option Revision) → Option Revision → Option (Option Revision)
 joined None q = Some q
 joined (Some p) q = Some (option_or p q)
 
--- the parent that is kept once a link is joined
+-- the looked-up parent of a revision after one more link
 abbrev pub put : Link → Revision → Option (Option Revision) → Option (Option Revision)
 put l r o = if same_revision r l.rev then joined o l.parent else o
 
--- place i is that of r
+-- the link at place i is that of r
 abbrev pub IsPlace : Revision → List Link → ℕ → Type 0
 IsPlace r [] i = ⊥
 IsPlace r (l ∷ ls) zero = same_revision r l.rev ≡ true
@@ -28,17 +28,17 @@ IsGap r ls zero = IsBelow r ls
 IsGap r [] (suc i) = ⊥
 IsGap r (l ∷ ls) (suc i) = (revision_order l.rev r ≡ Less) × IsGap r ls i
 
--- whether what is kept of a revision gives it no other parent
+-- whether a given parent does not contradict the looked-up one
 abbrev pub agrees_found : Option (Option Revision) → Option Revision → Bool
 agrees_found None q = true
 agrees_found (Some p) q = agrees p q
 
--- whether a revision is kept, with the parent that it is given
+-- whether a looked-up revision is known, and with the given parent if there is one
 abbrev pub held_found : Option (Option Revision) → Option Revision → Bool
 held_found None q = false
 held_found (Some p) q = gives p q
 
--- a leaf of this mark and revision, whatever its body
+-- a leaf with this mark and revision; its body does not matter
 abbrev pub marked_as : Bool → Revision → Leaf
 marked_as d r = record { rev = r; deleted = d; body = null }
 
@@ -60,7 +60,7 @@ IsLeafAt r [] i = ⊥
 IsLeafAt r (l ∷ ls) zero = same_revision r l.rev ≡ true
 IsLeafAt r (l ∷ ls) (suc i) = IsLeafAt r ls i
 
--- whether there are no leaves, or the revision is one
+-- whether a new revision may be made: over one of the leaves, or without a parent if there are none
 abbrev pub base_in : List Leaf → Option Revision → Bool
 base_in [] None = true
 base_in (l ∷ ls) None = false

@@ -33,7 +33,7 @@ abbrev pub AreSorted : List Link → Type 0
 AreSorted [] = Unit {0}
 AreSorted (l ∷ ls) = IsBelow l.rev ls × AreSorted ls
 
--- what is kept says of each revision what the links say, in order
+-- the kept links are sorted, and give each revision the parent that all links give it
 pub record AreNodes (kept ls : List Link) : Type 0 where
   pub same : (r : Revision) → find r kept ≡ node r ls
   pub sorted : AreSorted kept
@@ -66,7 +66,7 @@ pub record AreLeaves (h : History) (ls : List Leaf) : Type 0 where
   pub apart : AreApart ls
   pub ranked : AreRanked ls
 
--- the mark and body of a leaf beside the winner that is not deleted
+-- the mark and body of a loser: a leaf beside the winner that is not deleted
 abbrev pub loser_at : Revision → History → Option (Bool × Value)
 loser_at r h = if is_at r (option_map (λ l. l.rev) (winner_of h)) then None else option_and_then (λ m. if not m.0 then Some m else None) (leaf_at r h)
 

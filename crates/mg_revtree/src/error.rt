@@ -5,10 +5,10 @@ use thiserror::Error;
 /// Why a text was not read as a revision.
 #[derive(Clone, Copy, PartialEq, Eq, Debug, Drop, Error)]
 pub enum RevError {
-    /// The text is no revision.
+    /// The text is not a revision.
     #[error("invalid revision")]
     Bad,
-    /// A growth was refused.
+    /// An allocation failed.
     #[error("out of memory")]
     NoMemory,
 }
@@ -36,10 +36,10 @@ pub enum Merged {
 /// Why a path was not merged.
 #[derive(Clone, Copy, PartialEq, Eq, Debug, Drop, Error)]
 pub enum MergeError {
-    /// The path contradicts a parent that is known already.
+    /// The path contradicts a known parent.
     #[error("revision history does not fit the document")]
     BadHistory,
-    /// A growth was refused.
+    /// An allocation failed.
     #[error("out of memory")]
     NoMemory,
 }
@@ -58,27 +58,27 @@ impl From<NoMemory> for MergeError {
 /// Why a new revision is not made.
 #[derive(Clone, Copy, PartialEq, Eq, Debug, Drop)]
 pub enum Refusal {
-    /// The revision that is extended is no leaf; or none is named, and the tree has leaves.
+    /// The revision to extend is not a leaf; or no revision is named, but the tree has leaves.
     NotLeaf,
     /// That revision has the last position, 4,294,967,295.
     Full,
-    /// The new revision is known.
+    /// The new revision is already known.
     Known,
 }
 
 /// Why a revision was not extended.
 #[derive(Clone, Copy, PartialEq, Eq, Debug, Drop, Error)]
 pub enum TreeError {
-    /// The revision is no leaf; or none is named, and the tree has leaves.
+    /// The revision to extend is not a leaf; or no revision is named, but the tree has leaves.
     #[error("the revision is no leaf")]
     NotLeaf,
     /// The revision has the last position, 4,294,967,295.
     #[error("the revision has the last position")]
     Full,
-    /// The new revision is known.
+    /// The new revision is already known.
     #[error("the new revision is known")]
     Known,
-    /// A growth was refused.
+    /// An allocation failed.
     #[error("out of memory")]
     NoMemory,
 }

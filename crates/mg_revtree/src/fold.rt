@@ -12,7 +12,7 @@ use crate::parts::part_for;
 use mg_value::NoMemory;
 use std::alloc::Global;
 
-// The part of an id, which is added where the revision is unknown among two lists.
+// The part that holds the id of a revision. If neither list has the revision, its id is added to the texts.
 fn part_among(
     texts: &mut Vec<u8>,
     older: &[Node],
@@ -30,7 +30,7 @@ fn part_among(
     }
 }
 
-// The part of the id of a node's parent, if that is known, among these texts.
+// The part of `texts` that holds the id of a node's parent, if the parent is known. The node's own parts are of `other`.
 fn parent_for(
     texts: &mut Vec<u8>,
     older: &[Node],
@@ -54,8 +54,8 @@ fn parent_for(
     }
 }
 
-// The node of these texts that stands for the link of a node of other texts. The ids of revisions that are unknown among
-// two lists are added.
+// A node over `texts` that stands for the same link as a node over `other`. The ids of revisions that neither list has are
+// added to `texts`.
 fn node_for(
     texts: &mut Vec<u8>,
     older: &[Node],
@@ -76,8 +76,8 @@ fn node_for(
     })
 }
 
-// Adds the older nodes below a node, and then the node, joined to the older one of its revision. The answer is how many of
-// the older ones are passed with that.
+// Appends the older nodes below a node, and then the node, joined with the older one of its revision if there is one.
+// Returns how many older nodes are done with.
 fn add_through(
     texts: &[u8],
     made: &mut Vec<Node>,
@@ -105,8 +105,9 @@ fn add_through(
     }
 }
 
-/// Older nodes in order, with newer ones of other texts folded in. The ids of revisions that are unknown are added to the
-/// texts. Cost: one pass over all nodes, and a few logarithms of their number for each newer one.
+/// Merges sorted older nodes over `texts` with newer nodes over `other` into one sorted list over `texts`. The ids of
+/// unknown revisions are added to `texts`. Cost: one pass over all nodes, and a few logarithms of their number for each newer
+/// one.
 pub fn folded(
     alloc: Global,
     texts: &mut Vec<u8>,

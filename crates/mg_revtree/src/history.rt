@@ -8,8 +8,8 @@ use mg_value::{NoMemory, copy_texts};
 use std::alloc::Global;
 use std::marker::Model;
 
-/// A path as a replica gives it: a run of revisions, newest first, each at the position below the one before.
-/// Contracts see it as the list of those revisions.
+/// A path as a replica sends it: revisions, newest first, each one position below the one before it.
+/// Contracts see the list of those revisions.
 #[derive(Debug, Drop)]
 pub struct History {
     start: u32,
@@ -28,8 +28,8 @@ impl Model for History {
 }
 
 impl History {
-    /// The run that starts at a position, if its ids are at least one and at most `start`, each that of a revision.
-    /// Takes no memory. Cost: the length of the ids. Source: `_revisions` of CouchDB's API reference.
+    /// The path whose newest revision has position `start` and the first id. `None` unless there are 1 to `start` ids, each the id
+    /// of a revision. Takes no memory. Cost: the length of the ids. Source: `_revisions` of CouchDB's API reference.
     pub fn new(start: u32, ids: Vec<String>) -> Option<History>
         ensures { result ≡ run_of start (map string_bytes ids.items) }
     {
@@ -39,7 +39,7 @@ impl History {
         Some(History { start, ids })
     }
 
-    /// The newest revision.
+    /// A copy of the newest revision. Errors: `NoMemory` if an allocation fails.
     pub fn newest(&self) -> Result<Rev, NoMemory>
         ensures { IfOk result (λ rev. newest_of self.now ≡ Some rev) }
     {
@@ -49,7 +49,7 @@ impl History {
         })
     }
 
-    /// The newest revision, and nothing else of the path. Takes no memory.
+    /// Turns the path into its newest revision. Takes no memory.
     pub fn into_newest(self) -> Rev
         ensures { newest_of self ≡ Some result }
     {
@@ -60,7 +60,7 @@ impl History {
         }
     }
 
-    /// An equal path. Errors: `NoMemory` where a growth was refused. Cost: the length of its ids.
+    /// A copy of the path. Errors: `NoMemory` if an allocation fails. Cost: the length of its ids.
     pub fn copy(&self, alloc: Global) -> Result<History, NoMemory>
         ensures { IfOk result (λ path. path ≡ self.now) }
     {
@@ -71,7 +71,7 @@ impl History {
         })
     }
 
-    /// The start, and the ids, newest first.
+    /// The position of the newest revision, and the ids, newest first.
     pub(crate) fn run(&self) -> (u32, &[String])
         ensures run { self.now ≡ run_from result.0 (map string_bytes result.1.now) }
         ensures some { 0 < length result.1.now }

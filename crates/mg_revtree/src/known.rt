@@ -11,33 +11,33 @@ use mg_value::NoMemory;
 use std::alloc::Global;
 use std::marker::Model;
 
-// Up to how many newer revisions are always kept apart from the older ones.
+// The newer list may always hold this many revisions.
 const FEW: usize = 64;
 
-// How many times the root of the number of the older revisions the newer ones may be. The more, the dearer is a copy, and the
-// cheaper a line of edits in one bulk.
+// The newer list may also hold up to about ROOTS times the square root of the number of older revisions. With more ROOTS, a copy
+// costs more, and a line of edits in one bulk costs less.
 const ROOTS: usize = 4;
 
-// Whether a number is at most the root of another.
+// Whether `number` is at most the square root of `square`.
 fn is_within_root(number: usize, square: usize) -> bool
     ensures { result ≡ nat_le (number * number) square }
 {
     number == 0 || number <= square / number
 }
 
-// Whether so many newer revisions are few beside the older ones: at most 64, or at most four times the root of their number.
+// Whether the newer list may hold `newer` revisions: at most 64, or about four times the square root of `older` (the division
+// rounds down, so up to three more).
 fn are_few(newer: usize, older: usize) -> bool {
     newer <= FEW || is_within_root(newer / ROOTS, older)
 }
 
 /// The known revisions with their parents, in the order of the revisions. Contracts see the list of them.
 ///
-/// They are kept in two lists: an older one, which copies share, and a newer one, which is copied. The newer one has at
-/// most 64 revisions, or at most four times the root of the number of the older ones; before it would have more, it is folded
-/// into a copy of the older one, which takes that one's place. So up to 64 known revisions are all in the newer list. Of more, a
-/// copy copies no more than 64 or four times that root, and the whole is copied once for as many revisions of the runs that are
-/// joined, known ones included. What is kept of a revision is the parent that the older list has, and where that has none, what the
-/// newer list has.
+/// They are kept in two lists: an older one, which copies share, and a newer one, which is copied. The newer list holds at
+/// most 64 revisions, or about four times the square root of the number of older ones. Before it grows beyond that limit, it
+/// is folded into a copy of the older list, and that copy becomes the older list. So a copy of the tree never copies more
+/// revisions than the limit, and a fold comes at most once in so many revisions of joined runs, known ones included. The
+/// parent of a revision is the one in the older list; if that list has none, the one in the newer list.
 #[derive(Drop)]
 pub struct Known {
     older: Older,
@@ -71,7 +71,8 @@ impl Known {
         }
     }
 
-    /// What is kept of a revision: the id of its parent, where that is known. Cost: the logarithm of the known revisions.
+    /// Looks up a revision: the id of its parent, `Some(None)` if it has no known parent, `None` if it is unknown. Cost: the
+    /// logarithm of the known revisions.
     pub fn kept(&self, pos: u32, id: &[u8]) -> Option<Option<&[u8]>>
         ensures { option_map (λ p. parent_below pos (option_copied p)) result ≡ find (pos, id.now) self.now }
     {
@@ -89,7 +90,7 @@ impl Known {
         self.kept(pos, id.as_bytes()).is_some()
     }
 
-    /// Whether a run, given by its start and its ids, newest first, gives no known revision another parent.
+    /// Whether no known revision gets another parent from a run, which is given by its start and its ids, newest first.
     /// Cost: the length of the run times the logarithm of the known revisions.
     pub fn fits(&self, start: u32, ids: &[String]) -> bool
         ensures { (ls : List Link) → AreNodes self.now ls → result ≡ fit ls (links (run_from start (map string_bytes ids.now))) }
@@ -98,15 +99,15 @@ impl Known {
     }
 
     /// Whether all revisions of a run, given by its start and its ids, newest first, are known with the parents that
-    /// the run gives them. Cost: as that of `fits`.
+    /// the run gives them. Cost: as for `fits`.
     pub fn holds(&self, start: u32, ids: &[String]) -> bool
         ensures { (ls : List Link) → AreNodes self.now ls → result ≡ are_held ls (links (run_from start (map string_bytes ids.now))) }
     {
         all_held(self, start, ids)
     }
 
-    /// Adds a run, given by its start and its ids, newest first, or nothing where memory is refused. Cost: where the newer
-    /// revisions stay few, that of `Links::join` among them. Else that of `Older::with`, and of `Links::join` among all.
+    /// Adds a run, given by its start and its ids, newest first. If memory runs out, nothing changes. Cost: while the newer
+    /// list stays small, that of `Links::join` in it; else those of `Older::with`, and of `Links::join` in all revisions.
     pub fn join(&mut self, start: u32, ids: &[String]) -> Result<(), NoMemory>
         requires { length ids.now ≤ start + 1 }
         ensures nodes { OnOk result ((ls : List Link) → AreNodes self.old ls → AreNodes self.new (ls ++ links (run_from start (map string_bytes ids.now)))) }
@@ -124,8 +125,8 @@ impl Known {
         Ok(())
     }
 
-    /// Equal known revisions, of which the older are shared. Cost: two blocks of memory with the newer ones are copied,
-    /// and nothing is done for a revision.
+    /// A copy that shares the older list. Cost: copies the two blocks of memory of the newer list, with no work for each
+    /// revision.
     pub fn copy(&self, alloc: Global) -> Result<Known, NoMemory>
         ensures { IfOk result (λ known. known ≡ self.now) }
     {

@@ -1,8 +1,8 @@
 ghost use Rattle.mg_revtree.specs.Laws.{AcceptedInEveryOrder, DeletedDoNotWin, KnownChangesNothing, LeavesAreListed, NoWinnerNothingKnown, NothingIsLost, PathsFall, ReplicasAgree, WinnerIsBest};
 
-/// Replicas that exchanged all they have agree: histories with the same set of paths, in any order and with any
-/// repetition, have the same known revisions with the same parents, the same leaves and the same winner, where paths
-/// with the same newest revision have the same mark and body, and no revision is given two parents.
+/// Replicas that have exchanged all their paths agree. Histories with the same set of paths, in any order and with any
+/// repetition, have the same known revisions with the same parents, the same leaves and the same winner. This holds if
+/// paths with the same newest revision have the same mark and body, and if no revision is given two parents.
 pub fn replicas_agree()
     ensures { ReplicasAgree }
 {}
@@ -12,12 +12,12 @@ pub fn accepted_in_every_order()
     ensures { AcceptedInEveryOrder }
 {}
 
-/// With a path that is known whole, a history says what it said without it.
+/// A path that is known whole changes nothing: the known revisions, their parents, the leaves and the winner stay.
 pub fn known_changes_nothing()
     ensures { KnownChangesNothing }
 {}
 
-/// No revision is ever lost, nor its parent.
+/// A known revision stays known, and a known parent stays the parent.
 pub fn nothing_is_lost()
     ensures { NothingIsLost }
 {}
@@ -32,19 +32,20 @@ pub fn deleted_do_not_win()
     ensures { DeletedDoNotWin }
 {}
 
-/// The lists of the leaves and of the losers of a history have each of them once, the best first, and are the only
-/// such lists.
+/// The lists of the leaves and of the losers of a history have each of them once, best first. There are no other such
+/// lists.
 pub fn leaves_are_listed()
     ensures { LeavesAreListed }
 {}
 
-/// The positions of each path that a replica can give fall by one, and so do those of a new revision and its parent.
+/// In each path that a replica can send, each revision is one position above the next. A new revision is one position
+/// above its parent.
 pub fn paths_fall()
     ensures { PathsFall }
 {}
 
-/// Where the positions of each path fall by one, a document that has no winner knows no revision. So a revision
-/// without a parent is begun only where nothing is known.
+/// If in each path the positions fall by one, a document without a winner has no known revision. So a new revision without
+/// a parent is made only where no revision is known.
 pub fn no_winner_nothing_known()
     ensures { NoWinnerNothingKnown }
 {}

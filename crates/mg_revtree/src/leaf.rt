@@ -10,7 +10,7 @@ use std::cmp::Ordering;
 use std::marker::Model;
 use std::sync::Arc;
 
-/// A revision that is nobody's parent, with its mark and body.
+/// A revision that is the parent of no other, with its deletion mark and its body.
 #[derive(Drop)]
 pub struct Leaf {
     pub rev: Rev,
@@ -32,7 +32,8 @@ impl Model for Leaf {
 }
 
 impl Leaf {
-    /// The better is the greater: first one that is not deleted, among these the higher position, and there the greater id.
+    /// Orders leaves by which one wins; the winner is the greater: first the one that is not deleted, then the higher position,
+    /// then the greater id.
     pub fn order(&self, other: &Leaf) -> Ordering
         ensures { result ≡ leaf_order self.now other.now }
     {
@@ -41,7 +42,7 @@ impl Leaf {
             .then(self.rev.order(&other.rev))
     }
 
-    // How a leaf of this mark and revision compares with it.
+    // Compares a leaf with the given mark and revision to this leaf.
     pub(crate) fn against(&self, deleted: bool, pos: u32, id: &[u8]) -> Ordering
         ensures { result ≡ leaf_order (marked_as deleted (pos, id.now)) self.now }
     {
@@ -70,7 +71,7 @@ impl Model for Shared {
 }
 
 impl Shared {
-    /// A leaf to be shared.
+    /// Puts a leaf where the copies of a tree can share it.
     pub fn new(alloc: Global, leaf: Leaf) -> Result<Shared, NoMemory>
         ensures { IfOk result (λ shared. shared ≡ leaf) }
     {
@@ -86,7 +87,7 @@ impl Shared {
         &self.leaf
     }
 
-    /// The same leaf once more. Takes no memory.
+    /// Another reference to the leaf. Takes no memory.
     pub fn share(&self) -> Result<Shared, NoMemory>
         ensures { IfOk result (λ shared. shared ≡ self.now) }
     {

@@ -10,7 +10,7 @@ use crate::revision::Rev;
 use mg_value::NoMemory;
 use std::alloc::Global;
 
-// Where the leaf of a mark and a revision is among leaves, best first, or where it would go.
+// The place of the leaf with this mark and revision among leaves, best first, or the place where it would go.
 fn place_of(leaves: &[Shared], deleted: bool, pos: u32, id: &[u8]) -> Result<usize, usize>
     ensures found { IfOk result (λ i. (i < length leaves.now) × IsTied (marked_as deleted (pos, id.now)) leaves.now i) }
     ensures absent { IfErr result (λ i. (i ≤ length leaves.now) × (AreRanked leaves.now → IsBetween (marked_as deleted (pos, id.now)) leaves.now i)) }
@@ -18,7 +18,7 @@ fn place_of(leaves: &[Shared], deleted: bool, pos: u32, id: &[u8]) -> Result<usi
     leaves.binary_search_by(|leaf| leaf.leaf().against(deleted, pos, id))
 }
 
-// Where the leaf of a revision is.
+// The place of a revision's leaf. Its mark decides the place and is not given, so both marks are tried.
 fn place_among(leaves: &[Shared], pos: u32, id: &[u8]) -> Option<usize>
     ensures found { IfSome result (λ i. (i < length leaves.now) × IsLeafAt (pos, id.now) leaves.now i) }
     ensures absent { IfNone result (AreRanked leaves.now → leaf_in (pos, id.now) leaves.now ≡ None) }
@@ -39,7 +39,7 @@ pub fn is_leaf(leaves: &[Shared], pos: u32, id: &[u8]) -> bool
     place_among(leaves, pos, id).is_some()
 }
 
-// Takes away the leaf of a revision, if there is one.
+// Removes the leaf of a revision, if there is one.
 fn take_away(leaves: &mut Vec<Shared>, pos: u32, id: &[u8])
     ensures kept { AreRanked leaves.old.items → AreApart leaves.old.items → leaves.new.items ≡ filter (λ l. not (same_revision l.rev (pos, id.now))) leaves.old.items }
     ensures capacity { vec_capacity leaves.new ≡ vec_capacity leaves.old }
@@ -50,8 +50,8 @@ fn take_away(leaves: &mut Vec<Shared>, pos: u32, id: &[u8])
     }
 }
 
-/// Takes away the leaves that are parents in a run. Cost: for each of its revisions the logarithm of the leaves, and a
-/// move of a word for each leaf that comes after one that is taken away.
+/// Removes the leaves that are parents in a run. Cost: for each revision of the run the logarithm of the leaves, and a
+/// move of one pointer for each leaf after a removed one.
 pub fn unleaf(leaves: &mut Vec<Shared>, start: u32, ids: &[String])
     ensures kept { AreRanked leaves.old.items → AreApart leaves.old.items → leaves.new.items ≡ filter (λ l. not (has_child l.rev (links (run_from start (map string_bytes ids.now))))) leaves.old.items }
     ensures capacity { vec_capacity leaves.new ≡ vec_capacity leaves.old }
@@ -64,7 +64,7 @@ pub fn unleaf(leaves: &mut Vec<Shared>, start: u32, ids: &[String])
     }
 }
 
-// Where a leaf is among leaves, best first, or where it would go.
+// The place of a leaf among leaves, best first, or the place where it would go.
 fn place_for(leaves: &[Shared], leaf: &Leaf) -> Result<usize, usize>
     ensures found { IfOk result (λ i. (i < length leaves.now) × IsTied leaf.now leaves.now i) }
     ensures absent { IfErr result (λ i. (i ≤ length leaves.now) × (AreRanked leaves.now → IsBetween leaf.now leaves.now i)) }
@@ -72,7 +72,7 @@ fn place_for(leaves: &[Shared], leaf: &Leaf) -> Result<usize, usize>
     leaves.binary_search_by(|other| leaf.order(other.leaf()))
 }
 
-// Before which leaf a leaf goes, whose revision is none of theirs.
+// The place where a leaf of another revision goes.
 fn rank(leaves: &[Shared], leaf: &Leaf) -> usize
     ensures within { result ≤ length leaves.now }
     ensures ranked { AreRanked leaves.now → leaf_in leaf.now.rev leaves.now ≡ None → insert leaves.now result leaf.now ≡ ranked_with leaf.now leaves.now }
@@ -83,8 +83,8 @@ fn rank(leaves: &[Shared], leaf: &Leaf) -> usize
     }
 }
 
-/// Adds a leaf of a revision that is none yet, for which there is room. Cost: the logarithm of the leaves, and a move
-/// of a word for each that is worse.
+/// Adds a leaf whose revision is not among them. The vector has the capacity for it. Cost: the logarithm of the leaves, and
+/// a move of one pointer for each worse leaf.
 pub fn add_leaf(leaves: &mut Vec<Shared>, leaf: Shared)
     requires { vec_len leaves.old < vec_capacity leaves.old }
     ensures { AreRanked leaves.old.items → leaf_in leaf.rev leaves.old.items ≡ None → leaves.new.items ≡ ranked_with leaf leaves.old.items }
@@ -93,7 +93,7 @@ pub fn add_leaf(leaves: &mut Vec<Shared>, leaf: Shared)
     drop(leaves.insert(at, leaf));
 }
 
-/// Those leaves that are not deleted. Where there are none, no memory is needed.
+/// The leaves that are not deleted. If there are none, no memory is needed.
 pub fn kept_among(alloc: Global, leaves: &[Shared]) -> Result<Vec<&Leaf>, NoMemory>
     ensures kept { IfOk result (λ found. map (λ l. l.now) found.items ≡ filter (λ l. not l.deleted) leaves.now) }
     ensures none { filter (λ l. not l.deleted) leaves.now ≡ [] → IsOk result }
@@ -108,7 +108,7 @@ pub fn kept_among(alloc: Global, leaves: &[Shared]) -> Result<Vec<&Leaf>, NoMemo
     Ok(found)
 }
 
-/// The same leaves, shared.
+/// A list that shares the same leaves.
 pub fn copy_leaves(alloc: Global, leaves: &[Shared]) -> Result<Vec<Shared>, NoMemory>
     ensures { IfOk result (λ made. made.items ≡ leaves.now) }
 {

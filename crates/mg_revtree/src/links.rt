@@ -13,12 +13,12 @@ use mg_value::NoMemory;
 use std::alloc::Global;
 use std::marker::Model;
 
-// The room that a copy leaves, so that an edit of it does not move it once more.
+// The spare capacity of a copy, so that an edit of the copy does not reallocate it.
 const SPARE_BYTES: usize = 64;
 
 pub const SPARE_NODES: usize = 2;
 
-// Equal items, with room for some more.
+// A copy of the items, with capacity for `more` items.
 fn copied<T: Copy>(alloc: Global, items: &[T], more: usize) -> Result<Vec<T>, NoMemory>
     ensures { IfOk result (λ made. made.items ≡ items.now) }
 {
@@ -71,12 +71,13 @@ impl Links {
         self.nodes.len()
     }
 
-    /// Where the memory comes from.
+    /// The allocator that the memory comes from.
     pub fn allocator(&self) -> Global {
         *self.nodes.allocator()
     }
 
-    /// What is kept of a revision: the id of its parent, where that is known. Cost: the logarithm of the revisions.
+    /// Looks up a revision: the id of its parent, `Some(None)` if it has no known parent, `None` if it is unknown. Cost: the
+    /// logarithm of the revisions.
     pub fn kept(&self, pos: u32, id: &[u8]) -> Option<Option<&[u8]>>
         ensures { AreSorted self.now → option_map (λ p. parent_below pos (option_copied p)) result ≡ find (pos, id.now) self.now }
     {
@@ -86,9 +87,9 @@ impl Links {
         }
     }
 
-    /// Adds a run, given by its start and its ids, newest first, or nothing where memory is refused. Cost: the length of the
-    /// run times the logarithm of the revisions, and one pass over the run and the nodes that are above its lowest unknown
-    /// revision: none where the run goes on a line at its end.
+    /// Adds a run, given by its start and its ids, newest first. If memory runs out, nothing changes. Cost: the length of the
+    /// run times the logarithm of the revisions, and one pass over the run and the nodes above its lowest unknown revision.
+    /// There are no such nodes where the run extends the line with the highest positions.
     pub fn join(&mut self, start: u32, ids: &[String]) -> Result<(), NoMemory>
         requires { length ids.now ≤ start + 1 }
         ensures nodes { OnOk result ((ls : List Link) → AreNodes self.old ls → AreNodes self.new (ls ++ links (run_from start (map string_bytes ids.now)))) }
@@ -107,7 +108,7 @@ impl Links {
         Ok(())
     }
 
-    /// Equal links. Cost: two blocks of memory are copied, and nothing is done for a revision.
+    /// A copy of the links. Cost: copies two blocks of memory, with no work for each revision.
     pub fn copy(&self, alloc: Global) -> Result<Links, NoMemory>
         ensures { IfOk result (λ links. links ≡ self.now) }
     {
@@ -117,7 +118,7 @@ impl Links {
         })
     }
 
-    /// These links with newer ones. Cost: a block of memory is copied, and one is made as `folded` says.
+    /// A list of these links with newer ones joined. Cost: that of `folded`, and a copy of the text of all ids.
     pub fn with(&self, alloc: Global, newer: &Links) -> Result<Links, NoMemory>
         ensures { IfOk result (λ links. AreSorted self.now → AreSorted newer.now → links ≡ with_links self.now newer.now) }
     {

@@ -8,7 +8,7 @@ ghost use Rattle.mg_revtree.specs.Steps.{IsGap, IsPlace, agrees_found, held_foun
 use crate::known::Known;
 use crate::node::Node;
 
-/// Where a revision is, or where it would go.
+/// The place of a revision's node, or the place where it would go.
 pub fn place(texts: &[u8], nodes: &[Node], pos: u32, id: &[u8]) -> Result<usize, usize>
     ensures found { IfOk result (λ i. (i < length nodes.now) × (AreSorted (links_in texts.now nodes.now) → IsPlace (pos, id.now) (links_in texts.now nodes.now) i)) }
     ensures absent { IfErr result (λ i. (i ≤ length nodes.now) × (AreSorted (links_in texts.now nodes.now) → IsGap (pos, id.now) (links_in texts.now nodes.now) i)) }
@@ -16,7 +16,7 @@ pub fn place(texts: &[u8], nodes: &[Node], pos: u32, id: &[u8]) -> Result<usize,
     nodes.binary_search_by(|node| node.order(texts, pos, id))
 }
 
-// Whether a parent that a revision is given is no other than its known one.
+// Whether the parent given for a revision does not contradict the known one.
 fn agrees(known: &Known, pos: u32, id: &String, parent: Option<&String>) -> bool
     ensures { result ≡ agrees_found (find (pos, string_bytes id.now) known.now) (option_map (λ p. (pos - 1, string_bytes p)) (option_copied parent.entry)) }
 {
@@ -26,7 +26,7 @@ fn agrees(known: &Known, pos: u32, id: &String, parent: Option<&String>) -> bool
     }
 }
 
-/// Whether all parents that a run gives are no others than the known ones.
+/// Whether no parent in a run contradicts a known one.
 pub fn all_agree(known: &Known, start: u32, ids: &[String]) -> bool
     ensures { (ls : List Link) → AreNodes known.now ls → result ≡ fit ls (links (run_from start (map string_bytes ids.now))) }
 {
@@ -40,7 +40,7 @@ pub fn all_agree(known: &Known, start: u32, ids: &[String]) -> bool
     true
 }
 
-// Whether a revision is known, with the parent that it is given, if it is given one.
+// Whether a revision is known, and with the given parent, if one is given.
 fn holds(known: &Known, pos: u32, id: &String, parent: Option<&String>) -> bool
     ensures { result ≡ held_found (find (pos, string_bytes id.now) known.now) (option_map (λ p. (pos - 1, string_bytes p)) (option_copied parent.entry)) }
 {

@@ -33,14 +33,14 @@ pub struct Node {
 }
 
 impl Node {
-    /// By the revision.
+    /// Compares the node's revision to a revision.
     pub fn order(&self, texts: &[u8], pos: u32, id: &[u8]) -> Ordering
         ensures { result ≡ revision_order (link_in texts.now self.now).rev (pos, id.now) }
     {
         self.pos.cmp(&pos).then(self.id.of(texts).cmp(id))
     }
 
-    /// Takes a parent where none is known.
+    /// Sets the parent, if none is known.
     pub fn join(&mut self, parent: Option<Part>)
         ensures { self.new ≡ record self.old { parent = option_or self.old.parent parent } }
     {

@@ -8,8 +8,8 @@ use std::alloc::Global;
 use std::marker::Model;
 use std::sync::Arc;
 
-/// Links that the copies of a tree share, and that stay as they are. Contracts see the list of them. Without links there
-/// is no block of memory.
+/// Links that the copies of a tree share, and that never change. Contracts see the list of them. `None` is the empty list,
+/// which then takes no memory.
 #[derive(Drop)]
 pub struct Older {
     links: Option<Arc<Links>>,
@@ -38,7 +38,7 @@ impl Older {
         Older { links: None }
     }
 
-    /// Links to be shared.
+    /// Puts links where the copies of a tree can share them.
     pub fn new(alloc: Global, links: Links) -> Result<Older, NoMemory>
         ensures { IfOk result (λ older. older ≡ links) }
     {
@@ -57,7 +57,8 @@ impl Older {
         }
     }
 
-    /// What is kept of a revision: the id of its parent, where that is known. Cost: the logarithm of the revisions.
+    /// Looks up a revision: the id of its parent, `Some(None)` if it has no known parent, `None` if it is unknown. Cost: the
+    /// logarithm of the revisions.
     pub fn kept(&self, pos: u32, id: &[u8]) -> Option<Option<&[u8]>>
         ensures { AreSorted self.now → option_map (λ p. parent_below pos (option_copied p)) result ≡ find (pos, id.now) self.now }
     {
@@ -67,7 +68,7 @@ impl Older {
         }
     }
 
-    /// The same links once more. Takes no memory.
+    /// Another reference to the links. Takes no memory.
     pub fn share(&self) -> Result<Older, NoMemory>
         ensures { IfOk result (λ older. older ≡ self.now) }
     {
@@ -79,7 +80,7 @@ impl Older {
         }
     }
 
-    /// These links with newer ones. Cost: as that of `Links::with`, and where there are none of these, as that of
+    /// A list of these links with newer ones joined. Cost: as for `Links::with`; if there are no older links, as for
     /// `Links::copy`.
     pub fn with(&self, alloc: Global, newer: &Links) -> Result<Links, NoMemory>
         ensures { IfOk result (λ links. AreSorted self.now → AreSorted newer.now → links ≡ with_links self.now newer.now) }

@@ -19,7 +19,7 @@ fn add(texts: &mut Vec<u8>, id: &[u8]) -> Result<Part, NoMemory>
     })
 }
 
-/// The part of an id, which is added where the revision is unknown.
+/// The part that holds the id of a revision. If the revision is unknown, its id is added to the texts.
 pub fn part_for(texts: &mut Vec<u8>, nodes: &[Node], pos: u32, id: &[u8]) -> Result<Part, NoMemory>
     ensures grows { Grows texts.old.items texts.new.items }
     ensures within { IfOk result (λ p. AreWithin (length texts.old.items) nodes.now → IsWithin (length texts.new.items) p) }
@@ -31,7 +31,7 @@ pub fn part_for(texts: &mut Vec<u8>, nodes: &[Node], pos: u32, id: &[u8]) -> Res
     }
 }
 
-/// The parts of a run's ids. Those of unknown revisions are added.
+/// The parts that hold the ids of a run. The ids of unknown revisions are added to the texts.
 pub fn parts_for(
     texts: &mut Vec<u8>,
     nodes: &[Node],

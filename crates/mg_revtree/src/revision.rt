@@ -10,7 +10,7 @@ use std::cmp::Ordering;
 use std::marker::Model;
 
 /// A revision of a document, written `N-id`: its position, counted from 1, and its id, one or more
-/// ASCII characters that are no space and no control character. Contracts see it as the pair of both.
+/// printable ASCII characters other than the space. Contracts see the pair of both.
 #[derive(Debug, Drop)]
 pub struct Rev {
     /// The position, from 1 to 4,294,967,295.
@@ -31,8 +31,8 @@ impl Model for Rev {
 impl Rev {
     /// Reads `N-id`, cut at the first hyphen: N in decimal, from 1 to 4,294,967,295, with no leading zero.
     ///
-    /// Errors: `Bad` for exactly the texts that are no revision. Cost: the length of the text.
-    /// Source: revisions of CouchDB's API reference.
+    /// Errors: `Bad` for exactly the texts that are not a revision; `NoMemory` if an allocation fails.
+    /// Cost: the length of the text. Source: revisions of CouchDB's API reference.
     pub fn parse(alloc: Global, text: &str) -> Result<Rev, RevError>
         ensures ok { IfOk result (λ rev. revision_of text.now ≡ Some rev) }
         ensures bad { result ≡ Err RevError.Bad → revision_of text.now ≡ None }
@@ -62,7 +62,7 @@ impl Rev {
         Ok(format!(in alloc; "{pos}-{id}")?)
     }
 
-    /// By the position, and at one position by the bytes of the id.
+    /// Orders by the position, then by the bytes of the id.
     pub fn order(&self, other: &Rev) -> Ordering
         ensures { result ≡ revision_order self.now other.now }
     {
@@ -71,7 +71,7 @@ impl Rev {
             .then(self.id.as_str().cmp(other.id.as_str()))
     }
 
-    // How the revision of a position and an id compares with it.
+    // Compares the revision of the given position and id to this revision.
     pub(crate) fn against(&self, pos: u32, id: &[u8]) -> Ordering
         ensures { result ≡ revision_order (pos, id.now) self.now }
     {
@@ -85,7 +85,7 @@ impl Rev {
         self.order(other).is_eq()
     }
 
-    /// An equal revision. Cost: the length of the id.
+    /// A copy of the revision. Cost: the length of the id.
     pub fn copy(&self, alloc: Global) -> Result<Rev, NoMemory>
         ensures { IfOk result (λ rev. rev ≡ self.now) }
     {
@@ -117,7 +117,7 @@ fn are_digits(bytes: &[u8]) -> bool
     bytes.iter().all(|byte| byte.is_ascii_digit())
 }
 
-// The number of a position.
+// Reads a position: decimal digits with no leading zero.
 fn position(number: &str) -> Option<u32>
     ensures { result ≡ position_of number.now }
 {

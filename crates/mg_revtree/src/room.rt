@@ -9,14 +9,14 @@ ghost use Rattle.mg_revtree.specs.Room.{AreFrom, Joins, used};
 use crate::lookup::place;
 use crate::node::{Node, Part};
 
-/// The unused places among some nodes: those from `till` on, before `from`.
+/// The unused places among the nodes, from `till` up to but not including `from`.
 #[derive(Clone, Copy, Debug)]
 pub struct Room {
     pub till: usize,
     pub from: usize,
 }
 
-// Puts a node before place `at`: the nodes from there to the room move to the room's other end.
+// Inserts a node at place `at`: the nodes from there to the room move to the far end of the room.
 fn put(nodes: &mut [Node], room: Room, at: usize, node: Node) -> Room
     requires at { at ≤ room.till }
     requires room { room.till < room.from }
@@ -35,7 +35,8 @@ fn put(nodes: &mut [Node], room: Room, at: usize, node: Node) -> Room
     }
 }
 
-// Joins a node to the known one of its revision, or puts it at its place. The nodes after the room are above it.
+// Gives the node's parent to the known node of its revision, or inserts the node at its place. The nodes after the room are at
+// higher positions.
 fn join(texts: &[u8], nodes: &mut [Node], room: Room, node: Node) -> Room
     requires room { room.till < room.from }
     requires within { room.from ≤ length nodes.old }
@@ -53,8 +54,8 @@ fn join(texts: &[u8], nodes: &mut [Node], room: Room, node: Node) -> Room
     }
 }
 
-// Joins a run, newest first, given by the parts of its ids, to the known nodes. A room for it begins after these and
-// ends where the nodes do.
+// Joins a run, given by the parts of its ids, newest first, to the known nodes. All places after the known nodes are unused,
+// and they are enough for the run.
 fn join_each(texts: &[u8], nodes: &mut [Node], known: usize, start: u32, parts: &[Part]) -> Room
     requires room { known + length parts.now ≤ length nodes.old }
     requires run { length parts.now ≤ start + 1 }
@@ -80,7 +81,7 @@ fn join_each(texts: &[u8], nodes: &mut [Node], known: usize, start: u32, parts: 
     room
 }
 
-// Takes the room away: the nodes after it move to those before it.
+// Closes the room: the nodes after it move to those before it.
 fn close(nodes: &mut Vec<Node>, room: Room)
     requires ordered { room.till ≤ room.from }
     requires inside { room.from ≤ vec_len nodes.old }
@@ -91,15 +92,15 @@ fn close(nodes: &mut Vec<Node>, room: Room)
     nodes.truncate(left);
 }
 
-// What stands in a place that no revision uses yet.
+// Fills an unused place.
 const UNUSED: Node = Node {
     pos: 0,
     id: Part { from: 0, len: 0 },
     parent: None,
 };
 
-/// Joins a run, newest first, given by the parts of its ids, for which there is room. Cost: for each revision of the
-/// run the logarithm of the known ones, and two moves of each node that is above one that was not known.
+/// Joins a run, given by the parts of its ids, newest first. The vector has the capacity for it. Cost: for each revision of
+/// the run the logarithm of the known ones, and two moves of each node that is above the run's lowest unknown revision.
 pub fn join_all(texts: &[u8], nodes: &mut Vec<Node>, start: u32, parts: &[Part])
     requires room { vec_len nodes.old + length parts.now ≤ vec_capacity nodes.old }
     requires run { length parts.now ≤ start + 1 }

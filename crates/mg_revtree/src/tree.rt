@@ -18,7 +18,7 @@ use mg_value::{Json, NoMemory};
 use std::alloc::Global;
 use std::marker::Model;
 
-// The position below a new revision, if that may be made.
+// The position below a new revision, if the revision may be made: that of its parent, or 0 without one.
 fn position_under(leaves: &[Shared], parent: Option<&Rev>) -> Option<u32>
     ensures asked { AreRanked leaves.now → base_in leaves.now (option_copied parent.entry) ≡ is_some result }
     ensures below { IfSome result (λ n. n ≡ position_below (option_copied parent.entry)) }
@@ -45,10 +45,11 @@ fn ids_over(alloc: Global, id: String, parent: Option<&Rev>) -> Result<Vec<Strin
     Ok(ids)
 }
 
-/// The revision tree of a document: its known revisions with their parents, and its leaves with their marks
-/// and bodies. A body is kept once, at its leaf, in one block of memory, and a revision's id once, once more where an
-/// older and a newer list of the known revisions both have it, and once more where it is a leaf. A contract speaks of
-/// every history that the tree stands for.
+/// The revision tree of a document: its known revisions with their parents, and its leaves with their deletion marks
+/// and bodies. A contract speaks of every history that the tree stands for.
+///
+/// A body is kept once, at its leaf, in one block of memory. The id of a revision is kept once; once more if both the older
+/// and the newer list of known revisions have it; and once more if it is a leaf.
 #[derive(Drop)]
 pub struct RevTree {
     links: Known,
@@ -99,7 +100,7 @@ impl RevTree {
         Ok(found)
     }
 
-    /// The other leaves that are not deleted, the best of them first. Where there are none, no memory is needed. Cost: the
+    /// The leaves beside the winner that are not deleted, best first. If there are none, no memory is needed. Cost: the
     /// number of the leaves.
     pub fn losers(&self) -> Result<Vec<&Leaf>, NoMemory>
         ensures each { IfOk result (λ found. (h : Paths) → StandsFor self.now h → AreLosers h (map (λ l. l.now) found.items)) }
@@ -113,9 +114,9 @@ impl RevTree {
         Ok(kept_among(alloc, &self.leaves[1..])?)
     }
 
-    /// An equal tree, which shares the leaves with their bodies, and all known revisions but the newer ones. Cost: two
-    /// blocks with the newer known revisions are copied, which are at most 64, or at most four times the root of the number of
-    /// the known ones; and one count goes up for each leaf.
+    /// A copy of the tree. It shares the leaves with their bodies, and all known revisions but the newer ones. Cost: copies the
+    /// two blocks of the newer known revisions, which are at most 64, or about four times the square root of the number of
+    /// older ones, and increments one reference count for each leaf.
     pub fn copy(&self, alloc: Global) -> Result<RevTree, NoMemory>
         ensures { IfOk result (λ tree. tree ≡ self.now) }
     {
@@ -125,8 +126,8 @@ impl RevTree {
         })
     }
 
-    /// Whether a path contradicts no parent that is known already. Takes no memory. Cost: the length of the path times
-    /// the logarithm of the known revisions.
+    /// Whether a path contradicts no known parent. Takes no memory. Cost: the length of the path times the logarithm of the
+    /// known revisions.
     pub fn fits(&self, path: &History) -> bool
         ensures { (h : Paths) → StandsFor self.now h → result ≡ fits h path.now }
     {
@@ -134,8 +135,8 @@ impl RevTree {
         self.links.fits(start, ids)
     }
 
-    /// Whether a path is known whole: each of its revisions, with the parent that the path gives it. Such a path brings
-    /// nothing. Takes no memory. Cost: as that of `fits`, up to the first revision that is not known so.
+    /// Whether a path is known whole: each of its revisions is known, with the parent that the path gives it. To merge such a
+    /// path changes nothing. Takes no memory. Cost: as for `fits`, up to the first revision that is not known with its parent.
     pub fn holds(&self, path: &History) -> bool
         ensures { (h : Paths) → StandsFor self.now h → result ≡ is_whole h path.now }
     {
@@ -143,11 +144,10 @@ impl RevTree {
         self.links.holds(start, ids)
     }
 
-    /// The position of a new revision over a leaf, or, with no parent, that of the first in a tree without leaves.
-    /// Takes no memory.
+    /// The position of a new revision over the leaf `parent`; without a parent, 1 in a tree without leaves. Takes no memory.
     ///
-    /// Errors, in this order: `NotLeaf` where the parent is no leaf, or where there is none and the tree has leaves;
-    /// `Full` where the parent's position is 4,294,967,295. Cost: the logarithm of the leaves.
+    /// Errors, in this order: `NotLeaf` if the parent is not a leaf, or if there is no parent but the tree has leaves;
+    /// `Full` if the parent's position is 4,294,967,295. Cost: the logarithm of the leaves.
     pub fn next_position(&self, parent: Option<&Rev>) -> Result<u32, Refusal>
         ensures position { (h : Paths) → StandsFor self.now h → result ≡ next_position h (option_copied parent.entry) }
         ensures above { IfOk result (λ n. n ≡ position_below (option_copied parent.entry) + 1) }
@@ -158,8 +158,8 @@ impl RevTree {
         }
     }
 
-    /// Why a new revision over a leaf, or the first of a tree without leaves, is not made, if it is not: as
-    /// `next_position`, and then `Known` where the revision is known. Takes no memory. Cost: the logarithms of the leaves and
+    /// Why a new revision over the leaf `parent`, or the first of a tree without leaves, is refused, if it is: the errors of
+    /// `next_position`, then `Known` if the revision is already known. Takes no memory. Cost: the logarithms of the leaves and
     /// of the known revisions.
     pub fn refusal(&self, parent: Option<&Rev>, id: &String) -> Option<Refusal>
         ensures { (h : Paths) → StandsFor self.now h → result ≡ refusal_of h (option_copied parent.entry) (string_bytes id.now) }
@@ -174,17 +174,19 @@ impl RevTree {
         }
     }
 
-    /// Accepts a path as a replica gives it, with the mark and the body of its newest revision. Unknown revisions
-    /// become known, and known ones without a parent are joined to the parent that the path gives them. A newest
-    /// revision that is known already keeps the mark and the body that it has. After a path that is known whole the
-    /// tree is as it was.
+    /// Accepts a path as a replica sends it, with the mark and the body of its newest revision. Unknown revisions
+    /// become known, and known ones without a parent get the parent that the path gives them. If the newest
+    /// revision is already known, it keeps its mark and its body. A path that is known whole changes nothing.
     ///
-    /// Errors: `BadHistory` where the path contradicts a parent that is known already, and else `NoMemory` where a
-    /// growth is refused, or where the body takes more than 4,294,967,295 bytes; neither a bad path nor one that is known
-    /// whole needs memory. A refusal leaves the tree as it was. Cost: the size of the body, the length of the path times
-    /// the logarithm of the known revisions and that of the leaves, a word for each leaf, and one pass over the newer known revisions that are above the lowest unknown one of the path: none where the
-    /// path goes on the line with the highest positions. Where these and the path's are more than 64, and more than four
-    /// times the root of the number of the older ones, all known revisions are copied besides. Source: the replication model of CouchDB.
+    /// Errors: `BadHistory` if the path contradicts a known parent; else `NoMemory` if an allocation fails, or if the body
+    /// takes more than 4,294,967,295 bytes. Neither a bad path nor one that is known whole needs memory. An error leaves the
+    /// tree as it was.
+    ///
+    /// Cost: the size of the body, the length of the path times the logarithms of the known revisions and of the leaves, a
+    /// move of one pointer for each leaf, and one pass over the newer known revisions above the lowest unknown one of the
+    /// path. There are none above it where the path extends the line with the highest positions. If the newer revisions and
+    /// those of the path are more than 64, and more than about four times the square root of the number of older ones, all
+    /// known revisions are copied too. Source: the replication model of CouchDB.
     pub fn merge(&mut self, path: &History, deleted: bool, body: Json) -> Result<Merged, MergeError>
         ensures accepted { OnOk result ((h : Paths) → StandsFor self.old h → StandsFor self.new (with_path h (path_of path.now deleted (view body)))) }
         ensures found { IfOk result (λ m. (h : Paths) → StandsFor self.old h → m ≡ found_of h path.now) }
@@ -236,11 +238,11 @@ impl RevTree {
         Ok(Merged::New)
     }
 
-    /// Makes a new revision over a leaf, or, with no parent, at position 1 in a tree without leaves. The id is one
-    /// that `is_id` allows.
+    /// Makes a new revision over the leaf `parent`; without a parent, at position 1 in a tree without leaves. The caller gives
+    /// an id that `is_id` allows.
     ///
-    /// Errors: what `refusal` says, which needs no memory, and else `NoMemory` as of `merge`. A refusal
-    /// leaves the tree as it was. Cost: as that of `merge`, with a path of the new revision and its parent.
+    /// Errors: what `refusal` returns, found without memory; else `NoMemory`, as for `merge`. An error
+    /// leaves the tree as it was. Cost: as for `merge`, with a path of the new revision and its parent.
     pub fn extend(
         &mut self,
         parent: Option<&Rev>,

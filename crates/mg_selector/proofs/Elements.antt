@@ -39,7 +39,7 @@ pub has_some : (vs : Items) → nat_lt 0 (length (item_list vs)) ≡ not (is_emp
 has_some no_items = refl
 has_some (item v vs) = grind arith
 
--- one of them has p not
+-- one of them does not have p
 pub some_has_not : (p : Value → Bool) (vs : Items) → every_item p vs ≡ false → false ≡ every_of_some p vs
 some_has_not p vs h = rw h (sym (and_false (not (is_empty vs))))
 
@@ -62,7 +62,7 @@ equals_only-one [] j v h is = absurd (omega arith)
 equals_only-one (k ∷ []) j v h is = ap (λ x. are_equal v (view x)) is
 equals_only-one (k ∷ i ∷ js) j v h is = absurd (omega arith)
 
--- none or more are not the only one
+-- no argument, or more than one, is not the only argument
 pub equals_only-other : (js : List Json) (v : Value) → length js ≢ 1 → false ≡ equals_only (items_view js) v
 equals_only-other [] v other = refl
 equals_only-other (j ∷ []) v other = absurd (other refl)

@@ -52,7 +52,7 @@ operator_by n v =
 
 -- ---- the steps
 
--- something is made of the selector on top
+-- the selector on top is replaced by one that is made of it
 abbrev on_top : (Selector → Selector) → List Selector → List Selector
 on_top f [] = []
 on_top f (x ∷ xs) = f x ∷ xs

@@ -30,7 +30,7 @@ is_empty (item v vs) = false
 abbrev pub every_of_some : (Value → Bool) → Items → Bool
 every_of_some p vs = not (is_empty vs) && every_item p vs
 
--- the value equals some of the items
+-- the value equals some item
 abbrev pub is_among : Items → Value → Bool
 is_among ws v = some_item (are_equal v) ws
 
@@ -44,7 +44,7 @@ has_type json_type.Array (list vs) = true
 has_type json_type.Object (object ms) = true
 has_type t v = false
 
--- some item of an array is among the arguments, or any other value is so itself
+-- some item of an array equals an argument, or any other value equals one
 abbrev pub meets_some : Items → Value → Bool
 meets_some ws (list vs) = some_item (is_among ws) vs
 meets_some ws v = is_among ws v
@@ -54,7 +54,7 @@ abbrev pub has_size : ℕ → Value → Bool
 has_size n (list vs) = length (item_list vs) == n
 has_size n v = false
 
--- a number that leaves r as its remainder by d, which has the number's own sign; no number leaves one by 0
+-- a number whose remainder by d is r; the remainder has the number's own sign, and `$mod` does not take 0 as d
 abbrev pub has_remainder : ℤ → ℤ → Value → Bool
 has_remainder d r (whole z) = int_eq (int_rem z d) r
 has_remainder d r v = false
@@ -64,7 +64,7 @@ abbrev pub equals_only : Items → Value → Bool
 equals_only (item w no_items) v = are_equal v w
 equals_only ws v = false
 
--- an array that has every argument, of which there are some, as an element, or that equals the one argument
+-- an array that has every argument as an element, of which there is at least one, or that equals the only argument
 abbrev pub contains_all : Items → Value → Bool
 contains_all ws (list vs) = every_of_some (is_among vs) ws || equals_only ws (list vs)
 contains_all ws v = false

@@ -1,11 +1,11 @@
--- The faults of selectors, and how the first one is carried on.
+-- The faults of selectors, and how the first one is passed on.
 use Rattle.std.specs.Prelude.{Result, Ok, Err}
 use Rattle.mg_path.specs.declared.error.PathError.{PathError}
 use Rattle.mg_path.specs.declared.error.PathError.TheVariants.{Empty, NoMemory as path_refused}
 use Rattle.mg_selector.specs.declared.error.SelError.{SelError}
 use Rattle.mg_selector.specs.declared.error.SelError.TheVariants.{BadArg, NoMemory}
 
--- what a fault of a path is for a selector
+-- the fault of a selector for a fault of a path
 abbrev pub fault_of_path : PathError → SelError
 fault_of_path Empty = BadArg
 fault_of_path path_refused = NoMemory

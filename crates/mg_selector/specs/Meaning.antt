@@ -1,7 +1,7 @@
--- When a selector holds, after the selector syntax of the CouchDB 3.x API reference: of a part that may be missing, and in a sense.
--- Negation, missing parts and empty lists of arms are this project's own choice. `$not` asks its selector in the other sense, which is
--- handed down to the operators, so that it is no complement. On a missing part `$exists` alone can hold, in either sense; where there
--- is no arm, a list of arms holds in both.
+-- When a selector holds, in a sense, of a part that may be missing, after the selector syntax of the CouchDB 3.x API reference.
+-- The meaning of negation, of missing parts and of empty lists of arms is this project's own choice. `$not` asks its selector in
+-- the other sense, and that sense is passed down to the operators; so `$not` is not a complement. On a missing part only `$exists`
+-- can hold, in either sense. An empty list of arms holds in both senses.
 use Rattle.std.specs.Prelude.{Bool, true, false, not, ◌&&◌, ◌||◌, Option, Some, None, option_and_then, is_some, if◌then◌else◌}
 use Rattle.std.specs.Ordering.{is_lt, is_le, is_eq, is_ne, is_ge, is_gt}
 use Rattle.mg_value.specs.Value.{Value}
@@ -33,7 +33,7 @@ is_no_arms no_arms = true
 is_no_arms (arm s ss) = false
 
 abbrev mutual
-  -- the selector holds, in the sense, of the part, where it is there
+  -- the selector holds, in the sense, of the part, which may be missing
   pub holds_in : Selector → Sense → Option Value → Bool
   holds_in (members ss) Plain x = every_arm ss Plain x
   holds_in (members ss) Negated x = is_no_arms ss || some_arm ss Negated x

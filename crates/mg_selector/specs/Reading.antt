@@ -1,5 +1,5 @@
--- Which selector a value spells, or the fault that is met first, after the selector syntax of the CouchDB 3.x API reference. A
--- member is read whole before the one with the next name, and an arm before the next arm.
+-- Which selector a value spells, or its first fault, after the selector syntax of the CouchDB 3.x API reference. A member is read
+-- whole before the one with the next name, and an arm before the next arm.
 use Rattle.std.specs.Prelude.{◌≡◌, ℕ, List, Result, Ok, Err}
 use Rattle.std.specs.Option.{option_map_or}
 use Rattle.mg_value.specs.Value.{Value, null, flag, whole, text, list, object, Items, no_items, item, Members, no_members, member}
@@ -13,19 +13,19 @@ use Rattle.mg_selector.specs.declared.error.SelError.TheVariants.{InvalidOperato
 use Rattle.mg_selector.specs.declared.word.Word.{Word}
 use Rattle.mg_selector.specs.declared.word.Word.TheVariants as word
 
--- the result is the fault, or anything where a growth was refused
+-- the result of the definition is the fault that a call returned; for `NoMemory` it may be anything
 abbrev pub Fails : {Y : Type 0} → SelError → Result Y SelError → Type 0
 Fails NoMemory r = Unit {0}
 Fails InvalidOperator r = r ≡ Err InvalidOperator
 Fails BadArg r = r ≡ Err BadArg
 Fails Shape r = r ≡ Err Shape
 
--- what a call returned is what is read, unless a growth was refused
+-- a call returned what the definition gives, unless an allocation failed
 abbrev pub Gives : {X Y : Type 0} → (X → Y) → Result X SelError → Result Y SelError → Type 0
 Gives seen (Ok x) r = r ≡ Ok (seen x)
 Gives seen (Err e) r = Fails e r
 
--- the argument of a path, where `inner` is what it is as a selector: an object with members is one, and all else is compared
+-- the argument of a path, where `inner` is its reading as a selector: an object with members is a selector, all else is compared
 abbrev pub argument : Value → Result Selector SelError → Result Selector SelError
 argument (object (member k v ms)) inner = inner
 argument v inner = Ok (asks (equal v))
@@ -34,7 +34,7 @@ argument v inner = Ok (asks (equal v))
 abbrev pub path_named : List ℕ → Value → Result Selector SelError → Result Selector SelError
 path_named k v inner = option_map_or (λ steps. fmap (at steps) (argument v inner)) (steps_of k) (Err BadArg)
 
--- a member by what its name asks for, where `inner` is what its value is as a selector, and `arms` what it is as an array of selectors
+-- a member by what its name asks for, where `inner` is the reading of its value as a selector, and `arms` as an array of selectors
 abbrev pub by_word : Word → List ℕ → Value → Result Selector SelError → Result Arms SelError → Result Selector SelError
 by_word word.And k v inner arms = fmap every arms
 by_word word.Or k v inner arms = fmap some arms

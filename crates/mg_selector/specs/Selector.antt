@@ -21,7 +21,7 @@ mutual
     no_arms : Arms
     arm : Selector → Arms → Arms
 
-  -- an operator with its argument, but for the combinators
+  -- an operator with its argument; the combinators are selectors
   pub data Operator : Type 0 where
     -- `$lt`, `$lte`, `$eq`, `$ne`, `$gte`, `$gt`
     less : Value → Operator

@@ -5,7 +5,7 @@ use Rattle.mg_selector.specs.declared.word.Word.{Word}
 use Rattle.mg_selector.specs.declared.word.Word.TheVariants as word
 use Rattle.mg_selector.specs.declared.word.Test.TheVariants as test
 
--- a name that is no operator's: unknown where it begins with `$`, and else a path
+-- a name that is not an operator's: an unknown operator if it begins with `$`, else a path
 abbrev pub other_word : List ℕ → Word
 other_word [] = word.Path
 other_word (c ∷ k) = if bytes_eq (c ∷ []) (codes "$") then word.Unknown else word.Path

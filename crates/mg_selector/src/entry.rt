@@ -7,7 +7,7 @@ use mg_collate::compare_of;
 use mg_value::{Json, Kind, LentValue};
 use std::num::NonZeroI64;
 
-/// Whether some item of an array is among the arguments, or any other value is so itself.
+/// Whether some item of an array equals an argument, or any other value equals one.
 pub(crate) fn meets_some<L: LentValue>(arguments: &[Json], value: L) -> bool
     ensures { result ≡ meets_some (items_view arguments.now) (L.value value) }
 {
@@ -17,7 +17,7 @@ pub(crate) fn meets_some<L: LentValue>(arguments: &[Json], value: L) -> bool
     }
 }
 
-/// An array of that length.
+/// Whether the value is an array of that length.
 pub(crate) fn has_size<L: LentValue>(size: u64, value: L) -> bool
     ensures { result ≡ has_size size (L.value value) }
 {
@@ -27,7 +27,7 @@ pub(crate) fn has_size<L: LentValue>(size: u64, value: L) -> bool
     }
 }
 
-/// A number that leaves the remainder, with its own sign.
+/// Whether the value is a number with this remainder by the divisor. The remainder has the number's own sign.
 pub(crate) fn has_remainder<L: LentValue>(divisor: NonZeroI64, remainder: i64, value: L) -> bool
     ensures { result ≡ has_remainder (non_zero_i64_get divisor) remainder (L.value value) }
 {
@@ -37,7 +37,7 @@ pub(crate) fn has_remainder<L: LentValue>(divisor: NonZeroI64, remainder: i64, v
     }
 }
 
-/// An array that has every argument, of which there are some, or that equals the one argument.
+/// Whether the value is an array that has every argument, of which there is at least one, or that equals the only argument.
 pub(crate) fn contains_all<L: LentValue>(arguments: &[Json], value: L) -> bool
     ensures { result ≡ contains_all (items_view arguments.now) (L.value value) }
 {
@@ -75,7 +75,7 @@ fn some_is_among<L: LentValue>(items: &[Json], values: L::List) -> bool
     false
 }
 
-// There are values, and each is among the items.
+// Whether each value is among the items, and there is at least one value.
 fn each_is_among<L: LentValue>(items: L::List, values: &[Json]) -> bool
     ensures { result ≡ every_of_some (is_among (L.items items)) (items_view values.now) }
 {

@@ -3,19 +3,19 @@ use mg_value::NoMemory;
 use std::alloc::{AllocError, AllocFailed};
 use thiserror::Error;
 
-/// Why a JSON value is no selector.
+/// Why a JSON value is not a selector.
 #[derive(Clone, Copy, PartialEq, Eq, Debug, Drop, Error)]
 pub enum SelError {
-    /// A member's name begins with `$` and is no operator.
+    /// A member's name begins with `$` but is not an operator.
     #[error("unknown operator")]
     InvalidOperator,
-    /// An operator's argument is not of its kind, or a path has an empty step.
+    /// An operator does not take its argument, or a path has an empty step.
     #[error("bad argument for an operator")]
     BadArg,
     /// The value is not an object.
     #[error("a selector is an object")]
     Shape,
-    /// A growth was refused.
+    /// An allocation failed.
     #[error("out of memory")]
     NoMemory,
 }

@@ -11,8 +11,8 @@ use mg_path::is_path;
 use mg_value::Json;
 use std::collections::BTreeMap;
 
-/// The first fault of a value as a selector, as `Sel::read` names it, if it has one. Takes no memory, so that a fault is found where memory
-/// was refused. Cost: the size of the value.
+/// The first fault of a value as a selector, as `Sel::read` reports it, if it has one. Takes no memory, so it finds the fault
+/// also after an allocation failed. Cost: the size of the value.
 pub fn fault_of(value: &Json) -> Option<SelError>
     ensures { result ≡ result_err (reading (view value.now)) }
 {
@@ -94,7 +94,7 @@ fn word_fault(word: Word, name: &str, value: &Json) -> Option<SelError>
     }
 }
 
-// The path is read before its argument.
+// A fault of the path comes before a fault of its argument.
 #[cycle(faults)]
 fn path_fault(name: &str, value: &Json) -> Option<SelError>
     ensures { result ≡ result_err (path_named name.now (view value.now) (of_object (view value.now))) }

@@ -10,7 +10,7 @@ use crate::sense::Sense;
 use mg_collate::compare_of;
 use mg_value::{Kind, LentValue, lend_part};
 
-/// Whether the selector holds of the part, which may be missing, in the sense.
+/// Whether the selector holds, in the sense, of the part, which may be missing.
 #[cycle(holds)]
 pub(crate) fn holds_in<L: LentValue>(sel: &Sel, sense: Sense, part: Option<L>) -> bool
     ensures { result ≡ holds_in (selector_of sel.now) sense (option_map L.value part) }
@@ -46,7 +46,7 @@ fn every_arm<L: LentValue>(arms: &[Sel], sense: Sense, part: Option<L>) -> bool
     true
 }
 
-// Or there is none.
+// True also for an empty list.
 #[cycle(holds)]
 fn some_arm<L: LentValue>(arms: &[Sel], sense: Sense, part: Option<L>) -> bool
     ensures { result ≡ (is_no_arms (arms_view arms.now)
@@ -60,7 +60,7 @@ fn some_arm<L: LentValue>(arms: &[Sel], sense: Sense, part: Option<L>) -> bool
     arms.is_empty()
 }
 
-/// Whether the operator holds of the part, which may be missing, in the sense.
+/// Whether the operator holds, in the sense, of the part, which may be missing.
 #[cycle(holds)]
 pub(crate) fn operator_holds<L: LentValue>(op: &Op, sense: Sense, part: Option<L>) -> bool
     ensures { result ≡ operator_holds (operator_of op.now) sense
@@ -81,7 +81,7 @@ fn holds_on_missing(op: &Op, sense: Sense) -> bool
     }
 }
 
-// In the plain sense.
+// Whether the operator holds of the value in the plain sense.
 #[cycle(holds)]
 fn holds_on<L: LentValue>(op: &Op, value: L) -> bool
     ensures { result ≡ operator_holds (operator_of op.now) Sense.Plain (Some (L.value value)) }
@@ -123,7 +123,7 @@ fn some_element<L: LentValue>(inner: &Sel, items: L::List) -> bool
     false
 }
 
-// There are items, and the selector holds of each.
+// Whether the selector holds of each item, and there is at least one item.
 #[cycle(holds)]
 fn each_element<L: LentValue>(inner: &Sel, items: L::List) -> bool
     ensures { result ≡ every_of_some (λ v. holds_in (selector_of inner.now) Sense.Plain (Some v))

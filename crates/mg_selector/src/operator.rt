@@ -9,7 +9,7 @@ use mg_value::{Json, LentValue, NoMemory};
 use std::alloc::Global;
 use std::num::NonZeroI64;
 
-/// An operator with its argument, but for the combinators. What it asks of a part is written beside it.
+/// An operator with its argument. The combinators are not here but in `Sel`. Each variant says of which parts it holds.
 #[cycle(selector)]
 #[derive(Debug, Drop)]
 pub enum Op {
@@ -25,19 +25,19 @@ pub enum Op {
     Gte(Json),
     /// `$gt`: above the value.
     Gt(Json),
-    /// `$exists`: there, or missing.
+    /// `$exists`: the part is there, for `true`; it is missing, for `false`.
     Exists(bool),
     /// `$type`: of the type.
     Type(JsonType),
-    /// `$in`: an array of which some item is among the arguments; any other value, where it is so itself.
+    /// `$in`: an array of which some item equals an argument; or any other value that equals one.
     In(Vec<Json>),
     /// `$nin`: `$in` does not hold.
     Nin(Vec<Json>),
     /// `$size`: an array of that length.
     Size(u64),
-    /// `$mod`: a number whose truncated remainder by the first, with its own sign, is the second.
+    /// `$mod`: a number whose remainder by the first value is the second. The remainder has the number's own sign.
     Mod(NonZeroI64, i64),
-    /// `$all`: an array that has every argument, of which there are some, or that equals the only one.
+    /// `$all`: an array that has every argument, of which there is at least one, or that equals the only argument.
     All(Vec<Json>),
     /// `$elemMatch`: an array with an element that the selector holds of.
     ElemMatch(Box<Sel>),
@@ -49,8 +49,8 @@ impl Op {
     ghost use Rattle.mg_selector.specs.Meaning.{operator_holds};
     ghost use Rattle.mg_selector.specs.View.{operator_of};
 
-    /// Whether the operator holds of the part in the sense. On a missing part none does, in either
-    /// sense, but `$exists`. No memory is taken.
+    /// Whether the operator holds of the part in the sense. On a missing part only `$exists` can hold,
+    /// in either sense. No memory is taken.
     #[inline]
     pub fn holds_in(&self, sense: Sense, part: Option<&Json>) -> bool
         ensures { result ≡ operator_holds (operator_of self.now) sense
@@ -59,7 +59,7 @@ impl Op {
         self.holds_of(sense, part)
     }
 
-    /// Whether the operator holds of the lent part in the sense, as of `holds_in`. No memory is taken.
+    /// Whether the operator holds of the lent part in the sense, as for `holds_in`. No memory is taken.
     #[inline]
     pub fn holds_of<L: LentValue>(&self, sense: Sense, part: Option<L>) -> bool
         ensures { result ≡ operator_holds (operator_of self.now) sense (option_map L.value part) }
@@ -67,7 +67,7 @@ impl Op {
         meaning::operator_holds(self, sense, part)
     }
 
-    /// An equal operator. Errors: `NoMemory` where a growth is refused. Cost: its size.
+    /// A copy of the operator. Errors: `NoMemory` if an allocation fails. Cost: its size.
     pub fn copy(&self, alloc: Global) -> Result<Op, NoMemory>
         ensures { IfOk result (λ copy. operator_of copy ≡ operator_of self.now) }
     {

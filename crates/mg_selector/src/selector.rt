@@ -37,14 +37,14 @@ impl Sel {
     ghost use Rattle.mg_selector.specs.Reading.{Gives, IsObject};
     ghost use Rattle.mg_selector.specs.View.{selector_of};
 
-    /// Reads a selector such as `{"a":{"$gt":1},"b.c":2}`. With `$` in front, a name asks an operator of
-    /// the part at hand; without it, it is a path, and beside it stands a selector on the part there or a
-    /// value that this equals.
+    /// Reads a selector such as `{"a":{"$gt":1},"b.c":2}`. A name that begins with `$` is an operator on
+    /// the current part. Any other name is a path, and its value is a selector on the part there, or a
+    /// value that the part has to equal.
     ///
-    /// Errors: `Shape` for a value that is no object; else the first fault, members in the order
-    /// of their names, each with what is inside it: `InvalidOperator` for a name that no operator has,
-    /// `BadArg` for an argument that its operator does not take, or a path with an empty step. `NoMemory`
-    /// where a growth is refused, and never where the value has a fault.
+    /// Errors: `Shape` for a value that is not an object; else the first fault, members in the order
+    /// of their names, each with all that is inside it: `InvalidOperator` for an unknown operator,
+    /// `BadArg` for an argument that its operator does not take, or for a path with an empty step.
+    /// `NoMemory` if an allocation fails and the value has no fault.
     /// Cost: the size of the value. Source: the selector syntax of CouchDB's `_find`.
     pub fn read(alloc: Global, value: &Json) -> Result<Sel, SelError>
         ensures reading { Gives selector_of result (reading (view value.now)) }
@@ -59,8 +59,8 @@ impl Sel {
 
     /// Whether the selector holds of the document. No memory is taken.
     ///
-    /// Cost: each operator once, with the way to its part, and once more for each element that
-    /// `$elemMatch` and `$allMatch` look at. Source: the operators of CouchDB's `_find`.
+    /// Cost: each operator once, with the way to its part; inside `$elemMatch` and `$allMatch` once for
+    /// each element that they look at. Source: the operators of CouchDB's `_find`.
     #[inline]
     pub fn holds(&self, value: &Json) -> bool
         ensures { result ≡ holds_in (selector_of self.now) Sense.Plain (Some (view value.now)) }
@@ -68,7 +68,7 @@ impl Sel {
         self.holds_of(value)
     }
 
-    /// Whether the selector holds of the lent document, as of `holds`. No memory is taken. Cost: as of `holds`.
+    /// Whether the selector holds of the lent document, as for `holds`. No memory is taken. Cost: as for `holds`.
     #[inline]
     pub fn holds_of<L: LentValue>(&self, value: L) -> bool
         ensures { result ≡ holds_in (selector_of self.now) Sense.Plain (Some (L.value value)) }
@@ -76,7 +76,7 @@ impl Sel {
         meaning::holds_in(self, Sense::Plain, Some(value))
     }
 
-    /// An equal selector. Errors: `NoMemory` where a growth is refused. Cost: its size.
+    /// A copy of the selector. Errors: `NoMemory` if an allocation fails. Cost: its size.
     pub fn copy(&self, alloc: Global) -> Result<Sel, NoMemory>
         ensures { IfOk result (λ copy. selector_of copy ≡ selector_of self.now) }
     {
@@ -84,7 +84,7 @@ impl Sel {
     }
 }
 
-// The fault of a value for which memory was refused, or that refusal.
+// After an allocation failed: the fault of the value, or `NoMemory` if it has none.
 fn fault_or_refusal(value: &Json) -> SelError
     ensures { result ≡ unwrap_or (result_err (reading (view value.now))) SelError.NoMemory }
 {

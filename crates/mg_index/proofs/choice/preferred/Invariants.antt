@@ -5,7 +5,7 @@ use Rattle.mg_index.specs.Choice.{least, preference, usable_of}
 use Rattle.mg_index.specs.View.{hint_of}
 use Rattle.mg_index.proofs.choice.preferred.Given as goal
 
--- the best so far is described, and is the least, or what is left has it
+-- the best so far is right about its definition, and the least of all is the best so far or among what is left
 abbrev pub invariant-loop-place : goal.invariant-loop-place
 invariant-loop-place l =
     let atoms = atoms_view l.atoms in

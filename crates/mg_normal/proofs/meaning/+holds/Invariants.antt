@@ -3,7 +3,7 @@ use Rattle.mg_normal.specs.Form.{every_form, some_form}
 use Rattle.mg_normal.specs.View.{forms_view}
 use Rattle.mg_normal.proofs.meaning.+holds.Given as goal
 
--- what is left decides
+-- the result for all is the result for what is left
 abbrev pub invariant-every_form-loop-form : goal.invariant-every_form-loop-form
 invariant-every_form-loop-form g l =
     let x = option_map g.L.LentValue.value l.fn.part in

@@ -5,7 +5,7 @@ use Rattle.mg_normal.specs.View.{forms_view, atoms_view}
 use Rattle.mg_normal.proofs.Parted.{forms_before}
 use Rattle.mg_normal.proofs.rest.+take_atoms.Given as goal
 
--- the atoms so far and those of the forms to come are all of them, and so with what is left; the steps are as they were
+-- the atoms so far, and then those of the forms to come, are all atoms; likewise what is left of the forms; the steps are as they were
 abbrev pub invariant-take_all-loop-form : goal.invariant-take_all-loop-form
 invariant-take_all-loop-form l =
     let at = map string_bytes l.initial.steps.items in

@@ -3,7 +3,7 @@ use Rattle.mg_normal.specs.View.{atoms_view}
 use Rattle.mg_range.specs.Decided.{bounded_columns}
 use Rattle.mg_range.proofs.decided.bounded.Given as goal
 
--- the columns so far are bounded, and then those that are left decide
+-- the bounded columns of all are the columns so far, and then the bounded ones of those that are left
 abbrev pub invariant-loop-place : goal.invariant-loop-place
 invariant-loop-place l =
     let atoms = atoms_view l.atoms in

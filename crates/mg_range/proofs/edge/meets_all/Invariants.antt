@@ -4,7 +4,7 @@ use Rattle.mg_normal.specs.View.{atoms_view}
 use Rattle.mg_index.specs.Bound.{bounds_on, meets_all}
 use Rattle.mg_range.proofs.edge.meets_all.Given as goal
 
--- the atoms that are left decide
+-- the result for all atoms is the result for those that are left
 abbrev pub invariant-loop-atom : goal.invariant-loop-atom
 invariant-loop-atom l =
     let v = view l.value in

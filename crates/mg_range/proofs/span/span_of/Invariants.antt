@@ -5,7 +5,7 @@ use Rattle.mg_range.specs.Range.{range_of}
 use Rattle.mg_range.specs.View.{with_equals}
 use Rattle.mg_range.proofs.span.span_of.Given as goal
 
--- the values so far stand before the range of the columns that are left
+-- the range of all columns is the values so far, and then the range of the columns that are left
 abbrev pub invariant-loop-column : goal.invariant-loop-column
 invariant-loop-column l =
     range_of (atoms_view l.atoms) l.columns ≡ with_equals (map view l.equal.items) (range_of (atoms_view l.atoms) (drop l.column-index l.columns))

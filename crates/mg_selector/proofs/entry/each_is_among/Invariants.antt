@@ -3,7 +3,7 @@ use Rattle.mg_value.specs.View.{items_view}
 use Rattle.mg_selector.specs.Entry.{every_item, is_among}
 use Rattle.mg_selector.proofs.entry.each_is_among.Given as goal
 
--- what is left decides
+-- the result for all is the result for what is left
 abbrev pub invariant-loop-value : goal.invariant-loop-value
 invariant-loop-value g l =
     let p = is_among (g.L.LentValue.items l.fn.items) in

@@ -3,7 +3,7 @@ use Rattle.mg_value.specs.View.{items_view}
 use Rattle.mg_selector.specs.Entry.{is_among}
 use Rattle.mg_selector.proofs.entry.is_among.Given as goal
 
--- what is left decides
+-- the result for all is the result for what is left
 abbrev pub invariant-loop-item : goal.invariant-loop-item
 invariant-loop-item g l =
     let v = g.L.LentValue.value l.fn.value in

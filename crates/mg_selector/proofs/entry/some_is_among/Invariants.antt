@@ -4,7 +4,7 @@ use Rattle.mg_value.proofs.Items.{items_past}
 use Rattle.mg_selector.specs.Entry.{some_item, is_among}
 use Rattle.mg_selector.proofs.entry.some_is_among.Given as goal
 
--- what is left decides
+-- the result for all is the result for what is left
 abbrev pub invariant-loop-place : goal.invariant-loop-place
 invariant-loop-place g l =
     let p = is_among (items_view l.items) in

@@ -4,7 +4,7 @@ use Rattle.mg_value.specs.View.{items_view, members_view}
 use Rattle.mg_selector.specs.Reading.{of_items, of_members}
 use Rattle.mg_selector.proofs.fault.+faults.Given as goal
 
--- what is left decides
+-- the result for all is the result for what is left
 abbrev pub invariant-items_fault-loop-item : goal.invariant-items_fault-loop-item
 invariant-items_fault-loop-item l = result_err (of_items (items_view l.items)) ≡ result_err (of_items (items_view (drop l.item-index l.items)))
 

@@ -7,7 +7,7 @@ use Rattle.mg_selector.specs.View.{selector_of, arms_view}
 use Rattle.mg_selector.specs.declared.sense.Sense.TheVariants.{Plain}
 use Rattle.mg_selector.proofs.meaning.+holds.Given as goal
 
--- what is left decides
+-- the result for all is the result for what is left
 abbrev pub invariant-every_arm-loop-arm : goal.invariant-every_arm-loop-arm
 invariant-every_arm-loop-arm g l =
     let x = option_map g.L.LentValue.value l.fn.part in

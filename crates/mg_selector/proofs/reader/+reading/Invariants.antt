@@ -5,7 +5,7 @@ use Rattle.mg_selector.specs.Reading.{of_items, of_members}
 use Rattle.mg_selector.proofs.Arms.{arms_before}
 use Rattle.mg_selector.proofs.reader.+reading.Given as goal
 
--- what is read of all is the arms so far, and then what is read of the rest
+-- the reading of all is the arms so far, and then the reading of the rest
 abbrev pub invariant-read_items-loop-item : goal.invariant-read_items-loop-item
 invariant-read_items-loop-item l = of_items (items_view l.items) ≡ fmap (arms_before l.found.items) (of_items (items_view (drop l.item-index l.items)))
 
