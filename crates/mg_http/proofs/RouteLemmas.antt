@@ -144,7 +144,7 @@ one_or_none : {X : Type 0} (o : Option X) → option_to_list o ≡ cons_option o
 one_or_none None = refl
 one_or_none (Some x) = refl
 
--- the rests of one more route
+-- the rests of the routes so far, and of one more
 pub one_behind : {X Y : Type 0} (f : X → Y) (h : Y → Option Y) (xs : List X) (i : ℕ) (d : X) (before after : List X) (found : Option X) → i < length xs
     → map f before ≡ filter_map (λ r. h (f r)) (take i xs) → option_map f found ≡ h (f (get_or xs i d)) → map f after ≡ map f before ++ option_to_list (option_map f found)
     → map f after ≡ filter_map (λ r. h (f r)) (take (i + 1) xs)

@@ -98,7 +98,7 @@ answered_counts old new came (Ok a) true result e few often = rw e (λ at. let f
 answered_counts old new came (Ok a) false result e few often = rw e (few, often)
 answered_counts old new came (Err x) closes result e few often = rw e (λ at. let f : WriteFault ≡ Limit = at in cc)
 
--- a session that ends at its limit has read at least as many bytes
+-- a session that ends at its limit has read at least 4,294,967,295 bytes
 pub at_limit : (end : SessionEnd) (bytes came held : List ℕ) (requests reads : ℕ) → requests + length held ≤ length bytes → reads ≤ length bytes
     → (end ≡ Limit → (4294967295 ≤ requests) ⊎ (4294967295 ≤ reads + length came)) → IsAtLimit end (bytes ++ came)
 at_limit Limit bytes came held requests reads few often k =
@@ -113,7 +113,7 @@ at_limit ReadFault bytes came held requests reads few often k = tt
 at_limit WriteFault bytes came held requests reads few often k = tt
 
 module _ {S : Type 0} (answers : S → Asked → Option Answer → S → Type 0) (db : List ℕ) where
-  -- a session that ends before it has served a call
+  -- a session that ends with its first message, or before it
   pub ends_at : (old : S) (bytes last : List ℕ) (new : S) (end : SessionEnd) → Ends answers db end (exchange old bytes last new)
       → Converses answers db end (exchange old bytes last new)
   ends_at old bytes last new end h =

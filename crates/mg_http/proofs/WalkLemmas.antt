@@ -28,7 +28,7 @@ found method asks spelled b = cond b (Some ((method, asks), spelled)) None
 abbrev pub all_found : (Route → Bool) → (Route → List (List ℕ)) → List Route → List Found
 all_found p f rs = filter_map (λ r. found r.method r.asks (f r) (p r)) rs
 
--- some of the routes has a literal where the path has a parameter
+-- where the path first differs from some of these routes, that route has the segment as a literal
 abbrev pub passed : List Route → List (List ℕ) → List Part → Bool
 passed rs segments path = list_any (λ r. passes_over segments path r.path) rs
 

@@ -32,11 +32,11 @@ pub record Begins (db bytes : List ℕ) (m : Message) (rest : List ℕ) : Type 0
   pub framed : IsHeadOf db head m
   pub joined : after ≡ m.body ++ rest
 
--- bytes that can never become a head; while the target has not ended, they still can, whatever bytes it has
+-- bytes that can never become a head, unless they end within a target, which may go on whatever its bytes are
 abbrev pub IsNoHead : List ℕ → Type 0
 IsNoHead bytes = NeverHasRequest bytes × (¬ (EndsInTarget bytes))
 
--- bytes that are not yet a head, and can still become one
+-- bytes that do not begin with a head and may go on: they can still become one, or they end within a target
 abbrev pub CanGoOn : List ℕ → Type 0
 CanGoOn bytes = HasNoRequest bytes × (¬ (IsNoHead bytes))
 

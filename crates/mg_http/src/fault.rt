@@ -1,4 +1,4 @@
-//! Tells an unfinished target, which may still become a head, from bytes that never can.
+//! Recognizes bytes that end within a target, which may go on, among bytes that the parser rejected.
 ghost use Rattle.std.specs.Prelude.{◌≡◌, ◌↔◌, IsTrue, false};
 ghost use Rattle.std.specs.List.{list_all};
 ghost use Rattle.httparse.specs.Grammar.{EndsInTarget, is_token_byte, is_uri_byte};

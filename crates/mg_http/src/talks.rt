@@ -18,7 +18,7 @@ impl<P: Placement + Drop> Solo<P> {
     /// Serves one session of the database `db`: answers each message that it reads, one after another, from the engine.
     ///
     /// If memory sufficed, it writes the transcript of what it read; after a failed write, or at the session's limit, a prefix of the
-    /// transcript. Then the engine stands for the world that the answered messages leave.
+    /// transcript. Afterwards the engine stands for the world that the answered messages leave.
     ///
     /// Errors: each error ends the session; see `SessionEnd`. Cost: that of the commands, and one pass over the bytes.
     pub fn serve<H: Wait + Threads + Sync, R: Read, W: Write>(

@@ -37,7 +37,7 @@ fn is_answered<R: Threads + Sync + Abort>(
     reply.body() == PAGE.as_bytes() && gate.is_passed()
 }
 
-// Whether the page of two documents after a skip of one takes the expected numbers of rows, two from each shard.
+// Whether each shard hands over two rows for the page of two documents after a skip of one, and three of them are taken.
 fn has_page<R: Threads + Sync>(
     rt: &R,
     alloc: Global,
