@@ -3,10 +3,10 @@
 
 usage: api_examples.py --program PATH [--document FILE ..]
 
-An example is a block ```http-request (a line with the method and the target, then the body) and right after it a
+An example is a block ```http-request (a line with the method and the target, then the body), followed at once by a
 block ```http-reply (a line with the status, then the body). The examples under one heading `##` are one
-conversation: one process `PATH db 1 1 1 -`, which has no document at first. An example that stands before the first heading, or
-is laid out otherwise, is a fault. Prints each difference; the last line is 'N passed, M failed', and the exit status is 0 where M
+conversation, with one process `PATH db 1 1 1 -` whose database is empty at the start. An example before the first heading, or
+in another layout, is a fault. Prints each difference; the last line is 'N passed, M failed', and the exit status is 0 if M
 is 0.
 """
 import re
@@ -75,7 +75,7 @@ def sections_of(document):
 
 
 def replies_in(output):
-    """The whole replies that the output begins with, and what is left of it."""
+    """The complete replies at the beginning of the output, and the rest of it."""
     replies = []
     while True:
         head, end, rest = output.partition(b"\r\n\r\n")
@@ -89,7 +89,7 @@ def replies_in(output):
 
 
 def run(program, examples):
-    """The faults of each example. What is wrong with the end of the conversation counts for the last one."""
+    """The faults of each example. A fault at the end of the conversation counts for the last example."""
     messages = b"".join(example.message for example in examples)
     done = subprocess.run([program, "db", "1", "1", "1", "-"], input=messages, capture_output=True, timeout=SECONDS)
     replies, left = replies_in(done.stdout)
@@ -109,7 +109,7 @@ def run(program, examples):
 
 
 def tried(program, name, examples):
-    """How many examples of a section were not as wanted."""
+    """How many examples of a section failed."""
     try:
         faults = run(program, examples)
     except subprocess.TimeoutExpired:

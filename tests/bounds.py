@@ -3,15 +3,15 @@
 
 usage: bounds.py --program PATH [--only NAME ..] [--full]
 
-The shapes are those of the folder shapes/. In the gate the larger input is four times the smaller one, with --full it is
-twice as large, at greater sizes. A shape passes where its larger input takes at most a half more than its share of the memory and,
-with --full, of the processor time; in the gate, beside other work and with more of the input outside the caches, at most twice its share of
-the time. That share is `times` that of the smaller one, or `times` squared where the documents name a product of two
-parts that both grow. From both times that of a sixteenth of the smaller input is taken away, so what is the same for each size is not
-counted, nor are 2 MiB of memory. The sizes grow until what is left of the smaller input's is a tenth of a second of processor time;
-where a body can have no more bytes, all are sent to as many processes as together take that. The replies have to be right: they
-end in the bytes that the shape gives, and the next message is answered. A time that is too long is measured up to three times. Last,
-values and selectors as deep as a body may be go through the program with a stack of 1 MiB. The last line is 'N passed, M failed'.
+The shapes are in the folder shapes/. In the gate the larger input is four times the smaller one; with --full it is twice as large, at
+greater sizes. A shape passes if its larger input takes at most one and a half times its share of the memory and, with --full, of the
+processor time. In the gate it may take twice its share of the time, since other work runs beside it and more of the input is outside the
+caches. The share is `times` the cost of the smaller input, or `times` squared where the documents name a product of two parts that both
+grow. From both times, that of a sixteenth of the smaller input is subtracted, so that costs that do not depend on the size are not
+counted; nor are 2 MiB of memory. The sizes grow until the smaller input takes a tenth of a second of processor time after that; if a body
+cannot be so large, the inputs are sent to as many processes as take that together. The replies must be right: they end in the bytes that
+the shape gives, and the next message is answered. A time that is too long is measured up to three times. Last, values and selectors of
+the greatest depth of a body run through the program with a stack of 1 MiB. The last line is 'N passed, M failed'.
 """
 import math
 import os
@@ -37,13 +37,13 @@ LAST_REPLY = reply(404, {"error": "not_found", "reason": "missing"})
 
 
 def memory_of(process):
-    """The most memory that a running process had, in bytes."""
+    """The peak memory of a running process, in bytes."""
     with open(f"/proc/{process.pid}/status") as file:
         return next(int(line.split()[1]) << 10 for line in file if line.startswith("VmHWM"))
 
 
 def wait_for(process, output, text):
-    """Whether the output ends in a text, soon or later, before the program ends."""
+    """Waits until the output ends in a text. False if the program ended first or took too long."""
     limit = time.monotonic() + SECONDS
     while time.monotonic() < limit:
         size = os.fstat(output.fileno()).st_size
@@ -58,7 +58,7 @@ def wait_for(process, output, text):
 
 
 def measure(program, shape, given, text):
-    """The processor time and the memory of an input, none where a reply is not right."""
+    """The processor time and the memory of an input; None if a reply is wrong."""
     words = [program, "db", shape.shards, shape.workers, "1", "-"]
     before = resource.getrusage(resource.RUSAGE_CHILDREN)
     with tempfile.TemporaryFile() as output:
@@ -78,7 +78,7 @@ def measure(program, shape, given, text):
 
 
 def grown(program, shape, small, times):
-    """A size at which the smaller input takes a tenth of a second, or the greatest that it may have; and how many processes take that."""
+    """A size at which the smaller input takes a tenth of a second, or its greatest size; and how many processes take that time together."""
     while True:
         found = in_all(program, shape, [shape.make(small // TINY), shape.make(small)], 1)
         used = found[0][0] if found else LEAST
@@ -90,8 +90,8 @@ def grown(program, shape, small, times):
 
 
 def in_all(program, shape, inputs, rounds):
-    """For each input but the first the processor time of so many processes beyond that of the first input, and the most memory of one; none
-    where a reply is not right."""
+    """For each input but the first: the processor time of all processes less that of the first input, and the most memory of a process; None
+    if a reply is wrong."""
     found = [[measure(program, shape, *one) for one in inputs] for _ in range(rounds)]
     if any(None in one for one in found):
         return None
@@ -100,7 +100,7 @@ def in_all(program, shape, inputs, rounds):
 
 
 def compare(program, shape, small, times, slack, tally):
-    """One shape at two sizes, the larger of which may take so many times its share of the processor time."""
+    """Compares one shape at two sizes. The larger one may take `slack` times its share of the processor time."""
     small, rounds = grown(program, shape, small, times)
     inputs = [shape.make(size) for size in (small // TINY, small, small * times)]
     tiny = TINY**-shape.power
@@ -119,7 +119,7 @@ def compare(program, shape, small, times, slack, tally):
 
 
 def deepest(program, tally):
-    """Values 127 deep, and selectors as deep as a body may be, with a small stack: written, compared, listed, dropped."""
+    """Values 127 deep, and selectors of the greatest depth of a body, are written, compared, listed and dropped with a small stack."""
     array = b"[" * 124 + b"]" * 124
     objects = b'{"a":' * 123 + b"{}" + b"}" * 123
     small = lambda: resource.setrlimit(resource.RLIMIT_STACK, (STACK, STACK))

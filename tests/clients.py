@@ -1,10 +1,10 @@
 #!/usr/bin/env python3
-"""Holds sessions with the program by ordinary clients: Python's http.client and curl.
+"""Holds sessions with the program through ordinary clients: Python's http.client and curl.
 
 usage: clients.py --program PATH [--shards N]
 
-The program speaks over its standard input and output. For each connection that a socket of 127.0.0.1 accepts, one process
-`PATH db SHARDS 1 1 -` is started whose standard input and output are that connection. How each process ends is compared too. It needs
+The program reads and writes its standard input and output. A socket of 127.0.0.1 accepts connections, and for each a process
+`PATH db SHARDS 1 1 -` is started whose standard input and output are that connection. How each process ends is compared, too. Needs
 `curl`. Prints each fault; the last line is 'N passed, M failed'.
 """
 import http.client
@@ -26,7 +26,7 @@ EMPTY = (HEAD.format("200 OK", 29) + '{"bookmark":"nil","docs":[]}\n').encode()
 
 
 class Bridge:
-    """Accepts connections, and gives each to a process of its own."""
+    """Accepts connections, and starts a process for each."""
 
     def __init__(self, program, shards):
         self.command = [program, "db", str(shards), "1", "1", "-"]
@@ -42,7 +42,7 @@ class Bridge:
                 self.served.append(subprocess.Popen(self.command, stdin=connection, stdout=connection, stderr=subprocess.PIPE))
 
     def ends(self, count=1):
-        """How the processes ended that were started since the last call, which are so many."""
+        """How the processes started since the last call ended; `count` of them are awaited."""
         limit = time.monotonic() + SECONDS
         while len(self.served) < count and time.monotonic() < limit:
             time.sleep(0.01)

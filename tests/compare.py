@@ -3,9 +3,9 @@
 
 usage: compare.py --program PATH
 
-The imitation, tests/imitation/front.py, stands in front of a second program and differs from the first as the reference says, and in
-nothing else; then each run plants one more difference, which has to be found. The names of differences are those of the reference.
-The last line is 'N passed, M failed'.
+The imitation, tests/imitation/front.py, is a proxy in front of a second program. It differs from the first program only as the reference
+says. Each further run plants one more difference, which must be found. The names of differences are those of the reference. The last
+line is 'N passed, M failed'.
 """
 import contextlib
 import http.client
@@ -28,7 +28,7 @@ SECONDS = 60
 
 
 def example():
-    """The module of the example."""
+    """Imports the example as a module."""
     described = importlib.util.spec_from_file_location("compare_couchdb", EXAMPLE)
     module = sys.modules["compare_couchdb"] = importlib.util.module_from_spec(described)
     described.loader.exec_module(module)
@@ -37,7 +37,7 @@ def example():
 
 @contextlib.contextmanager
 def two(program):
-    """The ports of two programs."""
+    """Starts two programs, and gives their ports."""
     with contextlib.ExitStack() as stack:
         yield [stack.enter_context(listening(Setting(program, shards, 1), 4)) for shards in (1, 5)]
 
@@ -58,7 +58,7 @@ def differing(program, planted=None):
 
 
 def on(target, change, method="POST"):
-    """A planted difference: changes the first reply to a request of this target that has a value in which something can be changed."""
+    """A planted difference: changes the first reply to this target that has a value to change."""
     done = []
 
     def planted(asked, asked_target, reply):
@@ -85,13 +85,13 @@ def swapped(status, value):
 
 
 def with_value(*path):
-    """Puts the last of the path in the place that the others lead to."""
+    """Puts the last item of the path at the place to which the other items lead."""
 
     def change(status, value):
         inner = value
         for step in path[:-2]:
             inner = inner[step]
-        del inner[path[-2]]  # it has to be there
+        del inner[path[-2]]  # a KeyError if there is no such member
         inner[path[-2]] = path[-1]
         return status, value
 
@@ -118,7 +118,7 @@ PLANTED = {
 
 
 def check_runs(tally, program, module):
-    """Without a planted difference, and with each."""
+    """Runs without a planted difference, and with each one."""
     asked = module.requests()
     named = [request.named for request in asked if request.named]
     with two(program) as (here, there):
@@ -129,7 +129,7 @@ def check_runs(tally, program, module):
     status, output, said = differing(program)
     seen = {one.name for one in named if f"named: {one.name}: " in output}
     tally.expect("the imitation", (status, output.splitlines()[-1].endswith(" 0 differ"), said), (0, True, ""))
-    alike = {module.NEGATION, module.EDGES, module.HINT}  # in these the imitation is as the program is
+    alike = {module.NEGATION, module.EDGES, module.HINT}  # here the imitation does not differ from the program
     tally.expect("named differences", seen, {one.name for one in named} - alike)
     for name, planted in PLANTED.items():
         status, output, said = differing(program, planted)
@@ -139,7 +139,7 @@ def check_runs(tally, program, module):
 
 
 def check_own_requests(tally, program, folder):
-    """Requests of a file, with the revisions and the bookmark of each side."""
+    """Runs requests from a file, with the revisions and the bookmark of each side."""
     file = folder / "requests"
     lines = [{"method": "POST", "target": "_bulk_docs", "body": {"docs": [{"_id": "a", "n": 1}, {"_id": "b", "n": 2}]}},
              {"method": "POST", "target": "_bulk_docs", "body": {"docs": [{"_id": "a", "_rev": "REV:a", "n": 3}]}},
@@ -156,7 +156,7 @@ def check_own_requests(tally, program, folder):
 
 
 def check_databases(tally, program):
-    """The database in CouchDB is made and deleted; one that is there is not touched."""
+    """The database in CouchDB is created and deleted; an existing one is not touched."""
     with two(program) as (here, behind):
         front = Front(behind)
         with serving(front) as there:

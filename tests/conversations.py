@@ -3,27 +3,26 @@
 
 usage: conversations.py --program PATH [--shards 1,2,7,64] [--workers 1,2,32] [--reshards 3 64,1,3] [--only NAME ..] [--folder FOLDER]
 
-A conversation is run by one process `PATH db SHARDS WORKERS 1 -` for each number of shards and of workers; its database
-has no document at first, and all its messages are sent at once. For each list of --reshards it is run once more with each of these
-numbers, with a `_placement` between every two messages that asks for the numbers of the list in turn, and the same replies. In a
-file:
+For each number of shards and of workers, a conversation is run by one process `PATH db SHARDS WORKERS 1 -`. Its database is empty at
+the start, and all messages are sent at once. For each list of --reshards it is run once more with each number of shards and of workers:
+between every two messages a `_placement` asks for the next number of the list, and the replies must stay the same. In a file:
 
   ## NAME: what it shows        begins a conversation
-  + DOCUMENT DOCUMENT ..        a bulk of a replica, "_rev":"1-a" where a document gives none; the reply is 201 [] where no
-                                line after it says another
-  ? SELECTOR ID ID ..           a query, and the ids of its page in their order; `-` where it has none
+  + DOCUMENT DOCUMENT ..        a bulk with `new_edits` false; a document with neither `_rev` nor `_revisions` gets "_rev":"1-a"; the
+                                reply is 201 [] unless a line after it gives another
+  ? SELECTOR ID ID ..           a query, and the ids of its page in order; `-` for an empty page
   > METHOD TARGET BODY          a message; the target is below /db/ unless it begins with /
-  > "BYTES"                     the same with the bytes of the whole message, as a JSON text
+  > "BYTES"                     a message, given as its bytes in a JSON text
   < STATUS BODY                 the reply to each of the messages right before it, byte for byte, without the line feed
-                                that ends it
-  < none                        no reply: the message is not whole
-  ~ STATUS OBJECT               the reply's status, and those members of its body that are to be compared
+                                at its end
+  < none                        no reply: the message is incomplete
+  ~ STATUS OBJECT               the status of the reply, and the members of its body that are compared
   <7,64 STATUS BODY             the reply at these numbers of shards only (also with ~); several such lines may follow
-  ! LINE                        the program ends with status 1 and the line `mangod: LINE`, and not with 0 and no line
+  ! LINE                        the program ends with status 1 and the line `mangod: LINE`, instead of status 0 and no line
 
-A line that begins with a blank goes on with the line before it; `#` and a blank begin a comment. `--only` takes names of
+A line that begins with a blank continues the line before it; `#` and a blank begin a comment. `--only` takes names of
 conversations and of files. Prints each fault; a conversation passes or fails as one in all its runs. The last line is 'N passed,
-M failed', and the exit status is 0 where M is 0.
+M failed', and the exit status is 0 if M is 0.
 """
 import itertools
 import json
@@ -54,7 +53,7 @@ JSON = json.JSONDecoder()
 
 
 class Malformed(Exception):
-    """A line of a file that is none of the above."""
+    """A line of a file that has none of these forms."""
 
 
 @dataclass
@@ -68,7 +67,7 @@ class Reply:
 
 @dataclass
 class Expected:
-    """A reply that is wanted: all bytes of its body, or the members that are named."""
+    """An expected reply: all bytes of its body, or only some members."""
 
     text: str
     status: int
@@ -132,7 +131,7 @@ def post(target, body):
 
 
 def values_in(text):
-    """The texts of the JSON values that the text begins with, and what follows them."""
+    """The texts of the JSON values at the beginning of a text, and the rest of it."""
     values = []
     text = text.lstrip()
     while text.startswith("{"):
@@ -195,7 +194,7 @@ def reply_of(kind, text, more):
 
 
 def entries_in(text):
-    """Each line's number, its first letter and what follows, and the lines that go on with it, without their blanks."""
+    """The number of each line, its first letter, and its text, joined with the lines that continue it, without their blanks."""
     entries = []
     for place, line in enumerate(text.splitlines(), start=1):
         if not line.strip() or line.startswith("# "):
@@ -255,7 +254,7 @@ def conversations_in(file):
 
 
 def replies_in(output):
-    """The whole replies that the output begins with, and what is left of it."""
+    """The complete replies at the beginning of the output, and the rest of it."""
     replies = []
     while True:
         head, end, rest = output.partition(b"\r\n\r\n")
@@ -267,7 +266,7 @@ def replies_in(output):
 
 
 def with_reshards(exchanges, counts):
-    """The exchanges, with one between every two that are answered that asks for another number of shards."""
+    """The exchanges, with a reshard between every two that are answered."""
     numbers = itertools.cycle(counts)
     done = Expected('200 {"ok":true}', 200, b'{"ok":true}')
     said = []
@@ -280,7 +279,7 @@ def with_reshards(exchanges, counts):
 
 
 def run(program, conversation, shards, workers, reshards=(), environment=None):
-    """Each fault: the line of the file, and what was wrong."""
+    """The faults: the line of the file, and what was wrong."""
     call = [program, "db", str(shards), str(workers), "1", "-"]
     exchanges = with_reshards(conversation.exchanges, reshards) if reshards else conversation.exchanges
     messages = b"".join(exchange.message for exchange in exchanges)

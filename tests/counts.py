@@ -1,12 +1,12 @@
 #!/usr/bin/env python3
-"""Counts the instructions of requests of each kind, and compares them with those that bench/counts.json keeps.
+"""Counts the instructions of requests of each kind, and compares them with the counts in bench/counts.json.
 
 usage: counts.py --program PATH [--counts FILE]
 
-A kind fails where a request takes a tenth more instructions than the file says, so that speed is not lost unseen. Where it takes a tenth
-less, that is printed: then, or for a change that is worth its cost, `bench/misses --program PATH --write bench/counts.json` makes the file
-anew. The counts are those of valgrind, which hardly depend on the machine; the documents, requests and numbers of shards are those that
-the file names. Each reply is compared with the answer that the documents give. The last line is 'N passed, M failed'.
+A kind fails if a request takes a tenth more instructions than the file says, so that no loss of speed goes unseen. If it takes a tenth
+less, that is printed. Then, or after a change that is worth its cost, `bench/misses --program PATH --write bench/counts.json` writes the
+file anew. The counts come from valgrind and hardly depend on the machine; the file names the documents, requests and numbers of shards.
+Each reply is compared with the right answer. The last line is 'N passed, M failed'.
 """
 import json
 import sys

@@ -1,18 +1,18 @@
 #!/usr/bin/env python3
-"""Cuts what comes in, moves it byte by byte, and lets reads and writes fail at each call; checks the ends and what went out.
+"""Cuts the input, moves it byte by byte, and lets reads and writes fail at each call; checks the output and how the session ends.
 
 usage: cut_input.py --program PATH [--full]
 
-Three conversations of tests/conversations: a bulk and a query, pages by an index over their bookmarks, and an index that goes. The
-replies are the model's (the folder model/), which has to give those of the files. Through the shim refuse/refuse.c
-- reads and writes move one byte, or a few: the same bytes go out;
-- reads move one byte, a few, or all: each reply is one write, and no read is made beside those that the bytes need;
+Uses three conversations of tests/conversations: a bulk and a query, pages by an index through bookmarks, and an index that is dropped.
+The replies are those of the model (the folder model/), which must agree with the files. With the shim refuse/refuse.c:
+- reads and writes move one byte, or a few: the output is the same;
+- reads move one byte, a few, or all: each reply is one write, and there are only as many reads as the bytes need;
 - a message that ends its session is answered, and no read follows it;
-- the kth read fails: what went out is the replies that were due for the bytes before, and the end is a read fault;
-- the kth write fails, or takes no byte: what went out is what the writes before it took, and the end is a write fault.
-And without it: the input is cut at each byte, over standard input and over TCP; the output is a pipe that nobody reads, or reads
-late; a client over TCP sends byte by byte, or resets its connection at a byte, and the next one sees whole bulks or nothing of
-them. Without --full, each third byte or call is tried over TCP. The shim needs a C compiler, `cc`; where none is here the script
+- the kth read fails: the output is the replies due for the bytes before it, and the session ends with a read fault;
+- the kth write fails, or takes no byte: the output is what the writes before it took, and the session ends with a write fault.
+Without the shim: the input is cut at each byte, over standard input and over TCP; the output is a pipe that nobody reads, or that is
+read late; a client over TCP sends byte by byte, or resets its connection at some byte, and the next client sees each bulk whole or not at
+all. Without --full, only every third byte or call is tried over TCP. The shim needs a C compiler, `cc`; without one the script
 fails. The last line is 'N passed, M failed'.
 """
 import os
@@ -32,7 +32,7 @@ from tcp import reset
 
 NAMES = ["first-write-and-query", "ties-across-shards", "choice-of-index"]
 LIST = b"GET /db/_index HTTP/1.1\r\n\r\n"
-# messages after which a session ends: the reply, and how the program ends
+# messages that end a session: the message, the reply, and how the program ends
 LAST = [
     ("version 1.0", b"GET /db/x HTTP/1.0\r\n\r\n", reply_of(404, '{"error":"not_found","reason":"missing"}'), ENDS["Eof"]),
     ("no length", b"POST /db/_find HTTP/1.1\r\n\r\n", reply_of(411, '{"error":"length_required","reason":"Content-Length required."}'), ENDS["Refused"]),
@@ -52,7 +52,7 @@ class Line:
             self.due.append((len(self.given), len(self.text)))
 
     def written(self, count):
-        """What goes out for the first so many bytes."""
+        """The output for the first `count` bytes."""
         return self.text[: max(text for given, text in self.due if given <= count)]
 
 
@@ -75,7 +75,7 @@ def short(refusal, words, line, name, tally):
 
 
 def counted(refusal, words, line, tally):
-    """Each reply is one write however its message came, and messages that come at once cost no read each; the last read is that of the end."""
+    """Each reply is one write, however its message came. Messages that come together share reads. The last read finds the end."""
     for piece in (0, 7, 1):
         refusal.reset(piece=piece, whole_writes=True)
         found = refusal.run(words, line.given)
@@ -85,7 +85,7 @@ def counted(refusal, words, line, tally):
 
 
 def last_messages(refusal, words, tally):
-    """A session that ends by its message reads no more, and would fail if it did."""
+    """A session that its message ends reads no more. The next read would fail."""
     for name, given, text, end in LAST:
         refusal.reset()
         refusal.refuse("reads", 2, ONWARD)
@@ -94,7 +94,7 @@ def last_messages(refusal, words, tally):
 
 
 def failing_reads(refusal, words, line, name, piece, tally):
-    """The kth read fails, for each k; the last one is that of the end."""
+    """The kth read fails, for each k. The last read is the one that finds the end."""
     wrong, call = [], 0
     while True:
         call += 1
@@ -129,7 +129,7 @@ def failing_writes(refusal, words, line, name, piece, takes_none, tally):
 
 
 def pipes(program, line, tally):
-    """An output that nobody reads, and one that is read late."""
+    """The output is a pipe that nobody reads, or that is read late."""
     words = [program, "db", "1", "1", "1", "-"]
     out, into = os.pipe()
     os.close(out)
@@ -146,7 +146,7 @@ def pipes(program, line, tally):
 
 
 def reaches(port, given):
-    """All that comes for bytes after which nothing more is sent."""
+    """Sends bytes and then the end, and gives everything that comes back."""
     client = Wire(port)
     client.send(given)
     client.finish()
@@ -156,7 +156,7 @@ def reaches(port, given):
 
 
 def cut_over_tcp(words, line, name, step, tally):
-    """A program for each place, or its documents would be there already."""
+    """Cuts the input at each place, with a new program each time: else the documents would exist already."""
     wrong = []
     for place in range(1, len(line.given), step):
         with listening(words, 1) as port:
@@ -177,7 +177,7 @@ def byte_by_byte(words, line, name, tally):
 
 
 def resets(words, line, step, tally):
-    """A client sends the front of a bulk of two documents and a query, and resets; another sees both documents or none."""
+    """A client sends a prefix of a bulk of two documents and a query, and resets the connection; another sees both documents or none."""
     body = b'{"docs":[{"_id":"a"},{"_id":"b"}]}'
     bulk = b"POST /db/_bulk_docs HTTP/1.1\r\nContent-Length: %d\r\n\r\n%s" % (len(body), body)
     find = line.talk.messages[1]
@@ -200,8 +200,8 @@ def resets(words, line, step, tally):
 
 
 def is_front(line, kind, call, met, found):
-    """Whether this may come to a client where calls move 16 bytes each, and the kth read or write fails, if it was met. A write moves
-    fewer at the end of a reply."""
+    """Whether a client may receive these bytes if each call moves 16 bytes and the kth read or write fails. `met`: it was made. A write
+    moves fewer bytes at the end of a reply."""
     if not met:
         return found == line.text
     if kind == "reads":
@@ -210,7 +210,7 @@ def is_front(line, kind, call, met, found):
 
 
 def failing_sockets(refusal, words, line, tally):
-    """Over TCP the kth read or write fails: the connection ends after a front of the replies, and the next client is served."""
+    """Over TCP the kth read or write fails: the connection ends after a prefix of the replies, and the next client is served."""
     for kind in ("reads", "writes"):
         call, wrong = 0, []
         while True:
@@ -231,7 +231,7 @@ def failing_sockets(refusal, words, line, tally):
 
 
 def failing(refusal, words, lines, tally):
-    """Calls that move few bytes or fail."""
+    """Checks with calls that move few bytes or fail."""
     command, first = [words.program, "db", words.shards, words.workers, "1", "-"], lines[NAMES[0]]
     for name, line in lines.items():
         short(refusal, command, line, name, tally)

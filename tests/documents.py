@@ -1,14 +1,14 @@
 #!/usr/bin/env python3
-"""Checks that what README.md and docs/*.md name is there: files, links and crates; and the table of crates.
+"""Checks that the files, links and crates that README.md and docs/*.md name exist; and checks the table of crates.
 
 usage: documents.py --program PATH [--top FOLDER]
 
-- A path that begins with a file or folder of the top of the repository (docs/MODEL.md, tests/*.py) is there. What a check makes, in
-  out/, is left out. A path that begins with a folder of crates (src/leaf.rt, specs/Lib.antt) is there in some crate, and a name of a
-  file alone (talk.py) somewhere.
-- A link [text](target) leads to a file that is there, and a heading of it if it names one, or to another host.
-- A word mg_NAME is a crate of crates.txt. docs/INTERNALS.md names each of them, and README.md each document.
-- The table of crates in docs/INTERNALS.md has the crates of crates.txt in their order, each with the same libraries.
+- A path that begins with a file or folder at the top of the repository (docs/MODEL.md, tests/*.py) exists. Paths in out/, which a check
+  makes, are ignored. A path that begins with a folder of crates (src/leaf.rt, specs/Lib.antt) exists in some crate, and a file name
+  alone (talk.py) somewhere.
+- A link [text](target) leads to an existing file, and to an existing heading of it if it names one, or to another host.
+- A word mg_NAME is a crate of crates.txt. docs/INTERNALS.md names each crate, and README.md names each document.
+- The table of crates in docs/INTERNALS.md has the crates of crates.txt in the same order, each with the same libraries.
 The program is not run. Prints each fault; a document passes or fails as one. The last line is 'N passed, M failed'.
 """
 import re
@@ -34,8 +34,8 @@ def crates_of(text):
 
 
 def pattern_of(top, path, first, slash):
-    """The pattern that some file has to have if a text names this path, none where it names no file of the repository. The name of a
-    folder that stands for any is a capital letter."""
+    """The pattern that some file must match if a text names this path; None if the path is not checked: it is not of the repository, or it
+    ends in a single capital letter, which stands for any folder."""
     if "/out/" in f"{path}/" or re.search(r"/[A-Z]/?$", path):
         return None
     if slash and (top / first).exists():
@@ -46,7 +46,7 @@ def pattern_of(top, path, first, slash):
 
 
 def missing_paths(top, text):
-    """The paths that name nothing."""
+    """The paths that do not exist."""
     for path in sorted(set(PATH.findall(text))):
         first, slash, _ = path.rstrip(".").partition("/")
         pattern = pattern_of(top, path.rstrip("."), first, slash)
@@ -55,7 +55,7 @@ def missing_paths(top, text):
 
 
 def headings_of(text):
-    """The names by which a link leads to the headings of a document."""
+    """The anchors of the headings of a document."""
     found = re.findall(r"^#+ (.*)$", text, re.M)
     return {re.sub(r"[^\w -]", "", heading.lower()).replace(" ", "-") for heading in found}
 
@@ -73,7 +73,7 @@ def broken_links(folder, file, text):
 
 
 def faults_of(top, file, crates):
-    """What is wrong with what a document names. Its examples of requests and replies name no files."""
+    """The faults of a document. Its examples of requests and replies are ignored: they name no files."""
     text = CODE.sub("", file.read_text(encoding="utf-8"))
     yield from missing_paths(top, text)
     yield from broken_links(file.parent, file, text)
@@ -81,7 +81,7 @@ def faults_of(top, file, crates):
 
 
 def table_of(text):
-    """The crates of the table, and the libraries of each."""
+    """The crates in the table, and the libraries of each."""
     section = text.partition("\n## The crates in a table\n")[2].partition("\n## ")[0]
     rows = [line.split("|")[1:-1] for line in section.splitlines() if line.startswith("| `")]
     return {row[0].strip(" `"): re.findall(r"`([^`]+)`", row[2]) for row in rows}

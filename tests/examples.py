@@ -1,10 +1,10 @@
 #!/usr/bin/env python3
-"""Runs the first programs of examples/ against servers, and compares what it prints with tests/examples/NAME.txt.
+"""Runs the starter programs of examples/ against servers, and compares what they print with tests/examples/NAME.txt.
 
 usage: examples.py --program PATH
 
-The texts were written from the rules, and not by the program: orders and refusals from docs/REFERENCE.md, the id of a revision as the
-MD5 of the text `[deleted, parent, body]`. Each example is run on new servers with 1, 4 and 64 shards, and passes or fails as one. The
+The expected texts were written from the rules, not by the program: orders and refusals from docs/REFERENCE.md, the id of a revision as
+the MD5 of the text `[deleted, parent, body]`. Each example is run on new servers with 1, 4 and 64 shards, and passes or fails as one. The
 report needs `curl`. The last line is 'N passed, M failed'.
 """
 import contextlib
@@ -18,15 +18,15 @@ from common.tally import Tally
 
 SECONDS = 60
 TOP = Path(__file__).resolve().parent.parent
-# each example, and how many servers it is given
+# each example, and how many servers it needs
 EXAMPLES = {"client.py": 1, "replicas.py": 2, "report.sh": 1}
-# those that scripts of their own run: journal*.py, from_couchdb.py, compare.py
+# examples that other scripts test: journal*.py, from_couchdb.py, compare.py
 ELSEWHERE = ["compare_couchdb.py", "from_couchdb.py", "journal.py", "journal_file.py"]
 SHARDS = (1, 4, 64)
 
 
 def printed(program, example, servers, shards):
-    """The status of an example, and what it prints, with that many servers of so many shards."""
+    """Runs an example on new servers with this number of shards; gives its exit status and its output."""
     with contextlib.ExitStack() as stack:
         ports = [stack.enter_context(listening(Setting(program, shards, 2), 4)) for _ in range(servers)]
         urls = [f"http://127.0.0.1:{port}/db" for port in ports]

@@ -3,9 +3,9 @@
 
 usage: from_couchdb.py --program PATH [--seed N]
 
-No CouchDB can be had where this runs: tests/imitation/couchdb.py was written from CouchDB's API reference. What is brought over has
-to be what the imitation would serve, winners and conflicts included; and of each document that the dry run lists, or does not list,
-the program itself says whether it can be written. The last line is 'N passed, M failed'.
+No CouchDB is available here: tests/imitation/couchdb.py was written from CouchDB's API reference. The copied documents must be what the
+imitation would serve, winners and conflicts included. For each document, listed by the dry run or not, the program itself decides
+whether it can be written. The last line is 'N passed, M failed'.
 """
 import contextlib
 import http.client
@@ -67,7 +67,7 @@ def ran(*args):
 
 
 def fill(source, choice, count):
-    """Documents with one to three leaves, deleted ones among them."""
+    """Puts in documents with one to three leaves, some of them deleted."""
     for name in [*ODD_IDS, *(f"d{number:04}" for number in range(count))]:
         for branch in choice.sample("abc", choice.choice([1, 1, 1, 2, 3])):
             length = choice.randint(1, 6)
@@ -76,7 +76,7 @@ def fill(source, choice, count):
 
 
 def compare(tally, name, source, target):
-    """Whether the target serves what the imitation does."""
+    """Compares what the target serves with what the imitation serves."""
     wrong = {key: (found, wanted) for key in source.documents
              if not key.startswith("_") and (found := target.served(key)) != (wanted := source.served(key))}
     tally.expect(f"{name}: documents", dict(list(wrong.items())[:3]), {})
@@ -84,7 +84,7 @@ def compare(tally, name, source, target):
 
 
 def brought(tally, program, folder, choice):
-    """All is brought over, in pages; again; from the checkpoint; and from the start to a target that was started anew."""
+    """Copies all documents in pages; once more; from the checkpoint; and from the beginning to a new target."""
     source, file = Source(), folder / "checkpoint"
     fill(source, choice, 120)
     source.put("_design/shop", ["1-x"], MANGO)
@@ -124,7 +124,7 @@ def wait_until(holds):
 
 
 def followed(tally, program, folder, choice):
-    """A run that follows is killed and started again, and the source and the target are away for a while."""
+    """A run that follows the changes is killed and started again, and the source and the target are unreachable for a while."""
     source, file = Source(), folder / "followed"
     fill(source, choice, 40)
     with serving(source) as url, fresh(program) as target:
@@ -149,7 +149,7 @@ def nested(depth):
     return "[" * depth + "]" * depth
 
 
-# documents that cannot be brought over: the id, the text of the members, and what the dry run says of them
+# documents that cannot be copied: the id, the text of the members, and the reason that the dry run gives
 FAULTY = [
     ("fraction", '"price":1.5', "price is 1.5: write a whole number"),
     ("whole fraction", '"a":{"b":[7,1.0]}', "a.b.1 is 1.0: write a whole number"),
@@ -165,7 +165,7 @@ FAULTY = [
     ("surrogate", '"a":"\\ud800"', "it has a text that is not UTF-8: mend"),
     ("large", None, "bytes: split the document"),
 ]
-# documents that come near to these, and can be
+# documents that are almost like these, but can be copied
 SOUND = [
     ("deep enough", f'"a":{nested(124)}'),
     ("large enough", None),
@@ -176,7 +176,7 @@ SOUND = [
 
 
 def members_of_size(name, size):
-    """The text of members with which a document's bulk has this size."""
+    """The text of members that gives the bulk of the document this size."""
     front = '{"_id":"%s","_rev":"1-a","_revisions":{"start":1,"ids":["a"]},"a":""}' % name
     return '"a":"%s"' % ("x" * (size - len('{"docs":[],"new_edits":false}') - len(front)))
 
@@ -187,7 +187,7 @@ def with_sizes():
 
 
 def written_directly(target, name, members):
-    """The status of a bulk with this document alone."""
+    """The status of a bulk with only this document."""
     head = '{"_id":"%s","_rev":"1-a","_revisions":{"start":1,"ids":["a"]}' % name
     try:
         return target.ask("POST", "_bulk_docs", '{"docs":[%s,%s}],"new_edits":false}' % (head, members))[0]
@@ -196,7 +196,7 @@ def written_directly(target, name, members):
 
 
 def listed(tally, program):
-    """The dry run lists the documents that the program refuses, and no others."""
+    """The dry run lists exactly the documents that the program refuses."""
     source, (faulty, sound) = Source(), with_sizes()
     source.put("_design/shop", ["1-x"], MANGO)
     source.put("_design/views", ["1-x"], '"views":{"a":{"map":"function (doc) {}"}}')
@@ -219,7 +219,7 @@ def listed(tally, program):
 
 
 def left_out(tally, program):
-    """A run ends at a document that cannot be brought over, or leaves it out with all its leaves."""
+    """A run ends at a document that cannot be copied, or skips it with all its leaves."""
     source, (faulty, sound) = Source(), with_sizes()
     for name, members in sound:
         source.put(name, ["1-a"], members)
@@ -240,7 +240,7 @@ def left_out(tally, program):
 
 
 def large_bulks(tally, program):
-    """Documents of some megabytes, of which not all fit into one bulk."""
+    """Documents of some megabytes, too many for one bulk."""
     source = Source()
     for number in range(7):
         source.put(f"d{number}", ["1-a"], f'"a":"{"x" * 3_000_000}"')

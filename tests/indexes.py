@@ -1,12 +1,12 @@
 #!/usr/bin/env python3
-"""Edits documents at random, asks for them by changing indexes, and compares each reply with that of a model.
+"""Edits documents at random, queries them by changing indexes, and compares each reply with that of a model.
 
 usage: indexes.py --program PATH [--shards 1,2,7,64] [--workers 1,2] [--seeds 1,2,3,4] [--edits 1500]
 
-A seed makes one conversation: new edits, replicas, deletions and conflicts of a few documents (of some hundred for each
-fourth seed, so that an index has several pages of rows), indexes that come, change their columns and go, and queries by
-them. The model (the folder model/) keeps the revisions of each document and no rows: it finds the winner by CouchDB's rule,
-and a page by sorting all documents in the order of CouchDB's collation. One process `PATH db SHARDS WORKERS 1 -` for each seed, number of
+A seed makes one conversation: new edits, replicated edits, deletions and conflicts of a few documents (of some hundred for every
+fourth seed, so that an index has several pages of rows); indexes that are created, change their columns and are dropped; and queries by
+them. The model (the folder model/) keeps the revisions of each document and no rows: it finds the winner by CouchDB's rule, and a
+page by sorting all documents in CouchDB's collation order. There is one process `PATH db SHARDS WORKERS 1 -` for each seed, number of
 shards and number of workers; a seed passes or fails as one. Prints the first reply that differs; the last line is 'N passed, M failed'.
 """
 import itertools
@@ -30,7 +30,7 @@ PATHS = ["a", "b", "c", "a.b", "c.0"]
 
 
 class Talk:
-    """A conversation at random: its messages, and the replies that are due."""
+    """A random conversation: its messages, and the expected replies."""
 
     def __init__(self, seed, edits):
         self.random = random.Random(seed)
@@ -66,7 +66,7 @@ class Talk:
         return {name: self.random.choice(VALUES) for name in "abc" if self.chance(0.9)}
 
     def new_path(self, document):
-        """What a new edit names: mostly a leaf, or another revision, or nothing."""
+        """The revision that a new edit names: mostly a leaf, else another revision or none."""
         if not document.parents or self.chance(0.15):
             return None
         kind = self.random.random()
@@ -76,7 +76,7 @@ class Talk:
         return document.chain(self.random.choice(known))[: self.random.choice([1, 1, 2, 5])]
 
     def replica_path(self, document):
-        """Revisions on top of a known one, or a known one again, or a path of its own, which may clash with what is known."""
+        """A replicated path: on top of a known revision, or a known revision again, or a new path, which may contradict the known ones."""
         if document.parents and self.chance(0.8):
             base = document.chain(self.random.choice(list(document.parents)))
             above = self.random.choice([0, 1, 1, 1, 2, 3])
@@ -118,7 +118,7 @@ class Talk:
         return self.send(documents, new_edits, entries)
 
     def deletions(self):
-        """Deletes the leaves of a document that are not deleted, the last one now and then excepted."""
+        """Deletes the leaves of a document that are not deleted; now and then all but the last."""
         name = self.random.choice(self.ids)
         document = self.world.documents.get(name, Document())
         leaves = [leaf for leaf in document.leaves() if not document.held[leaf][0]]
@@ -172,7 +172,7 @@ class Talk:
         }
 
     def next_page(self):
-        """The last query with the bookmark of its reply; now and then with another sort, for which the bookmark may be none."""
+        """The last query with the bookmark of its reply; now and then with another sort, for which the bookmark may be invalid."""
         query, bookmark = self.last
         return {**(self.new_query() if self.chance(0.1) else query), "bookmark": bookmark}
 
@@ -182,7 +182,7 @@ class Talk:
         self.say("POST", "_find", self.asked(query), status, value)
 
     def asked(self, query):
-        """The body of a query, with what is so by default left out or not."""
+        """The body of a query. Members with their default value are left out at random."""
         plain = query["direction"] == "asc" and self.chance(0.5)
         body = {
             "selector": query["selector"],

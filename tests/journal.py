@@ -1,14 +1,14 @@
 #!/usr/bin/env python3
-"""Kills examples/journal.py and its program in the middle of writes, and compares what comes back with a server that was never killed.
+"""Kills examples/journal.py and its program in the middle of writes, and compares what is recovered with a server that was never killed.
 
 usage: journal.py --program PATH [--seed N] [--rounds N]
 
-In each round several clients write through the proxy: edits of all kinds, indexes, other numbers of shards, and messages that are
-refused. At a random moment the proxy, the program or both are killed, and the proxy is started again on the same file. Then:
-- the file has each accepted write whose reply came, once, in the order of each client, and no write that was refused;
-- another server, which is never killed and gets the writes of the file, has given the same replies to them, and gives the same
-  replies to the same requests as the proxy.
-A write that was sent and not answered may be in the file or not. The last line is 'N passed, M failed'.
+In each round several clients write through the proxy: edits of all kinds, indexes, reshards, and messages that are refused. At a random
+moment the proxy, the program or both are killed, and the proxy is started again on the same file. Then:
+- the file has each write whose acceptance was replied, once, in the order of its client, and no write that was refused;
+- another server, which is never killed, gets the writes of the file: its replies to them are the same, and it gives the same replies as
+  the proxy to the same reads.
+A write that was sent but not answered may be in the file or not. The last line is 'N passed, M failed'.
 """
 import json
 import os
@@ -30,13 +30,13 @@ from common.wire import Wire
 CLIENTS = 5
 IDS = [f"d{number}" for number in range(8)]
 FIELDS = [["a"], ["a", "b"], [{"b": "desc"}]]
-# how the proxy may end, by what is killed; of both, the program is killed first
+# how the proxy may end, by what is killed; if both are killed, the program is killed first
 ENDS = {"proxy": [-signal.SIGKILL], "program": [1], "both": [1, -signal.SIGKILL]}
 MARK = re.compile(rb"[?]mark=([0-9-]+)")
 
 
 class Client(threading.Thread):
-    """Writes until its connection ends, and keeps each message that it sent and each reply that came."""
+    """Writes until its connection ends, and keeps each message that it sent and each reply that it got."""
 
     def __init__(self, port, number, seed):
         super().__init__()
@@ -44,7 +44,7 @@ class Client(threading.Thread):
         self.replies, self.sent, self.known = {}, [], {}
 
     def document(self):
-        """A document of a new edit: a new one, one over a revision that the client made, or one without an id."""
+        """A document of a new edit: a new document, an edit of a revision that the client made, or a document without an id."""
         name = self.choice.choice([*IDS, None])
         found = {"_id": name} if name else {}
         if name in self.known and self.choice.random() < 0.8:
@@ -53,13 +53,13 @@ class Client(threading.Thread):
         return found
 
     def path(self):
-        """A document with a path of revisions, as a replica sends it."""
+        """A document with a path of revisions, as replication sends it."""
         ids = self.choice.sample("abcd", self.choice.randint(1, 3))
         return {"_id": self.choice.choice(IDS), "_revisions": {"start": 3, "ids": ids}, "a": self.choice.randrange(5),
                 "_deleted": self.choice.random() < 0.2}
 
     def request(self):
-        """A method, the end of a target and a body."""
+        """A request at random: a method, a target below the database, and a body."""
         kind = self.choice.randrange(12)
         several = range(self.choice.randint(1, 3))
         if kind < 6:
@@ -95,7 +95,7 @@ class Client(threading.Thread):
 
 
 def writes_in(data):
-    """The writes of a journal: the mark, the message and the status of each. Goes by the lengths alone."""
+    """The writes of a journal: the mark, the message and the status of each. Uses only the lengths of the records."""
     at, found = data.index(b"\n") + 1, []
     while at < len(data):
         line = data[at:data.index(b"\n", at)].split(b" ")
@@ -108,7 +108,7 @@ def writes_in(data):
 
 
 def probes(ask):
-    """The replies to reads that show all of a database: documents with their conflicts, pages, indexes and how queries are served."""
+    """The replies to reads that show a whole database: documents with their conflicts, pages, indexes, and explanations of queries."""
     yield ask(message("GET", "/db/_index"))
     for name in [*IDS, *(f"{number:032x}" for number in range(1, 60))]:
         yield ask(message("GET", f"/db/{name}?conflicts=true"))
@@ -138,8 +138,8 @@ def has_ended(process):
 
 
 def killed(proxy, victim, seed, first):
-    """Has clients write until the proxy, the program or both are killed. Gives the clients, how the proxy ended, and whether the
-    program has ended too."""
+    """Lets clients write until the proxy, the program or both are killed. Gives the clients, how the proxy ended, and whether the
+    program has ended, too."""
     clients = [Client(proxy.port, first + number, f"{seed}-{number}") for number in range(CLIENTS)]
     for client in clients:
         client.start()
@@ -154,7 +154,7 @@ def killed(proxy, victim, seed, first):
 
 
 def check_file(tally, name, clients, writes):
-    """Whether the file has what it has to have of a round."""
+    """Checks that the file has the writes of a round that it must have, and no others."""
     marks = [mark for mark, _, _ in writes]
     accepted = {mark for client in clients for mark, reply in client.replies.items() if status_of(reply) in (200, 201)}
     refused = {mark for client in clients for mark, reply in client.replies.items() if status_of(reply) not in (200, 201)}
@@ -168,7 +168,7 @@ def check_file(tally, name, clients, writes):
 
 
 def check_replies(tally, name, clients, writes, wire):
-    """Sends another server the writes of a round; it has to reply as the proxy did."""
+    """Sends the writes of a round to another server. Its replies must be those of the proxy."""
     replies = {mark: reply for client in clients for mark, reply in client.replies.items()}
     other = []
     for mark, text, status in writes:

@@ -1,10 +1,10 @@
 #!/usr/bin/env python3
-"""Tears and damages the file of examples/journal.py, and lets its disk and its program's memory fail.
+"""Tears and damages the file of examples/journal.py, lets its disk fail, and refuses memory to its program.
 
 usage: journal_disk.py --program PATH
 
-Some checks open the file by the functions of examples/journal_file.py, as the proxy does at its start, so that each byte can be
-tried; the others start the proxy. Without a C compiler the check of `out_of_memory` is left out, and a line says so. The last line
+Some checks open the file with the functions of examples/journal_file.py, as the proxy does at its start, so that each byte can be
+tried; the others start the proxy. Without a C compiler the check of `out_of_memory` is skipped, and a line says so. The last line
 is 'N passed, M failed'.
 """
 import contextlib
@@ -39,7 +39,7 @@ def get(name):
 
 
 def opened(file):
-    """The bodies of the records of a file, what was said about it, and its length afterwards; or the refusal."""
+    """Opens a file: the bodies of its records, the messages about it, and its length afterwards; or the refusal."""
     said = io.StringIO()
     with contextlib.redirect_stderr(said):
         try:
@@ -52,7 +52,7 @@ def opened(file):
 
 
 def written(file):
-    """Writes a journal of three writes, each durable before the next. Gives where its records begin, and where the last one ends."""
+    """Writes a journal of three writes, each durable before the next. Gives the offsets of its records, and the end of the last one."""
     journal = Journal(str(file))
     places = [journal.written]
     for body in BODIES:
@@ -82,8 +82,8 @@ def torn_tails(tally, file):
 
 
 def damage(tally, file):
-    """Each byte of the file is changed. In the last record the change cannot be told from a torn tail; in front of it a durable
-    record stands behind it, and the file is left as it is."""
+    """Each byte of the file is changed. A change in the last record looks like a torn tail. A change before it is followed by a durable
+    record, so the file is refused and left as it is."""
     file.unlink()
     places = written(file)
     whole, wrong = bytearray(file.read_bytes()), []
@@ -104,7 +104,7 @@ def damage(tally, file):
 
 
 def not_yet_durable(tally, file):
-    """Records that were appended and not yet made durable may be torn anywhere: what stands behind the first torn one is cut too."""
+    """Records that were appended but not yet durable may be torn anywhere: what follows the first torn one is cut, too."""
     file.unlink()
     journal = Journal(str(file))
     places = [journal.append(b"POST", b"/db/_bulk_docs", body, 201, b"[]\n") for body in BODIES]
@@ -117,7 +117,7 @@ def not_yet_durable(tally, file):
 
 
 def failed_once(tally, file):
-    """After an fsync that failed no other one is tried, though it might succeed."""
+    """After a failed fsync no other one is tried, even if it would succeed."""
     file.unlink()
     journal, real, outcomes = Journal(str(file)), os.fsync, []
     length = journal.append(b"POST", b"/db/_bulk_docs", BODIES[0], 201, b"[]\n")
@@ -137,7 +137,7 @@ def failing(_):
 
 
 def whole_starts(tally, program, file):
-    """The proxy is started on torn files, and on files that it has to refuse."""
+    """The proxy starts on torn files, and refuses damaged ones."""
     file.unlink()
     with Proxy(program, file) as proxy:
         wire = Wire(proxy.port)
@@ -187,7 +187,7 @@ def answers_wait(tally, program, folder):
 
 
 def has_bytes(wire):
-    """Whether something comes within a moment."""
+    """Whether bytes arrive within a moment."""
     wire.socket.settimeout(0.05)
     try:
         return wire.more()
@@ -204,7 +204,7 @@ def wait_for(holds):
 
 
 def full_disk(tally, program, folder):
-    """The file may not grow any more: the proxy ends in the middle of a record, and has what it acknowledged when it starts again."""
+    """The file cannot grow: the proxy ends in the middle of a record, and has everything that it acknowledged when it starts again."""
     file = folder / "full"
     limit = lambda: resource.setrlimit(resource.RLIMIT_FSIZE, (1000, 1000))  # noqa: E731
     with Proxy(program, file, preexec_fn=limit) as proxy:
@@ -221,7 +221,7 @@ def full_disk(tally, program, folder):
 
 
 def out_of_memory(tally, program, folder):
-    """A write for which memory is refused is answered so, and is not in the journal."""
+    """A write that is refused memory is answered `out_of_memory`, and is not in the journal."""
     with refusals() as refusal:
         if refusal is None:
             print("there is no C compiler: out_of_memory is left out")

@@ -3,9 +3,9 @@
 
 usage: journal_messages.py --program PATH
 
-Both get the same messages in the same order, each at a connection of its own, so both databases stay the same. The last messages are
-those that the proxy refuses where the program does not, or with another refusal, as journal.py says at its head; their replies
-are written out here. The last line is 'N passed, M failed'.
+Both get the same messages in the same order, each on a connection of its own, so both databases stay the same. The last messages are
+those that only the proxy refuses, or that it refuses differently, as the docstring of journal.py says; their replies are written out
+here. The last line is 'N passed, M failed'.
 """
 import sys
 import tempfile
@@ -20,7 +20,7 @@ from common.wire import Wire
 FIND = message("POST", "/db/_find", b'{"selector":{}}')
 GET = b"GET /db/apple HTTP/1.1\r\n"
 LIMIT = 16_384
-# what is sent at one connection, by its name
+# the bytes that are sent on one connection, by name
 SAME = {
     "documents": message("POST", "/db/_bulk_docs", '{"docs":[{"_id":"apple","n":1},{"_id":"é/x","n":2},{"n":3}]}'.encode()),
     "an index": message("POST", "/db/_index", b'{"ddoc":"x","name":"\xc3\xa9","index":{"fields":["n"]}}'),
@@ -60,7 +60,7 @@ SAME = {
     "an index that goes": "DELETE /db/_index/x/json/é HTTP/1.1\r\n\r\n".encode() + message("GET", "/db/_index"),
     "a page of the whole": message("POST", "/db/_find", b'{"selector":{},"limit":2147483647,"conflicts":true}'),
 }
-# what the proxy does otherwise: its reply's status and error
+# messages to which the proxy replies differently: the status and the error of its reply
 OTHER = {
     "an unknown path, without a length": (b"POST /db HTTP/1.1\r\n\r\n", 411, b"length_required"),
     "another database, without a length": (b"POST /other/_find HTTP/1.1\r\n\r\n", 411, b"length_required"),
@@ -70,7 +70,7 @@ OTHER = {
 
 
 def replies(port, data):
-    """All that comes for what is sent."""
+    """Sends bytes, and gives everything that comes back."""
     wire = Wire(port)
     wire.send(data)
     wire.finish()

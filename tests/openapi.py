@@ -1,14 +1,13 @@
 #!/usr/bin/env python3
-"""Compares docs/openapi.json with the reference and with every request and reply that the other tests expect.
+"""Compares docs/openapi.json with the reference, and with the requests and replies of the other tests.
 
 usage: openapi.py --program PATH [--document FILE]
 
-- the routes and the refusals of docs/openapi.json are those of the tables of the reference, no more and no fewer;
-- each example of the reference, of tests/sessions and of tests/conversations: its path, method and status are in the document, and
-  its reply is as the document says; a reply with a member left out, added or of another type is not;
-- the body of a request that was done is as the document says, and one that was refused for its JSON, shape, operators, sort or
-  documents is not.
-The replies themselves are compared with those of the program by other scripts, so the program is not started. The validator is
+- The routes and the refusals of docs/openapi.json are exactly those of the tables of the reference.
+- For each example of the reference, of tests/sessions and of tests/conversations: its path, method and status are in the document. The
+  document allows its reply, but not a reply with a member left out, added or of another type.
+- The document allows the body of each accepted request, but no body that was refused for its JSON, shape, operators, sort or documents.
+Other scripts compare these replies with those of the program, so the program is not started here. The validator is
 tests/common/schema.py. The last line is 'N passed, M failed'.
 """
 import json
@@ -24,7 +23,7 @@ from common.tally import Tally
 TOP = Path(__file__).resolve().parent.parent
 REFERENCE = next(file for file in (TOP / "docs" / "REFERENCE.md", TOP / "docs" / "API.md") if file.exists())
 ROW = re.compile(r"^\| `?([A-Z]+|[0-9]{3})`? \| `([^`]+)`[^|]*\|(?: `([^`]*)` \|)?", re.MULTILINE)
-# refusals by which the body of a request is not as the document says
+# refusals of bodies that the document must not allow
 BY_BODY = {"InvalidJson", "WrongShape", "UnknownOperator", "BadArgument", "MixedSort", "BadSpecialMember", "BadDocumentId", "BadRevision"}
 METHODS = ("get", "post", "delete")
 
@@ -40,7 +39,8 @@ class Surface:
         return self.schemas.at(value["$ref"]) if "$ref" in value else value
 
     def path_of(self, target):
-        """The path of a target: segment by segment, a literal before a parameter, without going back; None if there is none."""
+        """The path of the document that a target matches, segment by segment: a literal goes before a parameter, without backtracking. None
+        if there is no such path."""
         segments, left = target.partition("?")[0].split("/")[1:], list(self.paths)
         for place, segment in enumerate(segments):
             left = [path for path in left if len(path) > place]
@@ -49,12 +49,12 @@ class Surface:
         return next((path for path in left if len(path) == len(segments)), None)
 
     def operation(self, method, target):
-        """The operation of a request, None where the document has none."""
+        """The operation of a request; None if the document has none."""
         path = self.path_of(target)
         return self.paths[path].get(method.lower()) if path else None
 
     def reply_schema(self, method, target, status):
-        """The schema of a reply, None if the document does not have its status there."""
+        """The schema of a reply; None if the document does not have this status there."""
         operation, path = self.operation(method, target), self.path_of(target)
         responses = operation["responses"] if operation else self.document["x-otherwise"]
         if operation is None and status == 405 and path is None:
@@ -68,8 +68,8 @@ class Surface:
 
 
 def parsed(text):
-    """The value of a text; None, which is the body of nothing, where it is no JSON or nests more than 127 deep. No schema can say
-    the latter."""
+    """The value of a text. None, which no schema of a body allows, if the text is not JSON or nests more than 127 deep; a schema cannot
+    express the latter."""
     try:
         value = json.loads(text)
     except ValueError:
@@ -83,7 +83,7 @@ def depth(value):
 
 
 def bent(value):
-    """Values of another shape: a member of an object is left out, added, or of another type; the same of the items of an array."""
+    """Values of another shape: in an object, or in one of the items of an array, a member is left out, added, or of another type."""
     if isinstance(value, list):
         for place, item in enumerate(value[:3]):
             yield from ([*value[:place], other, *value[place + 1:]] for other in bent(item))
@@ -95,7 +95,7 @@ def bent(value):
 
 
 def reference_examples(text):
-    """The examples of the reference: method, target, body, status and the text of the reply."""
+    """The examples of the reference: method, target, body, and the status and text of the reply."""
     for _, examples in sections_of(text):
         for example in examples:
             method, _, target = example.request.partition(" ")
@@ -114,7 +114,7 @@ def session_examples():
 
 
 def conversation_examples():
-    """The messages of tests/conversations that have a whole reply right after them."""
+    """The messages of tests/conversations that are followed at once by a reply with all bytes."""
     for file in sorted((TOP / "tests" / "conversations").glob("*.txt")):
         text = re.sub(r"\n +", " ", file.read_text(encoding="utf-8"))
         for found in re.finditer(r'^> ([A-Z]+) (\S+) ?(.*)\n< ([0-9]+) (.*)$', text, re.MULTILINE):
@@ -140,7 +140,7 @@ def check_example(tally, surface, where, example):
 
 
 def allowed_when_bent(surface, schema, value, other):
-    """Whether a bent reply is allowed. A document may have any body, and no conflicts: there this is not asked."""
+    """Whether the schema allows a bent reply. A document may have any body, and may lack conflicts, so such changes are not checked."""
     if schema == {"$ref": "#/components/schemas/Document"}:
         changed = {name for name in value.keys() | other.keys() if value.get(name) != other.get(name)}
         if not changed & {"_id", "_rev", "_other"}:
@@ -149,7 +149,7 @@ def allowed_when_bent(surface, schema, value, other):
 
 
 def schemas_in(value):
-    """All schemas below a value of the document."""
+    """All schemas inside a value of the document."""
     if isinstance(value, dict):
         yield from ([value["schema"]] if "schema" in value else [])
         for inner in value.values():
@@ -167,7 +167,7 @@ def references_in(value):
 
 
 def check_document(tally, surface, text):
-    """What the document says of itself, and its routes and refusals against the tables of the reference."""
+    """Checks the document itself, and its routes and refusals against the tables of the reference."""
     document = surface.document
     tally.expect("the version", document["openapi"], "3.1.0")
     references = set(references_in(document))
@@ -185,7 +185,7 @@ def check_document(tally, surface, text):
 
 
 def refusals_of(surface):
-    """Each status with each error and reason that some response has."""
+    """Each status, with each error and reason of its responses."""
     operations = [item[method] for item in surface.document["paths"].values() for method in METHODS if method in item]
     for responses in [*(operation["responses"] for operation in operations), surface.document["x-otherwise"]]:
         for status, response in responses.items():

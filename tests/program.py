@@ -1,10 +1,10 @@
 #!/usr/bin/env python3
-"""Runs the program on right and on wrong words, and compares its status, its line on standard error and its output.
+"""Runs the program with right and with wrong arguments, and compares its exit status, its line on standard error and its output.
 
 usage: program.py --program PATH
 
-The words are `DB SHARDS WORKERS SESSIONS ADDR`. Right ones hold one session over the input, here one query of an empty
-database. The last line is 'N passed, M failed', and the exit status is 0 where M is 0.
+The arguments are `DB SHARDS WORKERS SESSIONS ADDR`. With right ones the program holds one session over its input, here one query of an
+empty database. The last line is 'N passed, M failed', and the exit status is 0 if M is 0.
 """
 import subprocess
 import sys
@@ -25,7 +25,7 @@ USAGE = b"mangod: usage: mangod DB SHARDS WORKERS SESSIONS ADDR\n"
 RIGHT = ["db 1 1 1 -", "a 1 1 1 -", "z9_$()+-a 1 1 1 -", "db 01 1 001 -", "db 2 1 1 -", "db 64 1 1 -", "db 064 1 1 -",
          "db 1 2 1 -", "db 1 32 1 -", "db 64 032 1 -", "db 1 1 2 -", "db 64 32 016 -"]
 
-# one word a field, cut at `|`
+# the arguments, separated by `|`
 WRONG = [
     "", "db", "db|1|1|1", "db|1|1|1|-|", "db|1|1|1|-|1", "D|1|1|1|-", "dB|1|1|1|-", "|1|1|1|-", "1|1|1|1|-", "_db|1|1|1|-",
     "d b|1|1|1|-", "d.b|1|1|1|-", "d/b|1|1|1|-", "dé|1|1|1|-", "db|0|1|1|-", "db|65|1|1|-", "db|1|0|1|-", "db|1|33|1|-",
@@ -34,7 +34,7 @@ WRONG = [
     "db| 1|1|1|-", "db|1.0|1|1|-", "db|x|1|1|-", "db|18446744073709551617|1|1|-",
 ]
 
-# what comes in, what goes out, the status and the line
+# the name, the input, the output, the exit status and the line
 SESSIONS = [
     ("an input that ends", b"", b"", 0, b""),
     ("a head that is none", b"X\r\n", BAD_HEAD, 1, b"mangod: refused\n"),
@@ -51,7 +51,7 @@ def run(program, words, given):
 
 
 def checks(program):
-    """Each check: what it is of, what was found, and what is wanted."""
+    """Each check: its name, what was found, and what was expected."""
     for line in RIGHT:
         words = line.split(" ")
         yield line, run(program, words, QUERY % words[0].encode()), (0, PAGE, b"")

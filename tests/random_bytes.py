@@ -3,14 +3,14 @@
 
 usage: random_bytes.py --program PATH [--full] [--seed N] [--bytes N]
 
-The messages are those of tests/conversations with their bodies changed at random (seeded): values are put in others' places,
-members renamed, dropped and repeated, bytes turned over, and lengths made right again. So each is whole, and its reply has to be
-the model's (the folder model/), byte for byte. A session ends with a tail: a message with a head changed at random, or bytes
-drawn at random. What comes back for the tail is whole replies, and the end is one of a session's ends: the input ended, the last
-message asked to close, or it was refused, and then the last reply is a refusal that ends a session. Over TCP one program serves all
-clients, two at a time: their connections are open side by side, and pieces of their messages, of random sizes, are sent in random
-turns. A message counts from its last byte on, so the model has the order of the commands; a client after a tail is answered as the
-model says. A million bytes each way, with --full ten million. The last line is 'N passed, M failed'.
+The messages are those of tests/conversations with their bodies changed at random (seeded): values are exchanged, members renamed,
+dropped and repeated, bytes changed, and then the lengths corrected. So each message is complete, and its reply must be that of the
+model (the folder model/), byte for byte. A session ends with a tail: a message whose head was changed at random, or random bytes. What
+comes back for the tail must be whole replies. Then the session ends in one of its ways: the input ended, the last message asked to
+close, or the input was refused, and then the last reply is a refusal that ends a session. Over TCP one program serves all clients, two at
+a time: both connections are open, and pieces of their messages, of random sizes, are sent in random order. A message takes effect at its
+last byte, so the model knows the order of the commands; a client that comes after a tail is answered as the model says. A million bytes
+go each way, with --full ten million. The last line is 'N passed, M failed'.
 """
 import copy
 import json
@@ -42,7 +42,7 @@ MESSAGES = 40
 
 
 class Source:
-    """Messages at random."""
+    """A source of random messages."""
 
     def __init__(self, seed):
         self.random = random.Random(seed)
@@ -61,7 +61,7 @@ class Source:
             pass
 
     def value(self):
-        """A value: one of the lists, or a part of some body."""
+        """A random value: one of `NO_VALUES` or `VALUES`, or a part of some body."""
         if self.random.random() < 0.02:
             return self.random.choice(NO_VALUES)
         if self.random.random() < 0.5:
@@ -72,7 +72,7 @@ class Source:
         return copy.deepcopy(value)
 
     def change(self, value):
-        """The value with a change somewhere in it."""
+        """The value with one random change in it."""
         chance = self.random.random()
         if not isinstance(value, (list, dict)) or not value or chance < 0.1:
             return self.value()
@@ -93,7 +93,7 @@ class Source:
         return {**value, name: self.change(value[name])}
 
     def turned(self, data, most):
-        """Bytes with some of them changed."""
+        """The bytes with 1 to `most` random changes."""
         data = bytearray(data)
         for _ in range(self.random.randint(1, most)):
             place = self.random.randrange(len(data) + 1)
@@ -110,7 +110,7 @@ class Source:
         return bytes(data)
 
     def message(self):
-        """A whole message: one as it is, or one with another body."""
+        """A complete message: an unchanged one, or one with a changed body."""
         if self.random.random() < 0.2:
             return self.random.choice(self.whole)
         target, value = self.random.choice(self.targets)
@@ -120,7 +120,7 @@ class Source:
         return post(target, self.turned(body, 3) if self.random.random() < 0.15 and body else body)
 
     def tail(self, harmless):
-        """Bytes after which the session need not go on; harmless ones write nothing."""
+        """Bytes that may end the session. Harmless ones write nothing to the database."""
         kind = self.random.randrange(4)
         if kind == 0:
             return self.random.randbytes(self.random.choice([1, 10, 100, 1000, 20_000]))
@@ -134,7 +134,7 @@ class Source:
 
 
 def tail_fault(output, end, over_tcp):
-    """What is wrong with what came back for a tail, none where it is right."""
+    """The fault in what came back for a tail; None if it is right."""
     replies, left = replies_in(output)
     silent = bytes(left).startswith(b"HTTP/1.1 ") and bytes(left).endswith(b"\r\n\r\n")
     if left and not silent:
@@ -151,7 +151,7 @@ def tail_fault(output, end, over_tcp):
 
 
 def session(program, source, database, shards, workers):
-    """One session over standard input: its bytes, and what is wrong, none where it is right."""
+    """Holds one session over standard input. Gives the number of its bytes, and its fault; None if it is right."""
     messages = [source.message() for _ in range(MESSAGES)]
     tail = source.tail(False)
     given = b"".join(messages) + tail
@@ -177,7 +177,7 @@ def over_input(program, seed, count, tally):
 
 
 class Client:
-    """A connection that sends piece after piece, and what is wrong with its replies, none where they are right."""
+    """A connection that sends its messages in pieces, and its fault; None while its replies are right."""
 
     def __init__(self, port, source, database):
         self.source, self.database, self.wire = source, database, Wire(port)
@@ -185,7 +185,7 @@ class Client:
         self.messages = [source.message() for _ in range(10)]
 
     def step(self):
-        """Sends a piece of a message, and where that is its last one reads the reply; or sends the tail. Whether more is to be sent."""
+        """Sends a piece of a message, and reads the reply after its last piece; or sends the tail. Gives whether there is more to send."""
         if not self.messages:
             self.fault = self.end()
             return False
@@ -201,7 +201,7 @@ class Client:
         return got == wanted
 
     def end(self):
-        """Sends a tail that writes nothing, and mostly waits for what comes; what is wrong with that."""
+        """Sends a tail that writes nothing, and mostly waits for what comes back. Gives the fault in that."""
         tail = self.source.tail(True)
         self.sent += len(tail)
         self.wire.send(tail)
@@ -222,7 +222,7 @@ def over_tcp(words, seed, count, tally):
 
 
 def two_at_a_time(port, source, database, label, tally):
-    """Twenty clients, of whom the next one begins when one of the two before has ended; how many bytes they sent."""
+    """Runs twenty clients, at most two at a time; gives how many bytes they sent."""
     sent, turn = 0, 2
     clients = [Client(port, source, database) for _ in range(turn)]
     while clients:

@@ -1,12 +1,12 @@
 #!/usr/bin/env python3
-"""Runs commands of README.md in a shell, and compares what they write with what has to be written.
+"""Runs commands of README.md in a shell, and compares their output with the expected output.
 
 usage: readme.py --program PATH [--part conversation|command]
 
-`conversation` is the first conversation. The commands are those of the `sh` blocks of the section, in one shell; what they write
-has to be the `text` blocks, joined. The program's path and port are put in their place. It needs `curl`.
-`command` is the first `sh` block, word for word, which builds and runs the program without proving it: its output has to end in the
-bytes of crates/mangod/stdout. It needs `rt`, and takes two and a half minutes of processor time. The last line is
+`conversation` is the first conversation. The commands of the `sh` blocks of its section run in one shell, with the path and the port of
+the program put in; their output must be the `text` blocks, joined. Needs `curl`.
+`command` is the first `sh` block, unchanged, which builds and runs the program without proving it: its output must end in the
+bytes of crates/mangod/stdout. Needs `rt`, and takes two and a half minutes of processor time. The last line is
 'N passed, M failed'.
 """
 import re
@@ -45,7 +45,7 @@ def command(text, _program, tally):
     tally.expect("what it writes", done.stdout[-len(wanted):], wanted)
 
 
-# each part, and the command that it needs
+# each part, and the program that it needs
 PARTS = {"conversation": (conversation, "curl"), "command": (command, "rt")}
 
 

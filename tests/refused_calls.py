@@ -1,14 +1,14 @@
 #!/usr/bin/env python3
-"""Refuses requests for memory to tests of the libraries, one at a time: what was refused has changed nothing.
+"""Refuses memory to tests of the libraries, one request at a time. A refused call must have changed nothing.
 
 usage: refused_calls.py --program PATH [--tests FOLDER]
 
-The tests are functions that look by themselves what became of a call that was refused: `Engine::run`, which then has run nothing, and each
-call of two seats, by a database's number of commits when it is closed. The shim refuse/refuse.c refuses the nth request for memory of
-such a test, for each n until a run meets no refusal. A run is right where the test passes, where it says at its end that a call was
-refused and all that it looked at is as it has to be, or where what the test needs by itself was refused, which it says by the word
-`memory`. Each of these has to come, and no assertion may fail. The built tests are those that the gate leaves in CRATE/out of the
-folder. The shim needs a C compiler, `cc`. The last line is 'N passed, M failed'.
+Each test itself checks the effect of a refused call: `Engine::run` must then have run nothing, and each call of two seats is checked by
+the number of commits when the database is closed. The shim refuse/refuse.c refuses the nth request for memory of a test, for each n until
+a run meets no refusal. A run is right if the test passes; if the test says at its end that a call was refused and everything else was as
+expected; or if the test itself got no memory for its own needs, which it reports with the word `memory`. Each of these outcomes must
+occur, and no assertion may fail. The built tests are those that the gate leaves in CRATE/out of the folder. The shim needs a C compiler,
+`cc`. The last line is 'N passed, M failed'.
 """
 import itertools
 import resource
@@ -22,7 +22,7 @@ from common.tally import Tally
 
 CRATES = Path(__file__).resolve().parent.parent / "crates"
 RUN, COMMAND, CALL = "the run was refused memory", "a command was refused memory", "a call was refused memory"
-# the crate of each test, its name, and what it says of a call that was refused
+# the crate of each test, its name, and its messages about a refused call
 SAYS = [
     ("mg_tests", "run_tests::a_refused_run_has_run_nothing", {RUN, COMMAND}),
     ("mg_thread_tests", "commit_tests::two_seats_tell_each_other_and_close", {CALL}),
@@ -32,7 +32,7 @@ PASSED, OWN = "ok", "memory"
 
 
 def outcome(refusal, tests, name, request):
-    """What a test said at its end where a request was refused, `ok` where it passed, and else all that it wrote."""
+    """Runs a test while a request is refused. Gives its last message, `ok` if it passed, or all its output if it did not end by a panic."""
     refusal.reset()
     refusal.refuse("memory", request, request)
     _, (status, said) = refusal.run([str(tests), name], b"")
@@ -45,7 +45,7 @@ def outcome(refusal, tests, name, request):
 
 
 def outcomes(refusal, tests, name):
-    """Each outcome, and the requests that gave it."""
+    """Each outcome, with the refused requests that led to it; and the number of requests without a refusal."""
     found = {outcome(refusal, tests, name, 0): [0]}
     count = refusal.calls("memory")
     for request in itertools.count(1):
@@ -56,7 +56,7 @@ def outcomes(refusal, tests, name):
 
 
 def check(refusal, tests, name, says, tally):
-    """One test, each of whose outcomes has to come."""
+    """Checks one test. Each of its outcomes must occur."""
     found, count = outcomes(refusal, tests, name)
     print(f"{name}, {count} requests: {', '.join(f'{len(found[said])} {said}' for said in sorted(found))}")
     tally.expect(f"{name} with nothing refused", 0 in found.get(PASSED, ()), True)

@@ -1,22 +1,21 @@
 #!/usr/bin/env python3
-"""Refuses the requests for memory of whole conversations, one by one and from one on, and checks each reply by the rules.
+"""Refuses the requests for memory of whole conversations, each alone and each with all later ones, and checks each reply by the rules.
 
 usage: refused_memory.py --program PATH [--full] [--only NAME ..]
 
-The messages are those of the conversations of tests/conversations named below, and after them some that ask for all that is
-then there: the indexes, each document with its conflicts, and the rows of each index that was made. Each conversation is held
-with 1 and 7 shards and 1 and 2 workers; the shim refuse/refuse.c refuses its nth request for memory, or that and all after it, for
-each n until a run meets no refusal (without --full for a dozen n, spread over all, and for each n one by one of two conversations
-with 7 shards and 2 workers). A run is right where
-- nothing was written and the program ended by `mangod: out of memory` (the session never began), and what was refused is one of the
-  requests that a session without input makes; or
-- each reply is `out_of_memory`, or the model's (the folder model/) to the list without the commands that were answered so;
-  and the session ended at the end of input, or refused what came after a last reply `out_of_memory`. Where one request was refused
-  at most one reply is `out_of_memory`, and where none was, none is.
-Then bulks and queries that need a hundred MiB and more come to a program that the system grants 60 MiB: each is answered
-`out_of_memory`, three times over, and afterwards small commands are answered as in an empty database. The model itself has to
-give each reply that the conversation's file names. A conversation passes or fails as one, on all numbers of shards and workers, and
-it fails too where no command was ever refused. The shim needs a C compiler, `cc`. The last line is 'N passed, M failed'.
+The messages are those of the conversations of tests/conversations named below, followed by some that read everything: the indexes, each
+document with its conflicts, and the rows of each index that was created. Each conversation is held with 1 and 7 shards and 1 and 2
+workers. The shim refuse/refuse.c refuses its nth request for memory, or that and all later ones, for each n until a run meets no refusal
+(without --full for a dozen n, spread over all; and for two conversations, with 7 shards and 2 workers, for each n alone). A run is right if
+- nothing was written and the program ended with `mangod: out of memory` (the session never began), and the refused request is one that a
+  session without input makes, too; or
+- each reply is `out_of_memory`, or that of the model (the folder model/), which gets no command that was answered `out_of_memory`; and the
+  session ended at the end of input, or was refused right after a last reply `out_of_memory`. If one request was refused, at most one reply
+  is `out_of_memory`; if none was refused, none is.
+Then bulks and queries that need a hundred MiB and more are sent to a program to which the system grants 60 MiB: each is answered
+`out_of_memory`, three times over, and afterwards small commands are answered as in an empty database. The model must give each reply in
+the file of the conversation. A conversation passes or fails as one, with all numbers of shards and workers; it fails, too, if no command
+was ever refused. The shim needs a C compiler, `cc`. The last line is 'N passed, M failed'.
 """
 import json
 import resource
@@ -46,7 +45,7 @@ RUNS = 10
 
 
 def audit(messages):
-    """Messages that ask for all that is there, and for the rows of each index that was made."""
+    """Messages that read everything, and the rows of each index that was created."""
     asked = [b"GET /db/_index HTTP/1.1\r\n\r\n", post("_find", b'{"selector":{},"conflicts":true,"limit":1000}')]
     for message in messages:
         if message.startswith(b"POST /db/_index "):
@@ -57,7 +56,7 @@ def audit(messages):
 
 
 class Talk:
-    """The messages of a conversation, and the replies to any of its parts."""
+    """The messages of a conversation and of its audit, and a check of what was written for them."""
 
     def __init__(self, conversation):
         self.name = conversation.name
@@ -66,14 +65,14 @@ class Talk:
         self.messages = said + audit(said)
 
     def model_faults(self):
-        """The replies of the file that the model does not give."""
+        """The replies in the file that the model does not give."""
         database = Database()
         for exchange in self.exchanges:
             (found,), _ = replies_in(database.answer(exchange.message))
             yield from (wanted.text for wanted in exchange.wanted_at(1) if not wanted.is_met_by(found))
 
     def fault(self, output, end):
-        """What is wrong with a run, none where it is right, and the numbers of the messages that were refused."""
+        """The fault of a run (None if it is right), and the numbers of the messages that were refused."""
         if (output, end) == (b"", ENDS["start"]):
             return None, ["start"]
         database, refused, at, count = Database(), [], 0, 0
@@ -98,7 +97,7 @@ class Talk:
 
 
 def refuse_each(refusal, words, talk, onward, step, begin):
-    """Refuses request after request until a run meets no refusal; the faults, and the messages that were refused in some run."""
+    """Refuses request after request until a run meets no refusal. Gives the faults, and the messages that were refused in some run."""
     given = b"".join(talk.messages)
     start = requests(refusal, words, b"")
     faults, seen, first = [], set(), begin
@@ -120,14 +119,14 @@ def refuse_each(refusal, words, talk, onward, step, begin):
 
 
 def requests(refusal, words, given):
-    """How many requests for memory there are where none is refused."""
+    """How many requests for memory a run makes if none is refused."""
     refusal.reset()
     refusal.run(words, given)
     return refusal.calls("memory")
 
 
 def faults_of(refusal, program, talk, place, full):
-    """The faults of a conversation at a setting."""
+    """The faults of a conversation with one number of shards and of workers."""
     shards, workers = SETTINGS[place]
     words = [program, "db", shards, workers, "1", "-"]
     step = 1 if full else max(1, requests(refusal, words, b"".join(talk.messages)) // RUNS)
@@ -152,7 +151,7 @@ def check(refusal, program, talk, full, tally):
 
 
 def limited(program, first, tally):
-    """Messages that need more memory than the system grants are refused, and what they took meanwhile is given back."""
+    """Messages that need more memory than the system grants are refused, and the memory that they took is freed."""
     few = lambda: resource.setrlimit(resource.RLIMIT_AS, (GRANTED, GRANTED))
     database = Database()
     wanted = b"".join(database.answer(message) for message in first.messages)

@@ -1,17 +1,17 @@
 #!/usr/bin/env python3
-"""Refuses memory and threads to a program that serves two seats over TCP, and looks from the other seat what became of it.
+"""Refuses memory and threads to a program that serves two seats over TCP, and checks the effect from the other seat.
 
 usage: refused_seats.py --program PATH [--full]
 
-One client sends a command while the shim refuse/refuse.c refuses the nth request for memory that is made for it, or that and
-all after it, for each n until none is met (without --full not each). Its reply is `out_of_memory`, which it may be only where a
-request was refused, or the model's (the folder model/); then the other client, for whom nothing is refused, sees all indexes and
-documents as the model has them: nothing of a command that was answered `out_of_memory`, and everything of one that was accepted. A
-connection may end after `out_of_memory`, and the next one is served. The first write after a start is tried so too, while all requests
-from one on are refused until it is answered: it may not wait for memory. Then two clients make bulks, indexes, reshards and queries at once
-while requests are refused at random (seeded), and afterwards exactly what was accepted is found. The start is refused memory too: it
-ends by `mangod: out of memory`, or clients are served. Last, a session is refused its thread, which leaves the other. The shim needs a
-C compiler, `cc`. The last line is 'N passed, M failed'.
+One client sends a command while the shim refuse/refuse.c refuses its nth request for memory, or that and all later ones, for each n until
+a command meets no refusal (without --full, not for each n). Its reply is that of the model (the folder model/), or `out_of_memory`, the
+latter only if a request was refused. Then the other client, for whom nothing is refused, sees all indexes and documents as the model has
+them: nothing of a command that was answered `out_of_memory`, and everything of one that was accepted. A connection may end after
+`out_of_memory`; then the next one is served. The first write after a start is tested in the same way, while all requests from the nth on
+are refused until it is answered: it must not wait for memory. Then two clients make bulks, indexes, reshards and queries concurrently,
+while requests are refused at random (seeded), and afterwards exactly what was accepted is found. The start is refused memory, too: it
+ends with `mangod: out of memory`, or clients are served. Last, one of two sessions is refused its thread, and the other one serves. The
+shim needs a C compiler, `cc`. The last line is 'N passed, M failed'.
 """
 import json
 import random
@@ -29,7 +29,7 @@ from conversations import post
 from model.talk import OUT_OF_MEMORY, Database
 
 WRITES = 60
-# the seconds within which a write is answered
+# the seconds within which a write must be answered
 ANSWERED = 10
 NUMBERS = [3, 64, 1, 16]
 
@@ -58,12 +58,12 @@ BY_NUMBER = find(selector={"n": {"$gte": 30}}, fields=["_id", "n"], limit=100_00
 
 
 def edited(database, turn):
-    """A bulk of a new edit of one document, a replica's path of another, and one that is refused."""
+    """A bulk of an edit of one document, an edit of another that conflicts, and a document without an id."""
     leaf = database.documents["e"].leaves()[0]
     return bulk([{"_id": "e", "_rev": f"{leaf[0]}-{leaf[1]}", "n": turn}, {"_id": "f", "n": 0}, {"n": turn}])
 
 
-# each command: from the database as it is and the turn, the message
+# the name of each command, and its message, from the current database and the turn
 COMMANDS = {
     "a new document": lambda database, turn: bulk([{"_id": f"k{turn}", "n": turn, "x": ["y" * 50] * 3}]),
     "an edit, a conflict and a document without an id": edited,
@@ -81,7 +81,7 @@ COMMANDS = {
 
 
 def both_seats(port):
-    """Two clients that have each been answered, so both seats serve."""
+    """Two clients, each of which got a reply: so each has a seat."""
     clients = [Wire(port), Wire(port)]
     for client in clients:
         client.ask(LIST)
@@ -98,13 +98,13 @@ class Seats:
             self.plain(message)
 
     def plain(self, message):
-        """What is wrong with the other client's reply, none where it is right."""
+        """The fault in the reply to the other client; None if it is right."""
         wanted = self.database.answer(message)
         got = self.other.ask(message)
         return None if got == wanted else f"{message[:80]!r}: {got[-300:]!r}\n    wanted {wanted[-300:]!r}"
 
     def refused(self, message, first, onward):
-        """Whether the first client's command was answered `out_of_memory`, what is wrong, and whether a request was refused."""
+        """Whether the command of the first client was answered `out_of_memory`, the fault, and whether a request was refused."""
         self.refusal.reset()
         self.refusal.refuse("memory", first, ONWARD if onward else first)
         got = self.one.ask(message)
@@ -119,7 +119,7 @@ class Seats:
         return False, None if got == wanted else f"{message[:80]!r}: {got[-300:]!r}\n    wanted {wanted[-300:]!r}", met
 
     def every_request(self, make, onward, step):
-        """How many commands were refused, and the faults."""
+        """Refuses each request in turn; gives how many commands were answered `out_of_memory`, and the faults."""
         count, faults, first, met = 0, [], 1, True
         while met:
             message = make(self.database, first)
@@ -141,8 +141,8 @@ def two_seats(port, refusal, full, label, tally):
 
 
 def first_writes(refusal, words, tally):
-    """The first write of a program, for which room is made that later ones find: while all requests for memory from one on stay refused it is
-    answered, or its session ends, and the other client sees it exactly where it was accepted."""
+    """The first write of a program, which makes room that later writes reuse. While all requests for memory from one on stay refused, it is
+    answered or its session ends, and the other client sees it exactly if it was accepted."""
     message, first, refused, met = bulk([{"_id": "a", "n": 1}]), 0, 0, True
     while met:
         first += 1
@@ -170,7 +170,7 @@ def first_writes(refusal, words, tally):
 
 
 def connections(port, refusal, label, tally):
-    """Memory that is refused from when a client comes: it is answered so or not at all, and the next one is served."""
+    """Memory is refused from the moment a client connects. It gets its reply, `out_of_memory` or none, and the next client is served."""
     faults, met = [], 0
     wanted = Database().answer(LIST)
     for client in both_seats(port):
@@ -195,9 +195,9 @@ def connections(port, refusal, label, tally):
 
 
 class Writer:
-    """A client that makes bulks, indexes, reshards and queries, and the model of what was accepted of it: documents and indexes that no
-    other client touches. A connection may end unanswered at its begin, where the session got no memory, which is counted as a reply
-    `out_of_memory`, and after such a reply."""
+    """A client that makes bulks, indexes, reshards and queries, and the model of what was accepted from it: documents and indexes that no
+    other client touches. A connection may end without a reply at its beginning (its session got no memory, which counts as a reply
+    `out_of_memory`), and after a reply `out_of_memory`."""
 
     def __init__(self, port, number):
         self.port, self.number = port, number
@@ -229,7 +229,7 @@ class Writer:
 
 
 def at_once(port, refusal, label, seed, tally):
-    """Two writers, and requests that are refused at random meanwhile."""
+    """Two writers run while requests are refused at random."""
     chance = random.Random(seed)
     for client in both_seats(port):
         client.close()
@@ -259,7 +259,7 @@ def at_once(port, refusal, label, seed, tally):
 
 
 def starts(refusal, words, tally):
-    """Each request for memory of the start is refused, alone or with all after it: the program says so and ends, or it serves."""
+    """Each request for memory of the start is refused, alone or with all later ones: the program reports that and ends, or it serves."""
     wanted, ended, served = Database().answer(LIST), 0, 0
     for first in range(1, 80):
         for last in (first, ONWARD):
@@ -282,8 +282,8 @@ def starts(refusal, words, tally):
 
 
 def first_reply(program, port, refusal):
-    """The reply to a client of a program that starts, nothing where it ended before. The first client ends what is refused; it may
-    have been refused memory itself."""
+    """The first right reply of a starting program; empty if it ended first. The first client to connect ends the refusals; it may have been
+    refused memory itself."""
     while program.poll() is None:
         try:
             client = Wire(port)
@@ -299,7 +299,7 @@ def first_reply(program, port, refusal):
 
 
 def no_second_seat(refusal, words, tally):
-    """Two sessions, of which one gets no thread: the other serves one client after another."""
+    """One of two sessions gets no thread: the other one serves one client after another."""
     refusal.reset()
     refusal.refuse("threads", 1, ONWARD)
     database = Database()

@@ -1,13 +1,13 @@
 #!/usr/bin/env python3
-"""Refuses threads to whole conversations: a worker that does not start changes no reply.
+"""Refuses threads to whole conversations. A worker that does not start must not change a reply.
 
 usage: refused_threads.py --program PATH [--only NAME ..] [--full]
 
 Each conversation of tests/conversations is run with 7 shards (with --full also with 64) and 2 and 32 workers, while the shim
-refuse/refuse.c refuses each thread, the first alone, the second alone, or all from the third on, and its replies are those of its
-file. Then one of many documents, so that workers are worth their start: an index that is built over them, and queries without an
-index, whose replies are the model's (the folder model/). With two shards and two workers and more it has to ask for threads, and be
-refused them. A conversation passes or fails as one. The shim needs a C compiler, `cc`. The last line is 'N passed, M failed'.
+refuse/refuse.c refuses all threads, only the first, only the second, or all from the third on. The replies must be those of the file.
+Then comes a conversation with so many documents that workers are worth starting: an index is built, and queries run without an
+index; the replies must be those of the model (the folder model/). With at least two shards and two workers it must ask for threads, and
+be refused them. A conversation passes or fails as one. The shim needs a C compiler, `cc`. The last line is 'N passed, M failed'.
 """
 import itertools
 import json
@@ -46,7 +46,7 @@ def many_documents():
 
 
 def many(refusal, program, given, wanted, tally):
-    """Many documents: threads are asked for and refused, and the replies stay."""
+    """With many documents, threads are asked for and refused, and the replies stay the same."""
     for shards, workers, (first, last) in itertools.product(("7", "64"), map(str, WORKERS), REFUSED[:2]):
         refusal.reset()
         refusal.refuse("threads", first, last)

@@ -5,12 +5,12 @@ usage: sessions.py --program PATH [--data FOLDER] [--shards 1,2,7,64] [--workers
 
 The data are the files *.json of the folder sessions/ beside this script. A file is a list of conversations:
   name     what would have to break for it to fail
-  parts    what comes in, in order: bytes, and the reply that is due where they end, if one is
+  parts    the input in order: bytes, and the reply that is due after them, if any
   end      how the session ends: Eof, Closed or Refused
-  cuts     true: each front of the bytes is a conversation of its own, which has the replies that were due by then
-Bytes are text (each character is a byte up to U+00FF), or a list of texts and of {"repeat": TEXT, "times": N}.
-A reply is [STATUS, BODY] or [STATUS, BODY, "silent"], which leaves out the body's bytes and keeps their length.
-One process `PATH db SHARDS WORKERS 1 -` a conversation and number of shards, and one with the first of these for each front of its bytes;
+  cuts     true: each prefix of the bytes is a conversation of its own, with the replies that were due by then
+Bytes are text (each character, up to U+00FF, is a byte), or a list of texts and of {"repeat": TEXT, "times": N}.
+A reply is [STATUS, BODY] or [STATUS, BODY, "silent"]; a silent one leaves out the body, but gives its length.
+Runs one process `PATH db SHARDS WORKERS 1 -` for each conversation and number of shards, and one with the first number for each prefix;
 a conversation passes or fails as one. Prints each fault; the last line is 'N passed, M failed'.
 """
 import json
@@ -56,7 +56,7 @@ def fault(got, wanted):
 
 
 def whole(conversation):
-    """The bytes of a conversation, and each place where a reply is due, with the text so far."""
+    """The bytes of a conversation, and each place where a reply is due, with the output up to there."""
     data, text, due = b"", b"", []
     for part in conversation["parts"]:
         data += bytes_of(part["in"])

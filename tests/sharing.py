@@ -1,12 +1,12 @@
 #!/usr/bin/env python3
-"""Counts what a commit of one document takes in a small and in a large database, which share their pages with the state before.
+"""Compares the cost of a commit of one document in a small and in a large database. A commit shares pages with the state before it.
 
 usage: sharing.py --program PATH [--full]
 
-A program serves one client; it holds 1,000 documents with an index, and then another one 50,000 (with --full also 200,000). Bulks of one
-document each come in: edits of a thousand documents that are spread over all, each of which moves the document's row, and then a
+A program with one client holds 1,000 documents with an index; then another one holds 50,000 (with --full also 200,000). Each gets bulks of
+one document: edits of a thousand documents that are spread over all, each of which moves the row of its document, and then a
 thousand new documents. In the large database a commit may make at most 1.3 times as many requests for memory as in the small one, and
-take at most 4 times its processor time (the least of three rounds): a copy of all pages, or of all that they hold, takes much more. The
+take at most 4 times its processor time (the least of three rounds). A copy of all pages, or of all documents, would take much more. The
 shim refuse/refuse.c counts the requests, and needs a C compiler, `cc`. The last line is 'N passed, M failed'.
 """
 import contextlib
@@ -34,18 +34,18 @@ def bulk(documents):
 
 
 def edit(name, turn):
-    """A replica's edit of a document, over its edit of the turn before; the first turn is 1."""
+    """A replicated edit of a document, on top of that of the turn before; the first turn is 1."""
     path = {"start": turn, "ids": [f"r{turn}", f"r{turn - 1}"][: min(turn, 2)]}
     return {"_id": name, "_rev": f"{turn}-r{turn}", "_revisions": path, "n": hash_of(name) * 7 + turn}
 
 
 def hash_of(name):
-    """A number that spreads the documents over an index in another order than that of their ids."""
+    """A number by which an index orders the documents otherwise than by their ids."""
     return int(name[1:]) * 7919 % 1_000_003
 
 
 class Database:
-    """A program with so many documents and an index, and one client."""
+    """A program with `size` documents and an index, and its one client."""
 
     def __init__(self, words, refusal, size):
         self.refusal, self.size = refusal, size
@@ -63,7 +63,7 @@ class Database:
         return sum(int((task / "schedstat").read_text().split()[0]) for task in tasks) / 1e9
 
     def commits(self, messages):
-        """How many requests for memory and how much time such a commit takes, and whether each was accepted."""
+        """The requests for memory and the processor time of a commit, and whether each commit was accepted."""
         self.refusal.reset()
         before, accepted = self.seconds(), 0
         for first in range(0, len(messages), AT_ONCE):
@@ -88,8 +88,8 @@ class Database:
 
 
 def costs(words, refusal, size):
-    """Of edits and of additions: the requests and the least time of a commit in a database of so many documents. The last is whether all was
-    accepted."""
+    """The least requests and the least time of a commit in a database of `size` documents, for edits and for additions; and whether all
+    commits were accepted."""
     with contextlib.closing(Database(words, refusal, size)) as database:
         rounds = {kind: [getattr(database, kind)(turn) for turn in range(2, 2 + ROUNDS)] for kind in ("edits", "additions")}
         found = {kind: [database.commits(messages) for messages in turns] for kind, turns in rounds.items()}

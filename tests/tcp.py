@@ -1,11 +1,10 @@
 #!/usr/bin/env python3
-"""Holds sessions with the program over TCP: with sockets, Python's http.client and curl.
+"""Holds sessions with the program over TCP, with sockets, Python's http.client and curl.
 
 usage: tcp.py --program PATH [--shards N] [--workers N] [--full]
 
-The program listens on a free port of 127.0.0.1. Each message and each reply is written out here. Prints each fault; the last
-line is 'N passed, M failed'. It needs `curl`. Only with --full is it waited for that a message and a reply run out of their 60
-seconds.
+The program listens on a free port of 127.0.0.1. Each message and each expected reply is written out here. Prints each fault; the last
+line is 'N passed, M failed'. Needs `curl`. Only --full tests that a message and a reply are cut off after 60 seconds.
 """
 import concurrent.futures
 import http.client
@@ -52,7 +51,7 @@ def one_after_another(port, tally):
 
 
 def cut_messages(port, tally):
-    """A message that comes in two parts, cut at each of its bytes."""
+    """A message is sent in two parts, cut at each of its bytes."""
     wrong = []
     for place in range(1, len(FIND)):
         with connect(port) as connection:
@@ -66,7 +65,7 @@ def cut_messages(port, tally):
 
 
 def clients_that_go(port, tally):
-    """Clients that go in the middle of a head and of a body, by an end or by a reset: nothing is done, and the next is served."""
+    """Clients end or reset their connection in the middle of a head or a body: nothing is done, and the next client is served."""
     for name, part in [("no byte", b""), ("half a head", BULK[:30]), ("half a body", BULK[:-20])]:
         for way in ["close", "reset"]:
             connection = connect(port)
@@ -92,7 +91,7 @@ def clients_that_go(port, tally):
 
 
 def a_client_that_pauses(port, tally):
-    """With one session, a client that pauses between messages, or has sent none, does not keep it from another."""
+    """A client that pauses between messages, or has sent none, does not keep the only session from another client."""
     with connect(port) as silent, connect(port) as first, connect(port) as second:
         first.sendall(FIND)
         tally.expect("the first of two", read(first, len(PAGE)), PAGE)
@@ -108,7 +107,7 @@ def a_client_that_pauses(port, tally):
 
 
 def pauses_within_a_message(port, tally):
-    """A message that comes in parts, with a pause after each that would be long between messages."""
+    """A message is sent in parts. After each part is a pause that, between messages, would give the session to others."""
     with connect(port) as connection:
         for place in range(0, len(FIND), 10):
             connection.sendall(FIND[place:place + 10])
@@ -117,7 +116,7 @@ def pauses_within_a_message(port, tally):
 
 
 def a_hundred_idle(port, tally):
-    """Behind 100 idle connections, half of which got a reply, a new client is served within 2 seconds. Those that had a reply are served
+    """With 100 idle connections, half of which got a reply, a new client is served within 2 seconds. Those that got a reply are served
     again, and after 5 seconds of silence all are closed."""
     asks(port, BULK)
     connections = [connect(port) for _ in range(100)]
@@ -143,7 +142,7 @@ def a_hundred_idle(port, tally):
 
 
 def busy_clients(port, tally):
-    """Clients that ask without a pause at all sessions do not keep another from being served."""
+    """Clients that keep all sessions busy without a pause do not keep another client from being served."""
     ends = time.monotonic() + 2
 
     def chat():
@@ -166,7 +165,7 @@ def busy_clients(port, tally):
 
 
 def refusals_arrive(port, tally):
-    """A client that sends a body of 9 MB, which is refused, reads the whole refusal, and then the end."""
+    """A client sends a body of 9 MB, which is refused. It reads the whole refusal, and then the end."""
     head = f"POST /db/_bulk_docs HTTP/1.1\r\nContent-Length: {NINE_MEGABYTES}\r\n\r\n".encode()
     for message, wanted in [(head, TOO_LARGE), (b"POST /db/_bulk_docs HTTP/1.1\r\n\r\n", None)] * 4:
         with connect(port) as connection:
@@ -213,13 +212,13 @@ def curl(port, tally):
 
 
 def side_by_side(works):
-    """What functions without arguments give that run in a thread each."""
+    """Runs functions without arguments, each in a thread of its own, and gives their results."""
     with concurrent.futures.ThreadPoolExecutor(len(works)) as threads:
         return [running.result() for running in [threads.submit(work) for work in works]]
 
 
 def sixteen_writers(port, tally):
-    """Sixteen clients make 25 bulks each: each has its reply, and afterwards each document is found."""
+    """Sixteen clients make 25 bulks each: each bulk gets its reply, and afterwards each document is found."""
 
     def write(writer):
         client = Client(port)
@@ -236,7 +235,7 @@ def sixteen_writers(port, tally):
 
 
 def pages_until(port, written):
-    """The values of all documents, again and again, and once more after all was written."""
+    """Reads the values of all documents again and again, the last time after everything was written."""
     client = Client(port)
     pages, is_last = [], False
     while not is_last:
@@ -248,8 +247,8 @@ def pages_until(port, written):
 
 
 def whole_bulks(port, tally):
-    """One client writes the same new value to ten documents in each bulk, and another asks for other numbers of shards; three others
-    see ten of one value on each page, until the last bulk is answered, and then of the last value."""
+    """One client writes the same new value to ten documents in each bulk, and another one reshards. On each page three others see ten equal
+    values; after the last bulk was answered, the last value."""
     ids = [f"d{number}" for number in range(10)]
     replies, written = [], threading.Event()
 
@@ -285,7 +284,7 @@ def whole_bulks(port, tally):
 
 
 def more_clients_than_seats(port, tally):
-    """Twelve clients at two seats: each is served in its turn."""
+    """Twelve clients share two seats: each is served in its turn."""
 
     def talk(number):
         client = Client(port)
@@ -307,8 +306,8 @@ def faults(words, tally):
 
 
 def few_descriptors(words, tally):
-    """With 16 descriptors and 40 connections a new client is served, since those that were idle longest are closed; and so is one when
-    they are gone."""
+    """With 16 descriptors and 40 connections a new client is served, since the connections that were idle longest are closed. A client is
+    also served after all of them are gone."""
     with listening(words, 2, descriptors=16) as port:
         connections = [connect(port) for _ in range(40)]
         tally.expect("behind 40", asks(port, BULK), DONE)
@@ -318,7 +317,7 @@ def few_descriptors(words, tally):
 
 
 def names(words, tally):
-    """The program listens at names and at addresses of version 6, and ends by SIGTERM at once."""
+    """The program listens at host names and at IPv6 addresses, and SIGTERM ends it at once."""
     for host in ["localhost", "[::1]"]:
         if host == "[::1]" and not socket.has_dualstack_ipv6():
             print("there is no version 6 here: its part was left out")
@@ -333,7 +332,7 @@ def names(words, tally):
 
 
 def deadlines(words, tally):
-    """A client that sends its message byte by byte, and one that reads its reply slowly, hold a session for 60 seconds."""
+    """A client that sends its message byte by byte, or reads its reply slowly, holds a session for 60 seconds and no longer."""
 
     def slow_message(connection, turn):
         connection.sendall(FIND[turn:turn + 1])
@@ -349,7 +348,7 @@ def deadlines(words, tally):
             return read(connection, len(EMPTY)), time.monotonic() - begun
 
     def behind(act):
-        """How long another client waits for the only session."""
+        """The reply to another client that waits for the only session, and whether it waited about 60 seconds."""
         with listening(words, 1) as port, socket.socket() as connection:
             client = Client(port)
             for part in range(4):
@@ -372,7 +371,7 @@ def deadlines(words, tally):
     tally.expect("behind slow clients", side_by_side([lambda: behind(slow_message), lambda: behind(slow_reader)]), [(EMPTY, True)] * 2)
 
 
-# how many sessions the program has, and what is done with it
+# the number of sessions of the program, and the checks made with it
 CONVERSATIONS = [(1, [one_after_another, cut_messages, a_client_that_pauses, pauses_within_a_message]), (1, [clients_that_go, refusals_arrive]),
                  (1, [python_client]), (1, [curl]), (2, [one_after_another, busy_clients]), (4, [a_hundred_idle]), (16, [sixteen_writers]),
                  (5, [whole_bulks]), (2, [more_clients_than_seats, clients_that_go])]

@@ -1,12 +1,12 @@
 #!/usr/bin/env python3
-"""Holds revision trees against a plain program: the accepted paths, looked through from the first.
+"""Compares revision trees with a plain program, which keeps the accepted paths and searches them from the first.
 
 usage: trees.py --program PATH [--shards 1,7]
 
-Each three of seven paths come to a document of their own, one after another as a replica brings them. After each path the reply, the
-served document and its conflicts are those of the plain program, by CouchDB's rule: the best leaf is one that is not deleted, then
-the higher position, then the greater id. At the end an edit of each known revision is taken exactly where that is a leaf.
-One process `PATH db SHARDS 1 1 -` for each number of shards; a document passes or fails as one. Prints the first reply that differs of
+Every three of seven paths go to a document of their own, one after another, as replication sends them. After each path the reply, the
+served document and its conflicts must be those of the plain program, by CouchDB's rule: the best leaf is one that is not deleted, then
+the higher position, then the greater id. At the end an edit of each known revision must be accepted exactly if the revision is a leaf.
+There is one process `PATH db SHARDS 1 1 -` for each number of shards; a document passes or fails as one. Prints the first wrong reply of
 each document; the last line is 'N passed, M failed'.
 """
 import hashlib
@@ -20,7 +20,7 @@ from common.tally import Tally
 from conversations import replies_in
 
 SECONDS = 120
-# the newest position, the ids from the newest on, and whether the newest revision is deleted
+# paths: the newest position, the ids from the newest on, and whether the newest revision is deleted
 PATHS = [
     (1, ["a"], False),
     (2, ["b", "a"], False),
@@ -46,7 +46,7 @@ def revisions_of(path):
 
 
 def parent_of(accepted, revision):
-    """Its parent by the first path that gives one, none where none does."""
+    """The parent of a revision, from the first path that gives one; None if no path does."""
     for path in accepted:
         for child, parent in itertools.pairwise(revisions_of(path)):
             if child == revision:
@@ -63,7 +63,8 @@ def known_in(accepted):
 
 
 def leaves_of(accepted):
-    """Each leaf as whether it is not deleted, by the first path whose newest revision it is, its position and its id; best first."""
+    """The leaves, best first: whether a leaf is not deleted, its position, and its id. The first path with the leaf as its newest revision
+    decides whether it is deleted."""
     parents = {parent for path in accepted for parent in revisions_of(path)[1:]}
     leaves = [revision for revision in known_in(accepted) if revision not in parents]
     marks = {leaf: next(path[2] for path in accepted if revisions_of(path)[0] == leaf) for leaf in leaves}
@@ -117,7 +118,7 @@ def talk_of(name, paths):
 
 
 def fault_of(talk, replies):
-    """The first message whose reply is another, if there is one."""
+    """The first message whose reply is wrong, if there is one."""
     for (message, (status, value)), reply in itertools.zip_longest(talk, replies):
         if not reply or (reply.status, reply.body.decode()) != (status, compact(value) + "\n"):
             return f"{message!r}\n    replied  {reply}\n    expected {status} {compact(value)}"

@@ -1,4 +1,4 @@
-"""What is measured of the program alone: workers, edits of one document, many clients, and readers beside a load."""
+"""Measures the program alone: workers, edits of one document, many clients, and a reader while another client loads."""
 import contextlib
 import json
 import multiprocessing
@@ -14,7 +14,7 @@ from .rows import build, load, say
 
 
 def placed_anew(program, shards):
-    """The time of a reshard by the clock."""
+    """The wall-clock time of a reshard."""
     clock = time.monotonic()
     status, body = program.connection.exchange(message("POST", "_placement", {"shards": shards}))
     if status != b"200":
@@ -23,7 +23,7 @@ def placed_anew(program, shards):
 
 
 def workers(words):
-    """A scan, a build and a reshard to 16 shards, from one shard and from 16, with one worker and with four, by the clock."""
+    """The wall-clock times of a scan, an index build and a reshard to 16 shards, with one shard and with 16, one worker and four."""
     corpus, rows = words.corpus(max(BULK, int(100000 * words.share))), []
     for setting in ((1, 1), (1, 4), (16, 1), (16, 4)):
         with contextlib.closing(Program(words.program, corpus, setting)) as program:
@@ -41,7 +41,7 @@ def workers(words):
 
 
 def edit_often(program, count):
-    """What so many edits of one document took, one a bulk."""
+    """The cost of `count` edits of one document, one for each bulk."""
     revision = None
     before, clock = program.processor(), time.monotonic()
     for number in range(count):
@@ -54,7 +54,7 @@ def edit_often(program, count):
 
 
 def edits(words):
-    """Edits of one document."""
+    """The processor time of edits of one document, by their number."""
     rows = []
     for count in (int(4000 * words.share), int(8000 * words.share), int(16000 * words.share)):
         with contextlib.closing(Program(words.program, words.corpus(BULK))) as program:
@@ -64,7 +64,7 @@ def edits(words):
 
 
 def crowd(words):
-    """`GET`, queries and commits by 1, 4 and 16 clients, with each setting."""
+    """`GET`, queries and commits by 1, 4 and 16 clients, with each pair of shards and workers."""
     corpus, rows = words.corpus(max(BULK, int(100000 * words.share))), []
     for setting in words.shards:
         with contextlib.closing(Program(words.program, corpus, setting, sessions=16)) as program:
@@ -77,7 +77,7 @@ def crowd(words):
 
 
 def crowded(program, share, title):
-    """The rows of one database."""
+    """The rows of one database with many clients."""
     rows = []
     for kind, number in (("get", 20000), ("equality", 6000), ("commit", 4000)):
         for clients in (1, 4, 16):
@@ -91,7 +91,7 @@ def crowded(program, share, title):
 
 
 def by_wrk(program, title):
-    """The same `GET` by wrk, where it is installed."""
+    """The rows of `GET` measured with wrk, if it is installed."""
     if shutil.which("wrk") is None:
         return []
     rows = []
@@ -105,7 +105,7 @@ def by_wrk(program, title):
 
 
 def load_on(program, first, stop):
-    """Loads bulks, of other documents than those that are there, until it is told to stop."""
+    """Loads bulks of new documents until `stop` is set."""
     client, number = program.client(), first
     while not stop.is_set():
         docs = [{"_id": f"{program.corpus.name(i % 10**7)}-{i}", **program.corpus.body(i)} for i in range(number, number + BULK)]
@@ -114,7 +114,7 @@ def load_on(program, first, stop):
 
 
 def beside(words):
-    """How long a `GET` takes while another client loads."""
+    """The wall-clock time of a `GET` while another client loads."""
     corpus = words.corpus(max(BULK, int(100000 * words.share)))
     stop, times = multiprocessing.Event(), []
     with contextlib.closing(Program(words.program, corpus)) as program:

@@ -1,4 +1,4 @@
-"""What requests of each kind take, counted by callgrind of valgrind: instructions, and reads that a simulated cache fetches from memory."""
+"""Counts what requests of each kind take, with callgrind of valgrind: instructions, and reads that miss a simulated cache."""
 import contextlib
 import glob
 import os
@@ -23,7 +23,7 @@ MANY = {"documents": 50000, "shape": "flat", "ids": "short", "cache": 1 << 20, "
 
 
 class Counted(Piped):
-    """The program under callgrind, which counts only what is asked for."""
+    """The program under callgrind, which counts only while it is switched on."""
 
     def __init__(self, path, corpus, setting, cache, folder):
         tool = ["valgrind", "--quiet", "--tool=callgrind", "--instr-atstart=no", "--cache-sim=yes"]
@@ -40,7 +40,7 @@ class Counted(Piped):
         subprocess.run(["callgrind_control", *words, str(self.process.pid)], check=True, capture_output=True)
 
     def count(self, asked, warm):
-        """The instructions and the reads from memory of a request, after so many as a warm-up, which the simulated cache sees too."""
+        """The instructions and the reads from memory of a request. The first `warm` requests fill the simulated cache uncounted."""
         self.control("--instr=on")
         run(self.connection, asked[:warm])
         self.control("--zero")
@@ -59,12 +59,12 @@ class Counted(Piped):
 
 
 def counted(path, corpus, setting, kinds, requests, cache):
-    """For each kind the instructions and the reads from memory of a request, all of one database."""
+    """For each kind, the instructions and the reads from memory of a request, all with one database."""
     with tempfile.TemporaryDirectory() as folder, contextlib.closing(Counted(path, corpus, setting, cache, folder)) as program:
         program.fill()
         found = {}
         for kind in kinds:
-            # a scan reads all documents, so a few of them are as good as many
+            # each scan reads all documents, so a few scans suffice
             number = max(2, requests // 20) if kind == "scan" else requests
             asked = [(program.connection.prepare(one), one.answer) for one in corpus.requests(kind, number + number // 2, 1)]
             found[kind] = program.count(asked, number // 2)
@@ -72,7 +72,7 @@ def counted(path, corpus, setting, kinds, requests, cache):
 
 
 def of_sizes(path, sizes):
-    """The counts of each number of shards, by its text, and each kind: whole numbers of instructions and of reads."""
+    """For each pair of shards and workers, such as `16/4`, and each kind: the instructions and the reads, rounded."""
     corpus = Corpus(sizes["documents"], sizes["shape"], sizes["ids"])
     found = {}
     for shards, workers in pairs(sizes["shards"]):
@@ -82,7 +82,7 @@ def of_sizes(path, sizes):
 
 
 def counts(words):
-    """What the gate counts, and the same of plain Rust, at more documents: for each program and number of shards, and each kind."""
+    """The counts of the gate with more documents, for the program and for plain Rust: for each program and pair, and each kind."""
     sizes = {**GATE, **({"documents": 1000, "shards": "1", "requests": 4} if words.smallest else MANY)}
     programs = {"mangod": words.program} if words.smallest or not built() else {"mangod": words.program, "plain Rust": PROGRAM}
     found = {}

@@ -1,6 +1,6 @@
-"""The documents that are measured, what is asked of them, and what the answers have to be.
+"""The documents of the measurements, the requests for them, and the right answers.
 
-Prices are all different, so each order by price is settled by the price alone.
+All prices differ, so the price alone decides each order by price.
 """
 import base64
 import json
@@ -20,7 +20,7 @@ INDEXES = {"group": ["group"], "price": ["price"], "kind": ["kind", "price"]}
 
 @dataclass(frozen=True)
 class Answer:
-    """How many documents a reply has, and the ids of the first and the last of them."""
+    """The number of documents of a reply, and the ids of the first and the last."""
 
     count: int
     first: str
@@ -29,7 +29,7 @@ class Answer:
 
 @dataclass(frozen=True)
 class Request:
-    """What is asked: the kind of the request, what it speaks of, and the answer that is right."""
+    """A request: its kind, its arguments, and the right answer."""
 
     kind: str
     about: tuple
@@ -41,7 +41,7 @@ def compact(value):
 
 
 class Corpus:
-    """So many documents of a shape, with ids of a kind, and what is known of their order."""
+    """`count` documents of a shape, with ids of a kind, and their order by price."""
 
     def __init__(self, count, shape="flat", ids="short"):
         self.count, self.shape, self.name = count, SHAPES[shape], IDS[ids].format
@@ -56,11 +56,11 @@ class Corpus:
         return self.shape.body(i, i % self.groups, f"kind{i % KINDS}", self.price(i))
 
     def path(self, member):
-        """Where a member stands that is asked for."""
+        """The path of a member that requests use."""
         return self.shape.paths[member]
 
     def number(self, name):
-        """The number of the document that an id names, or that a new document copies whose id begins with one."""
+        """The number of the document with this id; for the id of a new document, the number of the document that it copies."""
         return int(name.partition(":")[2][:7] or name[1:8])
 
     def columns(self, which):
@@ -68,25 +68,25 @@ class Corpus:
         return [self.path(member) for member in INDEXES[which]]
 
     def text(self, i):
-        """The text that no other document has."""
+        """The text of a document that no other document has."""
         return member_at(self.path("text"), self.body(i))
 
     def numbers(self):
-        """The numbers of the documents in the order in which they are loaded, at random."""
+        """The numbers of the documents in a random order, in which they are loaded."""
         order = list(range(self.count))
         random.Random(1).shuffle(order)
         return order
 
     def at(self, rank):
-        """The number of the document that has so many cheaper ones."""
+        """The number of the document for which `rank` documents are cheaper."""
         return self.prices[rank] * self.unprice % PRIME
 
     def depth(self):
-        """How many pages by price precede the deep one: 1,000, or as many as there are before the last."""
+        """The number of pages by price before the deep one: 1,000, or all but the last if there are fewer."""
         return min(DEPTH, self.count // PAGE - 1)
 
     def requests(self, kind, number, seed):
-        """So many requests of a kind. Where the seed differs, new documents have other ids."""
+        """`number` requests of a kind. With another seed, new documents have other ids."""
         dice = random.Random(seed)
         ask = getattr(self, f"ask_{kind}")
         return [ask(dice, seed, turn) for turn in range(number)]
@@ -100,12 +100,12 @@ class Corpus:
         return Request("equality", (group,), Answer(IN_GROUP, self.name(group), self.name(group + (IN_GROUP - 1) * self.groups)))
 
     def ask_falling(self, dice, seed, turn):
-        """A page below a price, what is dear first."""
+        """A page below a price, most expensive first."""
         rank = dice.randrange(PAGE, self.count)
         return Request("falling", (self.prices[rank],), Answer(PAGE, self.name(self.at(rank - 1)), self.name(self.at(rank - PAGE))))
 
     def ask_two(self, dice, seed, turn):
-        """A page of one kind from a price on, where there are enough of them."""
+        """A page of one kind from a price on, if there are enough documents of the kind."""
         start = dice.randrange(max(1, self.count - 2 * PAGE * KINDS))
         kind = dice.randrange(KINDS)
         found = []
@@ -117,7 +117,7 @@ class Corpus:
         return Request("two", (f"kind{kind}", self.prices[start]), Answer(len(found), self.name(found[0]), self.name(found[-1])))
 
     def ask_deep(self, dice, seed, turn):
-        """The page after the thousandth, by price."""
+        """The page by price after the thousandth one."""
         rank = self.depth() * PAGE
         before = self.at(rank - 1)
         return Request("deep", (self.price(before), self.name(before)), Answer(PAGE, self.name(self.at(rank)), self.name(self.at(rank + PAGE - 1))))
@@ -134,7 +134,7 @@ class Corpus:
         return self.ask_commit(dice, seed, turn) if turn % 10 == 9 else self.ask_get(dice, seed, turn)
 
     def bookmark(self, price, last):
-        """The bookmark of the document at that price, for pages by price."""
+        """The bookmark after the document with this price, for pages by price."""
         place = compact(["_design/m", "price", "asc", [price], last])
         return base64.urlsafe_b64encode(place.encode()).decode().rstrip("=")
 

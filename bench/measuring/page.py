@@ -1,4 +1,4 @@
-"""The tables of docs/PERFORMANCE.md, each by its name, from one measurement; and the targets, each with what was found."""
+"""The tables of docs/PERFORMANCE.md, by name, from one measurement; and the targets with the results."""
 import statistics
 
 from .counted import counts_table
@@ -21,17 +21,17 @@ class Measurement:
         self.sizes, self.systems = sorted(self.results.runs), self.results.systems()
 
     def median(self, size, system, row, figure="processor_us"):
-        """A figure, none where it was not measured."""
+        """The median of a figure; None if it was not measured."""
         values = self.results.values(size, system, row, figure)
         return statistics.median(values) if values else None
 
     def usual(self):
-        """The number of documents of tables that have one: 100,000, or the most."""
+        """The number of documents of the tables with only one: 100,000, or the greatest if that was not measured."""
         return 100000 if 100000 in self.sizes else self.sizes[-1]
 
 
 def table(first, systems, rows):
-    """A table with a column for each system, from rows of a title and a function of the system that gives a figure or none."""
+    """A table with a column for each system. A row is a title, and a function from a system to a figure or None."""
     yield f"| {first} | {' | '.join(systems)} |"
     yield "|---" * (len(systems) + 1) + "|"
     for title, figure in rows:
@@ -40,7 +40,7 @@ def table(first, systems, rows):
 
 
 def source(measured):
-    """What made all tables of the page."""
+    """The source of the tables: the date, the commit and the machine."""
     found = measured.found
     yield f"Measured on {found['date']} at commit `{found['commit']}`: {found['machine']}. All figures, with the least and the greatest of the"
     yield f"runs, are in docs/measured/{found['date']}.md."
@@ -59,7 +59,7 @@ def together(measured):
 
 
 def by_size(measured, title, row, figure):
-    """A row for each number of documents, whose title has it in place of `{}`."""
+    """A row for each number of documents, which stands in its title in place of `{}`."""
     return [(title.format(f"{size:,}"), lambda system, size=size: measured.median(size, system, row, figure)) for size in measured.sizes]
 
 
@@ -83,7 +83,7 @@ def memory(measured):
 
 
 def proof(measured):
-    """Processor time as a part of that of plain Rust."""
+    """The ratio of the program's processor time to that of plain Rust."""
     def ratio(row, figure="processor_us"):
         def of(size):
             ours, theirs = measured.median(size, OURS, row, figure), measured.median(size, RUST, row, figure)
@@ -104,7 +104,7 @@ def counts(measured):
 
 
 def shards(measured):
-    """The pairs of shards and workers, at the most documents."""
+    """The pairs of shards and workers, at the greatest number of documents."""
     found = measured.found["settings"]
     most = max(found, key=int, default=None)
     return settings_tables({most: found[most]}) if found else []
@@ -120,11 +120,11 @@ TABLES = {
 }
 
 
-# Targets: each has a text, and a function that gives the figures which have to be at most 1.
+# Targets: each has a text, and a function that gives figures, each with the most that it may be.
 
 
 def against(kinds, other, most=1.0):
-    """The processor time of some rows as a part of another system's, at each size and number of clients."""
+    """The ratio of processor time to that of another system, for some rows, each size and each number of clients."""
     def figures(measured):
         for size in measured.sizes:
             for kind in kinds:
@@ -136,7 +136,7 @@ def against(kinds, other, most=1.0):
 
 
 def growth(kind, most):
-    """What a row takes at the most documents as a part of what it takes at the fewest."""
+    """The ratio of a row at the greatest number of documents to the same row at the smallest."""
     def figures(measured):
         for number in measured.clients:
             few, many = (measured.median(size, OURS, f"{kind} {number}") for size in (measured.sizes[0], measured.sizes[-1]))
@@ -146,12 +146,12 @@ def growth(kind, most):
 
 
 def once(row, figure, most):
-    """A figure of a database at each size."""
+    """A figure that is measured once for each database, at each size."""
     return lambda measured: [(value, most) for size in measured.sizes if (value := measured.median(size, OURS, row, figure))]
 
 
 def pairs_at_most(kinds, place, most):
-    """What a pair of shards and workers takes as a part of one shard and one worker, at the most documents."""
+    """The ratio of a pair of shards and workers to one shard and one worker, at the greatest number of documents."""
     def figures(measured):
         found = measured.found["settings"]
         rows = found[max(found, key=int)] if found else {}
@@ -205,7 +205,7 @@ TABLES["targets"] = targets
 
 
 def growing(rows, figure):
-    """Panels of a picture: what rows take by the number of documents, a line for each system."""
+    """The panels of a picture: a figure of each row by the number of documents, with a line for each system."""
     def panels(measured):
         drawn = {}
         for row, title in rows.items():

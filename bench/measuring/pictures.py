@@ -1,4 +1,4 @@
-"""Pictures of measurements, as SVG: panels with a line for each system, both axes by powers of ten."""
+"""Draws measurements as SVG: panels with a line for each system, both axes logarithmic."""
 import math
 from html import escape
 
@@ -16,7 +16,7 @@ def text(x, y, words, anchor="middle", size=10):
 
 
 def short(number):
-    """A power of ten in few letters."""
+    """A short text for a power of ten."""
     for size, letter in ((10**6, "M"), (10**3, "k")):
         if number >= size:
             return f"{number / size:g}{letter}"
@@ -30,7 +30,7 @@ def powers(values):
 
 
 def panel(title, lines, x, y):
-    """A panel at a place: for each system its points, a number of documents and a figure each."""
+    """Draws a panel. Each system has points: a number of documents and a figure."""
     points = [point for line in lines.values() for point in line]
     across, up = powers([one for one, _ in points]), powers([other for _, other in points])
     wide, high = WIDTH - LEFT - RIGHT, HEIGHT - TOP - BOTTOM
@@ -54,7 +54,7 @@ def panel(title, lines, x, y):
 
 
 def picture(title, panels):
-    """The picture of some panels, by their titles, with a legend below."""
+    """Draws panels with their titles, and a legend below."""
     panels = {name: lines for name, lines in panels.items() if lines}
     columns = min(COLUMNS, len(panels))
     rows = -(-len(panels) // columns)

@@ -1,4 +1,4 @@
-"""The program over its standard input and output: what a request costs where no connection adds to it."""
+"""Measures the program over its standard input and output, so that no network connection adds to the cost of a request."""
 import contextlib
 import os
 import subprocess
@@ -13,7 +13,7 @@ TIMES = 3
 
 
 class Pipes:
-    """The two pipes of a process, used as a socket is."""
+    """The two pipes of a process, with the methods of a socket."""
 
     def __init__(self, process):
         self.given, self.taken = process.stdin, process.stdout.fileno()
@@ -27,14 +27,14 @@ class Pipes:
 
 
 class Session(Connection):
-    """The one session of a process; a message is sent when the reply to the one before has been read."""
+    """The only session of a process. Each message is sent after the reply to the one before was read."""
 
     def __init__(self, process, corpus):
         self.socket, self.corpus = Pipes(process), corpus
 
 
 class Piped(Program):
-    """The program with one session over pipes, under a tool if there is one."""
+    """The program with one session over pipes, run under a tool if one is given."""
 
     def __init__(self, path, corpus, setting, tool=()):
         self.corpus = corpus
@@ -47,7 +47,7 @@ class Piped(Program):
 
 
 def figures(path, corpus, setting, share, turn):
-    """Microseconds of processor time of each kind of request, of one database."""
+    """The processor time of each kind of request in microseconds, and of the load; and the memory of a document. All with one database."""
     with contextlib.closing(Piped(path, corpus, setting)) as program:
         found = {"load": load(program, corpus).figures()["processor_us"]}
         found["memory"] = program.size() / corpus.count
@@ -62,12 +62,12 @@ def figures(path, corpus, setting, share, turn):
 
 
 def told(values):
-    """The least and the greatest of some figures."""
+    """The text of the least and the greatest of some figures."""
     return " to ".join(sorted({f"{value:,.1f}" for value in (min(values), max(values))}, key=lambda text: float(text.replace(",", ""))))
 
 
 def piped(words):
-    """One database three times for each number of documents and each setting, and once where there are a million or more."""
+    """Measures each number of documents and each pair of shards and workers three times, a million documents or more once."""
     rows = []
     for setting in words.shards:
         for count in words.documents:

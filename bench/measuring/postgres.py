@@ -1,8 +1,9 @@
-"""PostgreSQL as a peer: a table of ids and `jsonb`, with indexes on its members, and a small client of its wire protocol.
+"""Measures PostgreSQL for comparison: a table of ids and `jsonb`, with indexes on members, and a small client of its wire protocol.
 
-A cluster of its own is made in a temporary folder, with a Unix socket alone, and without waits for a disk. As root it runs as the
-user postgres. The table is unlogged. Statements are prepared once a connection, and planned once (plan_cache_mode is force_generic_plan);
-EXPLAIN has to show that each but the scan reads an index. Processor time and memory are those of all its processes.
+A new cluster is made in a temporary folder, with only a Unix socket, and without waits for a disk. Started by root, it runs as the
+user postgres. The table is unlogged. Each connection prepares its statements once, and plans them once (plan_cache_mode is
+force_generic_plan). EXPLAIN must show that each statement but the scan reads an index. Processor time and memory are those of all its
+processes.
 """
 import glob
 import os
@@ -27,7 +28,7 @@ JSON_WORDS = {"equality": {0}, "falling": {0}, "two": {0, 1}, "deep": {0}, "scan
 
 
 def programs():
-    """The folder of initdb and pg_ctl, none where PostgreSQL is not installed."""
+    """The folder of initdb and pg_ctl; None if PostgreSQL is not installed."""
     found = shutil.which("initdb") or max(glob.glob("/usr/lib/postgresql/*/bin/initdb"), default=None)
     return found and os.path.dirname(os.path.realpath(found))
 
@@ -68,7 +69,7 @@ class Connection:
             self.exchange(part(b"P", kind.encode(), b"\0", statement.encode(), b"\0", struct.pack("!h", 0)) + part(b"S"))
 
     def exchange(self, text, until=b"Z"):
-        """Sends a text, and gives the parts of the answer up to the one of that kind."""
+        """Sends bytes, and gives the messages of the answer up to the first of the kind `until`."""
         self.socket.sendall(text)
         data, at, parts = self.rest, 0, []
         while True:
@@ -126,7 +127,7 @@ class PostgreSQL:
         self.wait_until_still()
 
     def wait_until_still(self):
-        """Waits until what it does at its start is done, three seconds at most: its memory grows and shrinks meanwhile."""
+        """Waits until its memory stays the same, at most three seconds: at its start it grows and shrinks."""
         sizes = []
         while len(sizes) < 15 and sizes[-3:] != sizes[-1:] * 3 or len(sizes) < 3:
             sizes.append(self.size())
@@ -149,7 +150,7 @@ class PostgreSQL:
         return processes.family_memory(self.pid)
 
     def pages(self):
-        """The bytes of its table and indexes."""
+        """The size of the table and its indexes in bytes."""
         parts = self.connection.query("SELECT pg_total_relation_size('docs')")
         return int(next(text for kind, text in parts if kind == b"D")[6:])
 
@@ -176,7 +177,7 @@ class PostgreSQL:
         client.socket.close()
 
     def check_plan(self, client, request):
-        """Ends the run unless the plan of a statement reads an index, and not the whole table."""
+        """Ends the run unless the plan of a statement reads an index and not the whole table."""
         words = [compact(word) if place in JSON_WORDS.get(request.kind, ()) else word for place, word in enumerate(request.about)]
         quoted = ", ".join("'{}'".format(word.replace("'", "''")) for word in words)
         parts = client.query(f"EXPLAIN EXECUTE {request.kind} ({quoted})")
@@ -185,7 +186,7 @@ class PostgreSQL:
             raise SystemExit(f"PostgreSQL does not read {request.kind} by an index:\n{plan}")
 
     def share(self):
-        """Nothing is to be done before several clients come."""
+        """Nothing to do before several clients connect."""
 
     def close(self):
         self.connection.socket.close()

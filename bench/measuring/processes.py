@@ -1,4 +1,4 @@
-"""What a process has used, from /proc, and clients that run side by side."""
+"""The processor time and memory of processes, and clients that run concurrently."""
 import functools
 import gc
 import itertools
@@ -10,19 +10,19 @@ TICK = os.sysconf("SC_CLK_TCK")
 
 
 def processor(pid):
-    """The seconds of processor time, user and system, of a process and all its threads, to the nanosecond: the clock that
-    clock_getcpuclockid(3) names."""
+    """The processor time, user and system, of a process and all its threads, in seconds, to the nanosecond: the clock of
+    clock_getcpuclockid(3)."""
     return time.clock_gettime((~pid << 3) | 2)
 
 
 def stat(pid):
-    """The fields of /proc/PID/stat after the name; the first is the state."""
+    """The fields of /proc/PID/stat from the state on, which follows the name."""
     with open(f"/proc/{pid}/stat") as file:
         return file.read().rpartition(")")[2].split()
 
 
 def children(pid):
-    """The processes that a process has started and that have not ended."""
+    """The child processes of a process that have not ended."""
     for other in filter(str.isdigit, os.listdir("/proc")):
         try:
             if int(stat(other)[1]) == pid:
@@ -32,7 +32,7 @@ def children(pid):
 
 
 def family_processor(pid):
-    """The seconds of a process, its children, and the children that have ended; the last in ticks."""
+    """The processor time in seconds of a process, its children, and its ended children (these to the tick)."""
     total = processor(pid) + sum(map(int, stat(pid)[13:15])) / TICK
     for child in children(pid):
         try:
@@ -43,19 +43,19 @@ def family_processor(pid):
 
 
 def memory(pid):
-    """The bytes of a process that are in memory, without those of programs and libraries; of a page that several processes share its part."""
+    """The resident anonymous and shared memory of a process in bytes. A page that several processes share counts by its share."""
     with open(f"/proc/{pid}/smaps_rollup") as file:
         fields = dict(line.split()[:2] for line in file if line.startswith("Pss_"))
     return (int(fields["Pss_Anon:"]) + int(fields["Pss_Shmem:"])) * 1024
 
 
 def family_memory(pid):
-    """The bytes of a process and its children."""
+    """The memory of a process and its children in bytes."""
     return memory(pid) + sum(memory(child) for child in children(pid))
 
 
 class Use:
-    """What so many requests took: seconds of processor time of the server, and by the clock."""
+    """The cost of requests: the server's processor time and the wall-clock time, in seconds."""
 
     def __init__(self, requests, processor, clock, clients=1):
         self.requests, self.processor, self.clock, self.clients = requests, processor, clock, clients
@@ -64,7 +64,7 @@ class Use:
         return Use(self.requests + other.requests, self.processor + other.processor, self.clock + other.clock, self.clients)
 
     def figures(self):
-        """Microseconds a request of processor time and as a client waits, and requests a second of all clients."""
+        """The microseconds of processor time and of waiting for each request, and the requests of all clients in a second."""
         return {
             "requests": self.requests,
             "processor_us": self.processor / self.requests * 1e6,
@@ -74,7 +74,7 @@ class Use:
 
 
 def run(client, prepared):
-    """Seconds of this process and by the clock, for all the requests."""
+    """Sends all requests once; gives the processor time of this process and the wall-clock time, in seconds."""
     gc.collect()
     gc.disable()
     used, clock = time.process_time(), time.monotonic()
@@ -86,7 +86,7 @@ def run(client, prepared):
 
 
 def run_for(client, prepared, seconds):
-    """How many requests are answered in so many seconds by the clock; they are sent again and again, in their order."""
+    """Sends the requests in order, again and again, for some seconds of wall-clock time; gives how many were answered."""
     count, end = 0, time.monotonic() + seconds
     for message, answer in itertools.cycle(prepared):
         client.ask(message, answer)
@@ -96,8 +96,8 @@ def run_for(client, prepared, seconds):
 
 
 def one_client(system, requests, pipe, work):
-    """A client's process: tells that it is ready, waits for the start, tells what its work gives, or its fault, and stays until that is
-    read."""
+    """The process of a client: reports that it is ready, waits for the start, reports the result of its work or its fault, and waits until
+    that was read."""
     try:
         client = system.client()
         prepared = [(client.prepare(request), request.answer) for request in requests]
@@ -110,7 +110,7 @@ def one_client(system, requests, pipe, work):
 
 
 def told(pipe):
-    """What a client tells. Its fault ends the run."""
+    """Receives a report of a client. A fault ends the run."""
     try:
         word = pipe.recv()
     except EOFError:
@@ -121,8 +121,8 @@ def told(pipe):
 
 
 def at_once(system, lists, work):
-    """What the work of each client gives, of the program the seconds of processor time, and the seconds by the clock: a client, in a
-    process of its own, for each list of requests."""
+    """Runs a client for each list of requests, each in a process of its own. Gives the results of their work, the processor time of the
+    program, and the wall-clock time, in seconds."""
     clients = []
     for requests in lists:
         ours, theirs = multiprocessing.Pipe()
@@ -144,19 +144,20 @@ def at_once(system, lists, work):
 
 
 def side_by_side(system, lists):
-    """What the requests took, of a client for each list."""
+    """The cost of the requests, with a client for each list."""
     spent, used, clock = at_once(system, lists, run)
     return Use(sum(map(len, lists)), sum(one[0] for one in spent) if system.in_process else used, clock, len(lists))
 
 
 def for_a_time(system, lists, seconds):
-    """The same, of clients that send their requests again and again for so many seconds by the clock."""
+    """The cost of requests that a client for each list sends again and again, for some seconds of wall-clock time."""
     counts, used, clock = at_once(system, lists, functools.partial(run_for, seconds=seconds))
     return Use(sum(counts), used, clock, len(lists))
 
 
 def measured(system, lists):
-    """What the requests took. A system may have a way of its own; a single client of one that lives in this process is this process."""
+    """The cost of the requests. A system may measure them itself (`run_lists`). If a system runs inside its clients, a single client is this
+    process."""
     if hasattr(system, "run_lists"):
         return system.run_lists(lists)
     if not (system.in_process and len(lists) == 1):

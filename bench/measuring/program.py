@@ -1,4 +1,4 @@
-"""The program that is measured, mangod, over TCP with connections that stay open."""
+"""Measures the program, mangod, over TCP with connections that stay open."""
 import json
 import os
 import socket
@@ -14,13 +14,13 @@ def free_port():
 
 
 def pairs(text):
-    """Reads numbers of shards with commas between them; after a stroke a number of workers, which is 1 where none stands."""
+    """Parses pairs such as `1,4/4`: numbers of shards, each with a number of workers after a slash (1 if there is none)."""
     numbers = [word.partition("/") for word in text.split(",")]
     return [(int(shards), int(workers or 1)) for shards, _, workers in numbers]
 
 
 def titled(setting):
-    """The name of a setting in tables."""
+    """The name of a pair of shards and workers in tables."""
     return "{} shards, {} workers".format(*setting)
 
 
@@ -30,7 +30,7 @@ def message(method, target, body=None):
 
 
 class Connection:
-    """A connection that sends a message when it has read the reply to the one before."""
+    """A connection that sends each message after it has read the reply to the one before."""
 
     def __init__(self, port, corpus):
         self.socket = socket.create_connection(("127.0.0.1", port), timeout=600)
@@ -38,7 +38,7 @@ class Connection:
         self.corpus = corpus
 
     def exchange(self, text):
-        """The status and the body of the reply."""
+        """Sends a message; gives the status and the body of the reply."""
         self.socket.sendall(text)
         data = self.socket.recv(1 << 18)
         while (end := data.find(b"\r\n\r\n")) < 0:
@@ -76,7 +76,7 @@ class Connection:
         return message("POST", "_find", find[request.kind]())
 
     def ask(self, text, answer):
-        """Sends a message, and compares the reply with the answer: the number of documents, the first and the last."""
+        """Sends a message, and compares the reply with the right answer: the number of documents, the first and the last."""
         status, body = self.exchange(text)
         if answer is None:
             right = status == b"201" and b'"ok":true' in body
@@ -89,7 +89,7 @@ class Connection:
 
 
 class Program:
-    """The program with one database of the documents, with so many shards and workers."""
+    """The program with a database for the documents, and a pair of shards and workers."""
 
     in_process = False
     called = "mangod"
@@ -127,10 +127,10 @@ class Program:
             raise SystemExit(f"an index was answered by {status} {body}")
 
     def settle(self):
-        """Nothing is left to do after a load."""
+        """Nothing to do after a load."""
 
     def share(self):
-        """Leaves its session to the clients that come."""
+        """Frees its own session for the clients."""
         self.connection.socket.close()
 
     def close(self):

@@ -1,4 +1,4 @@
-"""Redis as a peer for what it has: a text by its id, and a commit of one. Nothing is written to a disk."""
+"""Measures Redis for comparison, as far as it goes: a text by its id, and a commit of one text. Nothing is written to a disk."""
 import shutil
 import socket
 import subprocess
@@ -19,14 +19,14 @@ def command(*words):
 
 
 class Connection:
-    """A connection that sends a command when it has read the answer to the one before."""
+    """A connection that sends each command after it has read the answer to the one before."""
 
     def __init__(self, port):
         self.socket = socket.create_connection(("127.0.0.1", port), timeout=600)
         self.socket.setsockopt(socket.IPPROTO_TCP, socket.TCP_NODELAY, 1)
 
     def exchange(self, text):
-        """The answer: a line, or a text behind a line with its length."""
+        """Sends a command; gives the answer: a line, or a text after a line with its length."""
         self.socket.sendall(text)
         data = b""
         while True:
@@ -83,10 +83,10 @@ class Redis:
             raise SystemExit("Redis has not taken a bulk")
 
     def settle(self):
-        """Nothing is left to do after a load."""
+        """Nothing to do after a load."""
 
     def share(self):
-        """Nothing is to be done before several clients come."""
+        """Nothing to do before several clients connect."""
 
     def close(self):
         self.process.kill()

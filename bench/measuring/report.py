@@ -1,11 +1,11 @@
-"""A whole measurement as Markdown, and what is kept of it in a file."""
+"""A whole measurement as Markdown, and the part of it that is kept in a file."""
 from .counted import counts_table
 from .settings import settings_tables
 from .tables import Results
 
 
 def rounded(value):
-    """What is kept in a file: figures of at most six digits."""
+    """The figures as they are kept in a file, with at most six digits."""
     if isinstance(value, float):
         return float(f"{value:.6g}")
     if isinstance(value, dict):
@@ -14,7 +14,7 @@ def rounded(value):
 
 
 def report(found):
-    """All tables of a measurement, as Markdown, behind a line on the machine and the commit."""
+    """All tables of a measurement as Markdown, after a line on the machine and the commit."""
     results = Results()
     results.add_all(found["runs"])
     yield f"{found['machine']}, commit {found['commit']}"

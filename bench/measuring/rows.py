@@ -1,6 +1,6 @@
-"""The rows of one database: what is measured, in which order, and for how long.
+"""The rows that are measured with one database, in which order, and for how long.
 
-What changes the documents comes last, since the answers are those of the documents that were loaded.
+Requests that change documents come last, since the right answers are those of the documents as loaded.
 """
 import sys
 import time
@@ -10,7 +10,7 @@ from . import processes
 from .documents import BULK, INDEXES
 from .processes import Use
 
-# each kind of request, its name in tables, and how many of it each client sends at least
+# each kind of request, its name in tables, and the least number that each client sends
 REQUESTS = {
     "get": ("`GET` of a document", 500),
     "equality": ("20 documents by an index", 200),
@@ -36,14 +36,14 @@ ROUND = 40000
 
 @dataclass(frozen=True)
 class Measure:
-    """What is measured of a database: by how many clients, which rows, and which part of two seconds of processor time each takes."""
+    """What to measure of a database: the numbers of clients, the rows, and the share of two seconds of processor time for each row."""
 
     clients: list
     rows: list
     share: float
 
     def least(self, kind):
-        """How many requests of a kind each client sends at least."""
+        """The least number of requests of a kind that each client sends."""
         return max(2, int(REQUESTS[kind][1] * min(1, self.share)))
 
 
@@ -52,7 +52,7 @@ def say(*words):
 
 
 def load(system, corpus):
-    """What the load took. The making of the bulks is left out."""
+    """The cost of loading the documents. Preparing the bulks is not counted."""
     numbers = corpus.numbers()
     used = clock = 0
     for at in range(0, corpus.count, BULK * CHUNK):
@@ -73,7 +73,7 @@ def build(system, which):
 
 
 def prepared_database(system, corpus, empty):
-    """Loads the documents and builds the indexes; gives the figures that are had once."""
+    """Loads the documents and builds the indexes; gives the figures that are measured once."""
     rows = {"load": load(system, corpus).figures()}
     rows["memory"] = {"bytes": (system.size() - empty) / corpus.count}
     if hasattr(system, "index"):
@@ -86,7 +86,7 @@ def prepared_database(system, corpus, empty):
 
 
 def measure(make, corpus, wanted, turn):
-    """The figures of one database, made, measured and ended."""
+    """Starts a system with one database, measures it, and ends it; gives its figures."""
     system = make(corpus)
     try:
         rows = prepared_database(system, corpus, system.size())
@@ -98,7 +98,7 @@ def measure(make, corpus, wanted, turn):
 
 
 def requests(system, corpus, wanted, turn):
-    """The figures of each kind of request, by each number of clients."""
+    """The figures of each kind of request, with each number of clients."""
     rows = {}
     if max(wanted.clients) > 1:
         system.share()
@@ -113,8 +113,8 @@ def requests(system, corpus, wanted, turn):
 
 
 def row(system, kind, clients, wanted, turn):
-    """What requests of a kind took, by so many clients: after a warm-up as many as take the time that is wanted. New documents are at
-    most as many as there were, since a database grows by them."""
+    """The cost of requests of a kind. After a warm-up, the clients send as many as take the wanted time. At most as many documents are added
+    as were loaded, since a database grows by them."""
     def sent(count, part):
         seeds = [f"{turn}-{clients}-{client}-{kind}-{part}" for client in range(clients)]
         return processes.measured(system, [system.corpus.requests(kind, count, seed) for seed in seeds])

@@ -1,4 +1,4 @@
-"""The same server in plain Rust, of bench/peer, as a peer: it takes the same arguments and the same requests."""
+"""Measures a server in plain Rust (bench/peer) for comparison. It takes the same arguments and the same requests."""
 import os
 import subprocess
 
@@ -11,7 +11,7 @@ CRATES = "/usr/share/cargo/registry"
 
 
 def built():
-    """The program, made by Debian's cargo from Debian's crates; none where these are not installed."""
+    """The path of the program, built with Debian's cargo from Debian's crates; None if these are not installed."""
     if not (os.path.exists(CARGO) and os.path.isdir(CRATES)):
         return None
     home = os.path.join(FOLDER, "target", "home")

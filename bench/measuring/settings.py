@@ -1,7 +1,7 @@
-"""What pairs of shards and workers cost: the same nested documents with three indexes, over TCP.
+"""Measures the cost of pairs of shards and workers: the same nested documents with three indexes, over TCP.
 
-Each row is measured until the program has used two seconds of processor time, so that the ticks of 10 ms in which that is counted are a
-hundredth of it; the smallest size takes fewer. New documents are committed last, since a database grows by them.
+Each row is measured until the program has used two seconds of processor time, or a share of them. New documents are committed last, since
+a database grows by them.
 """
 import contextlib
 
@@ -26,7 +26,7 @@ TOGETHER = {kind: f"{ALONE[kind].partition(':')[0]}, {CLIENTS} clients: requests
 
 
 def alone(program, kind, seconds, seed):
-    """What the requests of one client took, one after another, until the program has used so many seconds of processor time."""
+    """The cost of requests of one client, one after another, until the program has used some seconds of processor time."""
     corpus, client = program.corpus, program.connection
     before, count, clock = program.processor(), 0, 0
     while program.processor() - before < seconds:
@@ -38,7 +38,7 @@ def alone(program, kind, seconds, seed):
 
 
 def figures(words, corpus, setting, turn):
-    """The figures of one database: each row's title, and its figure."""
+    """The figures of one database: the title of each row, and its figure."""
     seconds, rows = SECONDS * words.share, {}
     with contextlib.closing(Program(words.program, corpus, setting, sessions=CLIENTS + 1)) as program:
         load(program, corpus)
@@ -56,8 +56,8 @@ def figures(words, corpus, setting, turn):
 
 
 def settings(words):
-    """For each number of documents and each pair the figures of each row. The pairs are measured in turn, as often as is asked for, so that a
-    slow minute of the machine meets all of them."""
+    """The figures of each row, for each number of documents and each pair. The pairs are measured in turn, again and again, so that a slow
+    minute of the machine affects all of them."""
     found = {}
     for count in words.pairs_documents:
         corpus = words.corpus(count, shape="nested")

@@ -1,4 +1,4 @@
-"""The shapes of documents that are measured: what a document holds, and where its members stand that are asked for."""
+"""The shapes of documents that are measured: their members, and the paths of those that requests use."""
 
 
 def member_at(path, value):
@@ -9,7 +9,7 @@ def member_at(path, value):
 
 
 class Flat:
-    """Some 200 bytes: five members, without an escape and in ASCII."""
+    """Documents of some 200 bytes: five members, in ASCII and without escapes."""
 
     paths = {"group": "group", "kind": "kind", "price": "price", "text": "text"}
 
@@ -20,7 +20,7 @@ class Flat:
 
 
 class Nested:
-    """Some 250 bytes: two objects, an array of objects, and texts with escapes and beyond ASCII."""
+    """Documents of some 250 bytes: two objects, an array of objects, and texts with escapes and beyond ASCII."""
 
     paths = {"group": "customer.group", "kind": "customer.kind", "price": "order.price", "text": "order.note"}
 

@@ -1,9 +1,9 @@
-"""SQLite as a peer, by its C interface and by Python's sqlite3: a table of ids and JSON texts, with indexes on json_extract.
+"""Measures SQLite for comparison, through its C interface and Python's sqlite3: a table of ids and JSON texts, with indexes on json_extract.
 
-The database is a file in /dev/shm, where that has room, with a write-ahead log and without waits for a disk. The file is mapped: a
-large cache instead, or a database in memory, makes a commit look through the cache, so that it grows with the documents (to 0.2 ms
-and more at 300,000). One client is the process itself, which has the file for itself. For several clients there is a copy, and each is
-a process that opens it. Processor time is that of the clients: of Python with its share of each call, of sqlite.c without.
+The database is a file in /dev/shm, if that has room, with a write-ahead log and without waits for a disk. The file is memory-mapped: with
+a large cache instead, or a database in memory, a commit searches the cache, so that its time grows with the documents (to 0.2 ms and more
+at 300,000). A single client is the measuring process itself, which has the file for itself. Several clients are processes that open a
+copy. Processor time is that of the clients; with Python it includes Python's part of each call, with sqlite.c it does not.
 """
 import os
 import shutil
@@ -24,8 +24,8 @@ def member(path):
 
 
 def asked_of(corpus):
-    """The statement for each kind of request. Each is served by its index alone, without a sort; a comparison of row values would scan
-    the index."""
+    """The statement for each kind of request. Its index alone serves each, without a sort; a comparison of row values would scan the
+    index."""
     group, kind, price, text = (member(corpus.path(name)) for name in ("group", "kind", "price", "text"))
     return {
         "get": ROW + "id = ?",
@@ -39,7 +39,7 @@ def asked_of(corpus):
 
 
 def opened(file, locking):
-    """A database in a file."""
+    """Opens a database in a file."""
     database = sqlite3.connect(file, isolation_level=None, timeout=60)
     for setting in (f"locking_mode = {locking}", "journal_mode = WAL", "synchronous = OFF", "mmap_size = 16000000000"):
         database.execute(f"PRAGMA {setting}")
@@ -47,7 +47,7 @@ def opened(file, locking):
 
 
 class Connection:
-    """A connection to the database."""
+    """A connection to the database, which compares replies with the right answers."""
 
     def __init__(self, database, corpus):
         self.execute, self.asked = database.execute, asked_of(corpus)
@@ -93,7 +93,7 @@ class SQLite:
         return processes.memory(os.getpid())
 
     def pages(self):
-        """The bytes of its pages."""
+        """The size of its pages in bytes."""
         return self.database.execute("SELECT page_count * page_size FROM pragma_page_count(), pragma_page_size()").fetchone()[0]
 
     def prepare_bulk(self, numbers):
@@ -114,7 +114,7 @@ class SQLite:
         self.database.execute("ANALYZE")
 
     def share(self):
-        """Copies the database, for clients that are processes."""
+        """Copies the database for clients in processes of their own."""
         with opened(self.file("shared"), "NORMAL") as copy:
             self.database.backup(copy)
         copy.close()
@@ -125,12 +125,12 @@ class SQLite:
 
 
 class SQLiteInC(SQLite):
-    """The same database; its requests are sent by sqlite.c."""
+    """SQLite with the program sqlite.c as its client."""
 
     name = "SQLite by C"
 
     def settle(self):
-        """Leaves the file to the programs that come."""
+        """Builds the client, and closes the file so that the clients can open it."""
         super().settle()
         self.bytes_on_pages = super().pages()
         self.database.close()
@@ -142,10 +142,10 @@ class SQLiteInC(SQLite):
         return self.bytes_on_pages
 
     def share(self):
-        """The file is shared as it is."""
+        """Nothing to do: the clients open the same file."""
 
     def write_requests(self, requests, client):
-        """Writes the file of the requests of a client, and gives its name."""
+        """Writes the requests of a client to a file, and gives its name."""
         asked = asked_of(self.corpus)
         kinds = sorted({one.kind for one in requests})
         name = self.file(f"requests-{client}")

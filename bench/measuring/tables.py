@@ -1,4 +1,4 @@
-"""The tables, as Markdown. A cell is the median of the runs, and in brackets the least and the greatest where they differ."""
+"""The tables as Markdown. A cell is the median of the runs, with the least and the greatest in brackets if they differ."""
 import statistics
 
 from .rows import ONCE, REQUESTS
@@ -25,7 +25,7 @@ class Results:
         self.runs.setdefault(count, {}).setdefault(system, []).append(rows)
 
     def add_all(self, runs):
-        """The runs of an earlier file."""
+        """Adds the runs of an earlier file."""
         for count, systems in runs.items():
             for system, turns in systems.items():
                 for rows in turns:

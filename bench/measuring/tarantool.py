@@ -1,6 +1,6 @@
-"""Tarantool as a peer: a space of ids and documents in memory, with indexes on paths, and a small client of its binary protocol.
+"""Measures Tarantool for comparison: a space of ids and documents in memory, with indexes on paths, and a client of its binary protocol.
 
-Nothing is written to a disk (wal_mode is none). A query is a SELECT of an index, a commit an INSERT, and the scan a stored function in Lua.
+Nothing is written to a disk (wal_mode is none). A query is a SELECT on an index, a commit an INSERT, and the scan a stored function in Lua.
 """
 import os
 import shutil
@@ -47,7 +47,7 @@ def program():
 
 
 def packed(value):
-    """A value of JSON as MessagePack; whole numbers of up to 64 bits that are not negative."""
+    """A JSON value as MessagePack. Its numbers must be whole, not negative, and of at most 64 bits."""
     if isinstance(value, bool):
         return b"\xc3" if value else b"\xc2"
     if isinstance(value, int):
@@ -63,7 +63,7 @@ def packed(value):
 
 
 def message(kind, body):
-    """A request: its length, its head with the kind, and the body."""
+    """The bytes of a request: its length, its header with the kind, and its body."""
     text = packed({0: kind, 1: 0}) + packed(body)
     return b"\xce" + len(text).to_bytes(4, "big") + text
 
@@ -73,7 +73,7 @@ def selection(index, iterator, key, limit=PAGE):
 
 
 class Connection:
-    """A connection that sends a request when it has read the answer to the one before."""
+    """A connection that sends each request after it has read the answer to the one before."""
 
     def __init__(self, port, corpus):
         self.socket, self.corpus = socket.create_connection(("127.0.0.1", port), timeout=600), corpus
@@ -83,7 +83,7 @@ class Connection:
             greeting += self.socket.recv(128 - len(greeting))
 
     def exchange(self, text, count=1):
-        """What is read until so many answers have come."""
+        """Sends bytes, and gives what is read until the given number of answers have come."""
         self.socket.sendall(text)
         data, end = b"", 0
         for _ in range(count):
@@ -92,7 +92,7 @@ class Connection:
                 if not piece:
                     raise OSError("Tarantool has closed the connection")
                 data += piece
-            # the head of an answer begins with 0 and its code as 32 bits, which is 0 where nothing is wrong
+            # the header of an answer begins with 0 and its code as 32 bits; code 0 is success
             if data[end + 5 : end + 12] != b"\x83\x00\xce\x00\x00\x00\x00":
                 raise OSError(f"Tarantool: {data[end : end + 300]!r}")
             end += 5 + int.from_bytes(data[end + 1 : end + 5], "big")
@@ -114,7 +114,7 @@ class Connection:
     def ask(self, text, answer):
         data = self.exchange(text)
         if answer is not None:
-            # a row is an array of two whose first is the id
+            # a row is an array of two items, of which the first is the id
             rows = [b"\x92" + packed(one) for one in (answer.first, answer.last)]
             size = len(rows[0]) - len(answer.first)
             front = rows[0][: size + 1]
@@ -136,7 +136,7 @@ class Tarantool:
         self.connection = self.connected()
 
     def connected(self):
-        """A connection, as soon as the program takes one."""
+        """A connection, as soon as the program accepts one."""
         for _ in range(200):
             time.sleep(0.05)
             try:
@@ -168,10 +168,10 @@ class Tarantool:
         self.connection.exchange(message(CALL, {0x22: "index", 0x21: [INDEXES[which], which, *self.corpus.columns(which)]}))
 
     def settle(self):
-        """Nothing is left to do after a load."""
+        """Nothing to do after a load."""
 
     def share(self):
-        """Nothing is to be done before several clients come."""
+        """Nothing to do before several clients connect."""
 
     def close(self):
         self.process.kill()

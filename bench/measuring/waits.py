@@ -1,8 +1,8 @@
-"""How long a reader waits: alone, beside a client that loads, beside indexes that are built, and beside reshards; and how long a program
-takes from its start to its first reply.
+"""Measures how long a reader waits: alone, and while another client loads, builds indexes or reshards; and how long a program takes from
+its start to its first reply.
 
-A reader is one client that sends a request when it has read the reply to the one before; each reply is compared with the answer that the
-documents give. What goes on beside it is done by a client of its own, again and again for so many seconds by the clock.
+A reader is one client that sends each request after it has read the reply to the one before; each reply is compared with the right
+answer. Another client does the other work, again and again for some seconds of wall-clock time.
 """
 import contextlib
 import gc
@@ -25,7 +25,7 @@ KINDS = {"get": "`GET`", "equality": "20 documents by an index"}
 
 
 def loads(program, client, until):
-    """Loads bulks of documents that nobody else asks for."""
+    """Loads bulks of documents that no other client asks for."""
     number = 10**6
     while time.monotonic() < until:
         docs = [{"_id": f"{program.corpus.name(i)}-beside", "text": program.corpus.body(i)} for i in range(number, number + BULK)]
@@ -34,14 +34,14 @@ def loads(program, client, until):
 
 
 def builds(program, client, until):
-    """Builds indexes, each under a name of its own."""
+    """Builds indexes, each with a name of its own."""
     for number in range(BUILDS):
         if time.monotonic() < until:
             done(client, "_index", {"index": {"fields": program.corpus.columns("kind")}, "ddoc": "beside", "name": f"n{number}"}, b"200")
 
 
 def reshards(program, client, until):
-    """From one shard to 16 and back."""
+    """Reshards from one shard to 16 and back."""
     while time.monotonic() < until:
         for shards in (16, 1):
             done(client, "_placement", {"shards": shards}, b"200")
@@ -63,7 +63,7 @@ def work(program, beside, seconds, begun):
 
 
 def waited(program, kind, beside, seconds):
-    """What each request of a reader took, in seconds, while the work beside it goes on."""
+    """The time of each request of a reader, in seconds, while the other client works; sorted."""
     client = program.client()
     asked = [(client.prepare(one), one.answer) for one in program.corpus.requests(kind, 5000, "waits")]
     begun = multiprocessing.Event()
@@ -88,18 +88,18 @@ def waited(program, kind, beside, seconds):
 
 
 def cells(times):
-    """The parts of the waits, in milliseconds."""
+    """The percentiles of the waits, in milliseconds."""
     return [f"{times[min(len(times) - 1, int(len(times) * part))] * 1e3:.3f}" for part in PARTS.values()]
 
 
 def programs(words):
-    """What starts each program that is measured, by one shard and worker."""
+    """The functions that start each measured program, with one shard and one worker."""
     made = [lambda corpus: Program(words.program, corpus)]
     return [*made, PlainRust] if built() else made
 
 
 def waits(words):
-    """The table of what a reader waits, in milliseconds."""
+    """The table of a reader's waits, in milliseconds."""
     corpus, seconds = words.corpus(max(BULK, int(DOCUMENTS * words.share))), SECONDS * words.share
     yield f"| ms, {corpus.count:,} documents, one shard at first: a reader's request, beside | | {' | '.join(PARTS)} | requests |"
     yield "|---" * (len(PARTS) + 3) + "|"
@@ -119,7 +119,7 @@ def waits(words):
 
 
 def starts(words):
-    """The table of the times from start to ready, in milliseconds: the median of some starts."""
+    """The table of the times from the start to the first reply, in milliseconds: the median of some starts."""
     corpus = words.corpus(BULK)
     made = [lambda corpus, setting=setting: Program(words.program, corpus, setting) for setting in ((1, 1), (16, 4), (64, 32))]
     yield "| from the start to the first reply | ms | bytes in memory |\n|---|---|---|"

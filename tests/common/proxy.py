@@ -1,4 +1,4 @@
-"""examples/journal.py, as a test starts it in front of a new program."""
+"""Starts examples/journal.py as a proxy in front of a new program."""
 import re
 import subprocess
 import sys
@@ -10,7 +10,7 @@ from common.server import free_port
 EXAMPLES = Path(__file__).resolve().parent.parent.parent / "examples"
 LISTENING = re.compile(r"journal: listening on 127\.0\.0\.1:([0-9]+)\n")
 SECONDS = 60
-# journal.py with another fsync: it counts its calls, waits while the file `hold` is in a folder, and fails while `fail` is there
+# journal.py with another fsync: it counts its calls, waits while the file `hold` exists in a folder, and fails while `fail` exists
 WATCHED = f"""
 import os, sys, time
 folder, real = sys.argv.pop(1), os.fsync
@@ -51,7 +51,7 @@ class Proxy:
         return int(child)
 
     def status(self):
-        """The status with which the proxy ends, and the last line that it wrote."""
+        """The exit status of the proxy, and the last line that it wrote."""
         status = self.process.wait(SECONDS)
         self.rest.join(SECONDS)
         return status, self.lines[-1] if self.lines else ""
@@ -74,7 +74,7 @@ def message(method, target, body=b""):
 
 
 def status_of(reply):
-    """The status of a whole reply, None where it is not whole."""
+    """The status of a reply; None if the reply is incomplete."""
     head, end, body = reply.partition(b"\r\n\r\n")
     found = re.search(rb"\r\nContent-Length: ([0-9]+)", head)
     return int(head.split(b" ")[1]) if end and found and len(body) == int(found[1]) else None

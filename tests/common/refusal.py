@@ -1,4 +1,4 @@
-"""The shim refuse/refuse.c: compiled when a test begins, and told what to refuse through a file that it shares with the program."""
+"""The shim refuse/refuse.c. It is compiled when a test begins; a file that is shared with the program says what it refuses."""
 import contextlib
 import mmap
 import os
@@ -19,7 +19,7 @@ ENDS = {"Eof": (0, b""), "Refused": (1, b"mangod: refused\n"), "ReadFault": (1, 
 
 
 class Refusal:
-    """What a program that has the shim is refused from now on."""
+    """Controls what the shim refuses to the programs that run with it."""
 
     def __init__(self, folder):
         self.shim, self.file = folder / "refuse.so", folder / "words"
@@ -33,18 +33,19 @@ class Refusal:
         struct.pack_into("<q", self.words, 8 * word, value)
 
     def calls(self, kind):
-        """How many calls of a kind there were since the last reset."""
+        """The number of calls of a kind since the last reset."""
         return self.word(KINDS[kind] + CALLS)
 
     def refused(self, kind):
-        """How many of them were refused."""
+        """The number of calls of a kind that were refused since the last reset."""
         return self.word(KINDS[kind] + REFUSED)
 
     def word(self, word):
         return struct.unpack_from("<q", self.words, 8 * word)[0]
 
     def reset(self, piece=0, takes_none=False, whole_writes=False):
-        """Nothing was called, and nothing is refused. Reads move at most so many bytes where a number is given, and so do writes that are not whole."""
+        """Sets all counts to 0, and refuses nothing. If `piece` is not 0, each read moves at most so many bytes; so does each write, unless
+        `whole_writes`. With `takes_none`, a refused write takes no byte instead of failing."""
         for word in range(PIECE):
             self.put(word, 0)
         self.put(PIECE, piece)
@@ -58,18 +59,18 @@ class Refusal:
         self.put(KINDS[kind] + FIRST, first)
 
     def relent(self, kind):
-        """Refuses no more of a kind; what was counted stays."""
+        """Refuses no more calls of a kind, and keeps its counts."""
         self.put(KINDS[kind] + FIRST, 0)
 
     def run(self, words, given):
-        """What the program wrote, and how it ended."""
+        """Runs a program with the shim; gives its output, and how it ended."""
         done = subprocess.run(words, input=given, capture_output=True, timeout=SECONDS, env=self.environment)
         return done.stdout, (done.returncode, done.stderr)
 
 
 @contextlib.contextmanager
 def refusals():
-    """The shim, which needs a C compiler."""
+    """Compiles the shim, which needs a C compiler."""
     folder = Path(tempfile.mkdtemp())
     try:
         yield Refusal(folder)

@@ -1,4 +1,4 @@
-"""A validator for the part of JSON Schema 2020-12 that docs/openapi.json uses. A number with a fraction or an exponent is no integer."""
+"""A validator for the part of JSON Schema 2020-12 that docs/openapi.json uses. A number with a fraction or exponent is not an integer."""
 import re
 
 IGNORED = {"description", "default", "title"}
@@ -15,7 +15,7 @@ def same(left, right):
 
 
 class Schemas:
-    """The schemas of a document, in which references are looked up."""
+    """The schemas of a document, which resolve references."""
 
     def __init__(self, document):
         self.document = document
@@ -27,7 +27,7 @@ class Schemas:
         return found
 
     def allows(self, schema, value):
-        """Whether a value is as a schema says. A keyword that is not known is an error."""
+        """Whether a schema allows a value. An unknown keyword is an error."""
         return all(self.keyword(schema, keyword, value) for keyword in schema if keyword not in IGNORED)
 
     def keyword(self, schema, keyword, value):

@@ -1,4 +1,4 @@
-"""Programs that a test has started, which listen on a free port of 127.0.0.1."""
+"""Starts programs that listen on a free port of 127.0.0.1."""
 import contextlib
 import dataclasses
 import resource
@@ -9,7 +9,7 @@ import sys
 
 @dataclasses.dataclass(frozen=True)
 class Setting:
-    """Which program is started, with how many shards and workers."""
+    """The program to start, and its numbers of shards and workers."""
     program: str
     shards: int
     workers: int
@@ -21,14 +21,14 @@ def free_port():
 
 
 def limited(descriptors):
-    """What a new program does first to have at most so many descriptors, nothing where no number is given."""
+    """A function that limits the descriptors of a new program before it runs; None if no number is given."""
     if descriptors is None:
         return None
     return lambda: resource.setrlimit(resource.RLIMIT_NOFILE, (descriptors, descriptors))
 
 
 def started(words, sessions, environment=None, host="127.0.0.1", descriptors=None):
-    """A new program of these words and so many sessions that listens, and its port; another port where somebody else took it meanwhile."""
+    """Starts a program that listens; gives it and its port. Tries another port if the first was taken meanwhile."""
     for _ in range(3):
         port = free_port()
         command = [words.program, "db", str(words.shards), str(words.workers), str(sessions), f"{host}:{port}"]
@@ -46,7 +46,7 @@ def started(words, sessions, environment=None, host="127.0.0.1", descriptors=Non
 
 @contextlib.contextmanager
 def listening(words, sessions, environment=None, **more):
-    """The port of a new program of so many sessions, which is ended afterwards."""
+    """Starts a program that listens, gives its port, and ends the program afterwards."""
     program, port = started(words, sessions, environment, **more)
     try:
         yield port

@@ -1,9 +1,9 @@
-"""What a script found, and what it wanted."""
+"""Counts the checks of a script that passed and failed."""
 import shutil
 
 
 class Tally:
-    """Counts what was as wanted, and prints what was not."""
+    """Counts checks, and prints those that failed."""
 
     def __init__(self):
         self.passed = self.failed = 0
@@ -16,7 +16,7 @@ class Tally:
             print(f"{name}: {got!r}\n  wanted {wanted!r}", flush=True)
 
     def count(self, name, faults):
-        """A check that passes where it has no fault."""
+        """Counts a check, which passes if it has no faults."""
         if faults:
             self.failed += 1
             print(f"{name}: {'; '.join(map(str, faults))}", flush=True)
@@ -24,7 +24,7 @@ class Tally:
             self.passed += 1
 
     def needs(self, command):
-        """Whether a command is here that the next checks need. It fails where it is not, since they are left out then."""
+        """Whether a command is installed that the next checks need. If not, that counts as a failed check, since they are left out."""
         is_here = shutil.which(command) is not None
         if not is_here:
             self.failed += 1
@@ -32,7 +32,7 @@ class Tally:
         return is_here
 
     def end(self):
-        """Prints the last line; the exit status. A script that tried nothing has failed."""
+        """Prints the last line, and gives the exit status. A script without a check has failed."""
         if self.passed + self.failed == 0:
             self.failed = 1
             print("nothing was tried")

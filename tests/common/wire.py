@@ -1,4 +1,4 @@
-"""Connections by which bytes are sent and replies are read."""
+"""Connections that send bytes and read replies."""
 import http.client
 import json
 import re
@@ -10,7 +10,7 @@ SECONDS = 60
 
 
 class Wire:
-    """A client that sees the bytes of replies."""
+    """A client that reads the bytes of replies."""
 
     def __init__(self, port):
         self.socket = socket.create_connection(("127.0.0.1", port), timeout=SECONDS)
@@ -18,7 +18,7 @@ class Wire:
         self.held = b""
 
     def more(self):
-        """Whether more bytes came before the connection ended."""
+        """Reads more bytes. False if the connection has ended."""
         try:
             piece = self.socket.recv(1 << 20)
         except ConnectionError:
@@ -27,7 +27,7 @@ class Wire:
         return bool(piece)
 
     def reply(self):
-        """The next whole reply, or what came of it before the connection ended."""
+        """The next whole reply, or as much of it as came before the connection ended."""
         while not (found := LENGTH.search(self.held)) and self.more():
             pass
         end = found.end() + int(found[1]) if found else len(self.held)
@@ -37,7 +37,7 @@ class Wire:
         return taken
 
     def send(self, message):
-        """Whether the message could be sent."""
+        """Sends a message. False if the connection has ended."""
         try:
             self.socket.sendall(message)
         except ConnectionError:
@@ -49,14 +49,14 @@ class Wire:
         return self.reply()
 
     def finish(self):
-        """Sends no more."""
+        """Ends the output of the connection; replies can still be read."""
         try:
             self.socket.shutdown(socket.SHUT_WR)
         except OSError:
             pass
 
     def rest(self):
-        """All that comes until the connection ends."""
+        """Everything that comes until the connection ends."""
         while self.more():
             pass
         taken, self.held = self.held, b""
@@ -67,7 +67,7 @@ class Wire:
 
 
 class Client:
-    """A connection by which JSON is asked for."""
+    """A connection that sends requests with JSON and reads the replies."""
 
     def __init__(self, port):
         self.connection = http.client.HTTPConnection("127.0.0.1", port, timeout=SECONDS)
@@ -86,7 +86,7 @@ def connect(port):
 
 
 def read(connection, count):
-    """So many bytes of what comes, fewer where it ends."""
+    """Reads `count` bytes, or fewer if the connection ends."""
     got = b""
     while len(got) < count:
         piece = connection.recv(count - len(got))
@@ -97,7 +97,7 @@ def read(connection, count):
 
 
 def asks(port, messages):
-    """All that comes for messages that are sent at once, and no more after them."""
+    """Sends messages at once and then the end, and gives everything that comes back."""
     with connect(port) as connection:
         connection.sendall(messages)
         connection.shutdown(socket.SHUT_WR)
@@ -105,13 +105,13 @@ def asks(port, messages):
 
 
 def reset(connection):
-    """Closes a connection by a reset."""
+    """Closes a connection with a reset."""
     connection.setsockopt(socket.SOL_SOCKET, socket.SO_LINGER, struct.pack("ii", 1, 0))
     connection.close()
 
 
 def is_closed(connection, seconds):
-    """Whether the other side ends a connection within so many seconds, by an end or by a reset."""
+    """Whether the other side ends or resets a connection within some seconds."""
     connection.settimeout(max(seconds, 0.01))
     try:
         return connection.recv(1) == b""

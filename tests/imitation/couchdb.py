@@ -1,7 +1,7 @@
-"""An imitation of the two requests of CouchDB that examples/from_couchdb.py makes. It was written from CouchDB's API reference
-(`/{db}/_changes` and `/{db}/_bulk_get`), and has not been compared with a CouchDB.
+"""Imitates CouchDB for the two requests that examples/from_couchdb.py makes. It was written from CouchDB's API reference
+(`/{db}/_changes` and `/{db}/_bulk_get`), and has not been compared with a real CouchDB.
 
-Documents are put into it by calls. A body is the text of its members, so that it can have what the program does not read.
+Tests put documents into it by calls. A body is the text of its members, so that it can hold values that the program does not read.
 """
 import base64
 import contextlib
@@ -19,15 +19,15 @@ def order(revision):
 
 
 class Source:
-    """A database: the leaves of each document, each with its path of revisions, and the documents in the order of their changes."""
+    """A database: the leaves of each document, each with its path of revisions; and the documents in the order of their changes."""
 
     def __init__(self):
         self.documents, self.parents, self.changed, self.sequence = {}, {}, {}, 0
-        self.asked, self.faults = [], 0  # the requests that came, and how many of the next ones fail
+        self.asked, self.faults = [], 0  # the requests so far, and how many of the next ones fail
         self.news = threading.Condition()
 
     def put(self, name, path, members="", deleted=False):
-        """Adds a revision: the path of its revisions, newest first, and the text of its members. It is a leaf if it is no parent."""
+        """Adds a revision, from its path, newest first, and the text of its members. It is a leaf unless it is a parent already."""
         with self.news:
             parents = self.parents.setdefault(name, set())
             parents.update(path[1:])
@@ -39,12 +39,12 @@ class Source:
             self.news.notify_all()
 
     def best(self, name):
-        """The leaves that are not deleted, the winner in front."""
+        """The leaves that are not deleted, the winner first."""
         leaves = self.documents[name].items()
         return sorted((revision for revision, (_, _, deleted) in leaves if not deleted), key=order, reverse=True)
 
     def served(self, name):
-        """What `GET ?conflicts=true` of a document gives here and in CouchDB; None for a deleted one."""
+        """What the program and CouchDB must give for `GET ?conflicts=true` of a document; None for a deleted one."""
         best = self.best(name)
         if not best:
             return None
@@ -64,7 +64,7 @@ class Source:
         return json.dumps({"results": rows, "last_seq": last, "pending": 0})
 
     def leaf(self, name, revision):
-        """One document of a `_bulk_get?revs=true`, or its error."""
+        """One document of a reply to `_bulk_get?revs=true`, or its error."""
         if revision not in self.documents.get(name, {}):
             return json.dumps({"error": {"id": name, "rev": revision, "error": "not_found", "reason": "missing"}})
         path, members, deleted = self.documents[name][revision]
@@ -98,7 +98,7 @@ class Source:
 
 @contextlib.contextmanager
 def serving(source):
-    """The URL of a database that is served."""
+    """Serves a database over HTTP, and gives its URL."""
 
     class Handler(BaseHTTPRequestHandler):
         def do_GET(self):

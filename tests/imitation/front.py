@@ -1,8 +1,8 @@
-"""An imitation of CouchDB in front of the program: it gives replies the forms that CouchDB's API reference describes, and that the
-reference of this project names as differences. It has not been compared with a CouchDB.
+"""Imitates CouchDB as a proxy in front of the program. It gives replies the forms that CouchDB's API reference describes and that the
+reference of this project names as differences. It has not been compared with a real CouchDB.
 
-Revisions and ids that were made are turned round, both ways; bookmarks get a front; reasons, the order of members, and members that
-only CouchDB has are changed. `planted` is a function of a method, a target and a reply that changes one more thing.
+It reverses revisions and ids that the server made, in both directions; gives bookmarks a prefix; and changes reasons, the order of members,
+and members that only CouchDB has. `planted` is a function of a method, a target and a reply that changes one more thing.
 """
 import contextlib
 import http.client
@@ -21,14 +21,14 @@ def turned(text):
 
 
 def backwards(value):
-    """A value with the members of its objects in the other order."""
+    """A value with the members of its objects in reverse order."""
     if isinstance(value, dict):
         return {name: backwards(value[name]) for name in reversed(list(value))}
     return [backwards(item) for item in value] if isinstance(value, list) else value
 
 
 def own_reply(method, target, body):
-    """The replies of requests that only CouchDB serves, None for the others."""
+    """The reply to a request that only CouchDB serves; None for others."""
     if target == "":
         return {"PUT": (201, {"ok": True}), "DELETE": (200, {"ok": True}), "GET": (200, {"db_name": "db"})}[method]
     if method == "GET" and target in ("_all_docs", "_changes", "_design/by"):
@@ -41,7 +41,7 @@ def own_reply(method, target, body):
 
 
 def dressed(method, target, status, value):
-    """A reply of the program in CouchDB's forms."""
+    """A reply of the program in the form of CouchDB."""
     if isinstance(value, dict) and "reason" in value:
         return status, {**value, "reason": "another text"}
     if "revs=true" in target:
@@ -58,7 +58,7 @@ def dressed(method, target, status, value):
 
 
 class Front:
-    """Asks the program, and changes what it says."""
+    """Passes requests on to the program, and changes its replies."""
 
     def __init__(self, port, planted=None):
         self.port, self.planted, self.asked = port, planted or (lambda method, target, reply: reply), []
@@ -78,7 +78,7 @@ class Front:
 
 @contextlib.contextmanager
 def serving(front):
-    """The URL of the database."""
+    """Serves the imitation over HTTP, and gives the URL of its database."""
 
     class Handler(BaseHTTPRequestHandler):
         def do_GET(self):

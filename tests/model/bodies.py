@@ -1,4 +1,4 @@
-"""How the bodies of bulks, indexes and queries are read, and their first faults."""
+"""Reads the bodies of bulks, indexes and queries, and finds their first faults."""
 import base64
 import hashlib
 import json
@@ -34,13 +34,13 @@ def no_constant(text):
 
 
 def whole(text):
-    """A whole number of 64 bits; any other number is kept as a float."""
+    """A whole number, as an int if it fits 64 bits, else as a float; `-0` as a float, too."""
     number = int(text)
     return number if -(2**63) <= number < 2**63 and text != "-0" else float(number)
 
 
 def is_read(value, depth=0):
-    """Whether a value has whole numbers alone, and is not too deep."""
+    """Whether the program reads a value: it has only whole numbers of 64 bits, and is not too deep."""
     if isinstance(value, (list, dict)):
         inner = value.values() if isinstance(value, dict) else value
         return depth < DEEPEST and all(is_read(item, depth + 1) for item in inner)
@@ -58,7 +58,7 @@ def value_of(body):
 
 
 def path_of(document, new_edits):
-    """The revisions that a document of a bulk gives, newest first, none where it gives none."""
+    """The revisions that a document of a bulk gives, newest first; None if it gives none."""
     bad = (400, "doc_validation", "Invalid rev format.")
     path = None
     if "_rev" in document:
@@ -87,7 +87,7 @@ def edit_of(document, new_edits):
 
 
 def bulk_of(body):
-    """The edits of a bulk, and whether they are new."""
+    """The edits of a bulk, and its `new_edits`."""
     asked(isinstance(body, dict) and isinstance(body.get("docs"), list) and all(isinstance(d, dict) for d in body["docs"]))
     new_edits = body.get("new_edits", True)
     asked(isinstance(new_edits, bool))
@@ -95,7 +95,7 @@ def bulk_of(body):
 
 
 def columns_of(fields):
-    """The paths of an array of columns and their directions."""
+    """The paths of an array of columns, and their directions."""
     paths, directions = [], set()
     asked(isinstance(fields, list))
     for field in fields:
@@ -135,7 +135,7 @@ def hint_of(hint):
 
 
 def bookmark_of(text):
-    """The parts of a bookmark, none where it is `nil`."""
+    """The parts of a bookmark; None for `nil`."""
     if text in (None, "nil"):
         return None
     try:
@@ -149,7 +149,7 @@ def bookmark_of(text):
 
 
 def query_of(body):
-    """A query by its parts, or its first fault."""
+    """The parts of a query. Raises its first fault."""
     asked(isinstance(body, dict) and isinstance(body.get("selector"), dict))
     limit, skip = body.get("limit", 25), body.get("skip", 0)
     asked(all(is_whole(number) and 0 <= number <= MOST for number in (limit, skip)))

@@ -1,4 +1,4 @@
-"""Documents by the revisions of their edits, as CouchDB's replication and conflict model has them."""
+"""Documents as revisions, by CouchDB's replication and conflict model."""
 import hashlib
 
 from model.values import compact
@@ -9,20 +9,20 @@ def text_of(revision):
 
 
 class Document:
-    """The revisions of a document: the parent of each that is known (none for a root), and what those of paths' fronts hold."""
+    """The revisions of a document: the parent of each known one (None for a root), and the mark and body of each that headed a path."""
 
     def __init__(self):
         self.parents = {}
         self.held = {}
 
     def leaves(self):
-        """From the winner down: those that are not deleted by position and id, and then the deleted ones so."""
+        """The leaves, best first: those that are not deleted, by position and id, and then the deleted ones, by position and id."""
         inner = set(self.parents.values())
         leaves = [revision for revision in self.parents if revision not in inner]
         return sorted(leaves, key=lambda revision: (not self.held[revision][0], revision), reverse=True)
 
     def merge(self, path, deleted, body):
-        """Takes in a path, newest first, unless it gives a known revision another parent."""
+        """Merges a path, newest first. False, with no change, if it gives a known revision another parent."""
         steps = list(zip(path, path[1:]))
         if any(self.parents.get(child) not in (None, parent) for child, parent in steps):
             return False
@@ -33,7 +33,7 @@ class Document:
         return True
 
     def edit(self, given, deleted, body):
-        """The new revision, none where the edit is a conflict."""
+        """Makes a new edit, and gives its revision; None if the edit conflicts."""
         leaves = self.leaves()
         if given is None and leaves and not self.held[leaves[0]][0]:
             return None
@@ -55,7 +55,7 @@ class Document:
         return found
 
     def served(self, name, conflicts=False):
-        """The document that is served, none where it is deleted."""
+        """The document as it is served; None if it is deleted."""
         winner, *others = self.leaves()
         deleted, body = self.held[winner]
         if deleted:

@@ -1,10 +1,10 @@
-"""The choice of an index, and the range of its keys that a query asks for."""
+"""Chooses the index for a query, and the range of its keys."""
 from model.selectors import COMPARISONS, bounds, needs_part, steps_of
 from model.values import order
 
 
 def bounded(columns, found):
-    """How many columns count as bounded."""
+    """How many columns of an index a query bounds: those fixed by `$eq`, and the first one after them if it is bounded."""
     count = 0
     for column in columns:
         names = [name for name, _ in bounds(found, steps_of(column))]
@@ -15,7 +15,7 @@ def bounded(columns, found):
 
 
 def chosen(indexes, found, sort, hint):
-    """The ddoc and name of the index that serves a query: None is that of all documents, and False says that there is none."""
+    """The ddoc and name of the index that serves a query; None for `_all_docs`, False if no index can serve it."""
     there = [*([name] for name in ("_id", "_rev")), *map(steps_of, sort), *(atom[0] for atom in found if needs_part(atom))]
     paths = [steps_of(path) for path in sort]
     usable = []
@@ -31,7 +31,7 @@ def chosen(indexes, found, sort, hint):
 
 
 def tighter(limits, upper):
-    """The tightest of several bounds of one side, none where there is none: its value, and whether the value is inside."""
+    """The tightest of the bounds of one side: its value, and whether it is inclusive. None if there is no bound."""
     if not limits:
         return None
     sign = min if upper else max
@@ -41,7 +41,7 @@ def tighter(limits, upper):
 
 
 def range_of(columns, found):
-    """The range's text: empty, or the fixed values and the two ends of the column after them."""
+    """The range of a query: empty, or the fixed values and the two ends of the column after them."""
     equal = []
     for column in columns:
         here = list(bounds(found, steps_of(column)))

@@ -1,4 +1,4 @@
-"""Selectors: how they are read, of which values they hold, and the atoms that they ask in any case."""
+"""Selectors: how they are read, which values they match, and the atoms that every match fulfils."""
 from model.values import MISSING, order
 
 COMPARISONS = {"$lt": lambda a, b: a < b, "$lte": lambda a, b: a <= b, "$eq": lambda a, b: a == b,
@@ -22,7 +22,7 @@ def is_whole(value):
 
 
 def steps_of(path):
-    """The steps of a path's text, none where one of them is empty."""
+    """The steps of a path; None if one of them is empty."""
     steps = path.replace("\\.", "\0").split(".")
     return None if "" in steps else [step.replace("\0", ".") for step in steps]
 
@@ -39,7 +39,7 @@ def part_at(value, steps):
 
 
 def is_argument(name, argument):
-    """Whether an operator that is no combinator takes the argument."""
+    """Whether an operator that is not a combinator allows this argument."""
     if name in COMPARISONS:
         return True
     if name == "$exists":
@@ -54,7 +54,7 @@ def is_argument(name, argument):
 
 
 def read(value):
-    """The selector that an object spells, as a tuple of its form and its parts."""
+    """Reads the selector of an object, as a tuple of its form and its parts."""
     return ("members", [read_member(name, value[name]) for name in sorted(value)])
 
 
@@ -82,7 +82,7 @@ def read_member(name, argument):
 
 
 def entry(name, argument, value):
-    """Whether an operator holds on a part, which is not missing."""
+    """Whether an operator matches a part that is not missing."""
     if name in COMPARISONS:
         return COMPARISONS[name](order(value), order(argument))
     if name == "$exists":
@@ -126,7 +126,7 @@ def holds(selector, value, negated=False):
 
 
 def atoms(selector, negated=False, steps=()):
-    """The operators that are asked in any case: their steps, name, argument and sense."""
+    """The operators that every match fulfils: the steps, the name, the argument, and whether the operator is negated."""
     kind, *parts = selector
     if kind == "asks":
         return [(list(steps), *parts, negated)]
@@ -147,7 +147,7 @@ def needs_part(atom):
 
 
 def bounds(found, steps):
-    """The operators that bound the part at some steps, with their arguments."""
+    """The operators that bound the part at these steps, with their arguments."""
     for place, name, argument, negated in found:
         if place == steps and name in OPPOSITES:
             name = OPPOSITES[name] if negated else name

@@ -1,4 +1,4 @@
-"""What a database answers to messages: all commands, whole selectors, and no rows."""
+"""The model of a database that answers messages: all commands and all selectors, and no rows."""
 import copy
 from urllib.parse import unquote
 
@@ -33,14 +33,14 @@ def projected(value, paths):
 
 
 class Database(World):
-    """A database that is told of by messages."""
+    """A database that is driven by messages."""
 
     def __init__(self):
         super().__init__()
         self.counter = 0
 
     def answer(self, message):
-        """The bytes of the reply to a whole message of one of the routes."""
+        """The bytes of the reply to a complete message on one of the routes."""
         head, _, body = message.partition(b"\r\n\r\n")
         method, target, _ = head.split(b"\r\n")[0].decode().split(" ")
         try:
@@ -100,7 +100,7 @@ class Database(World):
         return 200, {"ok": True}
 
     def served_by(self, query):
-        """The index that serves a query and its columns, or the refusal."""
+        """The index that serves a query, and its columns. Raises the refusal if there is none or the bookmark does not fit."""
         index = ranges.chosen(self.indexes, query["found"], query["sort"], query["hint"])
         no_index = (400, "no_usable_index", "No index exists for this sort, try indexing by the sort fields.")
         bodies.asked(index is not False, no_index)

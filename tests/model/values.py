@@ -10,7 +10,7 @@ def compact(value):
 
 
 def order(value):
-    """What sorts values by type: null, false and true, numbers, strings, arrays, objects."""
+    """A sort key that orders values by type: null, false and true, numbers, strings, arrays, objects."""
     if value is None:
         return (0,)
     if isinstance(value, bool):

@@ -1,4 +1,4 @@
-"""What a database answers: it keeps documents and the names of indexes, and sorts all documents anew for each page."""
+"""The model of a database. It keeps documents and definitions of indexes, and sorts all documents anew for each page."""
 import base64
 import json
 
@@ -26,14 +26,14 @@ def decoded(text):
 
 
 class World:
-    """The documents, and of each index its paths and their direction."""
+    """The documents, and the paths and the direction of each index."""
 
     def __init__(self):
         self.documents = {}
         self.indexes = {}
 
     def entry(self, edit, new_edits):
-        """The reply to one edit, none where nothing is told of it."""
+        """The entry of one edit in the reply to a bulk; None if it has none."""
         name, path, deleted, body = edit
         document = self.documents.get(name, Document())
         if new_edits:
@@ -49,7 +49,7 @@ class World:
         return told if made else refusal
 
     def chosen(self, query):
-        """The ddoc and the name of the index that serves a query; None is that of all documents, and False where no index does."""
+        """The ddoc and name of the index that serves a query; None for `_all_docs`, False if no index can serve it."""
         sort, selector, hint = query["sort"], query["selector"], query["hint"]
         usable = [
             index for index, (columns, _) in self.indexes.items()
@@ -71,7 +71,7 @@ class World:
         return -bounded, len(columns), index[1], index[0]
 
     def page(self, query):
-        """The status and the body of the reply to a query, and its bookmark."""
+        """The status and the body of the reply to a query."""
         index = self.chosen(query)
         if index is False:
             return 400, {"error": "no_usable_index", "reason": "No index exists for this sort, try indexing by the sort fields."}

@@ -1,4 +1,4 @@
--- The service of a seat may cross threads, where what ends its database may.
+-- The service of a seat may be sent to another thread, if what ends its database may.
 use denote.Param.Send.{IsSend, sendable}
 use denote.Param.SendFields.{declared_send}
 use denote.RattleType.{RattleType}

@@ -1,4 +1,4 @@
--- Clients that are served one after another: one more, and what they do to the seat of a service.
+-- Sessions with clients, one after another: how they compose, and what they do to the seat of a service.
 use Rattle.std.proofs.Common.{◌≡◌, ◌∙◌, ◌<◌, ℕ, List, [], ◌∷◌, ◌++◌, length, map, get_or, Option, refl, sym, ap, subst}
 use Rattle.std.proofs.lemmas.List.{get_or-map}
 use Rattle.mg_engine.specs.Commands.{Asked, Answer}
@@ -6,13 +6,13 @@ use Rattle.mg_http.proofs.TalkLemmas.{talks}
 use Rattle.mg_live.specs.Sitting.{Answered, Sitting}
 use Rattle.mangod.specs.Conversations.{Conversation, InTurn}
 
--- some, and then others
+-- some sessions, and then others
 pub more : {S : Type 0} (answers : S → Asked → Option Answer → S → Type 0) (db : List ℕ) (a b c : S) (xs ys : List Conversation)
     → InTurn answers db a xs b → InTurn answers db b ys c → InTurn answers db a (xs ++ ys) c
 more answers db a b c [] ys first then = subst (λ s. InTurn answers db s ys c) first then
 more answers db a b c (x ∷ xs) ys first then = (first.0, first.1, more answers db first.0 b c xs ys first.2 then)
 
--- those of a service whose states stand for others are also of these
+-- if the states of a service stand for others, its sessions are sessions of the others
 module _ {S T : Type 0} (answers : S → Asked → Option Answer → S → Type 0) (shown : T → Asked → Option Answer → T → Type 0) (stands : S → T → Type 0) (db : List ℕ)
     (steps : (old : S) (c : Asked) (r : Option Answer) (new : S) (v : T) → answers old c r new → stands old v → (u : T) × shown v c r u × stands new u) where
   pub seen_by : (a b : S) (v : T) (xs : List Conversation) → InTurn answers db a xs b → stands a v → (u : T) × InTurn shown db v xs u × stands b u
@@ -22,7 +22,7 @@ module _ {S T : Type 0} (answers : S → Asked → Option Answer → S → Type 
       let others = seen_by h.0 b one.0 xs h.2 one.2 in
       (others.0, (one.0, one.1, others.1), others.2)
 
--- those of a service of a seat are those of the seat
+-- the sessions of a service with a seat are sessions of the seat
 pub seats_served : {S : Type 0} (a b : S) (seat_of : S → Sitting) (name db : List ℕ) (xs : List Conversation)
     → InTurn (λ old command reply new. Answered name (seat_of old) command reply (seat_of new)) db a xs b
     → InTurn (Answered name) db (seat_of a) xs (seat_of b)
@@ -33,6 +33,6 @@ seats_served {S} a b seat_of name db xs h =
     a b (seat_of a) xs h refl in
     subst (λ (x : Sitting). InTurn (Answered name) db (seat_of a) xs x) done.2 done.1
 
--- what is shown of an element of a list
+-- the image of an element of a list
 pub shown_at : {X Y : Type 0} (xs : List X) (i : ℕ) (x : X) (e : Y) (f : X → Y) → i < length xs → ((d : X) → get_or xs i d ≡ x) → get_or (map f xs) i e ≡ f x
 shown_at xs i x e f inside is = get_or-map f xs i x e inside ∙ ap f (is x)

@@ -1,26 +1,26 @@
--- The arguments of the program, `DB SHARDS WORKERS SESSIONS ADDR`: the name of a database, as CouchDB takes it but without the
--- slash, numbers, and where the program listens.
+-- The arguments of the program, `DB SHARDS WORKERS SESSIONS ADDR`: a database name as in CouchDB but without slashes, three numbers, and
+-- the address at which the program listens.
 use Rattle.std.specs.Prelude.{ℕ, List, [], ◌∷◌, Bool, false, Option, Some, None, ◌&&◌, ◌||◌, if◌then◌else◌, nat_eq, nat_le, bytes_eq, codes}
 use Rattle.std.specs.Char.{is_ascii_lowercase, is_ascii_digit}
 use Rattle.std.specs.List.{list_all, list_any}
 use Rattle.std.specs.Str.Parse.{digits_value}
 
--- a byte that may follow in a name: a lower case letter, a digit or one of `_$()+-`
+-- a byte of a name after the first: a lower case letter, a digit or one of `_$()+-`
 abbrev pub is_name_byte : ℕ → Bool
 is_name_byte byte = is_ascii_lowercase byte || is_ascii_digit byte || list_any (nat_eq byte) (codes "_$()+-")
 
--- whether a word is a name: a lower case letter, and then bytes that may follow
+-- the argument is a database name: a lower case letter, and then such bytes
 abbrev pub is_database_name : List ℕ → Bool
 is_database_name [] = false
 is_database_name (first ∷ rest) = is_ascii_lowercase first && list_all is_name_byte rest
 
--- the number that decimal digits write, where it is from 1 to `most`
+-- the number that decimal digits write, if it is from 1 to `most`
 abbrev pub number_of : List ℕ → ℕ → Option ℕ
 number_of word most =
     if list_all is_ascii_digit word && (nat_le 1 (digits_value 10 word) && nat_le (digits_value 10 word) most)
     then Some (digits_value 10 word) else None
 
--- what the words ask for
+-- what the arguments ask for
 pub record Settings : Type 0 where
   pub db : List ℕ
   pub shards : ℕ
@@ -28,25 +28,25 @@ pub record Settings : Type 0 where
   pub sessions : ℕ
   pub addr : List ℕ
 
--- whether standard input and output are meant, by the address `-`, and not TCP
+-- the address is `-`, which means standard input and output instead of TCP
 abbrev pub is_standard : List ℕ → Bool
 is_standard addr = bytes_eq addr (codes "-")
 
--- the settings of a name, an address, which may be any text, and three numbers, if all are right
+-- the settings of a name, an address and three numbers, if all are right; the address may be any text
 abbrev pub settings_with : List ℕ → List ℕ → Option ℕ → Option ℕ → Option ℕ → Option Settings
 settings_with db addr (Some shards) (Some workers) (Some sessions) =
     if is_database_name db
     then Some (record { db = db; shards = shards; workers = workers; sessions = sessions; addr = addr }) else None
 settings_with db addr shards workers sessions = None
 
--- the settings of five words, none where they are wrong: at least one and at most 64 shards, 32 workers and 16 sessions
+-- the settings of five arguments, if they are right: 1 to 64 shards, 1 to 32 workers and 1 to 16 sessions
 abbrev pub settings_of : List (List ℕ) → Option Settings
 settings_of (db ∷ shards ∷ workers ∷ sessions ∷ addr ∷ []) =
     settings_with db addr (number_of shards 64) (number_of workers 32) (number_of sessions 16)
 settings_of words = None
 
--- the name of the database that is asked for, the number of its shards and the number of sessions; no name, one shard and one session
--- where the words are wrong
+-- the name of the database, the number of its shards and the number of sessions; an empty name, one shard and one session if the
+-- arguments are wrong
 abbrev pub name_in : Option Settings → List ℕ
 name_in None = []
 name_in (Some s) = s.db

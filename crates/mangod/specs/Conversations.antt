@@ -1,17 +1,17 @@
--- Clients that are served one after another.
+-- Sessions with clients, one after another.
 use Rattle.std.specs.Prelude.{◌≡◌, ℕ, List, [], ◌∷◌, Option}
 use Rattle.mg_engine.specs.Commands.{Asked, Answer}
 use Rattle.mg_http.specs.Session.{Converses}
 use Rattle.mg_http.specs.declared.sessions.SessionEnd.{SessionEnd}
 use Rattle.mg_live.specs.Sitting.{Answered, Sitting}
 
--- what a client sent, what it was sent, and how its session ended
+-- a session with a client: the bytes that it sent, the bytes written to it, and how its session ended
 pub record Conversation : Type 0 where
   pub bytes : List ℕ
   pub written : List ℕ
   pub end : SessionEnd
 
--- sessions took a service from the first state to the last: each began where the one before left it
+-- these sessions took a service from the first state to the last; each began in the state that the one before left
 abbrev pub InTurn : {S : Type 0} → (S → Asked → Option Answer → S → Type 0) → List ℕ → S → List Conversation → S → Type 0
 InTurn answers db old [] new = new ≡ old
 InTurn {S} answers db old (c ∷ cs) new =

@@ -1,15 +1,15 @@
--- How the program ends: its status, where 0 is success as POSIX has it, and its line on standard error, empty where there is
--- none. The lines are this project's own.
+-- How the program ends: its exit status (0 is success, as in POSIX), and its line on standard error (empty: no line). The lines are this
+-- project's own.
 use Rattle.std.specs.Prelude.{ℕ, List, [], codes}
 use Rattle.mg_http.specs.declared.sessions.SessionEnd.{SessionEnd}
 use Rattle.mg_http.specs.declared.sessions.SessionEnd.TheVariants.{Eof, Closed, Refused, ReadFault, WriteFault, Limit}
 
--- a status and a line
+-- an exit status and a line
 pub record Ending : Type 0 where
   pub status : ℕ
   pub line : List ℕ
 
--- the ending after a session: 0 where the client ended it, and else 1
+-- the ending after a session: status 0 if the client ended it, else 1
 abbrev pub ending_of : SessionEnd → Ending
 ending_of Eof = record { status = 0; line = [] }
 ending_of Closed = record { status = 0; line = [] }
@@ -18,18 +18,18 @@ ending_of ReadFault = record { status = 1; line = codes "mangod: read fault" }
 ending_of WriteFault = record { status = 1; line = codes "mangod: write fault" }
 ending_of Limit = record { status = 1; line = codes "mangod: limit" }
 
--- the ending where the words are wrong
+-- the arguments are wrong
 abbrev pub wrong_words : Ending
 wrong_words = record { status = 2; line = codes "mangod: usage: mangod DB SHARDS WORKERS SESSIONS ADDR" }
 
--- the ending where the start is refused memory
+-- there is no memory to start
 abbrev pub no_memory : Ending
 no_memory = record { status = 1; line = codes "mangod: out of memory" }
 
--- the ending where the address cannot be listened at
+-- the program cannot listen at the address
 abbrev pub cannot_listen : Ending
 cannot_listen = record { status = 1; line = codes "mangod: cannot listen" }
 
--- the ending where no more clients can be accepted
+-- the listener failed: no more clients can be accepted
 abbrev pub stopped : Ending
 stopped = record { status = 1; line = [] }

@@ -1,4 +1,4 @@
--- What follows from a fault of accept, by Linux's accept(2), and what becomes of a connection after its session.
+-- What to do after a failed accept (accept(2) of Linux), and with a connection after its session.
 use Rattle.std.specs.Prelude.{ℤ, pos, Bool, true, false, ◌||◌, if◌then◌else◌, Option, None, Some}
 use Rattle.std.specs.Ordering.{int_eq}
 use Rattle.mg_http.specs.declared.sessions.SessionEnd.{SessionEnd}
@@ -8,21 +8,21 @@ use Rattle.mangod.specs.declared.faults.AfterFault.TheVariants.{Again, Never, Wi
 use Rattle.mangod.specs.declared.faults.Disposal.{Disposal}
 use Rattle.mangod.specs.declared.faults.Disposal.TheVariants.{Close, CloseGently, Keep}
 
--- ENFILE, EMFILE or ENOBUFS
+-- descriptors or buffers ran out: ENFILE, EMFILE or ENOBUFS
 abbrev pub is_want : ℤ → Bool
 is_want number = int_eq number (pos 23) || (int_eq number (pos 24) || int_eq number (pos 105))
 
--- ENONET, EPROTO, ENOPROTOOPT or EHOSTDOWN
+-- the fault is of one connection only: ENONET, EPROTO, ENOPROTOOPT or EHOSTDOWN
 abbrev pub is_of_one_connection : ℤ → Bool
 is_of_one_connection number =
     int_eq number (pos 64) || (int_eq number (pos 71) || (int_eq number (pos 92) || int_eq number (pos 112)))
 
--- what follows from a fault of no kind of its own
+-- what to do after a failed accept, by the number of the error, if its kind does not say
 abbrev pub after_number : Option ℤ → AfterFault
 after_number None = Never
 after_number (Some number) = if is_want number then WithMore else if is_of_one_connection number then Again else Never
 
--- what becomes of a connection, by its session's end and whether its input ended in a pause between messages
+-- what to do with a connection, by its session's end and whether its input was ended in a pause between messages
 abbrev pub afterwards : SessionEnd → Bool → Disposal
 afterwards Eof true = Keep
 afterwards Refused paused = CloseGently

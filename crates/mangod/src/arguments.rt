@@ -12,7 +12,7 @@ const WORKERS: usize = 32;
 /// The most sessions.
 const SESSIONS: usize = 16;
 
-/// The settings of `DB SHARDS WORKERS SESSIONS ADDR`, none for wrong arguments. Takes no memory.
+/// Parses the arguments `DB SHARDS WORKERS SESSIONS ADDR`; `None` if they are wrong. Allocates nothing.
 ///
 /// SHARDS is 1 to 64, WORKERS is 1 to 32, and SESSIONS is 1 to 16. ADDR is any text.
 pub(crate) fn settings(words: &[String]) -> Option<Settings<'_>>
@@ -30,7 +30,7 @@ pub(crate) fn settings(words: &[String]) -> Option<Settings<'_>>
     }
 }
 
-/// How many sessions are asked for, one where the arguments are wrong.
+/// The number of sessions asked for; 1 if the arguments are wrong.
 pub(crate) fn sessions(asked: Option<Settings<'_>>) -> usize
     ensures { result ≡ sessions_in (option_map settings_seen asked.entry) }
 {
@@ -40,7 +40,7 @@ pub(crate) fn sessions(asked: Option<Settings<'_>>) -> usize
     }
 }
 
-// The settings of a name, an address and three numbers, if all are right.
+// The settings of a name, an address and three numbers; `None` if one of them is wrong.
 fn checked<'a>(
     db: &'a str,
     addr: &'a str,
@@ -70,7 +70,7 @@ fn checked<'a>(
     }
 }
 
-// Whether a word is the name of a database: a lower case letter, then lower case letters, digits and `_$()+-`.
+// Whether an argument is a database name: a lower case letter, then lower case letters, digits and `_$()+-`.
 fn is_database_name(word: &str) -> bool
     ensures { result ≡ is_database_name word.now }
 {
@@ -92,7 +92,7 @@ fn is_name_byte(byte: u8) -> bool
     byte.is_ascii_lowercase() || byte.is_ascii_digit() || b"_$()+-".contains(&byte)
 }
 
-// The number that one or more digits write, from 1 to `most`.
+// Parses a decimal number from 1 to `most`; `None` for anything else.
 fn number(word: &str, most: usize) -> Option<usize>
     requires { most ≤ 1000 }
     ensures value { result ≡ number_of word.now most }

@@ -1,6 +1,6 @@
 ghost use Rattle.std.specs.Prelude.{◌≤◌};
 
-/// What the program was asked for: the arguments, of which the texts are lent.
+/// The settings of the program: its parsed arguments. The texts are borrowed from them.
 #[derive(Clone, Copy)]
 pub(crate) struct Settings<'a> {
     pub(crate) db: &'a str,

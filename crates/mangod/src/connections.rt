@@ -1,4 +1,4 @@
-//! Clients over TCP, one connection after another.
+//! Serves clients over TCP, one connection after another.
 ghost use Rattle.std.specs.Prelude.{◌≡◌, List};
 ghost use Rattle.mangod.specs.Conversations.{Conversation, InTurn};
 
@@ -12,8 +12,8 @@ use std::sync::Wait;
 use std::thread::Threads;
 use std::time::{Clock, Instant};
 
-/// Serves the connections of a lobby on which bytes come, one after another, until the listener fails. What one client does ends its
-/// own connection alone, and a client that pauses goes back to the lobby.
+/// Serves connections from the lobby, one after another, each when bytes have come on it, until the listener fails. An error of one
+/// client ends only its own connection. A connection whose client pauses goes back to the lobby.
 pub(crate) fn serve_connections<H: Wait + Threads + Sync + Clock, S: Service>(
     rt: &H,
     alloc: Global,
@@ -35,7 +35,7 @@ pub(crate) fn serve_connections<H: Wait + Threads + Sync + Clock, S: Service>(
     }
 }
 
-// Holds a session over a connection until its client pauses or its end, and says what becomes of it.
+// Holds a session over a connection, until the session ends or its client pauses. Returns what to do with the connection.
 fn converse<H: Wait + Threads + Sync + Clock, S: Service>(
     rt: &H,
     alloc: Global,

@@ -3,38 +3,38 @@ ghost use Rattle.mangod.specs.Ends.{ending_of};
 
 use mg_http::SessionEnd;
 
-/// How the program ends: its status, and its line for standard error, empty where there is none.
+/// How the program ends: its exit status, and its line on standard error (empty: no line).
 #[derive(Clone, Copy, PartialEq, Debug)]
 pub(crate) struct Exit {
     pub(crate) status: u8,
     pub(crate) line: &'static str,
 }
 
-/// The end where the words are wrong.
+/// The arguments are wrong.
 pub(crate) const WRONG_WORDS: Exit = Exit {
     status: 2,
     line: "mangod: usage: mangod DB SHARDS WORKERS SESSIONS ADDR",
 };
 
-/// The end where the start is refused memory.
+/// There is no memory to start.
 pub(crate) const NO_MEMORY: Exit = Exit {
     status: 1,
     line: "mangod: out of memory",
 };
 
-/// The end where the address cannot be listened at.
+/// The program cannot listen at the address.
 pub(crate) const CANNOT_LISTEN: Exit = Exit {
     status: 1,
     line: "mangod: cannot listen",
 };
 
-/// The end where no more clients can be accepted.
+/// The listener failed: no more clients can be accepted.
 pub(crate) const STOPPED: Exit = Exit {
     status: 1,
     line: "",
 };
 
-/// The status and the line for standard error after a session; the line is empty where there is none. Takes no memory.
+/// The exit status and the line for standard error after a session (empty: no line). Allocates nothing.
 pub(crate) fn ending(end: &SessionEnd) -> (u8, &'static str)
     ensures status { result.0 ≡ (ending_of end.now).status }
     ensures line { result.1.now ≡ (ending_of end.now).line }
@@ -51,7 +51,7 @@ pub(crate) fn ending(end: &SessionEnd) -> (u8, &'static str)
 impl Exit {
     ghost use Rattle.mangod.specs.View.{ending_seen};
 
-    /// The end of the program after a session.
+    /// How the program ends after a session with this end.
     pub(crate) fn after(end: &SessionEnd) -> Exit
         ensures { ending_seen result ≡ ending_of end.now }
     {

@@ -1,25 +1,25 @@
-//! What follows from a fault of accept, and from the end of a session.
+//! Decides what to do after a failed accept, and with a connection after its session.
 ghost use Rattle.std.specs.Prelude.{◌≡◌};
 ghost use Rattle.mangod.specs.Faults.{after_number, afterwards, is_of_one_connection, is_want};
 
 use mg_http::SessionEnd;
 use std::io::ErrorKind;
 
-/// What follows from a fault of accept.
+/// What to do after a failed accept.
 #[derive(Clone, Copy, PartialEq, Debug)]
 pub(crate) enum AfterFault {
-    /// It tells of one connection alone, and the next is accepted.
+    /// Accept again: the fault is of one connection only.
     Again,
-    /// No connection is there.
+    /// Accept at the next event: no connection is waiting.
     AtAnEvent,
-    /// Descriptors or memory were wanting.
+    /// Accept once there are more descriptors or more memory.
     WithMore,
-    /// The listener accepts no more.
+    /// Accept no more: the listener failed.
     Never,
 }
 
-/// What follows from a fault of accept, by its kind and its number. A signal shows no fault: std repeats an accept that
-/// one interrupts.
+/// What to do after a failed accept, by the kind of the error and its number on Linux. A signal is not a failure here: std repeats
+/// an interrupted accept.
 pub(crate) fn after_fault(kind: ErrorKind, number: Option<i32>) -> AfterFault
     ensures aborted { kind ≡ ErrorKind.ConnectionAborted → result ≡ AfterFault.Again }
     ensures none { kind ≡ ErrorKind.WouldBlock → result ≡ AfterFault.AtAnEvent }
@@ -41,32 +41,32 @@ pub(crate) fn after_fault(kind: ErrorKind, number: Option<i32>) -> AfterFault
     }
 }
 
-// Whether this is Linux's number of a fault where descriptors of the system, of the process, or buffers were wanting.
+// Whether this number on Linux means that descriptors of the system, of the process, or buffers ran out.
 fn is_want(number: i32) -> bool
     ensures { result ≡ is_want number }
 {
     number == 23 || number == 24 || number == 105
 }
 
-// Whether this is Linux's number of a fault of one connection's network: no such network, its protocol, its options, or its host.
+// Whether this number on Linux means a fault of one connection's network: no network, its protocol, its options, or its host.
 fn is_of_one_connection(number: i32) -> bool
     ensures { result ≡ is_of_one_connection number }
 {
     number == 64 || number == 71 || number == 92 || number == 112
 }
 
-/// What becomes of a connection after its session.
+/// What to do with a connection after its session.
 #[derive(Clone, Copy, PartialEq, Debug)]
 pub(crate) enum Disposal {
-    /// Its client may send another message.
+    /// Keep it: its client may send another message.
     Keep,
-    /// It is closed once its client has read the last reply.
+    /// Close it once its client has read the last reply.
     CloseGently,
-    /// It is closed.
+    /// Close it now.
     Close,
 }
 
-/// What becomes of a connection whose session ended so, and whose input may have ended in a pause between messages.
+/// What to do with a connection after a session with this end. `has_paused`: its input was ended in a pause between messages.
 pub(crate) fn afterwards(end: SessionEnd, has_paused: bool) -> Disposal
     ensures { result ≡ afterwards end has_paused }
 {

@@ -1,4 +1,4 @@
-//! A connection as its session reads and writes it: within time limits, and back in the lobby between messages.
+//! The reader and the writer of a session's connection. They keep to time limits, and end the input when the client pauses.
 ghost use Rattle.std.specs.Prelude.{◌≡◌, ◌≤◌, length};
 ghost use Rattle.std.specs.Io.{ReadsAtMost, WritesAtMost};
 
@@ -19,9 +19,9 @@ pub(crate) struct Line<'a, H> {
     /// When the session began.
     began: Instant,
     phase: Cell<Phase>,
-    /// When the message, the reply or the silence began.
+    /// When the current message, reply or silence began.
     since: Cell<Instant>,
-    /// How many milliseconds the system lets a read wait, and how many seconds a write. 0: not set yet.
+    /// The read timeout of the socket in milliseconds, and its write timeout in seconds. 0: not set yet.
     read_wait: Cell<u64>,
     write_wait: Cell<u64>,
     has_paused: Cell<bool>,
@@ -48,12 +48,12 @@ impl<'a, H: Clock> Line<'a, H> {
         }
     }
 
-    /// Whether the input was ended between two messages, while the client may still send one.
+    /// Whether the input was ended in a pause between two messages. The client may still send more.
     pub(crate) fn has_paused(&self) -> bool {
         self.has_paused.get()
     }
 
-    /// Goes over to a phase, which begins now where it is another activity.
+    /// Enters a phase. `is_new`: another activity begins now, and so does its time.
     fn enter(&self, phase: Phase, is_new: bool) -> io::Result<()> {
         if is_new {
             self.since.set(Instant::now(self.rt)?);
@@ -62,7 +62,7 @@ impl<'a, H: Clock> Line<'a, H> {
         Ok(())
     }
 
-    /// Ends the input for now.
+    /// Ends the input of this session, though the client may still send more.
     fn pause(&self) -> usize
         ensures { result ≡ 0 }
     {
@@ -70,9 +70,9 @@ impl<'a, H: Clock> Line<'a, H> {
         0
     }
 
-    /// How many seconds the message or the reply has left.
+    /// The seconds left for the current message or reply.
     ///
-    /// Errors: `TimedOut` where it has taken too long.
+    /// Errors: `TimedOut` if it has taken too long.
     fn seconds_left(&self) -> io::Result<u64> {
         match seconds_left(self.since.get().elapsed(self.rt)?) {
             0 => Err(io::Error::from(ErrorKind::TimedOut)),
@@ -80,7 +80,7 @@ impl<'a, H: Clock> Line<'a, H> {
         }
     }
 
-    /// Lets reads wait so long.
+    /// Sets the read timeout of the socket, unless it is set already.
     fn limit_read(&self, millis: u64) -> io::Result<()> {
         if self.read_wait.get() != millis {
             self.stream
@@ -90,7 +90,7 @@ impl<'a, H: Clock> Line<'a, H> {
         Ok(())
     }
 
-    /// Lets writes wait so long.
+    /// Sets the write timeout of the socket, unless it is set already.
     fn limit_write(&self, seconds: u64) -> io::Result<()> {
         if self.write_wait.get() != seconds {
             self.stream
@@ -100,7 +100,8 @@ impl<'a, H: Clock> Line<'a, H> {
         Ok(())
     }
 
-    /// Reads while no message is under way. The input ends for now where no byte comes soon, or where others need the thread.
+    /// Reads between messages. Ends the input of this session if no byte comes soon, or if its turn is over and no thread watches the
+    /// other connections.
     fn read_idle(&self, piece: &mut [u8]) -> io::Result<usize>
         ensures { ReadsAtMost result piece.new }
     {
@@ -125,7 +126,7 @@ impl<'a, H: Clock> Line<'a, H> {
     }
 }
 
-// Whether a read that failed so only found nothing.
+// Whether a read that failed with this kind only found no byte.
 fn is_nothing_yet(kind: ErrorKind) -> bool {
     matches!(
         kind,
@@ -133,8 +134,8 @@ fn is_nothing_yet(kind: ErrorKind) -> bool {
     )
 }
 
-/// Reads a connection. The last byte of what came is given by a read of its own, so that its session's replies show where the
-/// messages end (`Phase`).
+/// Reads a connection. The last byte that has come is given by a read of its own. So the session's replies show where its messages end
+/// (see `Phase`).
 #[derive(Drop)]
 pub(crate) struct Incoming<'a, H> {
     line: &'a Line<'a, H>,
@@ -147,7 +148,7 @@ impl<'a, H: Clock> Incoming<'a, H> {
         Incoming { line, kept: None }
     }
 
-    /// Keeps the last of so many bytes back, if there are others, and returns how many are given.
+    /// Keeps the last of `count` bytes for the next read, unless it is the only one. Returns how many bytes this read gives.
     fn keep_last(&mut self, piece: &[u8], count: usize) -> usize
         requires { count ≤ length piece.now }
         ensures { result ≤ count }

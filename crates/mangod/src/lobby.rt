@@ -1,4 +1,4 @@
-//! The connections that no session holds: new ones, those whose clients pause between messages, and those that are being closed.
+//! The connections without a session: new ones, those whose clients pause between messages, and those that are being closed.
 use crate::faults::{AfterFault, after_fault};
 use crate::pace::is_silent_too_long;
 use mio::unix::SourceFd;
@@ -13,60 +13,60 @@ use std::sync::atomic::{AtomicU64, Ordering};
 use std::sync::{Mutex, Wait};
 use std::time::{Clock, Duration, Instant};
 
-/// How the listener is named in events. Connections are named by their keys, which are smaller.
+/// The token of the listener in events. The token of a connection is its key, which is smaller.
 const LISTENER: Token = Token(usize::MAX);
-/// How many milliseconds pass at most until silent connections are looked for.
+/// The time in milliseconds between two searches for silent connections.
 const LOOK_MILLIS: u64 = 500;
-/// How many milliseconds pass until an accept is tried again for which descriptors or memory were wanting.
+/// The time in milliseconds until the next accept after descriptors or memory ran out.
 const WANT_MILLIS: u64 = 20;
-/// How many bytes of a refused message are dropped at most.
+/// The most bytes dropped from a connection that is being closed.
 const MOST_DROPPED: u64 = 16_777_216;
-/// How many connections there is room for at first.
+/// The number of connections for which room is reserved at the start.
 const GUESTS: usize = 1_024;
-/// Room for dropped bytes.
+/// The most bytes dropped by one read.
 const SPILL: usize = 65_536;
 
-/// The listener, and the connections that no session holds. One thread at a time watches them, and takes the first on which bytes
-/// have come.
+/// The listener, and the connections without a session. One thread at a time watches them, and takes the first connection on which
+/// bytes have come.
 #[derive(Drop)]
 pub(crate) struct Lobby {
     listener: TcpListener,
     registry: Registry,
     watch: Mutex<Watch>,
     guests: Mutex<Slab<Guest>>,
-    /// How many threads watch, or wait until they can.
+    /// The number of threads that watch, or wait to do so.
     watchers: AtomicU64,
 }
 
-/// What the thread that watches has to itself.
+/// What only the thread that watches uses.
 #[derive(Drop)]
 struct Watch {
     poll: Poll,
     /// Room for one event.
     events: Events<Global>,
     spill: Vec<u8>,
-    /// Whether a connection may be there to accept.
+    /// Whether a connection may be waiting to be accepted.
     is_accepting: bool,
-    /// Whether descriptors or memory were wanting for it.
+    /// Whether descriptors or memory ran out at the last accept.
     is_wanting: bool,
-    /// When silent connections were looked for.
+    /// When silent connections were last searched for.
     looked: Instant,
 }
 
-/// A connection that no session holds.
+/// A connection without a session.
 #[derive(Drop)]
 struct Guest {
     stream: TcpStream,
-    /// When it came.
+    /// When it entered the lobby.
     since: Instant,
-    /// How many bytes are to be dropped at most before it is closed, none where its next message is awaited.
+    /// The most bytes still to be dropped before it is closed; `None`: its next message is awaited.
     dropping: Option<u64>,
 }
 
 impl Lobby {
-    /// A lobby with nobody in it.
+    /// An empty lobby.
     ///
-    /// Errors: of the system, and `OutOfMemory`.
+    /// Errors: those of the system, and `OutOfMemory`.
     pub(crate) fn open<H: Net + Clock>(
         rt: &H,
         alloc: Global,
@@ -94,13 +94,12 @@ impl Lobby {
         })
     }
 
-    /// Whether a thread looks after the connections here.
+    /// Whether some thread watches the connections here.
     pub(crate) fn is_watched(&self) -> bool {
         self.watchers.load(Ordering::SeqCst) > 0
     }
 
-    /// Takes the first connection on which bytes have come, or whose client has gone, and waits until there is one. None where the
-    /// listener failed.
+    /// Waits for a connection on which bytes have come, or whose client has gone, and takes it. `None`: the listener failed.
     pub(crate) fn next<H: Wait + Clock>(&self, rt: &H) -> Option<TcpStream> {
         self.watchers.fetch_add(1, Ordering::SeqCst);
         let taken = self.wait(rt, &mut self.watch.lock(rt));
@@ -129,7 +128,7 @@ impl Lobby {
         unreachable!()
     }
 
-    /// Accepts a connection if one may be there, and says how long to wait for an event. None where the listener failed.
+    /// Accepts a connection if one may be waiting. Returns how long to wait for the next event; `None`: the listener failed.
     fn accept<H: Wait + Clock>(&self, rt: &H, watch: &mut Watch) -> Option<Duration> {
         if !watch.is_accepting {
             return Some(Duration::from_millis(LOOK_MILLIS));
@@ -158,20 +157,20 @@ impl Lobby {
         Some(Duration::from_millis(millis))
     }
 
-    /// Takes a connection in whose client may send another message.
+    /// Admits a connection whose client may send another message.
     pub(crate) fn admit_paused<H: Wait + Clock>(&self, rt: &H, stream: TcpStream) {
         self.admit(rt, stream, None);
     }
 
-    /// Takes a connection in that is to be closed once its client has read the last reply. It is written no more, and what still
-    /// comes is dropped: were it closed with bytes unread, the system would reset it, and the reply might be lost.
+    /// Admits a connection that is to be closed once its client has read the last reply. Nothing more is written to it, and what still
+    /// comes is dropped: if it were closed with unread bytes, the system would reset it, and the reply might be lost.
     pub(crate) fn admit_closing<H: Wait + Clock>(&self, rt: &H, stream: TcpStream) {
         if stream.shutdown(Shutdown::Write).is_ok() && stream.set_nonblocking(true).is_ok() {
             self.admit(rt, stream, Some(MOST_DROPPED));
         }
     }
 
-    // Takes a connection in. One that cannot be watched is closed.
+    // Admits a connection. Closes it if it cannot be watched.
     fn admit<H: Wait + Clock>(&self, rt: &H, stream: TcpStream, dropping: Option<u64>) {
         let Ok(since) = Instant::now(rt) else {
             return;
@@ -195,7 +194,7 @@ impl Lobby {
         }
     }
 
-    // Takes the connection of an event out, or drops what came on it if it is being closed.
+    // Takes the connection of an event out of the lobby; if it is being closed, drops what has come on it instead.
     fn take<H: Wait>(&self, rt: &H, key: usize, spill: &mut [u8]) -> Option<TcpStream> {
         let mut guests = self.guests.lock(rt);
         let guest = guests.get_mut(key)?;
@@ -212,7 +211,7 @@ impl Lobby {
         Some(guest.stream)
     }
 
-    // Closes the connection that has been here longest, to make room for another.
+    // Closes the connection that has been here longest, to free its descriptor and memory for another.
     fn close_oldest<H: Wait>(&self, rt: &H) {
         let mut guests = self.guests.lock(rt);
         let oldest = guests
@@ -224,7 +223,7 @@ impl Lobby {
         }
     }
 
-    // Closes the connections that have been here for too long, if that was not looked for just now.
+    // Closes the connections that have been silent for too long, unless the last search was just now.
     fn close_silent<H: Wait + Clock>(&self, rt: &H, watch: &mut Watch) {
         let Ok(now) = Instant::now(rt) else {
             return;
@@ -240,13 +239,13 @@ impl Lobby {
 }
 
 impl Watch {
-    /// Whose event it is, if there was one.
+    /// The token of the event; `None`: there was no event.
     fn token(&self) -> Option<Token> {
         self.events.iter().next().map(|event| event.token())
     }
 }
 
-// Drops what has come, and returns how many bytes may still be dropped, none where the connection is at its end.
+// Drops what has come. Returns how many bytes may still be dropped; `None`: the connection is to be closed now.
 fn drop_bytes(stream: &TcpStream, spill: &mut [u8], most: u64) -> Option<u64> {
     let mut left = most;
     let mut stream = stream;

@@ -1,4 +1,4 @@
-//! `mangod DB SHARDS WORKERS SESSIONS ADDR`: the database, over standard input and output or over TCP.
+//! `mangod DB SHARDS WORKERS SESSIONS ADDR`: the database over standard input and output (ADDR is `-`), or over TCP.
 #![tactic(auto)]
 
 mod arguments;

@@ -1,39 +1,39 @@
-//! What a connection's pace tells: whether a message is under way, how long one may take, and when a session gives way.
+//! The pace of a connection: whether a message is under way, how long it may take, and when a session gives way to others.
 ghost use Rattle.std.specs.Prelude.{◌≡◌, ◌-◌, ◌/◌, ◌^◌, ◌*◌, nat_le};
 ghost use Rattle.std.specs.Duration.{as_nanos};
 ghost use Rattle.mangod.specs.Pace.{after_bytes, at_read, at_write};
 
 use std::time::Duration;
 
-/// How many seconds a message may take from its first byte to its last, and a reply likewise.
+/// The most seconds that a message may take from its first byte to its last, and that a reply may take.
 const MESSAGE_SECONDS: u64 = 60;
-/// How many seconds a connection may be silent between messages.
+/// The most seconds that a connection may be silent between messages.
 const SILENCE_SECONDS: u64 = 5;
-/// How many milliseconds a session may go on while nobody looks after the other connections.
+/// The most milliseconds that a session may continue while no thread watches the other connections.
 const TURN_MILLIS: u64 = 5;
-/// How many milliseconds a session waits for the next message before it gives its connection back.
+/// The most milliseconds that a session waits for the next message before its connection goes back to the lobby.
 pub(crate) const PAUSE_MILLIS: u64 = 20;
 
-/// Where a session stands on its connection, by the sizes of its reads and by its writes.
+/// What a session is doing on its connection, as its reads and writes show.
 ///
-/// A session asks for bytes only while a message is incomplete, and writes a reply only once one is complete. So a reply that
-/// follows a read of a single byte answers a message that ended with this byte, and leaves nothing unanswered.
+/// A session reads only while a message is incomplete, and writes a reply only once the message is complete. So a reply that follows a
+/// read of a single byte answers a message that ended with this byte, and then everything read is answered.
 #[derive(Clone, Copy, PartialEq, Debug)]
 pub(crate) enum Phase {
-    /// All that was read is answered.
+    /// Everything read is answered.
     Idle,
     /// A message may be under way.
     Receiving,
     /// A message may be under way, and the last read gave a single byte.
     SingleByte,
-    /// A reply is being written, after which a message may be under way.
+    /// A reply is being written. After it, a message may be under way.
     Replying,
-    /// A reply is being written, after which all that was read is answered.
+    /// A reply is being written. After it, everything read is answered.
     ReplyingToAll,
 }
 
 impl Phase {
-    /// The phase in which more bytes are asked for.
+    /// The phase when the session reads again.
     pub(crate) fn at_read(self) -> Phase
         ensures { result ≡ at_read self }
     {
@@ -44,7 +44,7 @@ impl Phase {
         }
     }
 
-    /// The phase after a read of so many bytes.
+    /// The phase after a read of `count` bytes.
     pub(crate) fn after_bytes(count: usize) -> Phase
         ensures { result ≡ after_bytes count }
     {
@@ -55,7 +55,7 @@ impl Phase {
         }
     }
 
-    /// The phase in which bytes of a reply are written.
+    /// The phase when the session writes bytes of a reply.
     pub(crate) fn at_write(self) -> Phase
         ensures { result ≡ at_write self }
     {
@@ -66,7 +66,7 @@ impl Phase {
     }
 }
 
-/// How many whole seconds are left to a message or a reply that has taken so long, 0 where it has taken too long.
+/// The seconds left for a message or a reply that has taken this long; 0 if it has taken too long.
 pub(crate) fn seconds_left(taken: Duration) -> u64
     ensures { result ≡ 60 - as_nanos taken / 10 ^ 9 }
 {
@@ -80,7 +80,7 @@ pub(crate) fn is_silent_too_long(silent: Duration) -> bool
     silent >= Duration::from_secs(SILENCE_SECONDS)
 }
 
-/// Whether a session that has gone on for so long gives way to other connections.
+/// Whether a session that has held its connection this long gives way to other connections.
 pub(crate) fn is_turn_over(held: Duration) -> bool
     ensures { result ≡ nat_le (5 * 10 ^ 6) (as_nanos held) }
 {

@@ -1,4 +1,4 @@
-//! What the program does for its arguments, over an input and an output or over TCP.
+//! Runs the program with its arguments, over an input and an output or over TCP.
 ghost use Rattle.std.specs.Prelude.{◌≡◌, IfOk, false, option_map};
 ghost use Rattle.std.specs.Io.KnownBytes.{Appends, Consumes};
 ghost use Rattle.mg_http.specs.Device.{inner_of, has_failed};
@@ -25,8 +25,9 @@ use std::sync::ledger::Blank;
 use std::thread::Threads;
 use std::time::Clock;
 
-/// Does what was asked for, if the arguments were right: one session over the input and the output where the address is `-`, and
-/// else sessions with the clients that connect to the address. The history and the ledger are those of the database `D`.
+/// Runs the program. If the address is `-`, it holds one session over the input and the output; else it listens at the address and holds
+/// sessions with the clients that connect. Wrong arguments (`asked` is `None`) end it at once. The history and the ledger are those of
+/// the database `D`.
 pub(crate) fn run<
     D: Database + Send + Sync,
     H: Wait
@@ -69,7 +70,7 @@ pub(crate) fn run<
     listen::<D, H>(rt, settings, blank, history)
 }
 
-// Holds one session of a database that is empty at first.
+// Holds one session of a database that is empty at the start.
 fn hold_session<H: Wait + Threads + Sync + AllocGlobal, R: Read, W: Write>(
     rt: &H,
     settings: Settings<'_>,
@@ -90,7 +91,7 @@ fn hold_session<H: Wait + Threads + Sync + AllocGlobal, R: Read, W: Write>(
     }
 }
 
-// Serves the clients that connect, each session at a seat of a database that is empty at first.
+// Listens, and serves the clients that connect, each session at a seat of a database that is empty at the start.
 fn listen<
     D: Database + Send + Sync,
     H: Wait
@@ -145,7 +146,7 @@ fn listen<
     }
 }
 
-// The service of a database that is empty at first.
+// A service of an empty database.
 fn solo<H: AllocGlobal>(rt: &H, settings: &Settings<'_>) -> Result<Solo<Md5Placement>, NoMemory>
     ensures stands { IfOk result (λ solo. Stands (λ p id shards. md5_place id shards) solo.engine (empty_world settings.now.db.now)) }
     ensures shards { IfOk result (λ solo. shard_count solo.engine ≡ settings.now.shards) }

@@ -1,4 +1,4 @@
-//! Clients at the seats of a database, each seat with a thread of its own.
+//! Serves clients at the seats of a database, each seat on a thread of its own.
 ghost use Rattle.std.specs.Prelude.{◌≡◌, ◌<◌, ℕ, IfOk, map, slice_index_or, vec_len};
 ghost use Rattle.mangod.specs.Conversations.{IsServed};
 ghost use Rattle.mg_live.specs.Sitting.{Sitting};
@@ -15,7 +15,7 @@ use std::thread;
 use std::thread::Threads;
 use std::time::Clock;
 
-/// A service for each seat, by the workers that were asked for.
+/// A service for each seat, with the number of workers of the settings.
 fn services<D: Database, C: Ends>(
     alloc: Global,
     seats: Vec<Seat<D, C>>,
@@ -34,11 +34,11 @@ fn services<D: Database, C: Ends>(
     Ok(services)
 }
 
-/// Serves connections at each seat, on a thread of its own, one connection after another, until the listener fails. It gives the seats
-/// back once all have ended: sessions of the database took each from what it was to what it is. Where a thread cannot be started, its
-/// seat waits until another has ended.
+/// Serves connections at all seats, each seat on a thread of its own, one connection after another, until the listener fails. Then
+/// returns the seats; sessions of the database took each seat to its new state. If a thread cannot be started, its seat waits until
+/// another has ended.
 ///
-/// Errors: `NoMemory` where a growth was refused.
+/// Errors: `NoMemory` if memory ran out.
 pub(crate) fn serve<
     D: Database + Send + Sync,
     H: Wait + Threads + Clock + Send + Sync + Copy + Drop,

@@ -1,4 +1,4 @@
--- What bytes begin with, and what they begin with when more come.
+-- What bytes begin with, before and after more arrive.
 use Rattle.std.proofs.Common.{◌≡◌, ℕ, Bool, true, false, List, [], ◌∷◌, ◌++◌, length, take, take_all, Some, None, refl, sym, ap, ◌∙◌, append_assoc, append-nil, arith, length-append, inl, inr}
 use Rattle.httparse.specs.Grammar.{RequestHead}
 use Rattle.mg_value.specs.Value.{Value}
@@ -19,7 +19,7 @@ use Rattle.mg_http.proofs.Forms.{passage, step}
 use Rattle.mg_http.proofs.MessageLemmas.{in_window, one_head, HasHead-append, Begins-append, two_messages, never_framed, framed_request, no_head_more, never_none, window_more, window_full}
 
 module _ (db : List ℕ) where
-  -- what is refused is refused with more
+  -- refused bytes are refused for the same reason when more arrive
   pub refused_more : (bytes more : List ℕ) (r : Refusal) (s : Bool) → IsRefused db bytes r s → IsRefused db (bytes ++ more) r s
   refused_more bytes more r s (inl x) = inl (x.0, x.1 ++ more, HasHead-append bytes x.0 x.1 more x.2, x.3, x.4)
   refused_more bytes more r s (inr (inl x)) =
@@ -29,7 +29,7 @@ module _ (db : List ℕ) where
       let w = window_full 16384 bytes more x.0 in
       inr (inr (omega (arith, x.0, length-append bytes more), rw (sym w) at x.1, x.2, x.3))
 
-  -- for one reason
+  -- bytes are refused for at most one reason
   pub refused_once : (bytes : List ℕ) (r q : Refusal) (s t : Bool) → IsRefused db bytes r s → IsRefused db bytes q t → (r ≡ q) × (s ≡ t)
   refused_once bytes r q s t (inl x) (inl y) =
       let one = one_head bytes x.0 y.0 x.1 y.1 x.2 y.2 in
@@ -69,14 +69,14 @@ module _ (db : List ℕ) where
       let same = framed_request m.request p.2 (length m.body) p.3 (sym b.framed.asks ∙ ap (asks_of db) one.0 ∙ p.5) in
       omega (arith, p.6, same.1, ap length one.1, ap length b.joined, length-append m.body rest)
 
-  -- a message at the front leaves no room to stop
+  -- bytes that begin with a message are neither incomplete nor refused
   pub no_stop : (bytes : List ℕ) (m : Message) (rest text : List ℕ) → Begins db bytes m rest → Stops db bytes text → ⊥
   no_stop bytes m rest text b (inl x) = message_not_waiting bytes m rest b x.0
   no_stop bytes m rest text b (inr x) = message_not_refused bytes m rest x.0 x.1 b x.2
 
 -- ---- one reply
 
--- a body is one value
+-- a body is at most one value
 one_value : (bytes : List ℕ) (v w : Value) → Reads bytes v → Reads bytes w → v ≡ w
 one_value bytes v w x y =
     let read : Some x.0 ≡ Some y.0 = sym x.1.1 ∙ y.1.1 in
@@ -110,7 +110,7 @@ one_reply w (refuses refusal) bytes a b u v x y = (some_some a b (x.0 ∙ sym y.
 -- ---- any cut
 
 module _ (db : List ℕ) where
-  -- where nothing more is answered in what came first
+  -- the text of bytes that cannot be answered is a prefix of each transcript of those bytes and more
   pub after_stop : (w : World) (bytes more text : List ℕ) (ns : List Message) (longer : List ℕ) → Stops db bytes text → Speaks AtWorld db ns (passage w (bytes ++ more) longer) → IsPrefix text longer
   after_stop w bytes more text ns longer (inl x) k = (longer, rw x.1 refl)
   after_stop w bytes more text [] longer (inr x) (inl y) = absurd (waiting_not_refused db (bytes ++ more) x.0 x.1 y.0 (refused_more db bytes more x.0 x.1 x.2))

@@ -9,17 +9,17 @@ use Rattle.mg_http.specs.declared.device.Fault.{Fault}
 use Rattle.mg_http.specs.Device.{WritesPart, Writes}
 use Rattle.mg_http.specs.Gathered.{Gathers}
 
--- a part of what follows what was written
+-- a prefix of the rest, written after the front, is a prefix of the whole
 pub part_then : (x y z : Option (List ℕ)) (front rest : List ℕ) → Appends x y front → WritesPart y z rest → WritesPart x z (front ++ rest)
 part_then x y z front rest p q =
     (front ++ q.0, (q.1.0, append_assoc front q.0 q.1.0 ∙ ap (λ (t : List ℕ). front ++ t) q.1.1), Appends-trans x y z front q.0 p q.2)
 
--- a part of the front is a part of the whole
+-- a prefix of the front is a prefix of the whole
 pub part_cut : (x z : Option (List ℕ)) (front rest : List ℕ) → WritesPart x z front → WritesPart x z (front ++ rest)
 part_cut x z front rest q =
     (q.0, (q.1.0 ++ rest, sym (append_assoc q.0 q.1.0 rest) ∙ ap (λ (t : List ℕ). t ++ rest) q.1.1), q.2)
 
--- a front of what was left is sent too
+-- one more write sends the next n bytes of what was left
 pub more_sent : (x y z : Option (List ℕ)) (bytes sent left after : List ℕ) (n : ℕ) → bytes ≡ sent ++ left → Appends x y sent → Appends y z (take n left)
     → after ≡ drop n left → (sent : List ℕ) × (bytes ≡ sent ++ after) × Appends x z sent
 more_sent x y z bytes sent left after n is p q rest = (
@@ -28,27 +28,27 @@ more_sent x y z bytes sent left after n is p q rest = (
   Appends-trans x y z sent (take n left) p q,
 )
 
--- what was held and the piece behind it, both written
+-- the page and then the piece were written
 pub gather_both : {A : Type 0} (x y z : Option (List ℕ)) (held piece left : List ℕ) (r : Result A Fault) → left ≡ []
     → Appends x y held → Writes y z piece r → Gathers x z held piece left r
 gather_both x y z held piece left (Ok a) none p q =
     (held ++ piece, rw none (sym (append-nil (held ++ piece))), Appends-trans x y z held piece p q)
 gather_both x y z held piece left (Err e) none p q = part_then x y z held piece p q
 
--- what is left on the page, written behind what was sent
+-- the page, written after what was sent, completes the whole
 pub page_last : {A : Type 0} (x y z : Option (List ℕ)) (sent page whole : List ℕ) (r : Result A Fault) → sent ++ page ≡ whole
     → Appends x y sent → Writes y z page r → Writes x z whole r
 page_last x y z sent page whole (Ok a) e p q = rw (← e) (Appends-trans x y z sent page p q)
 page_last x y z sent page whole (Err f) e p q = rw (← e) (part_then x y z sent page p q)
 
 module _ {P : Type 0} (text : P → List ℕ) (pieces : List P) (at : ℕ) (d : P) (within : at < length pieces) (x y z : Option (List ℕ)) where
-  -- the piece stands behind those before it
+  -- all pieces are those before, this one, and those after
   pieces_cut : flat_map text pieces ≡ flat_map text (take at pieces) ++ (text (get_or pieces at d) ++ flat_map text (drop (suc at) pieces))
   pieces_cut =
       ap (flat_map text) (sym (take-append-drop at pieces)) ∙ flat_map-append text (take at pieces) (drop at pieces)
       ∙ ap (λ (t : List _). flat_map text (take at pieces) ++ flat_map text t) (drop-cons pieces at d within)
 
-  -- a part of the page and one piece, after what was sent
+  -- a prefix of the page and one more piece, written after what was sent, is a prefix of all pieces
   pub part_of_page : (sent page : List ℕ) → sent ++ page ≡ flat_map text (take at pieces) → Appends x y sent
       → WritesPart y z (page ++ text (get_or pieces at d)) → WritesPart x z (flat_map text pieces)
   part_of_page sent page e p q =
@@ -58,13 +58,13 @@ module _ {P : Type 0} (text : P → List ℕ) (pieces : List P) (at : ℕ) (d : 
       pieces_cut ∙ ap (λ (t : List ℕ). t ++ (piece ++ after)) (sym e) ∙ append_assoc sent page (piece ++ after) ∙ ap (λ (t : List ℕ). sent ++ t) (sym (append_assoc page piece after)) in
       rw whole (part_then x y z sent _ p (part_cut y z _ after q))
 
-  -- one piece more
+  -- one more piece follows those before
   pieces_more : flat_map text (take (suc at) pieces) ≡ flat_map text (take at pieces) ++ text (get_or pieces at d)
   pieces_more =
       ap (flat_map text) (take-suc pieces at d within) ∙ flat_map-append text (take at pieces) (get_or pieces at d ∷ [])
       ∙ ap (λ (t : List ℕ). flat_map text (take at pieces) ++ t) (append-nil (text (get_or pieces at d)))
 
-  -- one piece more is sent or on the page
+  -- one more piece is sent or on the page
   pub one_gathered : (sent page left : List ℕ) → sent ++ page ≡ flat_map text (take at pieces) → Appends x y sent
       → ((more : List ℕ) × (page ++ text (get_or pieces at d) ≡ more ++ left) × Appends y z more)
       → (sent : List ℕ) × (sent ++ left ≡ flat_map text (take (suc at) pieces)) × Appends x z sent

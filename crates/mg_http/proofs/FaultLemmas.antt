@@ -1,4 +1,4 @@
--- How bytes are seen to end in a target.
+-- The scan of the code is right: it recognizes the bytes that end within a target.
 use Rattle.std.proofs.Common.{◌≡◌, ℕ, zero, suc, ◌<◌, ◌≤◌, ◌==◌, ◌&&◌, Bool, true, false, cond, List, [], ◌∷◌, ◌++◌, length, refl, sym, ap, ◌∙◌, append_assoc, arith}
 use Rattle.std.specs.Bool.{IsTrue}
 use Rattle.std.specs.List.{list_all}
@@ -9,7 +9,7 @@ use Rattle.std.proofs.lemmas.List.Sums.{AllPass-from_list_all, list_all-from_All
 use Rattle.httparse.specs.Grammar.{is_token_byte, is_uri_byte, AllPass, LineEnd, crlf, lf, print_blank, EndsInTarget}
 use Rattle.mg_http.specs.TargetScan.{skip_blank, is_method_and_target, is_in_target}
 
--- a byte of a token is no space and no part of a line end
+-- a byte of a token is neither a space nor a part of a line end
 no_space : is_token_byte 32 ≡ false
 unfolding is_token_byte
 no_space = refl
@@ -22,7 +22,7 @@ no_feed : is_token_byte 10 ≡ false
 unfolding is_token_byte
 no_feed = refl
 
--- a byte that passes is none that does not
+-- a byte of a token differs from one that is not
 differs : (x y : ℕ) → is_token_byte x ≡ true → is_token_byte y ≡ false → (x == y) ≡ false
 differs x y token other =
     elim (x == y) as (λ v. (x == y) ≡ v → v ≡ false) [
@@ -30,7 +30,7 @@ differs x y token other =
       | false ↦ λ e. refl
     ] refl
 
--- a method of which a part was seen, and a target
+-- the bytes are a method (of which a part was seen before), a space, and the beginning of a target
 abbrev Found : Bool → List ℕ → Type 0
 Found seen bytes =
     (m : List ℕ) × (t : List ℕ) × AllPass is_token_byte m × AllPass is_uri_byte t × (bytes ≡ m ++ 32 ∷ t) × (seen ≡ false → 0 < length m)
@@ -55,7 +55,7 @@ found seen (b ∷ rest) e =
           )
     ] refl e
 
--- and back
+-- a method and the beginning of a target pass the scan
 seen_found : (m t : List ℕ) → AllPass is_token_byte m → AllPass is_uri_byte t → is_method_and_target true (m ++ 32 ∷ t) ≡ true
 seen_found [] t a b = rw no_space (list_all-from_AllPass is_uri_byte t b)
 seen_found (x ∷ m) t a b =
@@ -68,7 +68,7 @@ method_found (x ∷ m) t some a b =
 
 -- ---- empty lines
 
--- the bytes are empty lines, and what is left behind them
+-- the bytes are empty lines, and then what `skip_blank` leaves
 blank_lines : (n : ℕ) (bytes : List ℕ) → length bytes ≤ n → (blank : List LineEnd) × (bytes ≡ print_blank blank ++ skip_blank bytes)
 blank_lines n [] small = ([], refl)
 blank_lines n (a ∷ []) small =
@@ -96,7 +96,7 @@ blank_lines (suc n) (a ∷ b ∷ rest) small =
           ] refl
     ] refl
 
--- a line that begins with a byte of a token is left as it is
+-- bytes that begin with a byte of a token have no leading empty line
 stays : (x : ℕ) (rest : List ℕ) → is_token_byte x ≡ true → skip_blank (x ∷ rest) ≡ x ∷ rest
 stays x [] token = let feed : (x == 10) ≡ false = differs x 10 token no_feed in rw feed refl
 stays x (y ∷ rest) token =

@@ -1,4 +1,4 @@
--- Records of what a session does, from their fields in order, for lemmas over plain variables.
+-- The records of a session, built from their fields in order, for lemmas over plain variables.
 use Rattle.std.specs.Prelude.{ℕ, List, Option}
 use Rattle.mg_engine.specs.Commands.{Answer}
 use Rattle.mg_http.specs.declared.sessions.SessionEnd.{SessionEnd}

@@ -1,4 +1,4 @@
--- Heads in a window of the bytes, and what the bytes begin with when more come.
+-- Heads in a window (the first 16,384 bytes), and what bytes begin with after more arrive.
 use Rattle.std.proofs.Common.{◌≡◌, ℕ, ◌+◌, ◌-◌, ◌≤◌, ◌⊎◌, min, Bool, List, [], ◌∷◌, ◌++◌, length, take, drop, refl, sym, ap, ◌∙◌, subst, append_assoc, append-nil, take-append-drop, arith, length-append, length-take, inl, inr, codes}
 use Rattle.std.specs.Bool.{IsTrue}
 use Rattle.std.proofs.lemmas.Bool.{cases_lt}
@@ -17,11 +17,11 @@ module _ (bytes : List ℕ) (k : ℕ) where
   pub widen : (h : RequestHead) (r : List ℕ) → ReadsRequest (take k bytes) h r → ReadsRequest bytes h (r ++ drop k bytes)
   widen h r x = subst (λ (t : List ℕ). ReadsRequest t h (r ++ drop k bytes)) (take-append-drop k bytes) (ReadsRequest-append (take k bytes) h r (drop k bytes) x)
 
-  -- and is no longer than the window
+  -- a head of the window is no longer than the window
   pub head_fits : (h : RequestHead) (r : List ℕ) → ReadsRequest (take k bytes) h r → length (print_request h) ≤ k
   head_fits h r x = omega (arith, ap length x.1, length-append (print_request h) r, length-take k bytes)
 
-  -- what is at the front of the bytes is at that of the window
+  -- bytes begin with a head if their window does
   pub has_head : (h : RequestHead) (r : List ℕ) → k ≤ 16384 → ReadsRequest (take k bytes) h r → HasHead bytes h (r ++ drop k bytes)
   has_head h r small x = record { reads = widen h r x; fits = omega (arith, head_fits h r x) }
 
@@ -30,20 +30,20 @@ take_over k front rest fits =
     let split : k ≡ length front + (k - length front) = omega (arith, fits) in
     ap (λ (j : ℕ). take j (front ++ rest)) split ∙ take-append-add front rest (k - length front)
 
--- a head within its limit is read in the window
+-- a head within its limit is found in the window
 pub in_window : (bytes : List ℕ) (h : RequestHead) (after : List ℕ) → HasHead bytes h after
     → ReadsRequest (take 16384 bytes) h (take (16384 - length (print_request h)) after)
 in_window bytes h after x =
     (x.reads.0, ap (take 16384) x.reads.1 ∙ take_over 16384 (print_request h) after x.fits)
 
--- two heads at the front are one
+-- bytes begin with at most one head
 pub one_head : (bytes : List ℕ) (h k : RequestHead) (r q : List ℕ) → HasHead bytes h r → HasHead bytes k q → (h ≡ k) × (r ≡ q)
 one_head bytes h k r q x y = request_unique bytes h k r q x.reads y.reads
 
 pub HasHead-append : (bytes : List ℕ) (h : RequestHead) (after more : List ℕ) → HasHead bytes h after → HasHead (bytes ++ more) h (after ++ more)
 HasHead-append bytes h after more x = record { reads = ReadsRequest-append bytes h after more x.reads; fits = x.fits }
 
--- a message stays at the front when more comes
+-- bytes that begin with a message still do with more
 pub Begins-append : (db bytes : List ℕ) (m : Message) (rest more : List ℕ) → Begins db bytes m rest → Begins db (bytes ++ more) m (rest ++ more)
 Begins-append db bytes m rest more x = record {
   head = x.head;
@@ -71,7 +71,7 @@ same_message m n a b c d =
     ap (λ (r : Request). with r m.body m.silent m.closes) a ∙ ap (λ (x : List ℕ). with n.request x m.silent m.closes) b
     ∙ ap (λ (s : Bool). with n.request n.body s m.closes) c ∙ ap (λ (e : Bool). with n.request n.body n.silent e) d
 
--- two messages at the front of the same bytes are one
+-- bytes begin with at most one message
 pub two_messages : (db bytes : List ℕ) (m n : Message) (p q : List ℕ) → Begins db bytes m p → Begins db bytes n q → (m ≡ n) × (p ≡ q)
 two_messages db bytes m n p q x y =
     let one = one_head bytes x.head y.head x.after y.after x.has y.has in
@@ -82,9 +82,9 @@ two_messages db bytes m n p q x y =
     let closes : m.closes ≡ n.closes = x.framed.closes ∙ ap closes_after one.0 ∙ sym y.framed.closes in
     (same_message m n parts.0 bodies.0 silent closes, bodies.1)
 
--- ---- what is refused stays so
+-- ---- refused bytes stay refused
 
--- one of two fronts of a list begins the other
+-- of two prefixes of a list, one is a prefix of the other
 either_front : (a b c d : List ℕ) → a ++ b ≡ c ++ d → ((u : List ℕ) × (a ++ u ≡ c)) ⊎ ((u : List ℕ) × (a ≡ c ++ u))
 either_front [] b c d e = inl (c, refl)
 either_front (x ∷ a) b [] d e = inr (x ∷ a, refl)
@@ -105,7 +105,7 @@ some_head : List LineEnd → List ℕ → RequestHead
 some_head blank method =
     record { blank = blank; method = method; target = codes "/"; minor = 1; line_end = crlf; fields = []; last = crlf }
 
--- a head of that kind is one, and what it is written as
+-- `some_head` is a head; this is its text
 some_head_is : (blank : List LineEnd) (method : List ℕ) → IsToken method → IsRequestHead (some_head blank method)
 unfolding some_head lib.Utf8.encode
 some_head_is blank method is = record {
@@ -123,7 +123,7 @@ some_head_text blank method = simp append_assoc refl
 part_of_target : (u more : List ℕ) → AllPass is_uri_byte (u ++ more) → AllPass is_uri_byte u
 part_of_target u more all = λ k d inside. rw (get_or_append_left u more d k inside) at (all k d (omega (arith, length-append u more)))
 
--- bytes that can become no head, and end in a target with more, end in one
+-- bytes that can never become a head and end within a target once more arrive, end within a target already
 in_target_before : (w more : List ℕ) → NeverHasRequest w → EndsInTarget (w ++ more) → EndsInTarget w
 in_target_before w more never (blank, method, target, token, uri, is) =
     let start : List ℕ = print_blank blank ++ method in
@@ -148,7 +148,7 @@ no_head_more w more x =
 pub never_none : (w : List ℕ) (h : RequestHead) (r : List ℕ) → NeverHasRequest w → ReadsRequest w h r → ⊥
 never_none w h r never x = never [] h r (rw append-nil x)
 
--- a window of more bytes
+-- with more bytes, the window only grows
 pub window_more : (k : ℕ) (bytes more : List ℕ) → (u : List ℕ) × (take k (bytes ++ more) ≡ take k bytes ++ u)
 window_more k bytes more =
     elim (cases_lt k (length bytes)) [
@@ -156,15 +156,15 @@ window_more k bytes more =
       | inr long ↦ (take (k - length bytes) more, take_over k bytes more long ∙ ap (λ (t : List ℕ). t ++ take (k - length bytes) more) (sym (take_all k bytes long)))
     ]
 
--- a full window stays as it is
+-- with more bytes, a full window does not change
 pub window_full : (k : ℕ) (bytes more : List ℕ) → k ≤ length bytes → take k (bytes ++ more) ≡ take k bytes
 window_full k bytes more full = take-append-le k bytes more full
 
--- what follows a front of the window, and the rest of the bytes
+-- what follows n bytes of the window, and then the bytes after the window, are what follows the n bytes
 pub rest_of_window : (bytes : List ℕ) (k n : ℕ) → n ≤ length (take k bytes) → drop n (take k bytes) ++ drop k bytes ≡ drop n bytes
 rest_of_window bytes k n inside = sym (drop-append-le n (take k bytes) (drop k bytes) inside) ∙ ap (drop n) (take-append-drop k bytes)
 
--- the window of at most 16,384 bytes is that of all bytes
+-- a window of 16,384 bytes, or of all bytes if there are fewer, is the same
 pub same_window : (k : ℕ) (bytes : List ℕ) → k ≡ min (length bytes) 16384 → take k bytes ≡ take 16384 bytes
 same_window k bytes e =
     elim (cases_lt (length bytes) 16384) [

@@ -1,4 +1,4 @@
--- Two texts of digits write the same number exactly where they are the same behind the zeros in front.
+-- Two texts of digits write the same number exactly if they are equal without their leading zeros.
 use Rattle.std.proofs.Common.{◌≡◌, ◌∙◌, ℕ, zero, suc, ◌+◌, ◌-◌, ◌*◌, ◌<◌, ◌≤◌, ◌==◌, true, false, cond, List, [], ◌∷◌, length, refl, sym, ap, arith, inl, inr}
 use Rattle.std.specs.Prelude.{bytes_eq}
 use Rattle.std.specs.Char.{digit_value, is_ascii_digit}
@@ -16,7 +16,7 @@ digit_is c e = grind (arith, nat_tests)
 digit_small : (c : ℕ) → is_ascii_digit c ≡ true → digit_value c < 10
 digit_small c e = grind (arith, nat_tests)
 
--- as many digits behind the same value
+-- two texts of as many digits with the same value are equal
 same_digits : (xs ys : List ℕ) (n m : ℕ) → length xs ≡ length ys → list_all is_ascii_digit xs ≡ true → list_all is_ascii_digit ys ≡ true
     → digits_value_after 10 n xs ≡ digits_value_after 10 m ys → (n ≡ m) × (xs ≡ ys)
 same_digits [] [] n m size a b e = (e, refl)
@@ -51,7 +51,7 @@ zeros_significant : (n : ℕ) (ds : List ℕ) → significant (zeros n ds) ≡ s
 zeros_significant zero ds = refl
 zeros_significant (suc n) ds = zeros_significant n ds
 
--- digits of the same value, the fewer of them first
+-- two texts of digits with the same value, the shorter one first, are equal without their leading zeros
 same_number_le : (xs ys : List ℕ) → length xs ≤ length ys → list_all is_ascii_digit xs ≡ true → list_all is_ascii_digit ys ≡ true
     → digits_value 10 xs ≡ digits_value 10 ys → significant xs ≡ significant ys
 same_number_le xs ys fewer a b e =

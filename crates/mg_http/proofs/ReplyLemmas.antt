@@ -6,7 +6,7 @@ use Rattle.mg_engine.specs.declared.reply.Reply.TheVariants.{Full, NoMemory}
 use Rattle.mg_engine.specs.View.{said, answer_in}
 use Rattle.mg_http.specs.Reply.{text_of, reply_text}
 
--- what is found, or a default that shows as nothing
+-- the image of what is found, or of a default whose image is the empty one
 pub found_or_nothing : {X : Type 0} (f : X → List ℕ) (r : Option X) (d : X) (o : Option (List ℕ)) (none : List ℕ) → option_map f r ≡ o
     → f d ≡ none → f (unwrap_or r d) ≡ unwrap_or o none
 found_or_nothing f None d o none e z = rw (← e) z

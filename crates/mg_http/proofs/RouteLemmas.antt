@@ -1,4 +1,4 @@
--- A table whose routes have no parameter, what is left of routes, and the segments of a path.
+-- Tables without parameters, the rests of routes, and the segments of a path.
 use Rattle.std.proofs.Common.{inl, inr, ◌⊎◌, ◌≡◌, ◌+◌, ◌<◌, ◌≤◌, ℕ, zero, suc, ◌-◌, ◌==◌, Bool, true, false, ◌&&◌, ◌||◌, cond, List, [], ◌∷◌, ◌++◌, length, map, get_or, take, drop, Option, Some, None, refl, sym, ap, ◌∙◌, arith}
 use Rattle.std.specs.Prelude.{bytes_eq, codes, nat_lt, is_some}
 use Rattle.std.specs.List.{list_all, list_any, filter_map, cons_option, slice_split, position_or_len}
@@ -27,7 +27,7 @@ module _ {K : Type 0} where
   or_first None (Some y) z e f = cc
   or_first (Some x) y z e f = e
 
-  -- the row's tokens are bytes
+  -- all tokens of the row are bytes
   abbrev pub is_plain : List ℕ × K → Bool
   is_plain row = list_all (λ x. nat_lt x 256) row.0
 
@@ -109,12 +109,12 @@ module _ {K : Type 0} where
       → found ≡ list_any (λ row. bytes_eq row.0 path) rows
   some_first rows path found plain e = sym e ∙ ap is_some (first_plain rows path plain) ∙ some_row rows path
 
--- a text that is the second segment of three routes more
+-- a test that is repeated three times more changes nothing
 again : (b c : Bool) → (b || c) ≡ (b || (b || (b || (b || c))))
 again true c = refl
 again false c = refl
 
--- the second segments that stand as they are: each text once, where the table of the routes may have it more often
+-- the literal second segments: each text once here, though several routes of the table may share it
 pub seconds : (text : List ℕ)
     → (bytes_eq (codes "_bulk_docs") text || (bytes_eq (codes "_explain") text || (bytes_eq (codes "_find") text || (bytes_eq (codes "_index") text
     || (bytes_eq (codes "_placement") text || false)))))
@@ -123,7 +123,7 @@ seconds text =
     ap (λ (b : Bool). bytes_eq (codes "_bulk_docs") text || (bytes_eq (codes "_explain") text || (bytes_eq (codes "_find") text || b)))
     (again (bytes_eq (codes "_index") text) (bytes_eq (codes "_placement") text || false))
 
--- what is left of what each element shows
+-- `filter_map` of the images is `filter_map` of the elements
 pub filter_map-map : {X Y Z : Type 0} (h : Y → Option Z) (f : X → Y) (xs : List X) → filter_map h (map f xs) ≡ filter_map (λ x. h (f x)) xs
 filter_map-map h f [] = refl
 filter_map-map h f (x ∷ xs) = ap (cons_option (h (f x))) (filter_map-map h f xs)
@@ -135,7 +135,7 @@ first_segment rest i e inside =
     slice_split_first (λ c. c == 47) rest 0 (rw e inside)
     ∙ ap (λ (k : ℕ). take k rest ∷ slice_split (λ c. c == 47) (drop (k + 1) rest)) e
 
--- the last segment
+-- a rest without a slash is one segment
 pub whole_segment : (rest : List ℕ) → position_or_len (λ b. b == 47) rest ≡ length rest → slice_split (λ c. c == 47) rest ≡ rest ∷ []
 whole_segment rest e =
     slice_split_none (λ c. c == 47) rest (λ k d inside. fails_before_first (λ c. c == 47) rest k d (rw e inside))
@@ -144,7 +144,7 @@ one_or_none : {X : Type 0} (o : Option X) → option_to_list o ≡ cons_option o
 one_or_none None = refl
 one_or_none (Some x) = refl
 
--- one more route of which something is left, or nothing
+-- the rests of the routes so far, and of one more
 pub one_behind : {X Y : Type 0} (f : X → Y) (h : Y → Option Y) (xs : List X) (i : ℕ) (d : X) (before after : List X) (found : Option X) → i < length xs
     → map f before ≡ filter_map (λ r. h (f r)) (take i xs) → option_map f found ≡ h (f (get_or xs i d)) → map f after ≡ map f before ++ option_to_list (option_map f found)
     → map f after ≡ filter_map (λ r. h (f r)) (take (i + 1) xs)
@@ -154,7 +154,7 @@ one_behind {Y = Y} f h xs i d before after found inside was e pushed =
     ∙ ap (λ (t : List Y). filter_map (λ r. h (f r)) (take i xs) ++ t) (one_or_none (h (f (get_or xs i d))))
     ∙ sym (filter_map-append (λ r. h (f r)) (take i xs) (get_or xs i d ∷ [])) ∙ ap (filter_map (λ r. h (f r))) (sym (take_more xs i d inside))
 
--- where some routes are left, they are those of the table
+-- if any routes are left, they are those of the table, so either answers the test
 pub the_table : {A : Type 0} (f : A → Route) (xs : List A) (b : Bool) (segment : List ℕ) → 0 < length xs
     → (map f xs ≡ []) ⊎ (map f xs ≡ routes) → b ≡ goes_on (literal segment) routes → b ≡ goes_on (literal segment) (map f xs)
 the_table f [] b segment some left h = absurd (omega (arith, some))

@@ -1,4 +1,4 @@
--- What a session has done stays done when it goes on.
+-- How the turns of a session compose: what was done before stays true when the session continues.
 use Rattle.std.proofs.Common.{◌≡◌, ◌⊎◌, ℕ, ◌+◌, ◌-◌, ◌<◌, ◌≤◌, List, [], ◌∷◌, ◌++◌, length, take, drop, Option, Some, None, refl, sym, ap, ◌∙◌, subst, append_assoc, append-nil, take-append-drop, drop-drop, arith, length-append, length-drop, inl, inr, Result, Ok, Err, is_ok, cond, Bool, true, false}
 use Rattle.std.specs.Prelude.{slice_range}
 use Rattle.std.specs.Bool.{⊤}
@@ -24,7 +24,7 @@ use Rattle.mg_http.proofs.Forms.{exchange, step}
 use Rattle.mg_http.proofs.HeadLemmas.{head_long}
 use Rattle.mg_http.proofs.MessageLemmas.{HasHead-append, Begins-append}
 
--- what is found has no value, so nothing found has one
+-- if what is found has no value, nothing that is found has one
 pub never_both : {D V U : Type 0} (found : Option D) (value_of : D → Option V) → ((d : D) × (U × (found ≡ Some d)) × (value_of d ≡ None)) → (v : V)
     → ¬ ((d : D) × (U × (found ≡ Some d)) × (value_of d ≡ Some v))
 never_both found value_of h v r =
@@ -32,12 +32,12 @@ never_both found value_of h v r =
     let same : h.0 ≡ r.0 = cc in
     let none : None ≡ Some v = sym h.2 ∙ ap value_of same ∙ r.2 in cc
 
--- a part, and what follows it
+-- the n items from i on, and what follows them
 cut : (xs : List ℕ) (i n : ℕ) → drop i xs ≡ slice_range xs i (i + n) ++ drop (i + n) xs
 cut xs i n = let e : i + n - i ≡ n = omega arith in rw e (sym (take-append-drop n (drop i xs)) ∙ ap (λ (t : List ℕ). take n (drop i xs) ++ t) (drop-drop n i xs))
 
 module _ (db : List ℕ) (h : RequestHead) (f : Framed) (bytes : List ℕ) (has : HasHead bytes h (drop f.len bytes)) (is : IsFramed db h f) where
-  -- a body that is there
+  -- if the body is complete, the bytes begin with the message
   pub whole_message : f.len + f.body ≤ length bytes
       → Begins db bytes (message_of f (slice_range bytes f.len (f.len + f.body))) (drop (f.len + f.body) bytes)
   whole_message there =
@@ -50,25 +50,25 @@ module _ (db : List ℕ) (h : RequestHead) (f : Framed) (bytes : List ℕ) (has 
         joined = cut bytes f.len f.body;
       }
 
-  -- a body that is not there
+  -- if the body is incomplete, the session waits
   pub part_message : f.len ≤ length bytes → length bytes < f.len + f.body → IsWaiting db bytes
   part_message within short =
       inr (h, drop f.len bytes, request_in f.target, f.body, has, is.asks, omega (arith, within, short, length-drop f.len bytes))
 
-  -- no memory for it
+  -- there may be no memory after a complete head
   pub lacks_memory : LacksMemory bytes f.silent
   lacks_memory = inr (inr (h, drop f.len bytes, has, is.silent))
 
-  -- more bytes
+  -- the bytes still begin with the head when more arrive
   pub head_with : (more : List ℕ) → f.len ≤ length bytes → HasHead (bytes ++ more) h (drop f.len (bytes ++ more))
   head_with more within = rw (drop-append-le f.len bytes more within) (HasHead-append bytes h (drop f.len bytes) more has)
 
--- a head at the front has a byte
+-- a head has at least one byte
 pub head_counts : (bytes : List ℕ) (h : RequestHead) (len : ℕ) → HasHead bytes h (drop len bytes) → len ≤ length bytes → 1 ≤ len
 head_counts bytes h len has within =
     omega (arith, within, head_long h has.reads.0, ap length has.reads.1, length-append (print_request h) (drop len bytes), length-drop len bytes)
 
--- a session that stopped reading ends at its limit only where the reader may not be called again
+-- a session that stopped reading ends at its limit only if it may not call its reader again
 pub stops_at_limit : (old new : Option (List ℕ)) (silent : Bool) (s : Stop) (end : SessionEnd) → StopsWith old new silent s end → end ≡ Limit → s ≡ stop.Limit
 stops_at_limit old new silent stop.End end h e = let f : Eof ≡ Limit = sym h.0 ∙ e in cc
 stops_at_limit old new silent stop.Failed end h e = let f : ReadFault ≡ Limit = sym h.0 ∙ e in cc
@@ -80,7 +80,7 @@ stops_at_limit old new silent stop.NoMemory Closed h e = absurd h
 stops_at_limit old new silent stop.NoMemory ReadFault h e = absurd h
 stops_at_limit old new silent stop.NoMemory Limit h e = absurd h
 
--- a text that refuses was written, or a front of it: that is no limit
+-- a session that wrote a refusing text, or a prefix of it, did not end at its limit
 pub refused_counts : {A P : Type 0} (written : Result A Fault) (end : SessionEnd) → end ≡ cond (is_ok written) Refused WriteFault → end ≡ Limit → P
 refused_counts (Ok a) end e at = let f : Refused ≡ Limit = sym e ∙ at in cc
 refused_counts (Err x) end e at = let f : WriteFault ≡ Limit = sym e ∙ at in cc
@@ -89,7 +89,7 @@ pub refused_text : {A : Type 0} (written : Result A Fault) (end : SessionEnd) (b
 refused_text (Ok a) end bytes e = rw e tt
 refused_text (Err x) end bytes e = rw e tt
 
--- a message that was answered counts
+-- the progress of a turn that answered a message
 pub answered_counts : {A : Type 0} (old new : Progress) (came : List ℕ) (written : Result A Fault) (closes : Bool) (result : Result ⊤ SessionEnd)
     → result ≡ cond (is_ok written) (cond closes (Err Closed) (Ok tt)) (Err WriteFault)
     → new.requests + new.held ≤ old.requests + (old.held + length came) → new.reads ≤ old.reads + length came
@@ -98,7 +98,7 @@ answered_counts old new came (Ok a) true result e few often = rw e (λ at. let f
 answered_counts old new came (Ok a) false result e few often = rw e (few, often)
 answered_counts old new came (Err x) closes result e few often = rw e (λ at. let f : WriteFault ≡ Limit = at in cc)
 
--- a session that ends at its limit has read so many bytes
+-- a session that ends at its limit has read at least 4,294,967,295 bytes
 pub at_limit : (end : SessionEnd) (bytes came held : List ℕ) (requests reads : ℕ) → requests + length held ≤ length bytes → reads ≤ length bytes
     → (end ≡ Limit → (4294967295 ≤ requests) ⊎ (4294967295 ≤ reads + length came)) → IsAtLimit end (bytes ++ came)
 at_limit Limit bytes came held requests reads few often k =
@@ -113,13 +113,13 @@ at_limit ReadFault bytes came held requests reads few often k = tt
 at_limit WriteFault bytes came held requests reads few often k = tt
 
 module _ {S : Type 0} (answers : S → Asked → Option Answer → S → Type 0) (db : List ℕ) where
-  -- a session that ends with the first thing it does
+  -- a session that ends with its first message, or before it
   pub ends_at : (old : S) (bytes last : List ℕ) (new : S) (end : SessionEnd) → Ends answers db end (exchange old bytes last new)
       → Converses answers db end (exchange old bytes last new)
   ends_at old bytes last new end h =
       record { calls = []; text = []; rest = bytes; mid = old; served = (refl, refl, refl); last = last; ended = h; written_is = refl }
 
-  -- what comes later stands behind what was left
+  -- bytes that come later follow the rest of a run of calls
   pub Serves-append : (old : S) (bytes : List ℕ) (calls : List Call) (text rest : List ℕ) (new : S) (more : List ℕ)
       → Serves answers db calls rest (exchange old bytes text new) → Serves answers db calls (rest ++ more) (exchange old (bytes ++ more) text new)
   Serves-append old bytes [] text rest new more h = (ap (λ (t : List ℕ). t ++ more) h.0, h.1, h.2)
@@ -134,7 +134,7 @@ module _ {S : Type 0} (answers : S → Asked → Option Answer → S → Type 0)
     others_follow = Serves-append h.mid h.after calls h.later rest new more h.others_follow;
   }
 
-  -- one run of calls after another
+  -- two runs of calls, one after the other, are one run
   pub Serves-then : (old : S) (bytes : List ℕ) (calls : List Call) (text mid : List ℕ) (between : S) (others : List Call) (later rest : List ℕ) (new : S)
       → Serves answers db calls mid (exchange old bytes text between) → Serves answers db others rest (exchange between mid later new)
       → Serves answers db (calls ++ others) rest (exchange old bytes (text ++ later) new)
@@ -150,7 +150,7 @@ module _ {S : Type 0} (answers : S → Asked → Option Answer → S → Type 0)
     others_follow = Serves-then h.mid h.after calls h.later mid between others later rest new h.others_follow k;
   }
 
-  -- a run of calls, and then a session that ends
+  -- a run of calls and then a session are a session
   pub Converses-then : (old : S) (bytes : List ℕ) (calls : List Call) (text mid : List ℕ) (between : S) (written : List ℕ) (new : S) (end : SessionEnd)
       → Serves answers db calls mid (exchange old bytes text between) → Converses answers db end (exchange between mid written new)
       → Converses answers db end (exchange old bytes (text ++ written) new)
@@ -165,18 +165,18 @@ module _ {S : Type 0} (answers : S → Asked → Option Answer → S → Type 0)
     written_is = ap (λ (t : List ℕ). text ++ t) k.written_is ∙ sym (append_assoc text k.text k.last);
   }
 
-  -- the first turn of a session ends it
+  -- the turn ended the session: what was read and written, and how it ended
   abbrev pub Promises : Option (List ℕ) → Option (List ℕ) → Option (List ℕ) → Option (List ℕ) → S → List ℕ → S → SessionEnd → Type 0
   Promises r r' w w' old held new end =
       (came : List ℕ) × (written : List ℕ) × Consumes r r' came × Appends w w' written × Converses answers db end (exchange old (held ++ came) written new)
 
-  -- a run of calls, with what was read and written
+  -- the turn continues the session: what was read and written, and the calls that it served
   abbrev pub Runs : Option (List ℕ) → Option (List ℕ) → Option (List ℕ) → Option (List ℕ) → S → List ℕ → List ℕ → S → Type 0
   Runs r r' w w' old before held new =
       (came : List ℕ) × (written : List ℕ) × Consumes r r' came × Appends w w' written
       × ((calls : List Call) × Serves answers db calls held (exchange old (before ++ came) written new))
 
-  -- a message at the front was handled, and its reply written, or a front of it
+  -- a message was handled, and its reply, or a prefix of it, was written
   pub handled_one : {A : Type 0} (w w' : Option (List ℕ)) (old : S) (bytes rest : List ℕ) (new : S) (call : Call) (written : Result A Fault) (closes : Bool)
       → call.message.closes ≡ closes → Begins db bytes call.message rest → IsHandled answers old call new → Writes w w' (call_text call) written
       → (text : List ℕ) × Appends w w' text
@@ -221,7 +221,7 @@ module _ {S : Type 0} (answers : S → Asked → Option Answer → S → Type 0)
   stopped w w' old bytes silent stop.NoMemory ReadFault waiting lacks h = absurd h
   stopped w w' old bytes silent stop.NoMemory Limit waiting lacks h = absurd h
 
-  -- in a message whose body is not there
+  -- the session stopped reading within a body
   abbrev pub stopped_in_body : (r r' w w' : Option (List ℕ)) (old : S) (held came bytes : List ℕ) (h : RequestHead) (f : Framed) (s : Stop) (end : SessionEnd)
       → HasHead held h (drop f.len held) → IsFramed db h f → f.len ≤ length held → Consumes r r' came → bytes ≡ held ++ came → length bytes < f.len + f.body
       → StopsWith w w' f.silent s end → Promises r r' w w' old held old end
@@ -231,7 +231,7 @@ module _ {S : Type 0} (answers : S → Asked → Option Answer → S → Type 0)
       let one = stopped w w' old bytes f.silent s end (part_message db h f bytes now is inside short) (lacks_memory db h f bytes now is) stops in
       (came, one.0, read, one.1, subst (λ (t : List ℕ). Converses answers db end (exchange old t one.0 old)) joined one.2)
 
-  -- between two messages or in a head
+  -- the session stopped reading between two messages or within a head
   abbrev pub stopped_in_head : (r r' w w' : Option (List ℕ)) (old : S) (held came bytes : List ℕ) (s : Stop) (end : SessionEnd)
       → IsWaiting db held → LacksMemory held false → Consumes r r' came → bytes ≡ held ++ came → bytes ≡ held
       → StopsWith w w' false s end → Promises r r' w w' old held old end
@@ -239,11 +239,11 @@ module _ {S : Type 0} (answers : S → Asked → Option Answer → S → Type 0)
       let one = stopped w w' old held false s end waiting lacks stops in
       (came, one.0, read, one.1, subst (λ (t : List ℕ). Converses answers db end (exchange old t one.0 old)) (sym none ∙ joined) one.2)
 
-  -- a limit, with nothing written
+  -- the session reached its limit and wrote nothing
   abbrev pub limited : (r r' w : Option (List ℕ)) (old : S) (held came : List ℕ) → Consumes r r' came → Promises r r' w w old held old Limit
   limited r r' w old held came c = (came, [], c, Appends-nil w, ends_at old (held ++ came) [] old Limit (refl, refl))
 
-  -- a text that refuses was written, or a front of it
+  -- a refusing text, or a prefix of it, was written
   pub refuses_now : {A : Type 0} (r w w' : Option (List ℕ)) (old : S) (held text : List ℕ) (written : Result A Fault) (end : SessionEnd)
       → Refuses db held text → Writes w w' text written → end ≡ cond (is_ok written) Refused WriteFault → Promises r r w w' old held old end
   refuses_now r w w' old held text (Ok a) end h k e =
@@ -251,7 +251,7 @@ module _ {S : Type 0} (answers : S → Asked → Option Answer → S → Type 0)
   refuses_now r w w' old held text (Err f) end h k e =
       ([], k.0, Consumes-nil r, k.2, rw (append-nil held, e) (ends_at old held k.0 old WriteFault (text, k.1, inr (h, refl))))
 
-  -- more is held
+  -- the session has read more bytes and continues
   abbrev pub reads_on : (r r' w : Option (List ℕ)) (old : S) (held came left : List ℕ) → Consumes r r' came → left ≡ held ++ came
       → Runs r r' w w old held left old
   reads_on r r' w old held came left c e = (came, [], c, Appends-nil w, ([], (sym e, refl, refl)))

@@ -1,4 +1,4 @@
--- A session of a service whose states stand for others, as for worlds, is one of those.
+-- If the states of a service stand for others, such as worlds, its sessions are sessions of the others.
 use Rattle.std.proofs.Common.{◌≡◌, ℕ, List, [], ◌∷◌, Option, Some, None, refl, inl, inr, subst, sym}
 use Rattle.mg_engine.specs.Commands.{Asked, Answer, next}
 use Rattle.mg_engine.specs.Run.{Answers}
@@ -11,7 +11,7 @@ use Rattle.mg_http.specs.Talk.{AtWorld}
 use Rattle.mg_http.specs.Target.{Request, body, asks, refuses}
 use Rattle.mg_http.proofs.Forms.{exchange, step}
 
--- a command that is answered at a world leaves one for which the service stands
+-- a command that is answered at a world leaves a world for which the service stands
 pub at_world : (ends : World → Type 0) (w : World) (c : Asked) (r : Option Answer) → Answers w c r ends → (u : World) × AtWorld w c r u × ends u
 at_world ends w c None h = (w, refl, h)
 at_world ends w c (Some a) h = (next w c, (h.0, refl), h.1)

@@ -1,4 +1,4 @@
--- What a session wrote for which memory sufficed, and that no input is without a transcript.
+-- If memory sufficed, a session wrote a transcript; and every input has a transcript.
 use Rattle.std.proofs.Common.{◌≡◌, ◌⊎◌, ℕ, zero, suc, ◌<◌, Bool, true, false, List, [], ◌∷◌, ◌++◌, length, take, drop, All, Option, Some, refl, sym, ap, ◌∙◌, subst, append_assoc, append-nil, take-append-drop, arith, length-append, length-take, length-drop, inl, inr}
 use Rattle.std.proofs.lemmas.Bool.{cases_lt}
 use Rattle.std.proofs.lemmas.List.{take_all}
@@ -29,19 +29,19 @@ abbrev messages_in : List Call → List Message
 messages_in [] = []
 messages_in (call ∷ calls) = call.message ∷ messages_in calls
 
--- a front of a front is one
+-- a prefix of a prefix is a prefix
 front_of_front : (xs ys zs : List ℕ) → IsPrefix xs ys → IsPrefix ys zs → IsPrefix xs zs
 front_of_front xs ys zs a b =
     (a.0 ++ b.0, sym (append_assoc xs a.0 b.0) ∙ ap (λ (t : List ℕ). t ++ b.0) a.1 ∙ b.1)
 
 module _ {S : Type 0} (answers : S → Asked → Option Answer → S → Type 0) (db : List ℕ) where
-  -- a call whose reply is known
+  -- a call that has an answer was handled with that answer
   known : (w : S) (call : Call) (u : S) (has : IsAnswered call)
       → Handles answers call.message.request call.message.body (step w call.reply u)
       → Handles answers call.message.request call.message.body (step w (Some has.0) u)
   known w call u has h = subst (λ (r : Option Answer). Handles answers call.message.request call.message.body (step w r u)) has.1 h
 
-  -- what the calls wrote, and then a transcript of what they left
+  -- what the calls wrote and then a transcript of the rest are a transcript of the whole
   speaks : (w : S) (bytes : List ℕ) (calls : List Call) (text rest : List ℕ) (u : S) (ms : List Message) (later : List ℕ)
       → Serves answers db calls rest (exchange w bytes text u) → All IsAnswered calls → Speaks answers db ms (passage u rest later)
       → Speaks answers db (messages_in calls ++ ms) (passage w bytes (text ++ later))
@@ -59,7 +59,7 @@ module _ {S : Type 0} (answers : S → Asked → Option Answer → S → Type 0)
         others_follow = inr (h.stays, speaks h.mid h.after calls h.later rest u ms later h.others_follow (All-tail IsAnswered call calls all) k);
       }
 
-  -- the last text is a transcript of the bytes that were left
+  -- the last text is a transcript of the rest of the bytes
   last_speaks : (end : SessionEnd) (w : S) (rest last : List ℕ) (u : S) (e : Ends answers db end (exchange w rest last u))
       → EndsAmply answers db end (exchange w rest last u) e → WroteAll end → IsTranscript answers db (passage w rest last)
   last_speaks Eof w rest last u e ample all = ([], inl (e.0, e.1))
@@ -103,7 +103,7 @@ module _ {S : Type 0} (answers : S → Asked → Option Answer → S → Type 0)
   }
 
 module _ (db : List ℕ) where
-  -- a transcript goes on as the calls do
+  -- each transcript of the bytes is what the calls wrote, and then a transcript of the rest
   follows : (w : World) (bytes : List ℕ) (calls : List Call) (text rest : List ℕ) (u : World) (ns : List Message) (longer : List ℕ)
       → Serves AtWorld db calls rest (exchange w bytes text u) → All IsAnswered calls → Speaks AtWorld db ns (passage w bytes longer)
       → (ms : List Message) × (later : List ℕ) × (longer ≡ text ++ later) × Speaks AtWorld db ms (passage u rest later)
@@ -131,7 +131,7 @@ module _ (db : List ℕ) where
             )
       ]
 
-  -- the reply to the message at the front begins a transcript, whatever follows
+  -- the reply to the first message is a prefix of each transcript, whatever bytes follow
   call_begins : (w : World) (rest more : List ℕ) (call : Call) (whole : List ℕ) (u : World) (ms : List Message) (later : List ℕ)
       → Answered AtWorld db call (exchange w rest whole u) → IsAnswered call → Speaks AtWorld db ms (passage w (rest ++ more) later) → IsPrefix whole later
   call_begins w rest more call whole u [] later a has k =
@@ -145,7 +145,7 @@ module _ (db : List ℕ) where
       a.text_is ∙ ap (λ (r : Option Answer). reply_text call.message.silent r) has.1 ∙ ap (λ (m : Message). text_of m.silent has.0) one.0 ∙ ap (text_of n.silent) reply.0 in
       (k.later, ap (λ (t : List ℕ). t ++ k.later) first ∙ sym k.text_is)
 
-  -- what refuses the bytes begins a transcript of them, whatever follows
+  -- a text that refuses the bytes is a prefix of each transcript of them, whatever bytes follow
   refusal_begins : (w : World) (rest more whole : List ℕ) (ms : List Message) (later : List ℕ)
       → ((refusal : Refusal) × (silent : Bool) × IsRefused db rest refusal silent × (whole ≡ text_of silent (refused refusal)))
       → Speaks AtWorld db ms (passage w (rest ++ more) later) → IsPrefix whole later
@@ -154,7 +154,7 @@ module _ (db : List ℕ) where
   nothing_begins : (last later : List ℕ) → last ≡ [] → IsPrefix last later
   nothing_begins last later e = (later, rw e refl)
 
-  -- the last text begins each transcript of the bytes that were left, whatever follows
+  -- the last text is a prefix of each transcript of the rest of the bytes, whatever bytes follow
   last_begins : (end : SessionEnd) (w : World) (rest last : List ℕ) (u : World) (e : Ends AtWorld db end (exchange w rest last u))
       → EndsAmply AtWorld db end (exchange w rest last u) e → (more : List ℕ) (ms : List Message) (later : List ℕ) → Speaks AtWorld db ms (passage w (rest ++ more) later) → IsPrefix last later
   last_begins Eof w rest last u e ample more ms later k = nothing_begins last later e.1
@@ -185,7 +185,7 @@ module _ (db : List ℕ) where
     front = front_of_transcript w bytes written u end talk;
   }
 
-  -- ---- no input is without a transcript
+  -- ---- every input has a transcript
 
   -- a request has some reply
   some_reply : (w : World) (request : Request) (bytes : List ℕ)
@@ -195,7 +195,7 @@ module _ (db : List ℕ) where
   some_reply w (body endpoint) bytes lacking =
       lacking (refused InvalidJson) w (inr (inl (λ v r. lacking (reply_of w (asked_by endpoint v)) (next w (asked_by endpoint v)) (inl (v, r, (refl, refl))), refl, refl)))
 
-  -- bytes with no head are not whole, or are refused
+  -- bytes without a head are incomplete or refused
   no_head_stops : (bytes : List ℕ) → ((h : RequestHead) (after : List ℕ) → ¬ (HasHead bytes h after)) → ((text : List ℕ) → ¬ (Stops db bytes text)) → ⊥
   no_head_stops bytes none stops =
       let bad : ¬ (IsNoHead (take 16384 bytes)) = λ x. stops (text_of false (refused BadHead)) (inr (BadHead, false, inr (inl (x, refl, refl)), refl)) in
@@ -205,7 +205,7 @@ module _ (db : List ℕ) where
         | inr long ↦ stops (text_of false (refused HeadTooLarge)) (inr (HeadTooLarge, false, inr (inr (long, going, refl, refl)), refl))
       ]
 
-  -- a head is not empty
+  -- what follows a head is shorter than the bytes
   rest_shorter : (bytes : List ℕ) (h : RequestHead) (after : List ℕ) (n k : ℕ) → HasHead bytes h after → length bytes < suc k → length (drop n after) < k
   rest_shorter bytes h after n k has small =
       omega (arith, head_long h has.reads.0, ap length has.reads.1, length-append (print_request h) after, length-drop n after)

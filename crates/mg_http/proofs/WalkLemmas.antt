@@ -1,4 +1,4 @@
--- The code's walk ends at the routes that the segments mean.
+-- The code's match finds the routes that the segments mean.
 use Rattle.std.proofs.lemmas.Bool.Decides.{nat_tests}
 use Rattle.std.proofs.Common.{◌≡◌, arith, ℕ, ◌==◌, Bool, true, false, not, ◌&&◌, ◌||◌, cond, List, [], ◌∷◌, ◌++◌, length, Option, Some, None, refl, sym, ap, ◌∙◌}
 use Rattle.std.specs.Prelude.{bytes_eq, find, fold}
@@ -16,23 +16,23 @@ use Rattle.mg_http.specs.Target.{Request, refuses, names, requested_by, request_
 use Rattle.mg_http.specs.Walk.{Place, path_behind, behind, begins_with, goes_on, enter, enter_as, place_of_route, ends_here, ends_with, request_at}
 use Rattle.mg_http.proofs.ListLemmas.{or_true, and_false}
 
--- what a route has that was found: its method, what it asks for, and what its parameters spell
+-- a route that was found: its method, what it asks for, and its decoded parameters
 abbrev pub Found : Type 0
 Found = (List ℕ × Action) × List (List ℕ)
 
--- the route is found, or not
+-- the route is found if b is true
 abbrev pub found : List ℕ → Action → List (List ℕ) → Bool → Option Found
 found method asks spelled b = cond b (Some ((method, asks), spelled)) None
 
--- the routes that pass the test
+-- all routes that pass the test
 abbrev pub all_found : (Route → Bool) → (Route → List (List ℕ)) → List Route → List Found
 all_found p f rs = filter_map (λ r. found r.method r.asks (f r) (p r)) rs
 
--- some of the routes has a literal that the path passes over
+-- where the path first differs from some of these routes, that route has the segment as a literal
 abbrev pub passed : List Route → List (List ℕ) → List Part → Bool
 passed rs segments path = list_any (λ r. passes_over segments path r.path) rs
 
--- the path fits and passes over no literal of these routes
+-- the path fits, and none of these routes has a literal where the path has a parameter
 abbrev pub meant_in : List Route → List (List ℕ) → List Part → Bool
 meant_in rs segments path = fits segments path && not (passed rs segments path)
 
@@ -40,7 +40,7 @@ or_parts : (a b : Bool) → (a || b) ≡ false → (a ≡ false) × (b ≡ false
 or_parts true b e = cc
 or_parts false b e = (refl, e)
 
--- at the end nothing is passed over
+-- without segments, no literal is passed over
 passed_end : (rs : List Route) (path : List Part) → passed rs [] path ≡ false
 passed_end [] path = refl
 passed_end (r ∷ rs) path = passed_end rs path
@@ -51,7 +51,7 @@ fits_end (p ∷ path) =
     let apart : (length (p ∷ path) == 0) ≡ false = grind (arith, nat_tests) in
     sym apart
 
--- a part that no route has but as it is chosen
+-- a literal that matches its segment: only the routes that have the same literal count
 passed_literal : (rs : List Route) (s : List ℕ) (segments : List (List ℕ)) (path : List Part)
     → passed rs (s ∷ segments) (literal s ∷ path) ≡ passed (behind (literal s) rs) segments path
 passed_literal [] s segments path = refl
@@ -66,7 +66,7 @@ passed_literal (r ∷ rs) s segments path =
           ]
     ]
 
--- the same of the parameter, where no route has the segment as a literal
+-- a parameter, if no route has the segment as a literal: only the routes that have a parameter count
 passed_parameter : (rs : List Route) (s : List ℕ) (segments : List (List ℕ)) (path : List Part) → goes_on (literal s) rs ≡ false
     → passed rs (s ∷ segments) (parameter ∷ path) ≡ passed (behind parameter rs) segments path
 passed_parameter [] s segments path none = refl
@@ -79,7 +79,7 @@ passed_parameter (r ∷ rs) s segments path none =
       | literal t ∷ qs ↦ λ e. ap (λ b. b || passed rs (s ∷ segments) (parameter ∷ path)) e ∙ passed_parameter rs s segments path parts.1
     ] parts.0
 
--- a parameter passes over the literal with which some route goes on
+-- a parameter passes over the segment if some route has it as a literal
 passed_over : (rs : List Route) (s : List ℕ) (segments : List (List ℕ)) (path : List Part) → goes_on (literal s) rs ≡ true
     → passed rs (s ∷ segments) (parameter ∷ path) ≡ true
 passed_over [] s segments path some = some
@@ -94,7 +94,7 @@ passed_over (r ∷ rs) s segments path some =
       ]
     ] some
 
--- one segment further as a literal, route by route
+-- one more segment as a literal, route by route
 by_literal : (all rs : List Route) (s : List ℕ) (segments spelled : List (List ℕ)) → goes_on (literal s) all ≡ true
     → all_found (λ r. meant_in (behind (literal s) all) segments r.path) (λ r. spelled ++ parameters_of segments r.path) (behind (literal s) rs)
     ≡ all_found (λ r. meant_in all (s ∷ segments) r.path) (λ r. spelled ++ parameters_of (s ∷ segments) r.path) rs
@@ -120,7 +120,7 @@ by_literal all (r ∷ rs) s segments spelled some =
           ] refl
     ]
 
--- one segment further as a parameter, where no route has it as a literal
+-- one more segment as a parameter, if no route has it as a literal
 by_parameter : (all rs : List Route) (s : List ℕ) (segments spelled : List (List ℕ)) → goes_on (literal s) all ≡ false → goes_on (literal s) rs ≡ false
     → (length s == 0) ≡ false
     → all_found (λ r. meant_in (behind parameter all) segments r.path) (λ r. (spelled ++ percent_decode s ∷ []) ++ parameters_of segments r.path) (behind parameter rs)
@@ -147,7 +147,7 @@ by_parameter all (r ∷ rs) s segments spelled none absent some =
           ((b && fits segments qs) && not (passed all (s ∷ segments) (literal t ∷ qs)))) later) e)
     ] parts.0
 
--- no route goes on by an empty segment that none has as a literal
+-- no route fits an empty segment that none has as a literal
 by_nothing : (all rs : List Route) (s : List ℕ) (segments spelled : List (List ℕ)) → goes_on (literal s) rs ≡ false → (length s == 0) ≡ true
     → [] ≡ all_found (λ r. meant_in all (s ∷ segments) r.path) (λ r. spelled ++ parameters_of (s ∷ segments) r.path) rs
 by_nothing all [] s segments spelled absent empty = refl
@@ -164,7 +164,7 @@ by_nothing all (r ∷ rs) s segments spelled absent empty =
           ((b && fits segments qs) && not (passed all (s ∷ segments) (literal t ∷ qs)))) later) e)
     ] parts.0
 
--- at the end the routes that end are meant
+-- after all segments, the routes with nothing left are meant
 by_end : (all rs : List Route) (spelled : List (List ℕ))
     → all_found ends_here (λ r. spelled) rs ≡ all_found (λ r. meant_in all [] r.path) (λ r. spelled ++ parameters_of [] r.path) rs
 by_end all [] spelled = refl
@@ -175,7 +175,7 @@ by_end all (r ∷ rs) spelled =
     (ap (λ (b : Bool). b && not (passed all [] r.path)) (fits_end r.path)
     ∙ ap (λ (b : Bool). ends_here r && not b) (passed_end all r.path) ∙ and-true _))
 
--- the walk from these routes ends at those that are meant
+-- the match from these routes finds those that are meant
 walked : (segments : List (List ℕ)) (rs : List Route) (spelled : List (List ℕ))
     → (let end = fold enter (record { routes_left = rs; parameters = spelled }) segments in all_found ends_here (λ r. end.parameters) end.routes_left)
     ≡ all_found (λ r. meant_in rs segments r.path) (λ r. spelled ++ parameters_of segments r.path) rs
@@ -194,7 +194,7 @@ walked (s ∷ segments) rs spelled =
           ] refl
     ] refl
 
--- what the first route asks for that passes the test and has the method
+-- the action of the first route that passes the test and has the method
 asks_found : (method : List ℕ) (p : Route → Bool) (f : Route → List (List ℕ)) (rs : List Route)
     → option_map (λ r. r.asks) (find (λ r. p r && bytes_eq r.method method) rs)
     ≡ option_map (λ x. x.0.1) (find (λ x. bytes_eq x.0.0 method) (all_found p f rs))
@@ -214,7 +214,7 @@ abbrev spelled_first : List Found → Option (List (List ℕ))
 spelled_first [] = None
 spelled_first (x ∷ xs) = Some x.1
 
--- what the parameters of the first one spell
+-- the decoded parameters of the first route that passes the test
 spells_found : (p : Route → Bool) (f : Route → List (List ℕ)) (rs : List Route) → option_map f (find p rs) ≡ spelled_first (all_found p f rs)
 spells_found p f [] = refl
 spells_found p f (r ∷ rs) =
@@ -223,7 +223,7 @@ spells_found p f (r ∷ rs) =
       | false ↦ spells_found p f rs
     ]
 
--- where some route ends here, the parameters are those of the place
+-- if nothing of some route is left, its parameters are those of the state
 spells_here : (p : Route → Bool) (spelled : List (List ℕ)) (rs : List Route) → option_map (λ r. spelled) (find p rs) ≡ cond (list_any p rs) (Some spelled) None
 spells_here p spelled [] = refl
 spells_here p spelled (r ∷ rs) =
@@ -232,7 +232,7 @@ spells_here p spelled (r ∷ rs) =
       | false ↦ spells_here p spelled rs
     ]
 
--- what is asked at a place, by the routes that end there
+-- what is asked in a state of the match, from the routes of which nothing is left
 at_place : (db method query : List ℕ) (place : Place)
     → request_at db method query place
     ≡ request_with db (cond (list_any ends_here place.routes_left) (Some place.parameters) None)
@@ -246,7 +246,7 @@ at_place db method query place =
       | false ↦ refl
     ]
 
--- what is asked, by the routes that are found
+-- what is asked, from the routes that are found
 abbrev asked_by : List ℕ → List ℕ → List ℕ → List Found → Request
 asked_by db method query xs = request_with db (spelled_first xs) (option_map (λ x. x.0.1) (find (λ x. bytes_eq x.0.0 method) xs)) query
 
@@ -257,7 +257,7 @@ by_found db method query p f rs =
     ap (λ spelled. request_with db spelled (option_map (λ r. r.asks) (find (λ r. p r && bytes_eq r.method method) rs)) query) (spells_found p f rs)
     ∙ ap (λ action. request_with db (spelled_first (all_found p f rs)) action query) (asks_found method p f rs)
 
--- the table's routes that a path means, where the database's name is not empty
+-- the routes of the table that a path means, if the database's name is not empty
 below_name : (name : List ℕ) (below : List (List ℕ)) (rs : List Route) → (length name == 0) ≡ false
     → all_found (λ r. meant_in routes below r.path) (λ r. (percent_decode name ∷ []) ++ parameters_of below r.path) rs
     ≡ all_found (means (name ∷ below)) (λ r. parameters_of (name ∷ below) (whole_path r)) rs
@@ -272,7 +272,7 @@ no_name name below (r ∷ rs) empty =
     ∙ sym (ap (λ (b : Bool). cons_option (found r.method r.asks (percent_decode name ∷ parameters_of below r.path)
     ((not b && fits below r.path) && not (passed routes below r.path))) (all_found (means (name ∷ below)) (λ o. parameters_of (name ∷ below) (whole_path o)) rs)) empty)
 
--- where the segments lead is what they mean
+-- the match of all segments finds the routes that they mean
 all_walked : (segments : List (List ℕ))
     → (let end = place_of_route segments in all_found ends_here (λ r. end.parameters) end.routes_left)
     ≡ all_found (means segments) (λ r. parameters_of segments (whole_path r)) routes
@@ -286,7 +286,7 @@ all_walked (name ∷ below) =
       | false ↦ λ e. walked below routes (percent_decode name ∷ []) ∙ below_name name below routes e
     ] refl
 
--- what the code asks where its walk ends is what the segments ask
+-- what the code asks after its match is what the segments ask
 pub walk_asks : (db method query : List ℕ) (segments : List (List ℕ))
     → request_at db method query (place_of_route segments) ≡ request_on db method query segments
 walk_asks db method query segments =

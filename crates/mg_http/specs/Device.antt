@@ -1,26 +1,26 @@
--- Readers and writers, and what a call of one did to its bytes.
+-- Readers and writers, and what a call did to their bytes.
 use Rattle.std.specs.Prelude.{◌≡◌, ℕ, List, ◌++◌, Bool, Option, Result, Ok, Err}
 use Rattle.std.specs.Io.KnownBytes.{Appends}
 use Rattle.mg_http.specs.declared.device.Device.{Device}
 use Rattle.mg_http.specs.declared.device.Fault.{Fault}
 
--- the reader or the writer
+-- the wrapped reader or writer
 abbrev pub inner_of : {T : Type 0} → Device T → T
 inner_of d = d.inner
 
--- some call of it ended in an error, or was a write of some bytes of which none was taken
+-- some call returned an error, or a write of some bytes took none of them
 abbrev pub has_failed : {T : Type 0} → Device T → Bool
 has_failed d = d.failed
 
--- xs begins ys
+-- xs is a prefix of ys
 abbrev pub IsPrefix : List ℕ → List ℕ → Type 0
 IsPrefix xs ys = (rest : List ℕ) × (xs ++ rest ≡ ys)
 
--- a front of these bytes was written
+-- a prefix of these bytes was written
 abbrev pub WritesPart : Option (List ℕ) → Option (List ℕ) → List ℕ → Type 0
 WritesPart old new bytes = (sent : List ℕ) × IsPrefix sent bytes × Appends old new sent
 
--- these bytes were written, or at an error a front of them
+-- these bytes were written; after an error, a prefix of them
 abbrev pub Writes : {A : Type 0} → Option (List ℕ) → Option (List ℕ) → List ℕ → Result A Fault → Type 0
 Writes old new bytes (Ok a) = Appends old new bytes
 Writes old new bytes (Err e) = WritesPart old new bytes

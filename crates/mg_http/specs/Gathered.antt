@@ -1,10 +1,10 @@
--- A reply that is written by pieces. This word serves private clauses.
+-- A reply that is written in pieces. Only private clauses use this definition.
 use Rattle.std.specs.Prelude.{◌≡◌, ℕ, List, ◌++◌, Option, Result, Ok, Err}
 use Rattle.std.specs.Io.KnownBytes.{Appends}
 use Rattle.mg_http.specs.Device.{WritesPart}
 use Rattle.mg_http.specs.declared.device.Fault.{Fault}
 
--- of what was held and the piece behind it all was written but what is held now, or at an error a front
+-- of what was held and the piece after it, all but what is held now was written; after an error, a prefix was written
 abbrev pub Gathers
     : {A : Type 0} → Option (List ℕ) → Option (List ℕ) → List ℕ → List ℕ → List ℕ → Result A Fault → Type 0
 Gathers old new held piece left (Ok a) = (sent : List ℕ) × (held ++ piece ≡ sent ++ left) × Appends old new sent

@@ -10,18 +10,18 @@ use Rattle.mg_http.specs.declared.fields.Length.TheVariants.{Absent, Bytes, TooM
 use Rattle.mg_http.specs.Fields.{Field, has_field, length_in, asks_close}
 use Rattle.mg_http.specs.Target.{Request, body, asks, refuses, request_of}
 
--- what a head asks: a request, whose body has so many bytes; or it is refused where it ends
+-- what a head asks: a request whose body has this many bytes, or a refusal before the body
 pub data Asks : Type 0 where
   framed : Request → ℕ → Asks
   unframed : Refusal → Asks
 
--- the refusal that a request is, before this one
+-- the request's own refusal, if it is one; else this one
 abbrev pub refusal_before : Refusal → Request → Refusal
 refusal_before refusal (body endpoint) = refusal
 refusal_before refusal (asks command) = refusal
 refusal_before refusal (refuses first) = first
 
--- by the length that is given, whether another framing is asked for, and whether the method is POST, which needs a length
+-- how a body is framed, by its length, whether a Transfer-Encoding is given (coded), and whether the method is POST, which needs a length
 abbrev pub framed_by : Length → Bool → Bool → Request → Asks
 framed_by Faulty coded post request = unframed BadHead
 framed_by Absent coded post request =
@@ -31,7 +31,7 @@ framed_by (Bytes n) coded post request =
 framed_by TooMany coded post request =
     if coded then unframed (refusal_before LengthRequired request) else unframed (refusal_before TooLarge request)
 
--- what a head of these parts asks of the database
+-- what a head with this method, target and fields asks of the database
 abbrev pub parts_ask : List ℕ → List ℕ → List ℕ → List Field → Asks
 parts_ask db method target fields =
     if nat_le (length fields) 64

@@ -6,25 +6,25 @@ use Rattle.mg_engine.specs.declared.refusal.Refusal.TheVariants.{HeadTooLarge, B
 use Rattle.mg_http.specs.Head.{framed, unframed, asks_of, is_silent, closes_after}
 use Rattle.mg_http.specs.Target.{Request}
 
--- what a message asks for, its body, whether its reply is without the body's bytes, and whether the session ends then
+-- a message: what it asks for, its body, whether its reply leaves out the body, and whether the session ends after it
 pub record Message : Type 0 where
   pub request : Request
   pub body : List ℕ
   pub silent : Bool
   pub closes : Bool
 
--- the bytes begin with a head within its limit, and then `after`
+-- the bytes are a head within its limit, and then `after`
 pub record HasHead (bytes : List ℕ) (h : RequestHead) (after : List ℕ) : Type 0 where
   pub reads : ReadsRequest bytes h after
   pub fits : length (print_request h) ≤ 16384
 
--- the head is that of the message
+-- the head is the head of the message
 pub record IsHeadOf (db : List ℕ) (h : RequestHead) (m : Message) : Type 0 where
   pub asks : asks_of db h ≡ framed m.request (length m.body)
   pub silent : m.silent ≡ is_silent h
   pub closes : m.closes ≡ closes_after h
 
--- the bytes begin with the message, and then rest
+-- the bytes are the message, and then `rest`
 pub record Begins (db bytes : List ℕ) (m : Message) (rest : List ℕ) : Type 0 where
   pub head : RequestHead
   pub after : List ℕ
@@ -32,32 +32,32 @@ pub record Begins (db bytes : List ℕ) (m : Message) (rest : List ℕ) : Type 0
   pub framed : IsHeadOf db head m
   pub joined : after ≡ m.body ++ rest
 
--- what can become no head; a target that has not ended may still be one, whatever its bytes are
+-- bytes that can never become a head, unless they end within a target, which may go on whatever its bytes are
 abbrev pub IsNoHead : List ℕ → Type 0
 IsNoHead bytes = NeverHasRequest bytes × (¬ (EndsInTarget bytes))
 
--- what is no head yet, and may become one
+-- bytes that do not begin with a head and may go on: they can still become one, or they end within a target
 abbrev pub CanGoOn : List ℕ → Type 0
 CanGoOn bytes = HasNoRequest bytes × (¬ (IsNoHead bytes))
 
--- What is refused, why, and whether the reply leaves out its body: a head that is, what can become none, and a head
--- that goes on past its limit.
+-- Bytes that are refused, why, and whether the reply leaves out its body: a refused head, bytes that can never become a head, and a
+-- head that is longer than its limit.
 abbrev pub IsRefused : List ℕ → List ℕ → Refusal → Bool → Type 0
 IsRefused db bytes refusal silent =
     ((h : RequestHead) × (after : List ℕ) × HasHead bytes h after × (asks_of db h ≡ unframed refusal) × (silent ≡ is_silent h))
     ⊎ ((IsNoHead (take 16384 bytes) × (refusal ≡ BadHead) × (silent ≡ false))
     ⊎ ((16384 ≤ length bytes) × CanGoOn (take 16384 bytes) × (refusal ≡ HeadTooLarge) × (silent ≡ false)))
 
--- a head within its limit that is not whole yet
+-- an incomplete head within its limit
 abbrev pub IsPartHead : List ℕ → Type 0
 IsPartHead bytes = (length bytes < 16384) × CanGoOn bytes
 
--- a head, and a body that is not whole yet
+-- a head, and an incomplete body
 abbrev pub IsPartBody : List ℕ → List ℕ → Type 0
 IsPartBody db bytes =
     (h : RequestHead) × (after : List ℕ) × (request : Request) × (body : ℕ)
     × HasHead bytes h after × (asks_of db h ≡ framed request body) × (length after < body)
 
--- what is not whole yet, or nothing at all
+-- an incomplete message, or no byte
 abbrev pub IsWaiting : List ℕ → List ℕ → Type 0
 IsWaiting db bytes = IsPartHead bytes ⊎ IsPartBody db bytes

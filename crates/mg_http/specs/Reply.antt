@@ -4,7 +4,7 @@ use Rattle.http.specs.StatusCode.{reason_phrase}
 use Rattle.mg_engine.specs.declared.refusal.Refusal.TheVariants.{OutOfMemory}
 use Rattle.mg_engine.specs.Commands.{Answer, refused}
 
--- the standard phrase of a status of three digits; empty where there is none
+-- the standard phrase of a status of three digits; empty if there is none
 abbrev pub phrase_of : ℕ → List ℕ
 phrase_of status =
     if nat_le 100 status && nat_lt status 1000 then unwrap_or (reason_phrase status) [] else []
@@ -15,11 +15,11 @@ text_with code phrase size body =
     codes "HTTP/1.1 " ++ (code ++ (codes " " ++ (phrase
     ++ (codes "\r\nContent-Type: application/json\r\nContent-Length: " ++ (size ++ (codes "\r\n\r\n" ++ body))))))
 
--- the bytes of a reply; where it is silent, those of the body are left out, and its length stays
+-- the bytes of a reply; a silent one leaves the body out, but gives its length
 abbrev pub text_of : Bool → Answer → List ℕ
 text_of silent a =
     text_with (decimal a.status) (phrase_of a.status) (decimal (length a.body)) (if silent then [] else a.body)
 
--- the bytes of what a service answered; none is for want of memory
+-- the bytes of a service's answer; `None`: out of memory
 abbrev pub reply_text : Bool → Option Answer → List ℕ
 reply_text silent reply = text_of silent (unwrap_or reply (refused OutOfMemory))

@@ -1,4 +1,4 @@
--- What the code's table of routes and its places stand for.
+-- What the table of routes and the states of a match in the code mean in the definition.
 use Rattle.std.specs.Prelude.{map}
 use Rattle.std.specs.Cow.{cow_slice_items}
 use Rattle.mg_http.specs.declared.routes.Part.{Part}
@@ -8,15 +8,15 @@ use Rattle.mg_http.specs.declared.place.Place.{Place}
 use Rattle.mg_http.specs.Routes as spec
 use Rattle.mg_http.specs.Walk as walk
 
--- a part
+-- the part that a part in the code means
 abbrev pub part_seen : Part → spec.Part
 part_seen (Literal segment) = spec.literal segment.now
 part_seen Parameter = spec.parameter
 
--- a row of the table
+-- the route that a row of the table means
 abbrev pub route_of : Route → spec.Route
 route_of r = record { method = r.method.now; path = map part_seen r.path.now; asks = r.action }
 
--- a place
+-- the place that a place in the code means
 abbrev pub place_in : Place → walk.Place
 place_in p = record { routes_left = map route_of (cow_slice_items p.routes); parameters = map (λ v. v.items) p.parameters.items }

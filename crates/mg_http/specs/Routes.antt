@@ -1,4 +1,5 @@
--- The routes: which paths and methods ask for what. The segments of a path mean the routes that fit them and pass over no literal.
+-- The routes: which paths and methods ask for what. The segments of a path mean a route that fits them, unless another route has a
+-- literal where this one has a parameter: a literal goes before a parameter.
 use Rattle.std.specs.Prelude.{ℕ, Bool, true, false, not, ◌&&◌, ◌==◌, List, [], ◌∷◌, length, bytes_eq, codes, if◌then◌else◌}
 use Rattle.std.specs.List.{list_any, slice_split}
 use Rattle.percent_encoding.specs.Percent.{percent_decode}
@@ -6,12 +7,12 @@ use Rattle.mg_http.specs.declared.routes.Endpoint.TheVariants.{BulkDocs, Find, E
 use Rattle.mg_http.specs.declared.routes.Action.{Action}
 use Rattle.mg_http.specs.declared.routes.Action.TheVariants.{Body, Document, ListIndexes, DropIndex, DropDesignIndex}
 
--- a part of a path: a segment as it stands, or a parameter, which is any segment that is not empty
+-- a part of a path: a literal segment, or a parameter, which is any segment that is not empty
 pub data Part : Type 0 where
   literal : List ℕ → Part
   parameter : Part
 
--- a route: its method, its path below that of the database, and what it asks for
+-- a route: its method, its path after the database's name, and what it asks for
 pub record Route : Type 0 where
   pub method : List ℕ
   pub path : List Part
@@ -39,12 +40,12 @@ routes =
     ∷ record { method = codes "GET"; path = parameter ∷ []; asks = Document }
     ∷ []
 
--- the segments of a path, which begins with a slash
+-- the segments of a path; a path that does not begin with a slash has none
 abbrev pub segments_of : List ℕ → List (List ℕ)
 segments_of [] = []
 segments_of (b ∷ rest) = if b == 47 then slice_split (λ c. c == 47) rest else []
 
--- two parts are the same
+-- two parts are equal
 abbrev pub same_part : Part → Part → Bool
 same_part (literal a) (literal b) = bytes_eq a b
 same_part (literal a) parameter = false
@@ -63,7 +64,7 @@ fits [] (p ∷ path) = false
 fits (s ∷ segments) [] = false
 fits (s ∷ segments) (p ∷ path) = takes p s && fits segments path
 
--- where the path first differs from the other one, the other one has the segment as a literal
+-- at the first part in which the two paths differ, the other one has the segment as a literal
 abbrev pub passes_over : List (List ℕ) → List Part → List Part → Bool
 passes_over [] path other = false
 passes_over (s ∷ segments) [] other = false
@@ -80,11 +81,11 @@ abbrev pub means : List (List ℕ) → Route → Bool
 means segments r =
     fits segments (whole_path r) && not (list_any (λ other. passes_over segments (whole_path r) (whole_path other)) routes)
 
--- they mean it, and it has the method
+-- the segments mean the route, and it has the method
 abbrev pub is_asked : List ℕ → List (List ℕ) → Route → Bool
 is_asked method segments r = means segments r && bytes_eq r.method method
 
--- what the parameters of a path spell
+-- the percent-decoded parameters of a path
 abbrev pub parameters_of : List (List ℕ) → List Part → List (List ℕ)
 parameters_of [] path = []
 parameters_of (s ∷ segments) [] = []

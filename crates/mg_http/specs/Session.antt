@@ -1,5 +1,5 @@
--- What a session writes for what it reads (RFC 9112, section 9). `answers` says of two states of a service, a command and
--- a reply (none for want of memory) that the command was answered so and took the service from the first to the second.
+-- What a session writes for what it reads (RFC 9112, section 9). `answers old command reply new`: from the state `old`, the service may
+-- answer the command with the reply (`None`: out of memory) and be left in the state `new`.
 use Rattle.std.specs.Prelude.{◌≡◌, ◌⊎◌, ℕ, Bool, true, false, List, [], ◌∷◌, ◌++◌, Option, Some, None}
 use Rattle.httparse.specs.Grammar.{RequestHead}
 use Rattle.mg_value.specs.Value.{Value}
@@ -17,7 +17,7 @@ use Rattle.mg_http.specs.Message.{Message, Begins, HasHead, IsRefused, IsPartHea
 use Rattle.mg_http.specs.Reply.{text_of, reply_text}
 use Rattle.mg_http.specs.Target.{Request, body, asks, refuses}
 
--- what an endpoint asks with a body that is this value
+-- the command of an endpoint whose body is this value
 abbrev pub asked_by : Endpoint → Value → Asked
 asked_by BulkDocs v = bulk v
 asked_by Find v = find v
@@ -25,21 +25,21 @@ asked_by Explain v = explain v
 asked_by CreateIndex v = create_index v
 asked_by Reshard v = reshard v
 
--- a step of a service: its state before, the reply (none for want of memory), and the state that it leaves
+-- a step of a service: its state before, the reply (`None`: out of memory), and its state after
 pub record Step (S : Type 0) : Type 0 where
   pub old : S
   pub reply : Option Answer
   pub new : S
 
--- The reply to a body: that of the service to the value that the body is, or that the body is none, or that memory was
--- refused before the service was asked.
+-- The reply to a body: the service's reply to the value; or invalid JSON, for a body that is not a value; or out of memory before the
+-- service was asked.
 abbrev pub HandlesBody : {S : Type 0} → (S → Asked → Option Answer → S → Type 0) → Endpoint → List ℕ → Step S → Type 0
 HandlesBody answers endpoint bytes step =
     ((value : Value) × Reads bytes value × answers step.old (asked_by endpoint value) step.reply step.new)
     ⊎ ((((value : Value) → ¬ (Reads bytes value)) × (step.reply ≡ Some (refused InvalidJson)) × (step.new ≡ step.old))
     ⊎ ((step.reply ≡ None) × (step.new ≡ step.old)))
 
--- the reply to a request with this body, which only an endpoint looks at
+-- the reply to a request with this body; only an endpoint uses the body
 abbrev pub Handles : {S : Type 0} → (S → Asked → Option Answer → S → Type 0) → Request → List ℕ → Step S → Type 0
 Handles answers (body endpoint) bytes step = HandlesBody answers endpoint bytes step
 Handles answers (asks command) bytes step = answers step.old command step.reply step.new
@@ -50,7 +50,7 @@ pub record Call : Type 0 where
   pub message : Message
   pub reply : Option Answer
 
--- the call's message was handled
+-- the message of the call was handled, and its reply is the call's
 abbrev pub IsHandled : {S : Type 0} → (S → Asked → Option Answer → S → Type 0) → S → Call → S → Type 0
 IsHandled answers old call new =
     Handles answers call.message.request call.message.body (record { old = old; reply = call.reply; new = new })
@@ -59,15 +59,15 @@ IsHandled answers old call new =
 abbrev pub call_text : Call → List ℕ
 call_text call = reply_text call.message.silent call.reply
 
--- what goes in and out between two states of a service: the bytes that come, and the text that is written
+-- input and output between two states of a service: the bytes that were read, and the text that was written
 pub record Exchange (S : Type 0) : Type 0 where
   pub old : S
   pub bytes : List ℕ
   pub text : List ℕ
   pub new : S
 
--- The bytes begin with the message of the call, which does not end the session, and the text with its reply. `others` says of what
--- goes in and out behind them, from the state that the call leaves, what the other calls do.
+-- The bytes begin with the message of the call, which does not end the session, and the text begins with its reply. `others` is what
+-- the later calls do: it holds of the input and output after these, from the state that the call leaves.
 pub record ServesFirst
     {S : Type 0} (answers : S → Asked → Option Answer → S → Type 0) (db : List ℕ) (call : Call) (all : Exchange S)
     (others : Exchange S → Type 0) : Type 0 where
@@ -80,14 +80,14 @@ pub record ServesFirst
   pub text_is : all.text ≡ call_text call ++ later
   pub others_follow : others (record { old = mid; bytes = after; text = later; new = all.new })
 
--- The bytes are the messages of the calls and then rest, the text is the replies to them in order, and the service
--- went from the old state to the new one. None of them ends the session.
+-- The bytes are the messages of the calls and then `rest`, the text is their replies in order, and the service went from the old state
+-- to the new one. None of the messages ends the session.
 abbrev pub Serves
     : {S : Type 0} → (S → Asked → Option Answer → S → Type 0) → List ℕ → List Call → List ℕ → Exchange S → Type 0
 Serves answers db [] rest all = (all.bytes ≡ rest) × (all.text ≡ []) × (all.new ≡ all.old)
 Serves answers db (call ∷ calls) rest all = ServesFirst answers db call all (Serves answers db calls rest)
 
--- the message at the front was handled, and the text is its reply
+-- the bytes begin with the message of the call; it was handled, and the text is its reply
 pub record Answered
     {S : Type 0} (answers : S → Asked → Option Answer → S → Type 0) (db : List ℕ) (call : Call) (all : Exchange S) : Type 0 where
   pub after : List ℕ
@@ -95,21 +95,21 @@ pub record Answered
   pub handled : IsHandled answers all.old call all.new
   pub text_is : all.text ≡ call_text call
 
--- There was no memory for the message: for its first byte, or its head, or what a whole head asks for and its body.
--- Where the head is whole, it says whether the reply is without its body.
+-- There was no memory for the message: before its first byte, or within its head, or after it, for its target or its body. After a
+-- complete head the method decides whether the reply is silent.
 abbrev pub LacksMemory : List ℕ → Bool → Type 0
 LacksMemory bytes silent =
     ((bytes ≡ []) × (silent ≡ false))
     ⊎ ((IsPartHead bytes × (silent ≡ false))
     ⊎ ((h : RequestHead) × (after : List ℕ) × HasHead bytes h after × (silent ≡ is_silent h)))
 
--- this text refuses the bytes: for what they are, or because there was no memory
+-- the text is a reply that refuses the bytes, or that says that memory ran out
 abbrev pub Refuses : List ℕ → List ℕ → List ℕ → Type 0
 Refuses db bytes text =
     ((refusal : Refusal) × (silent : Bool) × IsRefused db bytes refusal silent × (text ≡ text_of silent (refused refusal)))
     ⊎ ((silent : Bool) × LacksMemory bytes silent × (text ≡ reply_text silent None))
 
--- How a session ends, by the last of what goes in and out: the bytes that are unanswered by then, and the text that comes last.
+-- How a session ends, from the last part of its input and output: the bytes that were still unanswered, and the last text.
 abbrev pub Ends : {S : Type 0} → (S → Asked → Option Answer → S → Type 0) → List ℕ → SessionEnd → Exchange S → Type 0
 Ends answers db Eof last = IsWaiting db last.bytes × (last.text ≡ []) × (last.new ≡ last.old)
 Ends answers db ReadFault last = IsWaiting db last.bytes × (last.text ≡ []) × (last.new ≡ last.old)
@@ -121,7 +121,7 @@ Ends answers db WriteFault last =
     × (((call : Call) × Answered answers db call (record last { text = whole }))
     ⊎ (Refuses db last.bytes whole × (last.new ≡ last.old)))
 
--- a session that ended so: it read these bytes, wrote this text, and took the service from the old state to the new one
+-- a session with this end: it read these bytes, wrote this text, and took the service from the old state to the new one
 pub record Converses
     {S : Type 0} (answers : S → Asked → Option Answer → S → Type 0) (db : List ℕ) (end : SessionEnd) (all : Exchange S) : Type 0 where
   pub calls : List Call

@@ -19,35 +19,35 @@ pub data Request : Type 0 where
   asks : Asked → Request
   refuses : Refusal → Request
 
--- the path of a target: what stands before its first question mark
+-- the path of a target: the bytes before its first question mark
 abbrev pub path_in : List ℕ → List ℕ
 path_in target = (split_once 63 target).0
 
--- the query of a target: what stands behind it
+-- the query of a target: the bytes after its first question mark
 abbrev pub query_in : List ℕ → List ℕ
 query_in target = (split_once 63 target).1
 
--- a pair of a query that reads as conflicts=true
+-- the name and value of a query parameter decode to `conflicts=true`
 abbrev pub is_conflicts : List ℕ × List ℕ → Bool
 is_conflicts pair = bytes_eq (utf8_lossy (decode pair.0)) (codes "conflicts") && bytes_eq (utf8_lossy (decode pair.1)) (codes "true")
 
--- some pair of the query is one
+-- the query has `conflicts=true`
 abbrev pub asks_conflicts : List ℕ → Bool
 asks_conflicts query = list_any is_conflicts (raw_pairs query)
 
--- that the document be shown whose id is behind the database's name
+-- the command that reads the document whose id is the parameter after the database's name
 abbrev pub document_asked : List (List ℕ) → Bool → Request
 document_asked (db ∷ id ∷ []) conflicts = asks (get id conflicts)
 document_asked parameters conflicts = refuses Missing
 
--- That the index be dropped whose design document and name are behind the database's name. The design document's name is
--- its parameter behind this front.
+-- The command that drops the index whose design document and name are the parameters after the database's name. The design document's
+-- name is this front, followed by its parameter.
 abbrev pub drop_asked : List ℕ → List (List ℕ) → Request
 drop_asked front (db ∷ ddoc ∷ name ∷ []) = asks (drop_index (front ++ ddoc) name)
 drop_asked front parameters = refuses Missing
 
--- What a route asks for with these parameters, of which the first is the database's name. Below `_index/_design` the
--- design document is what the path spells there, `_design/` and the parameter, also where that begins with `_design/` itself.
+-- What a route asks for with these parameters, of which the first is the database's name. Below `_index/_design` the design document's
+-- name is `_design/` followed by the parameter, even if the parameter itself begins with `_design/`.
 abbrev pub requested : Action → List (List ℕ) → List ℕ → Request
 requested (Body endpoint) parameters query = body endpoint
 requested Document parameters query = document_asked parameters (asks_conflicts query)
@@ -55,7 +55,7 @@ requested ListIndexes parameters query = asks list_indexes
 requested DropIndex parameters query = drop_asked [] parameters
 requested DropDesignIndex parameters query = drop_asked (codes "_design/") parameters
 
--- what the route with the method asks for; `None`: there is no such route
+-- what the route with the method asks for; `None`: no route with this path has the method
 abbrev pub requested_by : Option Action → List (List ℕ) → List ℕ → Request
 requested_by None parameters query = refuses MethodNotAllowed
 requested_by (Some action) parameters query = requested action parameters query
@@ -65,8 +65,9 @@ abbrev pub names : List ℕ → List (List ℕ) → Bool
 names db [] = false
 names db (name ∷ parameters) = bytes_eq name db
 
--- What is asked, by what the parameters of the route spell (`None`: no route is meant), and by what the route with the method asks for
--- (`None`: it has another method). A parameter that is not text is missing, too. The database's name is looked at before the method.
+-- What is asked, from the decoded parameters of the route (`None`: the path means no route) and from what the route with the method asks
+-- for (`None`: no route with this path has the method). A parameter that is not UTF-8 is refused as missing, too. The database's name is
+-- checked before the method.
 abbrev pub request_with : List ℕ → Option (List (List ℕ)) → Option Action → List ℕ → Request
 request_with db None action query = refuses Missing
 request_with db (Some parameters) action query =

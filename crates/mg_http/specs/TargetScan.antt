@@ -1,21 +1,21 @@
--- How the code tells that bytes end in a target that has not ended.
+-- How the code recognizes bytes that end within a target.
 use Rattle.std.specs.Prelude.{ℕ, Bool, true, false, ◌&&◌, ◌==◌, List, [], ◌∷◌, if◌then◌else◌}
 use Rattle.std.specs.List.{list_all}
 use Rattle.httparse.specs.Grammar.{is_token_byte, is_uri_byte}
 
--- behind the empty lines at the front
+-- the bytes without leading empty lines
 abbrev pub skip_blank : List ℕ → List ℕ
 skip_blank [] = []
 skip_blank (a ∷ []) = if a == 10 then [] else a ∷ []
 skip_blank (a ∷ b ∷ rest) =
     if a == 10 then skip_blank (b ∷ rest) else (if a == 13 && b == 10 then skip_blank rest else a ∷ b ∷ rest)
 
--- a method of which a part was seen or not, a space, and the front of a target
+-- a method, a space, and the beginning of a target; seen: a part of the method stands before these bytes
 abbrev pub is_method_and_target : Bool → List ℕ → Bool
 is_method_and_target seen [] = false
 is_method_and_target seen (b ∷ rest) =
     if is_token_byte b then is_method_and_target true rest else seen && (b == 32 && list_all is_uri_byte rest)
 
--- empty lines, a method, a space, and the front of a target
+-- empty lines, a method, a space, and the beginning of a target
 abbrev pub is_in_target : List ℕ → Bool
 is_in_target bytes = is_method_and_target false (skip_blank bytes)

@@ -1,5 +1,5 @@
--- The transcript of some input: what a service's own replies make of it, where memory suffices (RFC 9112). No loop and no buffer is
--- spoken of, and no want of memory.
+-- The transcript of some input: the text that a service's replies make of it, if memory suffices (RFC 9112). These definitions do not
+-- speak of loops, buffers or memory.
 use Rattle.std.specs.Prelude.{◌≡◌, ◌≤◌, ◌⊎◌, ⊤, ℕ, Bool, true, false, List, [], ◌∷◌, ◌++◌, length, All, Option, Some}
 use Rattle.std.proofs.Common.{inl, inr}
 use Rattle.mg_engine.specs.declared.refusal.Refusal.{Refusal}
@@ -10,7 +10,7 @@ use Rattle.mg_http.specs.Message.{Message, Begins, IsRefused, IsWaiting}
 use Rattle.mg_http.specs.Reply.{text_of}
 use Rattle.mg_http.specs.Session.{Call, Exchange, Handles, Ends, Converses}
 
--- no message at the front can be answered: what is there is not whole, or it is refused by this text
+-- the bytes do not begin with a message that can be answered: they are incomplete, or this text refuses them
 abbrev pub Stops : List ℕ → List ℕ → List ℕ → Type 0
 Stops db bytes text =
     (IsWaiting db bytes × (text ≡ []))
@@ -22,8 +22,8 @@ pub record Passage (S : Type 0) : Type 0 where
   pub bytes : List ℕ
   pub text : List ℕ
 
--- The bytes begin with the message, and the text with its reply, which is not for want of memory. `others` says of the bytes behind the
--- message, the text behind its reply and the state between what follows.
+-- The bytes begin with the message, and the text begins with its reply, which is not out of memory. `others` is what follows: it holds of
+-- the bytes after the message and the text after its reply, from the state between.
 pub record SpeaksFirst
     {S : Type 0} (answers : S → Asked → Option Answer → S → Type 0) (db : List ℕ) (m : Message) (all : Passage S)
     (others : Passage S → Type 0) : Type 0 where
@@ -36,8 +36,8 @@ pub record SpeaksFirst
   pub text_is : all.text ≡ text_of m.silent answer ++ later
   pub others_follow : others (record { from = mid; bytes = after; text = later })
 
--- These are the messages of the bytes that are answered, and the text is their replies: what follows a message is answered in the state
--- that it leaves, unless it ends the session.
+-- These are the messages of the bytes that are answered, and the text is their replies. What follows a message is answered from the state
+-- that it leaves, unless the message ends the session.
 abbrev pub Speaks : {S : Type 0} → (S → Asked → Option Answer → S → Type 0) → List ℕ → List Message → Passage S → Type 0
 Speaks answers db [] all = Stops db all.bytes all.text
 Speaks answers db (m ∷ ms) all =
@@ -48,11 +48,11 @@ Speaks answers db (m ∷ ms) all =
 abbrev pub IsTranscript : {S : Type 0} → (S → Asked → Option Answer → S → Type 0) → List ℕ → Passage S → Type 0
 IsTranscript answers db all = (messages : List Message) × Speaks answers db messages all
 
--- the call has a reply that is not for want of memory
+-- the reply of the call is not out of memory
 abbrev pub IsAnswered : Call → Type 0
 IsAnswered call = (answer : Answer) × (call.reply ≡ Some answer)
 
--- the text that came last is not for want of memory
+-- the last text is not out of memory
 abbrev pub EndsAmply
     : {S : Type 0} (answers : S → Asked → Option Answer → S → Type 0) (db : List ℕ) (end : SessionEnd) (last : Exchange S)
     → Ends answers db end last → Type 0
@@ -66,7 +66,7 @@ EndsAmply answers db WriteFault last (whole, front, inl answered) = IsAnswered a
 EndsAmply answers db WriteFault last (whole, front, inr (inl refused, same)) = ⊤
 EndsAmply answers db WriteFault last (whole, front, inr (inr lacking, same)) = ⊥
 
--- memory sufficed for a session: each of its replies is one that is not for want of memory
+-- memory sufficed for a session: none of its replies is out of memory
 pub record IsAmple
     {S : Type 0} (answers : S → Asked → Option Answer → S → Type 0) (db : List ℕ) (end : SessionEnd) (all : Exchange S)
     (talk : Converses answers db end all) : Type 0 where
@@ -82,8 +82,8 @@ WroteAll ReadFault = ⊤
 WroteAll WriteFault = ⊥
 WroteAll Limit = ⊥
 
--- a session that ended at its limit has read as many bytes as it may answer messages, and may call its reader: each message, and each
--- read after which it went on, has a byte
+-- A session that ended at its limit has read at least 4,294,967,295 bytes, since each message and each read that continued the session
+-- has at least one byte.
 abbrev pub IsAtLimit : SessionEnd → List ℕ → Type 0
 IsAtLimit Limit bytes = 4294967295 ≤ length bytes
 IsAtLimit Eof bytes = ⊤
@@ -92,8 +92,8 @@ IsAtLimit Refused bytes = ⊤
 IsAtLimit ReadFault bytes = ⊤
 IsAtLimit WriteFault bytes = ⊤
 
--- A session over an input and an output: which bytes were read, which were written, from which state of the service to which, and how
--- it ended.
+-- A session over an input and an output: which bytes were read, which were written, the states of the service before and after, and how
+-- the session ended.
 pub record Course (S : Type 0) : Type 1 where
   pub read : List ℕ → Type 0
   pub wrote : List ℕ → Type 0
@@ -101,7 +101,7 @@ pub record Course (S : Type 0) : Type 1 where
   pub new : S
   pub end : SessionEnd
 
--- What the session did. Where memory sufficed for it, and it wrote all that it had to write, it wrote a transcript of what it read.
+-- What the session did. If memory sufficed and it wrote all that it had to write, it wrote a transcript of what it read.
 pub record Holds
     {S : Type 0} (answers : S → Asked → Option Answer → S → Type 0) (db : List ℕ) (course : Course S) : Type 0 where
   pub bytes : List ℕ

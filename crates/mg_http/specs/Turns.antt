@@ -1,4 +1,4 @@
--- Words that serve the loop of a session and the functions under it; a reader of what a session promises needs none of them.
+-- For private clauses: the loop of a session and the functions that it calls. To know what a session promises, nothing here is needed.
 use Rattle.std.specs.Prelude.{◌≡◌, ◌⊎◌, ℕ, ◌+◌, ◌≤◌, List, length, drop, Bool, Option, None, Result, Ok, Err, ⊤}
 use Rattle.std.specs.Io.KnownBytes.{Appends}
 use Rattle.httparse.specs.Grammar.{RequestHead, ReadsRequest}
@@ -26,28 +26,28 @@ use Rattle.mg_http.specs.Message.{Message, HasHead, IsNoHead, CanGoOn, IsPartHea
 use Rattle.mg_http.specs.Session.{Call, Exchange, Serves, Converses}
 use Rattle.mg_http.specs.Target.{Request, body, asks, refuses}
 
--- what a target that was read asks for
+-- the request that a `Target` of the code means
 abbrev pub request_in : Target → Request
 request_in (target.Body endpoint) = body endpoint
 request_in (target.Asks command) = asks (engine.asked command)
 request_in (target.Refuses refusal) = refuses refusal
 
--- the message of a head that was read, with its body
+-- the message of a head and its body
 abbrev pub message_of : Framed → List ℕ → Message
 message_of f bytes = record { request = request_in f.target; body = bytes; silent = f.silent; closes = f.closes }
 
--- the head asks for this
+-- the code's view of the head is right
 pub record IsFramed (db : List ℕ) (h : RequestHead) (f : Framed) : Type 0 where
   pub asks : asks_of db h ≡ framed (request_in f.target) f.body
   pub silent : f.silent ≡ is_silent h
   pub closes : f.closes ≡ closes_after h
 
--- how the body was found to be framed
+-- the code's framing of the body is right
 abbrev pub IsFramedBy : Asks → Framing → Type 0
 IsFramedBy asked (framing.Bytes t n) = (asked ≡ framed (request_in t) n) × (n ≤ 8388608)
 IsFramedBy asked (framing.Refused refusal) = asked ≡ unframed refusal
 
--- what at most 16,384 bytes begin with
+-- what the code read is what these bytes, at most 16,384, begin with
 abbrev pub IsHeadRead : List ℕ → List ℕ → HeadRead → Type 0
 IsHeadRead db bytes (head.Whole f) =
     (f.len ≤ length bytes) × (f.body ≤ 8388608)
@@ -59,7 +59,7 @@ IsHeadRead db bytes head.Bad = IsNoHead bytes
 IsHeadRead db bytes (head.NoMemory silent) =
     (h : RequestHead) × (after : List ℕ) × ReadsRequest bytes h after × (silent ≡ is_silent h)
 
--- what is at the front of the bytes
+-- what the code found is what the unanswered bytes begin with
 abbrev pub IsFront : List ℕ → List ℕ → Front → Type 0
 IsFront db bytes (front.Message f) =
     (f.len ≤ length bytes) × (f.body ≤ 8388608)
@@ -69,7 +69,7 @@ IsFront db bytes (front.Refused refusal silent) = IsRefused db bytes refusal sil
 IsFront db bytes (front.NoMemory silent) =
     (h : RequestHead) × (after : List ℕ) × HasHead bytes h after × (silent ≡ is_silent h)
 
--- The session goes on holding what is left, or it ended.
+-- The session continues with the bytes `left` unanswered, or it ended.
 abbrev pub Turns : {S : Type 0} → (S → Asked → Option Answer → S → Type 0) → List ℕ → Exchange S → List ℕ → Result ⊤ SessionEnd → Type 0
 Turns answers db all left (Ok a) = (calls : List Call) × Serves answers db calls left all
 Turns answers db all left (Err end) = Converses answers db end all
@@ -80,18 +80,19 @@ pub record Progress : Type 0 where
   pub reads : ℕ
   pub held : ℕ
 
+-- the progress of a session with this inbox
 abbrev pub progress_of : Inbox → Progress
 progress_of inbox = record { requests = inbox.requests; reads = inbox.reads; held = length (unanswered inbox) }
 
--- How a turn counts, in which these bytes came: each message that is answered has a byte, and so has each read that goes on. It ends
--- a session at its limit only where so many messages were answered before, or so many reads made.
+-- How a turn that read the bytes `came` changes the progress: each answered message, and each read that continued the session, has at
+-- least one byte. The turn ends the session at its limit only after that many messages or reads.
 abbrev pub Counts : Progress → Progress → List ℕ → Result ⊤ SessionEnd → Type 0
 Counts old new came (Ok a) =
     (new.requests + new.held ≤ old.requests + (old.held + length came)) × (new.reads ≤ old.reads + length came)
 Counts old new came (Err end) =
     end ≡ Limit → (4294967295 ≤ old.requests) ⊎ (4294967295 ≤ old.reads + length came)
 
--- What was written of a text that refuses: all of it where the session ends Refused, a front of it at a write fault.
+-- What was written of a refusing text: all of it if the session ends `Refused`, a prefix of it after a write fault.
 abbrev pub RefusesBy : Option (List ℕ) → Option (List ℕ) → List ℕ → SessionEnd → Type 0
 RefusesBy old new text Refused = Appends old new text
 RefusesBy old new text WriteFault = WritesPart old new text
@@ -100,7 +101,7 @@ RefusesBy old new text Closed = ⊥
 RefusesBy old new text ReadFault = ⊥
 RefusesBy old new text Limit = ⊥
 
--- How a session ends that stopped reading so, and what was written then.
+-- How a session ends after it stopped reading for this reason, and what was written then.
 abbrev pub StopsWith : Option (List ℕ) → Option (List ℕ) → Bool → Stop → SessionEnd → Type 0
 StopsWith old new silent stop.End end = (end ≡ Eof) × (new ≡ old)
 StopsWith old new silent stop.Failed end = (end ≡ ReadFault) × (new ≡ old)

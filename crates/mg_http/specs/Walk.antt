@@ -1,5 +1,5 @@
--- For private clauses: how the code finds the routes that a path means, segment by segment. Where some route that is left goes on by
--- the segment as a literal, only such routes are left.
+-- For private clauses: how the code finds the routes that a path means, segment by segment. If some route that is left has the segment
+-- as a literal, only the routes with that literal stay.
 use Rattle.std.specs.Prelude.{ℕ, Bool, true, false, not, ◌&&◌, ◌==◌, List, [], ◌∷◌, ◌++◌, length, fold, bytes_eq, find, Option, Some, None, if◌then◌else◌}
 use Rattle.std.specs.List.{list_any, list_all, filter_map}
 use Rattle.std.specs.Option.{option_map}
@@ -9,16 +9,16 @@ use Rattle.mg_engine.specs.declared.refusal.Refusal.TheVariants.{Missing, NoData
 use Rattle.mg_http.specs.Routes.{Part, literal, parameter, Route, routes, same_part}
 use Rattle.mg_http.specs.Target.{Request, refuses, requested_by, names}
 
--- what is left of a path behind the part with which it begins
+-- the rest of a path after the part; `None`: it does not begin with the part
 abbrev pub path_behind : Part → List Part → Option (List Part)
 path_behind part [] = None
 path_behind part (p ∷ ps) = if same_part p part then Some ps else None
 
--- what is left of a route
+-- the rest of a route after the part
 abbrev pub route_behind : Part → Route → Option Route
 route_behind part r = option_map (λ path. record r { path = path }) (path_behind part r.path)
 
--- what is left of the routes on which one can go on by the part
+-- the rests of the routes whose paths begin with the part
 abbrev pub behind : Part → List Route → List Route
 behind part rs = filter_map (route_behind part) rs
 
@@ -27,16 +27,16 @@ abbrev pub begins_with : Part → List Part → Bool
 begins_with part [] = false
 begins_with part (p ∷ ps) = same_part p part
 
--- on some route one can go on by the part
+-- some route's path begins with the part
 abbrev pub goes_on : Part → List Route → Bool
 goes_on part rs = list_any (λ r. begins_with part r.path) rs
 
--- where a path has led so far: what is left of the routes on it, and what its parameters spell
+-- the state of a match: the rest of each route that still fits, and the decoded parameters so far
 pub record Place : Type 0 where
   pub routes_left : List Route
   pub parameters : List (List ℕ)
 
--- one segment further, taken as it stands or as a parameter
+-- the state after one more segment, matched as a literal (true) or as a parameter
 abbrev pub enter_as : Bool → Place → List ℕ → Place
 enter_as true place segment = record place { routes_left = behind (literal segment) place.routes_left }
 enter_as false place segment = record {
@@ -44,25 +44,25 @@ enter_as false place segment = record {
   parameters = place.parameters ++ percent_decode segment ∷ [];
 }
 
--- one segment further
+-- the state after one more segment: a literal goes before a parameter
 abbrev pub enter : Place → List ℕ → Place
 enter place segment = enter_as (goes_on (literal segment) place.routes_left) place segment
 
--- where the segments lead: the first one names the database
+-- the state after all segments, of which the first one names the database
 abbrev pub place_of_route : List (List ℕ) → Place
 place_of_route [] = record { routes_left = []; parameters = [] }
 place_of_route (name ∷ below) =
     fold enter (record { routes_left = if length name == 0 then [] else routes; parameters = percent_decode name ∷ [] }) below
 
--- the route ends here
+-- nothing of the route's path is left
 abbrev pub ends_here : Route → Bool
 ends_here r = length r.path == 0
 
--- the route ends here, and has the method
+-- nothing of the route's path is left, and it has the method
 abbrev pub ends_with : List ℕ → Route → Bool
 ends_with method r = ends_here r && bytes_eq r.method method
 
--- what is asked at the place where the path ends
+-- what the method and the query ask for in the state after all segments
 abbrev pub request_at : List ℕ → List ℕ → List ℕ → Place → Request
 request_at db method query place =
     if not (list_any ends_here place.routes_left && list_all is_utf8 place.parameters) then refuses Missing

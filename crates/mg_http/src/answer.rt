@@ -1,4 +1,4 @@
-//! The answer to one message.
+//! Answers one message.
 ghost use Rattle.std.specs.Prelude.{◌≡◌, ◌↔◌, ◌⊎◌, ℕ, List, ◌++◌, true, false, IsTrue, IsErrOf, IfErr, is_ok, if◌then◌else◌, Option};
 ghost use Rattle.std.specs.Io.KnownBytes.{Appends};
 ghost use Rattle.mg_value.specs.View.{view};
@@ -22,7 +22,7 @@ use std::io::Write;
 use std::sync::Wait;
 use std::thread::Threads;
 
-/// What the endpoint asks with this body.
+/// The command of an endpoint with this body.
 fn command_of(endpoint: Endpoint, value: Json) -> Command
     ensures { asked result ≡ asked_by endpoint (view value) }
 {
@@ -35,7 +35,9 @@ fn command_of(endpoint: Endpoint, value: Json) -> Command
     }
 }
 
-/// Answers the body for an endpoint, and writes the reply.
+/// Reads the body as JSON, answers it for the endpoint, and writes the reply.
+///
+/// Errors: those of the writer.
 fn answer_body<H: Wait + Threads + Sync, S: Service, W: Write>(
     rt: &H,
     alloc: Global,
@@ -63,7 +65,9 @@ fn answer_body<H: Wait + Threads + Sync, S: Service, W: Write>(
     }
 }
 
-/// Answers what a message asks for with its body, and writes the reply; where it is silent, without its body.
+/// Answers a message and writes the reply; a silent reply is written without its body.
+///
+/// Errors: those of the writer.
 pub(crate) fn answer<H: Wait + Threads + Sync, S: Service, W: Write>(
     rt: &H,
     alloc: Global,

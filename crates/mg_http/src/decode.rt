@@ -7,7 +7,9 @@ use percent_encoding::percent_decode;
 use std::alloc::{AllocError, Global};
 use std::borrow::CowSlice;
 
-/// What the segment spells.
+/// The segment, percent-decoded.
+///
+/// Errors: out of memory.
 pub(crate) fn decoded(alloc: Global, segment: &[u8]) -> Result<Vec<u8>, AllocError>
     ensures { IfOk result (λ v. v.items ≡ percent_decode segment.now) }
 {
@@ -17,7 +19,7 @@ pub(crate) fn decoded(alloc: Global, segment: &[u8]) -> Result<Vec<u8>, AllocErr
     }
 }
 
-/// Whether the pair of a query reads as conflicts=true.
+/// Whether the name and value of a query parameter decode to `conflicts=true`.
 fn is_conflicts(alloc: Global, name: &[u8], value: &[u8]) -> Result<bool, AllocError>
     ensures { IfOk result (λ b. b ≡ is_conflicts (name.now, value.now)) }
 {
@@ -26,7 +28,9 @@ fn is_conflicts(alloc: Global, name: &[u8], value: &[u8]) -> Result<bool, AllocE
     Ok(name.as_str() == "conflicts" && value.as_str() == "true")
 }
 
-/// Whether the query asks for the conflicts of a document.
+/// Whether the query has `conflicts=true`.
+///
+/// Errors: out of memory.
 pub(crate) fn asks_conflicts(alloc: Global, query: &[u8]) -> Result<bool, AllocError>
     ensures { IfOk result (λ b. b ≡ asks_conflicts query.now) }
 {

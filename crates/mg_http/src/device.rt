@@ -4,11 +4,11 @@ ghost use Rattle.std.specs.Io.KnownBytes.{Consumes, IsAtEnd, Keeps};
 
 use std::io::{Read, Write};
 
-/// The most bytes that are gathered for one write.
+/// The most bytes that the page gathers for one write.
 const MAX_PAGE: usize = 65_536;
 
-/// A reader or a writer that remembers whether it failed: whether a call of it ended in an error, or was a write
-/// of some bytes of which none was taken.
+/// A reader or a writer that remembers whether it failed: whether a call returned an error, or a write of some bytes
+/// took none of them.
 #[derive(Drop)]
 pub struct Device<T> {
     inner: T,
@@ -22,7 +22,7 @@ pub(crate) struct Fault;
 impl<T> Device<T> {
     ghost use Rattle.mg_http.specs.Device.{inner_of, has_failed};
 
-    /// Wraps a reader or a writer, which has not failed yet.
+    /// Wraps a reader or a writer that has not failed yet.
     pub fn new(inner: T) -> Device<T>
         ensures inner { inner_of result ≡ inner }
         ensures working { has_failed result ≡ false }
@@ -33,7 +33,7 @@ impl<T> Device<T> {
         }
     }
 
-    /// The reader or the writer.
+    /// Gives the wrapped reader or writer back.
     pub fn into_inner(self) -> T
         ensures { result ≡ inner_of self }
     {
@@ -41,7 +41,7 @@ impl<T> Device<T> {
         inner
     }
 
-    /// Whether a call of it has failed.
+    /// Whether a call has failed.
     pub fn failed(&self) -> bool
         ensures { result ≡ has_failed self.now }
     {
@@ -52,9 +52,9 @@ impl<T> Device<T> {
 impl<R: Read> Device<R> {
     ghost use Rattle.mg_http.specs.Device.{inner_of, has_failed};
 
-    /// Reads once, at most as many bytes as the piece has room for; none only at the end of the input.
+    /// Reads once into the piece, and returns the number of bytes read; 0 only at the end of the input.
     ///
-    /// Errors: where the reader answers an error; then it gave no byte, and the device has failed.
+    /// Errors: the reader returned an error. Then no byte was read, and the device has failed.
     pub(crate) fn fetch(&mut self, piece: &mut [u8]) -> Result<usize, Fault>
         requires { 0 < length piece.old }
         ensures within { (n : ℕ) → result ≡ Ok n → n ≤ length piece.new }
@@ -80,8 +80,7 @@ impl<W: Write> Device<W> {
 
     /// Writes the bytes.
     ///
-    /// Errors: where the writer answers an error or takes nothing; then it took a front of the bytes, and the device
-    /// has failed.
+    /// Errors: the writer returned an error, or took no byte. Then a prefix of the bytes was written, and the device has failed.
     pub(crate) fn put(&mut self, bytes: &[u8]) -> Result<(), Fault>
         ensures bytes { Writes (W.contents (inner_of self.old)) (W.contents (inner_of self.new)) bytes.now result }
         ensures failed { has_failed self.new ≡ (if is_ok result then has_failed self.old else true) }
@@ -99,9 +98,9 @@ impl<W: Write> Device<W> {
         Ok(())
     }
 
-    /// Writes the pieces in order, with one write where the writer takes them so and the page has room for them.
+    /// Writes the pieces in order: gathered in the page, so in one write where the page has room and the writer takes it whole.
     ///
-    /// The page is room to gather them in; where it is refused memory, a piece is written by itself. Errors as `put`.
+    /// A piece for which the page has no room, or gets no memory, is written by itself. Errors: as `put`.
     pub(crate) fn put_all(&mut self, page: &mut Vec<u8>, pieces: &[&[u8]]) -> Result<(), Fault>
         ensures bytes { Writes (W.contents (inner_of self.old)) (W.contents (inner_of self.new))
             (flat_map (λ piece. piece.now) pieces.now) result }
@@ -114,7 +113,7 @@ impl<W: Write> Device<W> {
         self.put(page)
     }
 
-    /// Puts the piece behind what the page holds, or writes both where the page has no room for it.
+    /// Appends the piece to the page, or writes both if the page has no room for it.
     fn gather(&mut self, page: &mut Vec<u8>, piece: &[u8]) -> Result<(), Fault>
         ensures bytes { Gathers (W.contents (inner_of self.old)) (W.contents (inner_of self.new))
             page.old.items piece.now page.new.items result }
@@ -129,7 +128,7 @@ impl<W: Write> Device<W> {
     }
 }
 
-/// Puts the piece behind what the page holds, if the page has room for it.
+/// Appends the piece to the page and returns `true`, if the page has room for it and gets the memory.
 fn fits(page: &mut Vec<u8>, piece: &[u8]) -> bool
     ensures { page.new.items ≡ (if result then page.old.items ++ piece.now else page.old.items) }
 {

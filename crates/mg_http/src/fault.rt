@@ -1,4 +1,4 @@
-//! Whether bytes that are no head end in a target, which may still go on.
+//! Recognizes bytes that end within a target, which may go on, among bytes that the parser rejected.
 ghost use Rattle.std.specs.Prelude.{◌≡◌, ◌↔◌, IsTrue, false};
 ghost use Rattle.std.specs.List.{list_all};
 ghost use Rattle.httparse.specs.Grammar.{EndsInTarget, is_token_byte, is_uri_byte};
@@ -6,7 +6,7 @@ ghost use Rattle.mg_http.specs.TargetScan.{skip_blank, is_method_and_target};
 
 use httparse::is_token;
 
-/// The bytes behind the empty lines at the front.
+/// The bytes without leading empty lines.
 fn skip_blank(mut bytes: &[u8]) -> &[u8]
     ensures { result.now ≡ skip_blank bytes.now }
 {
@@ -19,28 +19,28 @@ fn skip_blank(mut bytes: &[u8]) -> &[u8]
     }
 }
 
-/// Whether the byte may stand in a method.
+/// Whether a method may contain the byte.
 fn is_token_byte(byte: u8) -> bool
     ensures { result ≡ is_token_byte byte }
 {
     is_token(&[byte])
 }
 
-/// Whether the byte may stand in a target.
+/// Whether a target may contain the byte.
 fn is_uri_byte(byte: u8) -> bool
     ensures { result ≡ is_uri_byte byte }
 {
     byte > b' ' && byte != 0x7F
 }
 
-/// Whether all bytes may stand in a target.
+/// Whether a target may contain each of the bytes.
 fn is_target(bytes: &[u8]) -> bool
     ensures { result ≡ list_all is_uri_byte bytes.now }
 {
     bytes.iter().all(|b| is_uri_byte(*b))
 }
 
-/// Whether the bytes are a method, a space and the front of a target.
+/// Whether the bytes are a method, a space and the beginning of a target.
 fn is_method_and_target(bytes: &[u8]) -> bool
     ensures { result ≡ is_method_and_target false bytes.now }
 {
@@ -56,7 +56,7 @@ fn is_method_and_target(bytes: &[u8]) -> bool
     }
 }
 
-/// Whether the bytes end in a target.
+/// Whether the bytes end within a target.
 pub(crate) fn ends_in_target(bytes: &[u8]) -> bool
     ensures { IsTrue result ↔ EndsInTarget bytes.now }
 {

@@ -14,16 +14,16 @@ use httparse::spans::HeaderSpan;
 /// The most bytes of a body.
 const MAX_BODY: u64 = 8_388_608;
 
-/// What the Content-Length fields of a head say.
+/// What the Content-Length fields of a head say about its body.
 #[derive(Clone, Copy, Debug, PartialEq, Eq)]
 pub enum Length {
-    /// There is none.
+    /// There is no such field.
     Absent,
-    /// All say this number, which a body may have.
+    /// All fields give this number of bytes, which is at most 8,388,608.
     Bytes(u64),
-    /// All say the same number, which is more than 8,388,608.
+    /// All fields give the same number, which is more than 8,388,608.
     TooMany,
-    /// One says no number, or two say different ones.
+    /// One field is not a number, or two fields give different numbers.
     Faulty,
 }
 
@@ -33,7 +33,7 @@ fn same_name(a: &[u8], b: &[u8]) -> bool
     a.eq_ignore_ascii_case(b)
 }
 
-/// Whether some field has the name.
+/// Whether some field has the name, in any case.
 pub(crate) fn has_field(bytes: &[u8], fields: &[HeaderSpan], name: &[u8]) -> bool
     requires { All (IsHeaderWithin (length bytes.now)) fields.now }
     ensures { result ≡ has_field name.now (map (header_bytes bytes.now) fields.now) }
@@ -46,7 +46,7 @@ pub(crate) fn has_field(bytes: &[u8], fields: &[HeaderSpan], name: &[u8]) -> boo
     false
 }
 
-/// The value of the first field of the name.
+/// The value of the first field that has the name.
 fn find_named<'b>(bytes: &'b [u8], fields: &[HeaderSpan], name: &[u8]) -> Option<&'b [u8]>
     requires { All (IsHeaderWithin (length bytes.now)) fields.now }
     ensures { option_map (λ v. v.now) result
@@ -67,7 +67,7 @@ fn is_number(text: &[u8]) -> bool
     !text.is_empty() && text.iter().all(|b| b.is_ascii_digit())
 }
 
-/// The text from the first digit that is not 0.
+/// The text without its leading zeros.
 fn significant(mut text: &[u8]) -> &[u8]
     ensures { result.now ≡ significant text.now }
 {
@@ -79,7 +79,7 @@ fn significant(mut text: &[u8]) -> &[u8]
     text
 }
 
-/// Whether two texts of digits write the same number, which may be of any length.
+/// Whether two texts of digits write the same number. They may be of any length.
 fn same_number(a: &[u8], b: &[u8]) -> bool
     requires a { list_all is_ascii_digit a.now ≡ true }
     requires b { list_all is_ascii_digit b.now ≡ true }
@@ -90,7 +90,7 @@ fn same_number(a: &[u8], b: &[u8]) -> bool
     first == second
 }
 
-/// Whether a field, if it is a Content-Length, is the number that the text is.
+/// Whether a field is no Content-Length, or gives the same number as the text.
 fn agrees(name: &[u8], value: &[u8], text: &[u8]) -> bool
     requires { list_all is_ascii_digit text.now ≡ true }
     ensures { result ≡ agrees text.now (name.now, value.now) }
@@ -98,7 +98,7 @@ fn agrees(name: &[u8], value: &[u8], text: &[u8]) -> bool
     !same_name(name, b"content-length") || (is_number(value) && same_number(value, text))
 }
 
-/// Whether all fields that are a Content-Length are the number that the text is.
+/// Whether all Content-Length fields give the same number as the text.
 fn all_agree(bytes: &[u8], fields: &[HeaderSpan], text: &[u8]) -> bool
     requires within { All (IsHeaderWithin (length bytes.now)) fields.now }
     requires number { list_all is_ascii_digit text.now ≡ true }
@@ -112,7 +112,7 @@ fn all_agree(bytes: &[u8], fields: &[HeaderSpan], text: &[u8]) -> bool
     true
 }
 
-/// The number that the digits write, if a body may have so many bytes.
+/// The number that the digits write; `TooMany` past the limit of a body.
 fn counted(digits: &[u8]) -> Length
     requires { list_all is_ascii_digit digits.now ≡ true }
     ensures counted { result ≡ counted (digits_value 10 digits.now) }
@@ -144,7 +144,7 @@ pub(crate) fn length_in(bytes: &[u8], fields: &[HeaderSpan]) -> Length
     }
 }
 
-/// Whether some word of the value is close.
+/// Whether some item of the comma-separated value is `close`, in any case.
 fn has_close(value: &[u8]) -> bool
     ensures { result ≡ list_any is_close (words_of value.now) }
 {
@@ -153,7 +153,7 @@ fn has_close(value: &[u8]) -> bool
         .any(|word| trim_blanks(word).eq_ignore_ascii_case(b"close"))
 }
 
-/// Whether some Connection field asks to close.
+/// Whether some Connection field asks to close the connection.
 pub(crate) fn asks_close(bytes: &[u8], fields: &[HeaderSpan]) -> bool
     requires { All (IsHeaderWithin (length bytes.now)) fields.now }
     ensures { result ≡ list_any asks_close (map (header_bytes bytes.now) fields.now) }

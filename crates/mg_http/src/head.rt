@@ -1,4 +1,4 @@
-//! The head at the front of some bytes.
+//! Reads a head: what it asks for, and how its body is framed.
 ghost use Rattle.std.specs.Prelude.{◌≡◌, ◌==◌, ◌||◌, ℕ, ◌≤◌, List, length, map, All, take, IfOk, bytes_eq, codes};
 ghost use Rattle.std.specs.List.{list_any};
 ghost use Rattle.httparse.specs.Grammar.{RequestHead, NeverHasRequest};
@@ -22,11 +22,11 @@ const MAX_FIELDS: usize = 64;
 /// A head whose body's length is known.
 #[derive(Drop)]
 pub struct Framed {
-    /// What it asks for.
+    /// What the head asks for.
     pub target: Target,
-    /// How many bytes the head has.
+    /// The number of bytes of the head.
     pub len: usize,
-    /// How many bytes the body has.
+    /// The number of bytes of the body.
     pub body: u64,
     /// Whether the reply leaves out the bytes of its body.
     pub silent: bool,
@@ -34,31 +34,31 @@ pub struct Framed {
     pub closes: bool,
 }
 
-/// What some bytes begin with.
+/// What the reader of heads found.
 #[derive(Drop)]
 pub(crate) enum HeadRead {
-    /// A head, and its body's length is known.
+    /// A head whose body's length is known.
     Whole(Framed),
-    /// A head that is refused where it ends, and whether the reply leaves out its body.
+    /// A head that is refused before its body; `true`: the reply leaves out its body.
     Unframed(Refusal, bool),
-    /// The front of a head.
+    /// An incomplete head.
     Partial,
-    /// Nothing that can become a head.
+    /// Bytes that can never become a head.
     Bad,
-    /// A head for whose target there was no memory, and whether the reply leaves out its body.
+    /// A head for whose target there was no memory; `true`: the reply leaves out its body.
     NoMemory(bool),
 }
 
 /// How the body of a message is framed.
 #[derive(Drop)]
 pub(crate) enum Framing {
-    /// It has so many bytes.
+    /// The body has this many bytes.
     Bytes(Target, u64),
-    /// It is refused.
+    /// The message is refused before its body.
     Refused(Refusal),
 }
 
-/// The refusal that the target is, before this one.
+/// The target's own refusal, if it is one; else this one.
 fn refusal_before(refusal: Refusal, target: &Target) -> Refusal
     ensures { result ≡ refusal_before refusal (request_in target.now) }
 {
@@ -69,7 +69,7 @@ fn refusal_before(refusal: Refusal, target: &Target) -> Refusal
     }
 }
 
-/// How the body is framed by a length, whether another framing is asked for, and whether the method is POST.
+/// How the body is framed. `coded`: a Transfer-Encoding is given, which is refused. `post`: a length is required.
 fn framed_by(length: Length, coded: bool, post: bool, target: Target) -> Framing
     requires { (n : ℕ) → length ≡ Length.Bytes n → n ≤ 8388608 }
     ensures { IsFramedBy (framed_by length coded post (request_in target)) result }
@@ -86,7 +86,9 @@ fn framed_by(length: Length, coded: bool, post: bool, target: Target) -> Framing
     }
 }
 
-/// What a head of this method, this target and these fields asks.
+/// What a head with this method, target and fields asks for, and how its body is framed.
+///
+/// Errors: out of memory for the decoded target.
 fn read_framing(
     alloc: Global,
     db: &str,
@@ -108,7 +110,7 @@ fn read_framing(
     Ok(framed_by(length, coded, method == b"POST".as_slice(), target))
 }
 
-/// The first spans.
+/// The first `count` spans.
 fn first_of(spans: &[HeaderSpan], count: usize) -> &[HeaderSpan]
     requires { count ≤ length spans.now }
     ensures { result.now ≡ take count spans.now }
@@ -123,7 +125,7 @@ fn is_head(method: &[u8]) -> bool
     method == b"HEAD".as_slice()
 }
 
-/// Whether the reply to a message of this minor version with these fields is the session's last.
+/// Whether the session ends after the reply: the version is 1.0, or a Connection field asks to close.
 fn closes_after(minor: u8, bytes: &[u8], fields: &[HeaderSpan]) -> bool
     requires { All (IsHeaderWithin (length bytes.now)) fields.now }
     ensures { result ≡ (minor == 0 || list_any asks_close (map (header_bytes bytes.now) fields.now)) }
@@ -131,7 +133,7 @@ fn closes_after(minor: u8, bytes: &[u8], fields: &[HeaderSpan]) -> bool
     minor == 0 || asks_close(bytes, fields)
 }
 
-/// What bytes are at whose front the parser found that no head can come.
+/// Classifies bytes that the parser rejected: an unfinished target, or no head at all.
 fn fault(bytes: &[u8]) -> HeadRead
     requires { NeverHasRequest bytes.now }
     ensures { (db : List ℕ) → IsHeadRead db bytes.now result }
@@ -143,7 +145,7 @@ fn fault(bytes: &[u8]) -> HeadRead
     }
 }
 
-/// What the head asks that the parser found in the bytes.
+/// What the head that the parser found in the bytes asks for.
 fn read_whole(
     alloc: Global,
     db: &str,
@@ -171,7 +173,7 @@ fn read_whole(
     }
 }
 
-/// Reads the head at the front of at most 16,384 bytes; the spans are room for its fields.
+/// Reads the head that at most 16,384 bytes begin with; `spans` is room for its fields.
 pub(crate) fn read_head(
     alloc: Global,
     db: &str,

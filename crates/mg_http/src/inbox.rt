@@ -1,4 +1,4 @@
-//! What a session has read and not yet answered.
+//! Holds what a session has read and not yet answered.
 ghost use Rattle.std.specs.Prelude.{◌≡◌, ◌↔◌, ℕ, List, [], ◌++◌, Ok, IfOk, IsErrOf, OnErr, OnOk, ◌<◌, ◌≤◌, ◌+◌, length, drop, vec_len, IsTrue, false};
 ghost use Rattle.std.specs.Io.KnownBytes.{Consumes, IsAtEnd, Keeps};
 ghost use Rattle.mg_http.specs.Device.{inner_of, has_failed};
@@ -10,7 +10,7 @@ use httparse::spans::{EMPTY_HEADER_SPAN, HeaderSpan};
 use std::alloc::{AllocError, Global};
 use std::io::Read;
 
-/// Room for the fields of a head: no more fit into 16,384 bytes.
+/// The most fields of a head: no more fit into 16,384 bytes.
 const SPANS: usize = 5_461;
 
 /// How many bytes the reader is asked for at a time.
@@ -19,10 +19,10 @@ const PIECE: usize = 16_384;
 /// What a session keeps from one message to the next.
 #[derive(Drop)]
 pub(crate) struct Inbox {
-    /// What was read; the bytes before `start` are answered. They are dropped when the reader is asked again.
+    /// The bytes that were read. Those before `start` are answered, and are dropped before the next read.
     pub(crate) held: Vec<u8>,
     pub(crate) start: usize,
-    /// Where the second segment of a path is looked up.
+    /// Looks up the second segment of a path.
     pub(crate) table: Table,
     /// Room for the fields of a head.
     pub(crate) spans: Vec<HeaderSpan>,
@@ -30,29 +30,29 @@ pub(crate) struct Inbox {
     pub(crate) piece: Vec<u8>,
     /// Room for one write.
     pub(crate) page: Vec<u8>,
-    /// How many messages were answered.
+    /// The number of messages answered.
     pub(crate) requests: u32,
-    /// How often the reader was called.
+    /// The number of calls of the reader.
     pub(crate) reads: u32,
     ghost answered: { start ≤ vec_len held },
     ghost spans_room: { vec_len spans ≡ 5461 },
     ghost piece_room: { vec_len piece ≡ 16384 },
 }
 
-/// Why no byte came.
+/// Why a read gave no byte.
 #[derive(Clone, Copy)]
 pub(crate) enum Stop {
-    /// The input is at its end.
+    /// The input ended.
     End,
-    /// The reader answered an error.
+    /// The reader failed.
     Failed,
-    /// The room for another piece was refused.
+    /// There was no memory for another piece.
     NoMemory,
-    /// The reader may not be called again.
+    /// The session may not call its reader again.
     Limit,
 }
 
-/// What is held after the answered bytes.
+/// The unanswered bytes.
 pub(crate) fn rest_of(held: &[u8], start: usize) -> &[u8]
     requires { start ≤ length held.now }
     ensures { result.now ≡ drop start held.now }
@@ -64,7 +64,9 @@ impl Inbox {
     ghost use Rattle.mg_http.specs.Inbox.{unanswered, turns_left};
     ghost use Rattle.mg_http.specs.Turns.{IsFront};
 
-    /// An inbox that holds nothing.
+    /// An empty inbox.
+    ///
+    /// Errors: out of memory.
     pub(crate) fn new(alloc: Global) -> Result<Inbox, AllocError>
         ensures held { IfOk result (λ inbox. unanswered inbox ≡ []) }
         ensures counts { IfOk result (λ inbox. (inbox.requests ≡ 0) × (inbox.reads ≡ 0)) }
@@ -81,7 +83,7 @@ impl Inbox {
         })
     }
 
-    /// What is at the front of the unanswered bytes.
+    /// Reads what the unanswered bytes begin with.
     pub(crate) fn front(&mut self, alloc: Global, db: &str) -> Front
         ensures front { IsFront db.now (unanswered self.old) result }
         ensures held { unanswered self.new ≡ unanswered self.old }
@@ -98,7 +100,7 @@ impl Inbox {
         )
     }
 
-    /// Lets the answered bytes go.
+    /// Drops the answered bytes.
     fn drop_answered(&mut self)
         ensures start { self.new.start ≡ 0 }
         ensures held { self.new.held.items ≡ unanswered self.old }
@@ -114,9 +116,9 @@ impl Inbox {
         self.start = 0;
     }
 
-    /// Reads once. The room for what comes is taken before, so no byte is lost.
+    /// Reads once. Reserves the room before it reads, so that no byte is lost.
     ///
-    /// Errors: why no byte came.
+    /// Errors: why the read gave no byte.
     pub(crate) fn read_piece<R: Read>(&mut self, reader: &mut Device<R>) -> Result<(), Stop>
         requires { has_failed reader.old ≡ false }
         ensures bytes { (came : List ℕ)
@@ -128,7 +130,7 @@ impl Inbox {
         ensures failed { IsTrue (has_failed reader.new) ↔ IsErrOf result Stop.Failed }
         ensures requests { self.new.requests ≡ self.old.requests }
 
-        // Each read that goes on gives a byte, so a reader that may not be called again has given as many.
+        // Each read that returns `Ok` gives at least one byte. So at the limit of reads as many bytes were read.
         ensures reads { OnOk result (self.new.reads + length (unanswered self.old) ≤ self.old.reads + length (unanswered self.new)) }
         ensures limit { IsErrOf result Stop.Limit
             → 4294967295 + length (unanswered self.old) ≤ self.old.reads + length (unanswered self.new) }
@@ -155,9 +157,9 @@ impl Inbox {
         }
     }
 
-    /// Reads until so many bytes are unanswered.
+    /// Reads until at least `want` bytes are unanswered.
     ///
-    /// Errors: why no more came.
+    /// Errors: why the last read gave no byte.
     pub(crate) fn fill<R: Read>(&mut self, reader: &mut Device<R>, want: usize) -> Result<(), Stop>
         requires { has_failed reader.old ≡ false }
         ensures bytes { (came : List ℕ)

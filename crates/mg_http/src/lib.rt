@@ -1,4 +1,4 @@
-//! HTTP sessions: requests come in from any reader, and their replies go out to any writer.
+//! HTTP sessions: reads requests from any reader, and writes their replies to any writer.
 #![tactic(auto)]
 
 mod answer;

@@ -1,4 +1,4 @@
-//! What is at the front of some bytes.
+//! Reads what unanswered bytes begin with.
 ghost use Rattle.std.specs.Prelude.{◌≡◌, ◌≤◌, length};
 ghost use Rattle.mg_http.specs.Turns.{IsFront};
 
@@ -11,20 +11,20 @@ use std::alloc::Global;
 /// The most bytes of a head.
 pub(crate) const MAX_HEAD: usize = 16_384;
 
-/// What is at the front of some bytes.
+/// What unanswered bytes begin with.
 #[derive(Drop)]
 pub(crate) enum Front {
-    /// A head; the body that it frames may not be whole yet.
+    /// A head; its body may still be incomplete.
     Message(Framed),
-    /// The front of a head within its limit, or nothing.
+    /// An incomplete head within its limit, or no byte.
     Waiting,
-    /// What is refused, and whether the reply leaves out its body.
+    /// Bytes that are refused; `true`: the reply leaves out its body.
     Refused(Refusal, bool),
-    /// A head for whose target there was no memory, and whether the reply leaves out its body.
+    /// A head for whose target there was no memory; `true`: the reply leaves out its body.
     NoMemory(bool),
 }
 
-/// What is at the front of the bytes; the spans are room for the fields of a head.
+/// Reads what the bytes begin with; `spans` is room for the fields of a head.
 pub(crate) fn read_front(
     alloc: Global,
     db: &str,

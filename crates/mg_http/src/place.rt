@@ -1,4 +1,4 @@
-//! Where a path leads in the table of routes.
+//! Matches a path against the table of routes, segment by segment.
 ghost use Rattle.std.specs.Prelude.{◌≡◌, ◌==◌, ◌⊎◌, List, [], ◌∷◌, ◌++◌, map, length, option_to_list, IfOk, OnOk, find, if◌then◌else◌};
 ghost use Rattle.percent_encoding.specs.Percent.{percent_decode};
 ghost use Rattle.std.specs.Iterator.{YieldsFirstRef, item_count};
@@ -16,14 +16,14 @@ use crate::table::Table;
 use std::alloc::{AllocError, Global};
 use std::borrow::CowSlice;
 
-/// What is left of the routes on which a path goes, and what its parameters spell.
+/// The state of a match: the rest of each route that still fits, and the decoded parameters so far.
 #[derive(Drop)]
 pub struct Place {
     pub routes: CowSlice<'static, Route>,
     pub parameters: Vec<Vec<u8>>,
 }
 
-/// The segments of a path that are still to come.
+/// The segments of a path that are not matched yet.
 #[derive(Drop)]
 pub struct Segments<'a> {
     rest: Option<&'a [u8]>,
@@ -63,7 +63,7 @@ impl<'a> Iterator for Segments<'a> {
     }
 }
 
-/// Whether two parts are the same.
+/// Whether two parts are equal.
 fn same_part(a: Part<'_>, b: Part<'_>) -> bool
     ensures { result ≡ same_part (part_seen a.entry) (part_seen b.entry) }
 {
@@ -75,7 +75,7 @@ fn same_part(a: Part<'_>, b: Part<'_>) -> bool
     }
 }
 
-/// What is left of the route behind the part, if its path begins with it.
+/// The rest of the route after the part; `None`: its path does not begin with the part.
 fn route_behind(route: &Route, part: Part<'_>) -> Option<Route>
     ensures { option_map route_of result ≡ route_behind (part_seen part.entry) (route_of route.now) }
 {
@@ -91,7 +91,7 @@ fn route_behind(route: &Route, part: Part<'_>) -> Option<Route>
     }
 }
 
-/// Puts what is left of a route behind the others, if something is.
+/// Appends the rest of a route, if there is one.
 fn push_some(routes: &mut Vec<Route>, left: Option<Route>) -> Result<(), AllocError>
     ensures { OnOk result (map route_of routes.new.items ≡ map route_of routes.old.items ++ option_to_list (option_map route_of left)) }
 {
@@ -104,7 +104,7 @@ fn push_some(routes: &mut Vec<Route>, left: Option<Route>) -> Result<(), AllocEr
     }
 }
 
-/// What is left of the routes on which one can go on by the part.
+/// The rests of the routes whose paths begin with the part.
 fn behind(alloc: Global, routes: &[Route], part: Part<'_>) -> Result<Vec<Route>, AllocError>
     ensures { IfOk result (λ v. map route_of v.items ≡ behind (part_seen part.entry) (map route_of routes.now)) }
 {
@@ -115,7 +115,7 @@ fn behind(alloc: Global, routes: &[Route], part: Part<'_>) -> Result<Vec<Route>,
     Ok(behind)
 }
 
-/// Whether the route's path begins with the segment as it stands.
+/// Whether the route's path begins with the segment as a literal.
 fn begins_with(route: &Route, segment: &[u8]) -> bool
     ensures { result ≡ begins_with (literal segment.now) (route_of route.now).path }
 {
@@ -125,28 +125,28 @@ fn begins_with(route: &Route, segment: &[u8]) -> bool
     }
 }
 
-/// Whether some of the routes goes on by the segment as it stands.
+/// Whether some of the routes begins with the segment as a literal.
 fn goes_on(routes: &[Route], segment: &[u8]) -> bool
     ensures { result ≡ goes_on (literal segment.now) (map route_of routes.now) }
 {
     routes.iter().any(|route| begins_with(route, segment))
 }
 
-/// Whether the route ends here.
+/// Whether nothing of the route's path is left.
 fn ends_here(route: &Route) -> bool
     ensures { result ≡ ends_here (route_of route.now) }
 {
     route.path.is_empty()
 }
 
-/// Whether the route ends here and has the method.
+/// Whether nothing of the route's path is left, and it has the method.
 fn ends_with(route: &Route, method: &[u8]) -> bool
     ensures { result ≡ ends_with method.now (route_of route.now) }
 {
     ends_here(route) && route.method == method
 }
 
-/// Whether the segment is the second one of some route as it stands.
+/// Whether some route has the segment as a literal second segment.
 fn is_literal(table: &Table, segment: &[u8]) -> bool
     ensures { result ≡ goes_on (literal segment.now) routes }
 {
@@ -157,7 +157,7 @@ fn is_literal(table: &Table, segment: &[u8]) -> bool
 }
 
 impl Place {
-    /// The place behind the database's name.
+    /// The state after the database's name. No route fits an empty name.
     fn new(alloc: Global, name: &[u8]) -> Result<Place, AllocError>
         ensures place { IfOk result (λ p. place_in p ≡ record {
           routes_left = if length name.now == 0 then [] else routes;
@@ -179,7 +179,7 @@ impl Place {
         })
     }
 
-    /// Whether some route goes on by the second segment as it stands, from the place behind the database's name.
+    /// Whether some route that is left has the second segment as a literal. Called right after the database's name.
     fn stands_second(&self, table: &Table, segment: &[u8]) -> bool
         requires { (map route_of (cow_slice_items self.now.routes) ≡ []) ⊎ (map route_of (cow_slice_items self.now.routes) ≡ routes) }
         ensures { result ≡ goes_on (literal segment.now) (map route_of (cow_slice_items self.now.routes)) }
@@ -190,7 +190,7 @@ impl Place {
         is_literal(table, segment)
     }
 
-    /// The place one segment further, which is taken as it stands if some route goes on by it.
+    /// Matches one more segment: as a literal if some route that is left has it (`stands`), else as a parameter.
     fn enter(mut self, alloc: Global, segment: &[u8], stands: bool) -> Result<Place, AllocError>
         requires { stands ≡ goes_on (literal segment.now) (map route_of (cow_slice_items self.routes)) }
         ensures { IfOk result (λ p. place_in p ≡ enter (place_in self) segment.now) }
@@ -208,7 +208,9 @@ impl Place {
         Ok(self)
     }
 
-    /// Where the path leads.
+    /// Matches the whole path.
+    ///
+    /// Errors: out of memory.
     pub(crate) fn of(alloc: Global, table: &Table, path: &[u8]) -> Result<Place, AllocError>
         ensures { IfOk result (λ p. place_in p ≡ place_of_route (segments_of path.now)) }
     {
@@ -232,14 +234,14 @@ impl Place {
         Ok(place)
     }
 
-    /// Whether some route ends here.
+    /// Whether some route matches the whole path, with any method.
     pub(crate) fn is_end(&self) -> bool
         ensures { result ≡ list_any ends_here (place_in self.now).routes_left }
     {
         self.routes.iter().any(|route| ends_here(route))
     }
 
-    /// What the first route asks for that ends here and has the method.
+    /// The action of the first route that matches the whole path and has the method.
     pub(crate) fn action(&self, method: &[u8]) -> Option<Action>
         ensures { result ≡ option_map (λ r. r.asks) (find (ends_with method.now) (place_in self.now).routes_left) }
     {

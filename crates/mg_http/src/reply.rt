@@ -10,7 +10,7 @@ use itoa::Buffer;
 use mg_engine::{Refusal, Reply};
 use std::io::Write;
 
-/// The standard phrase of the status; empty where it has none.
+/// The standard phrase of the status; empty for a status without one.
 fn phrase(status: u16) -> &'static str
     ensures { result.now ≡ phrase_of status }
 {
@@ -20,7 +20,7 @@ fn phrase(status: u16) -> &'static str
     }
 }
 
-/// Writes the parts of a reply's text, gathered in the page.
+/// Writes the text of a reply from its parts. They are gathered in the page, so that one write usually suffices.
 fn write_parts<'a, W: Write>(
     writer: &mut Device<W>,
     page: &mut Vec<u8>,
@@ -48,15 +48,16 @@ fn write_parts<'a, W: Write>(
     )
 }
 
-/// The bytes of the body that a reply has: none where it is silent.
+/// The body that is written: empty for a silent reply.
 fn shown_body(silent: bool, body: &[u8]) -> &[u8]
     ensures { result.now ≡ (if silent then [] else body.now) }
 {
     if silent { &[] } else { body }
 }
 
-/// Writes a status and a body as a reply's text, gathered in the page; where it is silent, without the bytes of the
-/// body. Errors as those of the writer.
+/// Writes the text of a reply with this status and body. A silent reply leaves the body out, but gives its length.
+///
+/// Errors: those of the writer.
 fn write_text<W: Write>(
     writer: &mut Device<W>,
     page: &mut Vec<u8>,
@@ -81,6 +82,8 @@ fn write_text<W: Write>(
 }
 
 /// Writes a reply of the service.
+///
+/// Errors: those of the writer.
 pub(crate) fn write_reply<W: Write>(
     writer: &mut Device<W>,
     page: &mut Vec<u8>,
@@ -94,7 +97,9 @@ pub(crate) fn write_reply<W: Write>(
     write_text(writer, page, silent, reply.status(), reply.body())
 }
 
-/// Writes a refusal as a reply. Takes no memory but for the page.
+/// Writes a refusal as a reply. Allocates nothing but the page.
+///
+/// Errors: those of the writer.
 pub(crate) fn write_refusal<W: Write>(
     writer: &mut Device<W>,
     page: &mut Vec<u8>,

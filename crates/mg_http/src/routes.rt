@@ -3,18 +3,18 @@ ghost use Rattle.std.specs.Prelude.{◌≡◌, map};
 ghost use Rattle.mg_http.specs.RouteViews.{route_of};
 ghost use Rattle.mg_http.specs.Routes.{routes};
 
-/// What takes the body of a message.
+/// An endpoint that takes the body of a message.
 #[derive(Clone, Copy, Debug, PartialEq, Eq)]
 pub enum Endpoint {
-    /// A bulk of edits.
+    /// Writes a bulk of documents.
     BulkDocs,
-    /// A query.
+    /// Runs a query.
     Find,
-    /// A query that is to be explained.
+    /// Explains a query.
     Explain,
-    /// An index that is to be created.
+    /// Creates an index.
     CreateIndex,
-    /// Another number of shards.
+    /// Changes the number of shards.
     Reshard,
 }
 
@@ -23,26 +23,26 @@ pub enum Endpoint {
 pub enum Action {
     /// What the endpoint does with the body.
     Body(Endpoint),
-    /// The document whose id is the parameter behind the database's name.
+    /// Reads the document whose id is the parameter after the database's name.
     Document,
-    /// The list of the indexes.
+    /// Lists the indexes.
     ListIndexes,
-    /// That the index be dropped whose design document and name are the parameters behind the database's name.
+    /// Drops the index whose design document and name are the parameters after the database's name.
     DropIndex,
-    /// The same, where the design document is `_design/` and the parameter behind it.
+    /// Drops an index like `DropIndex`, but the design document's name is `_design/` followed by its parameter.
     DropDesignIndex,
 }
 
 /// A part of a path.
 #[derive(Clone, Copy)]
 pub enum Part<'a> {
-    /// A segment as it stands.
+    /// Matches the segment that equals it, before percent-decoding.
     Literal(&'a [u8]),
-    /// Any segment that is not empty.
+    /// Matches any segment that is not empty.
     Parameter,
 }
 
-/// A route: its method, its path below that of the database, and what it asks for.
+/// A route: its method, its path after the database's name, and what it asks for.
 #[derive(Clone, Copy)]
 pub struct Route {
     pub method: &'static [u8],
@@ -50,7 +50,7 @@ pub struct Route {
     pub action: Action,
 }
 
-/// The table. A route is a row here, and the same row of the definition.
+/// The table of the routes, row by row as in the definition (`specs/Routes.antt`).
 const ROUTES: [Route; 9] = [
     Route {
         method: b"POST",

@@ -14,11 +14,10 @@ use std::thread::Threads;
 
 /// Answers one command after another.
 pub trait Service {
-    // From the first state the command is answered so, or for want of memory not, and the second state is left.
+    // From the first state, the command may get this answer (`None`: out of memory) and leave the second state.
     ghost answers: { Self → Asked → Option Answer → Self → Type 0 };
 
-    /// Answers the command. That the handle may be shared by threads, as its bound says, is a clause too, since an impl is not
-    /// handed such a bound of its trait's method.
+    /// Answers the command. The clause `requires` repeats the bound `Sync`, since an impl does not get the bounds of its trait's method.
     fn ask<H: Wait + Threads + Sync>(&mut self, rt: &H, alloc: Global, command: &Command) -> Reply
         requires { IsSync H.row }
         ensures { answers self.old (asked command.now) (said result) self.new };
@@ -34,7 +33,7 @@ pub struct Solo<P> {
 }
 
 impl<P: Placement + Drop> Service for Solo<P> {
-    // At each world that the engine stands for the answer is the engine's, or memory was refused and nothing changed.
+    // The answer is right at each world that the engine stands for; or memory ran out, and the engine is unchanged.
     ghost answers = { λ old command answer new.
         Steps P.place old.engine command answer new.engine × IfNone answer (new.engine ≡ old.engine) };
 
@@ -53,8 +52,8 @@ pub struct SeatService<D: Database, C: Ends> {
 }
 
 impl<D: Database, C: Ends> Service for SeatService<D, C> {
-    // The answer is the seat's: of a read by what it has then seen, of a write after a list of commits that begins with what it had
-    // seen.
+    // The answer is the seat's: a read is answered from what the seat has seen by then; a write, after a list of commits that begins
+    // with those that the seat had seen.
     ghost answers = { λ old command answer new. Answered D.db old.seat command answer new.seat };
 
     fn ask<H: Wait + Threads + Sync>(&mut self, rt: &H, alloc: Global, command: &Command) -> Reply {

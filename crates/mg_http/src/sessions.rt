@@ -1,4 +1,4 @@
-//! Sessions.
+//! A session: reads messages and writes their replies, until an end of one of six kinds.
 ghost use Rattle.std.specs.Prelude.{◌≡◌, ◌↔◌, ℕ, ◌<◌, ◌≤◌, List, [], ◌++◌, length, drop, false, IsTrue, IsErrOf, is_ok, if◌then◌else◌, OnOk};
 ghost use Rattle.std.specs.Io.KnownBytes.{Appends, Consumes, IsAtEnd};
 ghost use Rattle.httparse.specs.Grammar.{RequestHead};
@@ -26,19 +26,19 @@ use std::thread::Threads;
 pub enum SessionEnd {
     /// The input ended.
     Eof,
-    /// The last message asked to close, or was one of version 1.0.
+    /// The last message asked to close, or its version was 1.0.
     Closed,
-    /// What came is refused where a head ends, or as none, or for want of memory: the last text says which.
+    /// The input was refused at its head, or memory ran out; the last reply says which.
     Refused,
     /// The reader failed.
     ReadFault,
     /// The writer failed.
     WriteFault,
-    /// As many messages were answered, or as many reads made, as a session may have.
+    /// The session answered, or read, as many times as it may: 4,294,967,295.
     Limit,
 }
 
-/// How a session ends whose last text was written so.
+/// How a session ends after the write of its last reply, which refused the input.
 fn refused(written: Result<(), Fault>) -> SessionEnd
     ensures { result ≡ (if is_ok written then SessionEnd.Refused else SessionEnd.WriteFault) }
 {
@@ -48,7 +48,7 @@ fn refused(written: Result<(), Fault>) -> SessionEnd
     }
 }
 
-/// How a session goes on whose reply was written so, and whose message closes it or not.
+/// Whether the session continues after the write of a reply. `closes`: the message asked to close.
 fn replied(written: Result<(), Fault>, closes: bool) -> Result<(), SessionEnd>
     ensures { result ≡ (if is_ok written then (if closes then Err SessionEnd.Closed else Ok tt) else Err SessionEnd.WriteFault) }
 {
@@ -59,7 +59,7 @@ fn replied(written: Result<(), Fault>, closes: bool) -> Result<(), SessionEnd>
     }
 }
 
-/// How a session ends that stopped reading; where memory was refused, that is told.
+/// How a session ends after it stopped reading. Out of memory gets a reply; the other reasons get none.
 fn stopped<W: Write>(
     writer: &mut Device<W>,
     page: &mut Vec<u8>,
@@ -78,7 +78,7 @@ fn stopped<W: Write>(
     }
 }
 
-/// Reads the rest of the message whose head is at the front, and answers it.
+/// Reads the rest of the message whose head was read, and answers it.
 fn message<H: Wait + Threads + Sync, S: Service, R: Read, W: Write>(
     rt: &H,
     alloc: Global,
@@ -93,7 +93,7 @@ fn message<H: Wait + Threads + Sync, S: Service, R: Read, W: Write>(
     requires len { framed.now.len ≤ length (unanswered inbox.old) }
     requires body { framed.now.body ≤ 8388608 }
 
-    // Where such a head is at the front: what was read and written.
+    // If the unanswered bytes begin with this head: what was read and written.
     ensures bytes { (db : List ℕ) (h : RequestHead) → HasHead (unanswered inbox.old) h (drop framed.now.len (unanswered inbox.old))
         → IsFramed db h framed.now → (came : List ℕ) × (written : List ℕ)
         × Consumes (R.remaining (inner_of reader.old)) (R.remaining (inner_of reader.new)) came
@@ -135,7 +135,7 @@ fn message<H: Wait + Threads + Sync, S: Service, R: Read, W: Write>(
     replied(written, framed.closes)
 }
 
-/// One turn: a message is answered, or more bytes are read, or the session ends.
+/// One turn: answers a message, or reads more bytes, or ends the session.
 fn turn<H: Wait + Threads + Sync, S: Service, R: Read, W: Write>(
     rt: &H,
     alloc: Global,
@@ -197,7 +197,7 @@ pub fn session<H: Wait + Threads + Sync, S: Service, R: Read, W: Write>(
     requires reading { has_failed reader.old ≡ false }
     requires writing { has_failed writer.old ≡ false }
 
-    // What was read and what was written, and how they belong together.
+    // What was read, what was written, and how the two are related.
     ensures talk { Holds S.answers db.now (record {
       read = Consumes (R.remaining (inner_of reader.old)) (R.remaining (inner_of reader.new));
       wrote = Appends (W.contents (inner_of writer.old)) (W.contents (inner_of writer.new));

@@ -1,4 +1,4 @@
-//! The second segments that some route has as they stand.
+//! The table of the literals that some route has as its second segment.
 ghost use Rattle.std.specs.Prelude.{◌≡◌, ℕ, List, is_some};
 ghost use Rattle.matchit.specs.Seek.{first};
 ghost use Rattle.mg_http.specs.Routes.{literal, routes};
@@ -7,7 +7,7 @@ ghost use Rattle.mg_http.specs.Walk.{goes_on};
 use matchit::{InsertError, Router};
 use std::alloc::{AllocError, Global};
 
-/// The second segments that some route has as they stand, and no others.
+/// The literals that some route has as its second segment, and no others.
 #[derive(Drop)]
 pub(crate) struct Table {
     router: Router<()>,
@@ -15,12 +15,14 @@ pub(crate) struct Table {
 }
 
 impl Table {
-    /// The table of these segments.
+    /// The table of all these literals.
+    ///
+    /// Errors: out of memory.
     pub(crate) fn new(alloc: Global) -> Result<Table, AllocError> {
         Table::filled(alloc).map_err(|_| AllocError)
     }
 
-    /// The table of these segments, or why it could not be made.
+    /// The table of all these literals, or the error of the router.
     fn filled(alloc: Global) -> Result<Table, InsertError> {
         let mut router = Router::new(alloc);
         router.insert("_bulk_docs", ())?;
@@ -31,7 +33,7 @@ impl Table {
         Ok(Table { router })
     }
 
-    /// Whether the text is the second segment of some route as it stands.
+    /// Whether some route has the text as a literal second segment.
     pub(crate) fn has(&self, text: &str) -> bool
         ensures { result ≡ goes_on (literal text.now) routes }
     {

@@ -15,11 +15,12 @@ use std::sync::Wait;
 use std::thread::Threads;
 
 impl<P: Placement + Drop> Solo<P> {
-    /// Serves one session of the database `db`: each message that was read is answered as the engine's world answers it, and the
-    /// engine then stands for the world that they leave. Where memory sufficed, what is written is the transcript of what was read;
-    /// after a failed write, or at the session's limit, it is a front of it.
+    /// Serves one session of the database `db`: answers each message that it reads, one after another, from the engine.
     ///
-    /// Errors are ends: see `SessionEnd`. Cost: that of the commands, and one pass over the bytes.
+    /// If memory sufficed, it writes the transcript of what it read; after a failed write, or at the session's limit, a prefix of the
+    /// transcript. Afterwards the engine stands for the world that the answered messages leave.
+    ///
+    /// Errors: each error ends the session; see `SessionEnd`. Cost: that of the commands, and one pass over the bytes.
     pub fn serve<H: Wait + Threads + Sync, R: Read, W: Write>(
         &mut self,
         rt: &H,

@@ -1,4 +1,4 @@
-//! What the method and the target of a head ask for.
+//! Translates the method and the target of a head to a command.
 ghost use Rattle.std.specs.Prelude.{◌≡◌, map, IfOk, true};
 ghost use Rattle.std.specs.List.{list_all};
 ghost use Rattle.std.specs.Str.{is_utf8};
@@ -14,18 +14,18 @@ use crate::table::Table;
 use mg_engine::{Command, Refusal};
 use std::alloc::{AllocError, Global};
 
-/// What a target that was read asks for.
+/// What the method and the target of a head ask for.
 #[derive(Drop)]
 pub enum Target {
     /// What the endpoint does with the body.
     Body(Endpoint),
-    /// A command; the body is not looked at.
+    /// A command; the body is ignored.
     Asks(Command),
-    /// A refusal, which is answered behind the body.
+    /// A refusal, which is written after the body was read.
     Refuses(Refusal),
 }
 
-/// The path and the query of the target.
+/// The path and the query of the target, without the question mark between them.
 fn split_query(target: &[u8]) -> (&[u8], &[u8])
     ensures path { result.0.now ≡ path_in target.now }
     ensures query { result.1.now ≡ query_in target.now }
@@ -46,7 +46,7 @@ fn is_text(bytes: &[u8]) -> bool
     }
 }
 
-/// Whether each parameter is a text.
+/// Whether each parameter is UTF-8.
 fn are_texts(parameters: &[Vec<u8>]) -> bool
     ensures { result ≡ list_all is_utf8 (map (λ v. v.items) parameters.now) }
 {
@@ -63,7 +63,7 @@ fn names(db: &str, parameters: &[Vec<u8>]) -> bool
     }
 }
 
-/// The bytes as the text that they are.
+/// The bytes, which are UTF-8, as a `str`.
 fn as_text(bytes: &[u8]) -> &str
     requires { is_utf8 bytes.now ≡ true }
     ensures { result.now ≡ bytes.now }
@@ -74,7 +74,7 @@ fn as_text(bytes: &[u8]) -> &str
     }
 }
 
-/// What asks for the document of these parameters, which are texts: the database's name and an id.
+/// The command that reads a document. The parameters are UTF-8: the database's name and the id.
 fn document(alloc: Global, parameters: &[Vec<u8>], conflicts: bool) -> Result<Target, AllocError>
     requires { list_all is_utf8 (map (λ v. v.items) parameters.now) ≡ true }
     ensures { IfOk result (λ t. request_in t ≡ document_asked (map (λ v. v.items) parameters.now) conflicts) }
@@ -88,8 +88,8 @@ fn document(alloc: Global, parameters: &[Vec<u8>], conflicts: bool) -> Result<Ta
     }
 }
 
-/// What drops the index of these parameters, which are texts: the database's name, what the design document's name is
-/// behind the front, and the index's name.
+/// The command that drops an index. The parameters are UTF-8: the database's name, the design document's name after the
+/// prefix `front`, and the index's name.
 fn drop_index(alloc: Global, front: &str, parameters: &[Vec<u8>]) -> Result<Target, AllocError>
     requires { list_all is_utf8 (map (λ v. v.items) parameters.now) ≡ true }
     ensures { IfOk result (λ t. request_in t ≡ drop_asked front.now (map (λ v. v.items) parameters.now)) }
@@ -105,7 +105,7 @@ fn drop_index(alloc: Global, front: &str, parameters: &[Vec<u8>]) -> Result<Targ
     }
 }
 
-/// What is asked at the place.
+/// What the method asks for at a matched path, or the refusal of a path that does not match.
 fn target_at(
     alloc: Global,
     db: &str,
@@ -135,7 +135,7 @@ fn target_at(
 
 /// What the method and the target ask of the database.
 ///
-/// Errors: where memory for what the target spells is refused.
+/// Errors: out of memory for the decoded target.
 pub(crate) fn read_target(
     alloc: Global,
     db: &str,

@@ -1,4 +1,4 @@
-//! Small scans over bytes.
+//! Trims spaces and tabs.
 ghost use Rattle.std.specs.Prelude.{◌≡◌, reverse};
 ghost use Rattle.httparse.specs.Grammar.{is_ows, skip_ows, trim_ows};
 

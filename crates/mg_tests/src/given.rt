@@ -1,19 +1,19 @@
-//! What the tests share: values, and the end of a test that fails. `memory` is the word for a call that was refused memory.
+//! What the tests share: JSON values, texts, and a check. A test that fails with the message `memory` was refused memory by some call.
 use mg_value::{Json, read};
 use std::alloc::Global;
 use std::process::Abort;
 
-/// The value that a text spells.
+/// Reads a text as JSON.
 pub(crate) fn json<R: Abort>(rt: &R, alloc: Global, text: &str) -> Json {
     read(alloc, text.as_bytes()).expect(rt, "memory")
 }
 
-/// A text of its own.
+/// An owned copy of a text.
 pub(crate) fn string<R: Abort>(rt: &R, alloc: Global, text: &str) -> String {
     String::from_str(alloc, text).expect(rt, "memory")
 }
 
-/// Ends the test where this does not hold, and names the case.
+/// Fails the test with the name of the case, unless the condition holds.
 pub(crate) fn check<R: Abort>(rt: &R, holds: bool, case: &str) {
     if !holds {
         rt.panic(case)

@@ -1,7 +1,7 @@
-//! Tests of the libraries: what only Rust can say and needs no thread. States that share their pages, a placement of documents of the
-//! test's own, lists of events, runs that are refused memory, and each public call by itself that the program does not make. Whole
-//! conversations are data, in the folder tests/ at the top; threads are in mg_thread_tests. A test ends the process where it fails, so
-//! no function has an exit for each call that may be refused memory: that keeps the proofs of the tests small.
+//! Tests of the libraries that need Rust and no threads: states that share pages, a placement of the tests' own, lists of events, runs
+//! that are refused memory, and each public call that the program does not make. Whole conversations are data, in the folder tests/ at
+//! the top; tests with threads are in mg_thread_tests. A failing test ends the process, and so does a call that is refused memory. So no
+//! function needs an exit for such a call, which keeps the proofs of the tests small.
 #![tactic(auto)]
 
 #[cfg(test)]

@@ -1,5 +1,5 @@
-//! Lists of events over seats: a fixed one, whose replies are written out, and lists that are drawn by a seed, whose replies are
-//! those of plain runs.
+//! Lists of events at seats: a fixed list, whose replies are written out, and random lists from a seed, whose replies must be those of
+//! one engine that runs the commands one after another.
 use crate::given::{check, json, string};
 use mg_engine::{Command, Engine, Reply};
 use mg_machine::interleave::{Event, are_at, replay};
@@ -8,7 +8,7 @@ use std::alloc::Global;
 use std::process::Abort;
 use std::thread::Threads;
 
-// The commands: first the bodies of 5 bulks, of 2 indexes, of 2 queries and of an explanation.
+// The bodies of the commands 0 to 9: 5 bulks, 2 indexes, 2 queries and an explanation.
 const BODIES: [&str; 10] = [
     r#"{"docs":[{"_id":"a","n":1},{"_id":"b","n":2}]}"#,
     r#"{"docs":[{"_id":"a","_rev":"2-f","n":3,"_revisions":{"start":2,"ids":["f","e"]}}],"new_edits":false}"#,
@@ -46,7 +46,7 @@ fn plain_command<R: Abort>(rt: &R, alloc: Global, number: usize) -> Command {
     }
 }
 
-// The command of a number, 0 to 13.
+// The command with a number from 0 to 13.
 fn command_of<R: Abort>(rt: &R, alloc: Global, number: usize) -> Command {
     match BODIES.get(number) {
         Some(text) => body_command(rt, alloc, number, text),
@@ -54,7 +54,7 @@ fn command_of<R: Abort>(rt: &R, alloc: Global, number: usize) -> Command {
     }
 }
 
-// What happens: which event, at which seat, and the number of its command or of the seat that tells.
+// An event: its kind, its seat, and the number of its command or of the seat from which it learns.
 #[derive(Clone, Copy, Drop)]
 struct Draw {
     kind: u64,
@@ -62,7 +62,7 @@ struct Draw {
     by: usize,
 }
 
-// The event: publishing and answering twice as often as looking and telling.
+// The event of a draw. Of six kinds, two publish, two answer, one enters and one learns from another seat.
 fn event_of<R: Abort>(rt: &R, alloc: Global, draw: &Draw) -> Event {
     let Draw { kind, seat, by } = *draw;
     match kind {
@@ -103,8 +103,8 @@ const MISSING: &str = "{\"error\":\"not_found\",\"reason\":\"missing\"}\n";
 const INDEXES: &str =
     "{\"indexes\":[{\"ddoc\":null,\"def\":{\"fields\":[{\"_id\":\"asc\"}]},\"name\":\"_all_docs\",\"type\":\"special\"}],\"total_rows\":1}\n";
 
-// The second seat looks, the first writes, and the second reads before and after it is told; then it drops an index that is not there,
-// and the first lists the indexes.
+// The second seat enters, the first writes, and the second reads before and after it learns of the write. Then it drops an index that
+// does not exist, and the first lists the indexes.
 const TELLING: [Draw; 7] = [
     Draw {
         kind: 4,
@@ -143,7 +143,7 @@ const TELLING: [Draw; 7] = [
     },
 ];
 
-// The status and the text of a reply, if there is one.
+// The status and the body of a reply; 0 and an empty body if there is none.
 fn told(reply: Option<&Option<Reply>>) -> (u16, &[u8]) {
     match reply {
         Some(Some(reply)) => (reply.status(), reply.body()),
@@ -151,7 +151,7 @@ fn told(reply: Option<&Option<Reply>>) -> (u16, &[u8]) {
     }
 }
 
-// The replies to these: the number of the event, the status and the text.
+// The replies to these events: the number of the event, the status and the body.
 const TOLD: &[(usize, u16, &str)] = &[
     (0, 0, ""),
     (1, 201, "[]\n"),
@@ -175,7 +175,7 @@ fn seats_see_what_they_looked_at_or_were_told(rt: HostRuntime) {
     }
 }
 
-// The commits, by the numbers of their commands, and how many of them each seat has seen.
+// The expected state: the commits, by the numbers of their commands, and how many of them each seat has seen.
 #[derive(Drop)]
 struct Plain {
     commits: Vec<usize>,
@@ -198,14 +198,14 @@ pub(crate) fn commands_of<R: Abort>(
     commands
 }
 
-// Ends the test where one of the replies is a want of memory.
+// Fails the test if one of the replies is out of memory.
 fn answered<R: Abort>(rt: &R, replies: &[Reply]) {
     for reply in replies {
         check(rt, reply.status() != 503, "memory");
     }
 }
 
-// The last reply of a plain run of the commits and then of the command.
+// The reply of a new engine to the command, after it ran the commits.
 pub(crate) fn plain_reply<R: Threads + Sync + Abort>(
     rt: &R,
     alloc: Global,
@@ -220,7 +220,7 @@ pub(crate) fn plain_reply<R: Threads + Sync + Abort>(
 }
 
 impl Plain {
-    // The reply to a command that is published or answered: by what its seat has seen, which is all where it publishes or writes.
+    // The expected reply to a command: from what its seat has seen, which is every commit if the command is published or writes.
     fn command<R: Threads + Sync + Abort>(
         &mut self,
         rt: &R,
@@ -241,7 +241,7 @@ impl Plain {
         reply
     }
 
-    // The reply to an event, if it has one.
+    // The expected reply to an event, if it has one.
     fn happens<R: Threads + Sync + Abort>(
         &mut self,
         rt: &R,
@@ -258,7 +258,7 @@ impl Plain {
     }
 }
 
-// A number below the limit, drawn by a state.
+// A pseudorandom number below the limit.
 fn below(state: &mut u64, limit: u64) -> u64 {
     *state = state
         .wrapping_mul(6364136223846793005)
@@ -280,7 +280,7 @@ fn drawn<R: Abort>(rt: &R, alloc: Global, seed: u64) -> Vec<Draw> {
     draws
 }
 
-// Whether the events are answered as plain runs of their commits are, of which there were more than 5.
+// Whether each reply is the one expected, and there were more than 5 commits.
 fn are_plain<R: Threads + Sync + Abort>(
     rt: &R,
     alloc: Global,

@@ -7,7 +7,7 @@ use std::process::Abort;
 
 type Given = &'static [(i64, &'static str)];
 
-// Lists of keys and ids, and the rows of their merge.
+// A case: lists of keys and ids, and what their merge must give.
 #[derive(Clone, Copy, Drop)]
 struct Merge {
     name: &'static str,
@@ -18,7 +18,7 @@ struct Merge {
     handed: &'static [u64],
 }
 
-// Rows that tie by their keys and stand in several lists; a row that stands twice comes twice.
+// Rows with equal keys in several lists. A row that is in two lists comes twice.
 const TIES: &[Given] = &[
     &[(7, "d4")],
     &[(7, "d1"), (7, "d5")],
@@ -51,7 +51,7 @@ const MERGES: &[Merge] = &[
         wanted: &[(7, "d1"), (7, "d2"), (7, "d4"), (7, "d4"), (7, "d5")],
         handed: &[1, 2, 0, 2],
     },
-    // Keys and ids descend together.
+    // Keys and ids both descend.
     Merge {
         name: "keys and ids descend",
         lists: &[&[(10, "a"), (2, "c")], &[(10, "b"), (2, "b"), (-1, "z")]],
@@ -60,7 +60,7 @@ const MERGES: &[Merge] = &[
         wanted: &[(10, "b"), (10, "a"), (2, "c"), (2, "b")],
         handed: &[2, 3],
     },
-    // Two of five that descend; no list, and no row is taken; a row that stands in two lists.
+    // Two of five descending rows; no list; no row to take; a row that is in two lists.
     Merge {
         name: "two of five that descend",
         lists: &[
@@ -90,8 +90,7 @@ const MERGES: &[Merge] = &[
         wanted: &[(7, "d1"), (7, "d1")],
         handed: &[1, 1],
     },
-    // Five documents with one key, dealt to four shards by their numbers: a page of two after one that is passed over, and a
-    // page of two after `d2`.
+    // Five documents with one key, on four shards by their numbers: a page of two after a skip of one, and a page of two after `d2`.
     Merge {
         name: "a page after a skip",
         lists: &[
@@ -138,7 +137,7 @@ fn lists<R: Abort>(rt: &R, alloc: Global, given: &[Given]) -> Vec<Vec<Row>> {
     lists
 }
 
-// Whether the merge of the lists, which have to be in order, is the rows that are wanted.
+// Whether the merge of the lists gives the wanted rows. The lists must be in order.
 fn merges<R: Abort>(rt: &R, alloc: Global, case: &Merge) -> bool {
     let lists = lists(rt, alloc, case.lists);
     assert!(rt; are_in_order(&lists, case.direction));

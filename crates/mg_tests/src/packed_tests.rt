@@ -1,5 +1,5 @@
-//! A value in one block, whose parts were worked out by hand: it has an empty array, an empty object, a text with an escape and one
-//! beyond ASCII, a negative number, and names one of which is a front of the other.
+//! A packed value (in one block), whose parts were worked out by hand. It has an empty array, an empty object, a text with an escape, a
+//! text beyond ASCII, a negative number, and a name that is a prefix of another.
 use crate::given::{check, json};
 use mg_packed::{Array, Kind, Object, Packed, Part};
 use mg_path::Path;
@@ -9,11 +9,11 @@ use std::process::Abort;
 const GIVEN: &str =
     r#" { "n" : {"":0}, "list": [-7,"q\"",null,true,[false,"\u00e9"]], "ab":{}, "a":[] } "#;
 
-// The compact text of it: no white space, and members by their names.
+// The compact text of the value: no white space, and members in the order of their names.
 pub(crate) const COMPACT: &str =
     r#"{"a":[],"ab":{},"list":[-7,"q\"",null,true,[false,"é"]],"n":{"":0}}"#;
 
-// The texts of the members, by their names and by their places.
+// The names of the members in order, with their texts; `None`: there is no such member.
 const MEMBERS: &[(&str, Option<&str>)] = &[
     ("a", Some("[]")),
     ("ab", Some("{}")),
@@ -24,7 +24,7 @@ const MEMBERS: &[(&str, Option<&str>)] = &[
     ("o", None),
 ];
 
-// The texts of the parts at paths.
+// Paths and the texts of the parts at them; `None`: there is no such part.
 const PARTS: &[(&str, Option<&str>)] = &[
     ("ab", Some("{}")),
     ("list.0", Some("-7")),
@@ -45,7 +45,7 @@ pub(crate) fn given<R: Abort>(rt: &R, alloc: Global) -> Packed {
     Packed::of(alloc, &value).expect(rt, "memory")
 }
 
-// Whether the part is there and has this text, or is missing where there is no text.
+// Whether the part exists and has this text, or does not exist if no text is given.
 pub(crate) fn is_part<R: Abort>(
     rt: &R,
     alloc: Global,
@@ -73,7 +73,7 @@ fn is_at<R: Abort>(
     is_part(rt, alloc, whole.get(&path), text)
 }
 
-// The item at a place, by the call that asks for a place that is there.
+// The item at a place, by `item`, which needs a place below the length.
 fn item_at<'a>(items: &Array<'a>, place: usize) -> Option<Part<'a>> {
     if place < items.len() {
         Some(items.item(place))
@@ -82,7 +82,7 @@ fn item_at<'a>(items: &Array<'a>, place: usize) -> Option<Part<'a>> {
     }
 }
 
-// Whether the item is of the kind that stands in that place of the list.
+// Whether the item has the kind expected at that place of the list.
 fn is_item(place: usize, item: &Part<'_>) -> bool {
     match (place, item.kind()) {
         (0, Kind::Whole(number)) => number == -7,
@@ -94,7 +94,7 @@ fn is_item(place: usize, item: &Part<'_>) -> bool {
     }
 }
 
-// Whether the list has its five items, by both calls, and no sixth.
+// Whether the list has its five items, by `item` and by `get`, and no sixth.
 fn has_items(list: &Part<'_>) -> bool {
     let Kind::List(items) = list.kind() else {
         return false;
@@ -110,7 +110,7 @@ fn has_items(list: &Part<'_>) -> bool {
     items.len() == 5 && items.get(5).is_none()
 }
 
-// The name and the value at a place of the members, where it is there.
+// The name and the value of the member at a place; `None` past the last one.
 fn member_at<'a>(members: &Object<'a>, place: usize) -> Option<(&'a str, Part<'a>)> {
     if place < members.len() {
         Some((members.name(place), members.value(place)))

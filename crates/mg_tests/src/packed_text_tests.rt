@@ -1,4 +1,4 @@
-//! The text, the order and a copy of a value in one block.
+//! The text, the order and a copy of a packed value.
 use crate::given::{check, json};
 use crate::packed_tests::{COMPACT, given, is_part};
 use mg_packed::{Packed, Part};
@@ -7,7 +7,7 @@ use std::alloc::Global;
 use std::cmp::Ordering;
 use std::process::Abort;
 
-// The order of the value and others.
+// Other values, and how the packed value compares with each.
 const OTHERS: &[(&str, Ordering)] = &[
     (COMPACT, Ordering::Equal),
     ("[9]", Ordering::Greater),
@@ -19,14 +19,14 @@ const OTHERS: &[(&str, Ordering)] = &[
     (r#"{"a":[],"ab":{},"list":[-7,"r"]}"#, Ordering::Less),
 ];
 
-// Whether the text of the part comes behind a text that is there.
+// Whether the text of the part is appended to a given text.
 fn is_added<R: Abort>(rt: &R, alloc: Global, whole: &Part<'_>) -> bool {
     let front = Vec::from_slice(alloc, b"[").expect(rt, "memory");
     let all = whole.append_text(front).expect(rt, "memory");
     all.first() == Some(&b'[') && all.get(1..) == Some(COMPACT.as_bytes())
 }
 
-// A copy of a block that is gone.
+// A copy of a packed value, which is then dropped.
 fn left_over<R: Abort>(rt: &R, alloc: Global, gone: Packed) -> Json {
     gone.part().copy(alloc).expect(rt, "memory")
 }

@@ -2,7 +2,7 @@ use mg_pages::{Identified, Pages, Shared};
 use std::alloc::Global;
 use std::process::Abort;
 
-// A note: an id, and which version of the note it is.
+// A note: an id and a version.
 #[derive(Drop)]
 struct Note {
     id: String,
@@ -19,7 +19,7 @@ impl Identified for Note {
     }
 }
 
-// Notes in pages, each in a block that pages share.
+// Pages of notes, each note in a block that several pages can share.
 type Notes = Pages<Shared<Note>>;
 
 fn id_of<R: Abort>(rt: &R, alloc: Global, number: u64) -> String {
@@ -37,7 +37,7 @@ fn take_out<R: Abort>(rt: &R, alloc: Global, notes: &mut Notes, number: u64) {
     let _ = notes.remove(alloc, &id.as_str()).expect(rt, "memory");
 }
 
-// Notes with every second number below a limit, put in from the middle outwards.
+// Notes with every second number below a limit, inserted out of order.
 fn even_notes<R: Abort>(rt: &R, alloc: Global, limit: u64) -> Notes {
     let mut notes = Pages::new(alloc);
     for k in 0..limit {
@@ -49,7 +49,7 @@ fn even_notes<R: Abort>(rt: &R, alloc: Global, limit: u64) -> Notes {
     notes
 }
 
-// Puts in each note, the odd ones too, and takes every fourth out.
+// Inserts each note anew, the odd ones too, and removes every fourth.
 fn change_all<R: Abort>(rt: &R, alloc: Global, notes: &mut Notes, limit: u64) {
     for number in 0..limit {
         put(rt, alloc, notes, number, 2);
@@ -59,7 +59,7 @@ fn change_all<R: Abort>(rt: &R, alloc: Global, notes: &mut Notes, limit: u64) {
     }
 }
 
-// Whether the notes are so many, all of one version.
+// Whether there are `count` notes, all of one version.
 fn are_all(notes: &Notes, count: usize, version: u64) -> bool {
     for one in notes.iter() {
         if one.version != version {
@@ -69,7 +69,7 @@ fn are_all(notes: &Notes, count: usize, version: u64) -> bool {
     notes.len() == count
 }
 
-// The last id up to an id.
+// The greatest id that is not above an id.
 fn last_id<'a>(notes: &'a Notes, id: &str) -> &'a str {
     match notes.upto(&id).next() {
         Some(one) => one.id.as_str(),
@@ -77,7 +77,7 @@ fn last_id<'a>(notes: &'a Notes, id: &str) -> &'a str {
     }
 }
 
-// Whether the notes are those of every second number below a limit, in order, of the first version.
+// Whether the notes are still those of `even_notes`, in order.
 fn are_as_they_were<R: Abort>(rt: &R, alloc: Global, notes: &Notes, limit: u64) -> bool {
     let mut number = 0u64;
     for one in notes.iter() {
@@ -89,14 +89,14 @@ fn are_as_they_were<R: Abort>(rt: &R, alloc: Global, notes: &Notes, limit: u64) 
     number == limit && are_all(notes, 3000, 1) && last_id(notes, "n05999") == "n05998"
 }
 
-// A state that shares its pages with these notes, and in which all is changed.
+// A state that shared its pages with these notes, and was then changed throughout.
 fn changed<R: Abort>(rt: &R, alloc: Global, notes: &Notes) -> Notes {
     let mut other = notes.share(alloc).expect(rt, "memory");
     change_all(rt, alloc, &mut other, 6000);
     other
 }
 
-// A state that shares its pages with one that is gone; it is as that was, and then all is changed in it.
+// A state that shared its pages with one that was dropped. It is checked against that one, and then changed throughout.
 fn left_over<R: Abort>(rt: &R, alloc: Global, gone: Notes) -> Notes {
     let mut left = gone.share(alloc).expect(rt, "memory");
     drop(gone);
@@ -105,7 +105,7 @@ fn left_over<R: Abort>(rt: &R, alloc: Global, gone: Notes) -> Notes {
     left
 }
 
-// Three states that share their pages: what is done to one does not show in the others.
+// Three states that share their pages: a change of one does not show in the others.
 #[test]
 fn a_shared_state_stays_as_it_was(rt: HostRuntime) {
     let alloc = rt.alloc();

@@ -1,5 +1,5 @@
-//! Worked examples over a placement of the tests' own: document `d1` stands on shard 1 modulo the number of shards, and so on.
-//! The bookmarks were made by Python's base64 and json, the revision by its hashlib.
+//! Worked examples over a placement of the tests' own: document `d1` is on shard 1 modulo the number of shards, and so on. The bookmarks
+//! were made with Python's base64 and json, the revision with its hashlib.
 ghost use Rattle.std.specs.Prelude.{◌≡◌};
 ghost use Rattle.mg_tests.specs.ByNumber.{number_of, number_place};
 
@@ -42,7 +42,7 @@ enum Ask {
     Reshard,
 }
 
-// A command and its body; then the status and the text of its reply.
+// A command and its body, and the status and the body of the expected reply.
 #[derive(Clone, Copy, Drop)]
 struct Step(Ask, &'static str, u16, &'static str);
 
@@ -60,7 +60,7 @@ const INDEX: Step = Step(
     "{\"id\":\"_design/x\",\"name\":\"k_idx\",\"result\":\"created\"}\n",
 );
 
-// An index that a query prefers to that one, by its name.
+// An index that a query prefers to the first, since its name comes first.
 const PREFERRED_INDEX: Step = Step(
     Ask::CreateIndex,
     r#"{"index":{"fields":["k"]},"ddoc":"x","name":"a_idx"}"#,
@@ -188,7 +188,7 @@ fn answers<R: Threads + Sync + Abort>(
     check(rt, holds, step.1);
 }
 
-// A new engine of four shards, after it answered each of these steps.
+// A new engine of four shards after these steps. Each reply is checked.
 fn after<R: Threads + Sync + Abort>(rt: &R, alloc: Global, steps: &[Step]) -> Engine<ByNumber> {
     let mut engine = Engine::new(alloc, "db", ByNumber, 4).expect(rt, "memory");
     for step in steps {
@@ -212,7 +212,7 @@ fn resharding(rt: HostRuntime) {
     let _ = after(&rt, rt.alloc(), RESHARDING);
 }
 
-// The body of a query; then what its page shows, how many rows each shard handed over for it, and how many were taken.
+// The body of a query, its expected page, how many rows each shard hands over for it, and how many of them are taken.
 #[derive(Clone, Copy, Drop)]
 struct Paged(&'static str, &'static str, &'static [u64], u64);
 
@@ -256,7 +256,7 @@ fn shows<R: Abort>(rt: &R, alloc: Global, page: Page, text: &str) -> bool {
     shown.as_slice() == text.as_bytes()
 }
 
-// The page over the engine's shards by its catalog without the preferred index, which the shards may have.
+// Whether the page and its work are as expected. The catalog lacks the preferred index, though the shards may have it.
 fn has_page<R: Threads + Sync + Abort>(
     rt: &R,
     alloc: Global,

@@ -1,4 +1,4 @@
-// The list of leaves, of which the program shows the winner and the conflicts. Trees are in tests/trees.py and
+// The list of leaves. The program itself shows only the winner and the conflicts. Other tests of trees are in tests/trees.py and
 // tests/conversations/revisions.txt.
 use crate::given::string;
 use mg_revtree::{History, RevTree};

@@ -1,4 +1,4 @@
-//! Rows of an index as bytes. The bytes and their order were worked out by hand from what `RowBytes` and `Bound` say.
+//! Rows of an index as bytes. The bytes and their order were worked out by hand from the documentation of `RowBytes` and `Bound`.
 use crate::given::{check, json};
 use mg_pages::{Element, Keyed};
 use mg_rows::{Bound, Edge, KeyBytes, RowBytes, value_hint};
@@ -7,11 +7,11 @@ use std::alloc::Global;
 use std::cmp::Ordering;
 use std::process::Abort;
 
-// The text of a key, the id, and the bytes of the row.
+// The JSON text of a key, the id, and the bytes of the row.
 #[derive(Clone, Copy, Drop)]
 struct Written(&'static str, &'static str, &'static [u8]);
 
-// In the order of rows: null, false, true, numbers, texts, arrays, objects. A key, a text and an array are above each of their fronts.
+// Rows in order: null, false, true, numbers, texts, arrays, objects. A key, a text and an array are above each of their prefixes.
 const ROWS: &[Written] = &[
     Written("[]", "z", &[0, 122]),
     Written("[null]", "b", &[1, 0, 98]),
@@ -29,7 +29,7 @@ const ROWS: &[Written] = &[
     Written(r#"["a"]"#, "", &[5, 98, 0, 0]),
     Written(r#"["a\u0000"]"#, "", &[5, 98, 1, 0, 0]),
     Written(r#"["ab"]"#, "", &[5, 98, 99, 0, 0]),
-    // 46 bytes, one more than stand in the row itself
+    // 46 bytes, one more than fit in the row itself
     Written(
         r#"["xxxxxxxxxxxxxxxxxxxxxxxxxxxxxxxxxxxxxxxxxx"]"#,
         "a",
@@ -46,7 +46,7 @@ const ROWS: &[Written] = &[
     Written(r#"[{"a":null}]"#, "a", &[7, 5, 98, 0, 1, 0, 0, 97]),
 ];
 
-// The values of a place, its side, and how many of those rows are below it.
+// The values of a bound, its side, and how many of the rows are below it.
 const PLACES: &[(&str, Edge, usize)] = &[
     ("[]", Edge::Before, 0),
     ("[]", Edge::After, 18),
@@ -73,7 +73,7 @@ fn row_of<R: Abort>(rt: &R, alloc: Global, written: &Written) -> RowBytes {
     RowBytes::of(alloc, &key, written.1).expect(rt, "memory")
 }
 
-// The same columns, in a key that held those of earlier rows.
+// Puts columns into a key that may hold those of an earlier row.
 fn put_columns<R: Abort>(rt: &R, alloc: Global, key: &mut KeyBytes, columns: &str) {
     key.clear();
     for column in &values_of(rt, alloc, columns) {
@@ -81,13 +81,13 @@ fn put_columns<R: Abort>(rt: &R, alloc: Global, key: &mut KeyBytes, columns: &st
     }
 }
 
-// Whether the row has the row's key and id once they are read.
+// Whether the row, read back as a whole, has the expected key and id.
 fn reads_back<R: Abort>(rt: &R, alloc: Global, row: &RowBytes, written: &Written) -> bool {
     let read = row.row(alloc).expect(rt, "memory");
     read.key == values_of(rt, alloc, written.0) && read.id.as_str() == written.1
 }
 
-// Whether the row has the bytes, the id and the key.
+// Whether the row has the expected bytes, id and key.
 fn is_written<R: Abort>(rt: &R, alloc: Global, row: &RowBytes, written: &Written) -> bool {
     let key = values_of(rt, alloc, written.0);
     let found = row.key(alloc).expect(rt, "memory");
@@ -102,7 +102,7 @@ fn all_rows<R: Abort>(rt: &R, alloc: Global) -> Vec<RowBytes> {
     rows
 }
 
-// Whether the row stands in that place of the rows.
+// Whether the row compares with each of the rows as its place says.
 fn is_in_place(rows: &[RowBytes], row: &RowBytes, place: usize) -> bool {
     for (other_place, other) in rows.iter().enumerate() {
         let wanted = place.cmp(&other_place);
@@ -114,7 +114,7 @@ fn is_in_place(rows: &[RowBytes], row: &RowBytes, place: usize) -> bool {
     true
 }
 
-// Whether exactly the first so many rows are below the place.
+// Whether exactly the first `below` rows are below the bound.
 fn parts_rows(rows: &[RowBytes], bound: &Bound, below: usize) -> bool {
     for (place, row) in rows.iter().enumerate() {
         let wanted = below.cmp(&place).then(Ordering::Less);
@@ -163,7 +163,7 @@ fn a_place_is_between_rows_and_never_on_one(rt: HostRuntime) {
     }
 }
 
-// An id, and how many of the rows are below its row among all documents.
+// An id, and how many of the rows are below its row in `_all_docs`.
 const IDS: &[(&str, usize)] = &[
     ("", 9),
     ("a", 10),
@@ -174,7 +174,7 @@ const IDS: &[(&str, usize)] = &[
     ("êêê", 14),
 ];
 
-// Whether exactly the first so many rows are below the row that the id has among all documents.
+// Whether exactly the first `below` rows are below the row of the id in `_all_docs`.
 fn parts_by_id(rows: &[RowBytes], id: &str, below: usize) -> bool {
     for (place, row) in rows.iter().enumerate() {
         let wanted = if place < below {
@@ -198,7 +198,7 @@ fn the_row_of_an_id_has_the_id_alone_as_its_key(rt: HostRuntime) {
     }
 }
 
-// Keys in their order, by which the numbers for searches are looked at.
+// Keys in order, for the tests of search hints.
 const KEYS: &[&str] = &[
     "[]",
     "[null,7]",
@@ -243,7 +243,7 @@ fn numbers_for_searches_rise_with_the_rows(rt: HostRuntime) {
     }
 }
 
-// Whether the numbers of the rows below the place are not above its own, and those of the others are not below it.
+// Whether no row below the bound has a greater hint than the bound, and no other row a smaller one.
 fn parts_numbers(rows: &[RowBytes], bound: &Bound) -> bool {
     for row in rows {
         let wanted = match bound.against(row) {

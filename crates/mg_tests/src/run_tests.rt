@@ -1,4 +1,4 @@
-//! A list of commands, which tests/refused_calls.py runs while memory is refused; where none is, all is answered.
+//! A run of commands. tests/refused_calls.py runs it while memory is refused; without a refusal, each command is answered.
 use crate::machine_tests::{commands_of, plain_reply};
 use mg_engine::{Command, Engine, Reply};
 use mg_shard::Md5Placement;
@@ -6,10 +6,10 @@ use std::alloc::Global;
 use std::process::Abort;
 use std::thread::Threads;
 
-// An index, bulks, a query by the index, a document, a query without one, the list of indexes, and the index is dropped.
+// Creates an index, writes bulks, queries with the index, reads a document, queries without an index, lists the indexes, drops the index.
 const NUMBERS: [usize; 8] = [5, 0, 3, 8, 10, 9, 12, 11];
 
-// The replies to the commands, and whether the first run was refused memory: then it has run nothing, so the next one is the first.
+// The replies to the commands, and whether the first run was refused memory. Such a run has run nothing, so it is tried once more.
 fn replies_to<R: Threads + Sync + Abort>(
     rt: &R,
     alloc: Global,
@@ -36,7 +36,7 @@ fn is_plain<R: Threads + Sync + Abort>(
     }
 }
 
-// How many of the replies are a want of memory. The others have to be those of a plain run without those commands.
+// How many of the replies are out of memory. The others must be those of a run without the refused commands.
 fn refused_of<R: Threads + Sync + Abort>(rt: &R, alloc: Global, replies: &[Reply]) -> u32 {
     let mut before = Vec::new(alloc);
     let mut refused = 0u32;

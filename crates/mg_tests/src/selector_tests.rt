@@ -1,5 +1,5 @@
-// The selector itself, of which the program asks its normal form alone, and selectors of documents in one block, which the program
-// does not keep yet. Selectors are in tests/conversations/selectors.txt.
+// Selectors evaluated directly, on a document and on a packed document. The program evaluates only their normal form. Other tests of
+// selectors are in tests/conversations/selectors.txt.
 use crate::given::{check, json};
 use mg_packed::Packed;
 use mg_selector::Sel;
@@ -14,7 +14,7 @@ fn selector_of<R: Abort>(rt: &R, alloc: Global, text: &str) -> Sel {
     selector
 }
 
-// Whether a copy of the selector holds of the document.
+// Whether a copy of the selector matches the document.
 fn holds<R: Abort>(rt: &R, alloc: Global, selector: &Sel, document: &str) -> bool {
     let document = json(rt, alloc, document);
     let copy = selector.copy(alloc).expect(rt, "memory");
@@ -29,7 +29,7 @@ fn selections(rt: HostRuntime) {
     assert!(rt; !holds(&rt, alloc, &selector, r#"{"a":{}}"#));
 }
 
-// A selector, a document, and whether it holds, as CouchDB's documentation of selectors says.
+// A selector, a document, and whether it matches, by CouchDB's documentation of selectors.
 const SELECTIONS: &[(&str, &str, bool)] = &[
     (r#"{"a.b":{"$lt":5}}"#, r#"{"a":{"b":4}}"#, true),
     (r#"{"a.b":{"$lt":5}}"#, r#"{"a":{"b":5}}"#, false),
@@ -61,7 +61,7 @@ const SELECTIONS: &[(&str, &str, bool)] = &[
     (r#"{"a":{"$exists":false}}"#, r#"{"b":1}"#, true),
 ];
 
-// Whether a selector holds of a document that stands in one block.
+// Whether a selector matches a packed document.
 fn holds_in_a_block<R: Abort>(rt: &R, alloc: Global, selector: &str, document: &str) -> bool {
     let selector = selector_of(rt, alloc, selector);
     let document = json(rt, alloc, document);

@@ -1,7 +1,7 @@
 use crate::given::check;
 use mg_shard::{Md5Placement, Placement};
 
-// The expected shards are those of another implementation of MD5, for 1, 2, 7 and 64 shards.
+// The expected shards for 1, 2, 7 and 64 shards, from another implementation of MD5.
 const PLACES: &[(&str, [usize; 4])] = &[
     ("a", [0, 0, 6, 40]),
     ("abc", [0, 0, 0, 48]),

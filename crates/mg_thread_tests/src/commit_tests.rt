@@ -1,4 +1,4 @@
-//! Seats that read and write side by side, and how many commits a database has when it is closed.
+//! Seats that read and write concurrently, and how many commits a database has when it is closed.
 ghost use Rattle.std.specs.Prelude.{◌≡◌, string_bytes};
 
 use crate::given::{check, string};
@@ -14,7 +14,7 @@ use std::sync::ledger::Blank;
 use std::thread;
 use std::thread::Threads;
 
-// A seat that makes 25 bulks of one document.
+// Writes 25 bulks of one document at a seat.
 fn work<D: Database, C: Ends, R: Wait + Threads + Sync>(
     rt: &R,
     alloc: Global,
@@ -83,7 +83,7 @@ enum Ask {
     Reshard,
 }
 
-// The number of the seat, what it is asked, and by which id or body; then the status and the text of the reply.
+// The number of the seat, the command, its id or body, and the status and the body of the expected reply.
 #[derive(Clone, Copy, Drop)]
 struct Call(usize, Ask, &'static str, u16, &'static str);
 
@@ -111,7 +111,7 @@ const OK: &str = "{\"ok\":true}\n";
 
 const WRONG_SHAPE: &str = "{\"error\":\"bad_request\",\"reason\":\"Wrong shape.\"}\n";
 
-// Until the second seat is told.
+// The calls before the second seat learns of the first one's write.
 const BEFORE: &[Call] = &[
     Call(1, Ask::Get, "l1", 404, MISSING),
     Call(
@@ -124,7 +124,7 @@ const BEFORE: &[Call] = &[
     Call(0, Ask::Find, ALL, 200, FIRST),
 ];
 
-// What the first seat writes the second one finds, with nothing told.
+// The calls after that. Here the second seat also finds a later write of the first, of which it learned nothing.
 const AFTER: &[Call] = &[
     Call(1, Ask::Find, ALL, 200, FIRST),
     Call(
@@ -189,7 +189,7 @@ fn reply_to<D: Database, C: Ends, R: Wait + Threads + Sync>(
     }
 }
 
-// Whether the seat answers the call as it has to. Where it is refused memory it is asked once more, as if it had not been asked.
+// Whether the seat gives the expected reply. If it is refused memory, the call is made once more, since the first had no effect.
 fn is_answered<D: Database, C: Ends, R: Wait + Threads + Sync>(
     rt: &R,
     alloc: Global,
@@ -226,7 +226,7 @@ fn are_answered<D: Database, C: Ends, R: Wait + Threads + Sync>(
     true
 }
 
-// Whether the second seat was told what the first has seen.
+// Lets the second seat learn what the first has seen; false if that was refused memory.
 fn is_told<D: Database, C: Ends, R: Wait>(
     rt: &R,
     a: &mut Seat<D, C>,
@@ -245,7 +245,7 @@ fn is_told<D: Database, C: Ends, R: Wait>(
     }
 }
 
-// Whether a snapshot has no index, and one shard.
+// Whether the seat's snapshot has no index and one shard; false also if it was refused memory.
 fn is_bare<D: Database, C: Ends>(seat: &mut Seat<D, C>, refused: &mut u32) -> bool {
     match seat.snapshot() {
         Ok(snapshot) => snapshot.catalog().list().is_empty() && snapshot.shards().len() == 1,
@@ -256,7 +256,7 @@ fn is_bare<D: Database, C: Ends>(seat: &mut Seat<D, C>, refused: &mut u32) -> bo
     }
 }
 
-// Whether all that the two seats are asked is answered.
+// Whether the two seats give all expected replies.
 fn are_told<D: Database, C: Ends, R: Wait + Threads + Sync>(
     rt: &R,
     alloc: Global,
@@ -272,7 +272,7 @@ fn are_told<D: Database, C: Ends, R: Wait + Threads + Sync>(
         && (is_bare(b, refused) || is_bare(b, refused))
 }
 
-// The number of commits of a database that is closed, first without a seat, which is refused.
+// Closes the database and returns the number of its commits. A first try, without one of the seats, must be refused.
 fn closed<D: Database, C: Ends, R: Wait + Abort>(
     rt: &R,
     live: Live<D, C>,
@@ -291,8 +291,8 @@ fn closed<D: Database, C: Ends, R: Wait + Abort>(
     closed.commits()
 }
 
-// Two seats make these calls too, and then have made so many commits. Where a call was refused memory all has to be the same, and
-// the test says so at its end.
+// Runs these calls, too, at two seats, and checks the number of commits. If a call is refused memory, everything must still be as
+// expected, and only then does the test fail.
 fn two<D: Database + Send + Sync, R: Threads + Wait + Abort + Sync + Send + Drop + Copy>(
     rt: R,
     alloc: Global,

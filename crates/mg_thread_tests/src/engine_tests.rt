@@ -1,4 +1,4 @@
-//! Queries over two shards, each of which a thread of its own has to begin before the other is done.
+//! Queries over two shards. Each shard must be begun, by a thread of its own, before the other is done.
 use crate::given::json;
 use crate::scan_tests::BothBegin;
 use mg_engine::{Command, Engine};
@@ -8,7 +8,7 @@ use std::alloc::Global;
 use std::process::Abort;
 use std::thread::Threads;
 
-// By their MD5, a and b stand on the first of two shards, d1 and d2 on the second.
+// By their MD5, a and b are on the first of two shards, d1 and d2 on the second.
 pub(crate) const DOCUMENTS: &str =
     r#"{"docs":[{"_id":"d2","_rev":"1-a","n":4},{"_id":"b","_rev":"1-a","n":2},{"_id":"d1","_rev":"1-a","n":3},{"_id":"a","_rev":"1-a","n":1}],"new_edits":false}"#;
 
@@ -17,7 +17,7 @@ pub(crate) const IDS: &str = r#"{"selector":{},"fields":["_id"]}"#;
 pub(crate) const PAGE: &str =
     "{\"bookmark\":\"W251bGwsIl9hbGxfZG9jcyIsImFzYyIsWyJkMiJdLCJkMiJd\",\"docs\":[{\"_id\":\"a\"},{\"_id\":\"b\"},{\"_id\":\"d1\"},{\"_id\":\"d2\"}]}\n";
 
-// The two shards.
+// An engine with these documents on two shards.
 pub(crate) fn two_shards<R: Threads + Sync + Abort>(rt: &R, alloc: Global) -> Engine<Md5Placement> {
     let bulk = Command::Bulk(json(rt, alloc, DOCUMENTS));
     let mut engine = Engine::new(alloc, "db", Md5Placement, 2).expect(rt, "memory");
@@ -25,7 +25,7 @@ pub(crate) fn two_shards<R: Threads + Sync + Abort>(rt: &R, alloc: Global) -> En
     engine
 }
 
-// Whether the query for all ids is answered so.
+// Whether the query for all ids gives the expected page, and both shards began before one was done.
 fn is_answered<R: Threads + Sync + Abort>(
     rt: &R,
     alloc: Global,
@@ -37,7 +37,7 @@ fn is_answered<R: Threads + Sync + Abort>(
     reply.body() == PAGE.as_bytes() && gate.is_passed()
 }
 
-// Whether the page of two documents after one that is passed over is made of so many rows.
+// Whether each shard hands over two rows for the page of two documents after a skip of one, and three of them are taken.
 fn has_page<R: Threads + Sync>(
     rt: &R,
     alloc: Global,
@@ -56,7 +56,7 @@ fn has_page<R: Threads + Sync>(
         && gate.is_passed()
 }
 
-// The same of the query by its text.
+// Whether the page of the query in this text is as expected.
 fn is_paged<R: Threads + Sync + Abort>(
     rt: &R,
     alloc: Global,

@@ -1,4 +1,4 @@
-//! A write while a query is held at its snapshot, by seats on two threads. Each wait gives up after 100,000,000 looks, and the test fails.
+//! A write while a query is held at its snapshot, by seats on two threads. A wait that gives up, after 100,000,000 tries, fails the test.
 ghost use Rattle.std.specs.Prelude.{◌≡◌, string_bytes};
 
 use crate::given::string;
@@ -15,11 +15,11 @@ use std::sync::ledger::Blank;
 use std::thread;
 use std::thread::Threads;
 
-// How often a thread looks before it gives up.
+// The number of tries before a waiting thread gives up.
 const TURNS: u64 = 100_000_000;
 
-// Holds a query at its snapshot until a write was answered. The words: how many threads came, a query may begin, it is held, the write
-// was answered, with this status, the query's reply was the one that is expected, and how often a thread gave up.
+// Holds a query at its snapshot until a write was answered. The fields, in order: how many threads came; the query may begin; it is held;
+// the write was answered; the status of the write; the query's reply was as expected; how many waits gave up.
 #[derive(Drop)]
 struct Held {
     came: AtomicU64,
@@ -31,7 +31,7 @@ struct Held {
     faults: AtomicU64,
 }
 
-// Waits until a word is 1, and says whether it was in time.
+// Waits until a value is 1; false if it gave up.
 fn wait_for(word: &AtomicU64) -> bool {
     for _turn in 0..TURNS {
         if word.load(Ordering::SeqCst) == 1 {
@@ -70,7 +70,7 @@ impl Gate for Held {
     }
 }
 
-// What is written while a query is held.
+// The write made while a query is held.
 #[derive(Clone, Copy)]
 enum During {
     Bulk,
@@ -78,7 +78,7 @@ enum During {
 }
 
 impl During {
-    // The reply to the query, as it is without the write: a bulk comes into an empty database, a reshard behind a bulk.
+    // The reply to the query without the write. The database is empty before the bulk; before the reshard it has one document.
     fn page(self) -> &'static str {
         match self {
             During::Bulk => "{\"bookmark\":\"nil\",\"docs\":[]}\n",
@@ -96,7 +96,7 @@ impl During {
     }
 }
 
-// The thread that comes first asks for the ids of all documents, and is held.
+// Queries the ids of all documents, and is held.
 fn ask<D: Database, C: Ends, R: Wait + Threads + Sync>(
     rt: &R,
     alloc: Global,
@@ -115,7 +115,7 @@ fn ask<D: Database, C: Ends, R: Wait + Threads + Sync>(
     seat
 }
 
-// The other one writes meanwhile.
+// Writes while the query is held.
 fn write<D: Database, C: Ends, R: Wait + Threads + Sync>(
     rt: &R,
     alloc: Global,
@@ -195,7 +195,7 @@ fn write_during_query<
     assert!(rt; gate.same.load(Ordering::SeqCst) == 1);
 }
 
-// A bulk is answered while a query is held at its snapshot, which then finds no document.
+// A bulk is answered while a query is held at its snapshot. The query then finds no document.
 #[test]
 fn a_bulk_is_answered_during_a_query(rt: HostRuntime) {
     let alloc = rt.alloc();
@@ -203,7 +203,7 @@ fn a_bulk_is_answered_during_a_query(rt: HostRuntime) {
     write_during_query::<Brand, _>(rt, alloc, Blank::new(2), History::new(), db, During::Bulk)
 }
 
-// So is a reshard, and the query's reply is the one that it gives without it.
+// A reshard is answered while a query is held at its snapshot. The query's reply is the same as without the reshard.
 #[test]
 fn a_reshard_is_answered_during_a_query(rt: HostRuntime) {
     let alloc = rt.alloc();

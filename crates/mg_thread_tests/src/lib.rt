@@ -1,5 +1,5 @@
-//! Tests of threads: shards that threads begin side by side, seats on threads, seats that tell each other, and a write during a query. A
-//! test ends the process where it fails, as in mg_tests.
+//! Tests with threads: shards that several threads read at the same time, seats on threads, seats that learn from each other, and a write
+//! during a query. A failing test ends the process, as in mg_tests.
 #![tactic(auto)]
 
 #[cfg(test)]

@@ -1,4 +1,4 @@
-//! Searches and builds over two shards, each of which a thread of its own has to begin before the other is done.
+//! Searches and index builds over two shards. Each shard must be begun, by a thread of its own, before the other is done.
 use crate::engine_tests::two_shards;
 use crate::given::json;
 use mg_collate::{Direction, Row};
@@ -15,8 +15,8 @@ use std::sync::Arc;
 use std::sync::atomic::{AtomicU64, Ordering};
 use std::thread::Threads;
 
-// Holds the first shard that begins until the second is seen, and counts what comes out of turn: a shard that begins twice, that is done
-// before it began, or that is done twice.
+// Holds the first shard that begins until the second has begun. Counts faults: a shard begins twice, is done before it began, or is done
+// twice.
 #[derive(Drop)]
 pub(crate) struct BothBegin {
     begun: AtomicU64,
@@ -37,7 +37,7 @@ impl BothBegin {
         }
     }
 
-    // Whether each of two shards began and was done, in turn, and both had begun before one was done.
+    // Whether both shards began before one was done, and there was no fault.
     pub(crate) fn is_passed(&self) -> bool {
         let begun = self.begun.load(Ordering::SeqCst);
         let done = self.done.load(Ordering::SeqCst);
@@ -45,7 +45,7 @@ impl BothBegin {
         begun == 2 && done == 2 && faults == 0
     }
 
-    // Where the shard stands: 0 before it began, 1 after that, 2 after it was done.
+    // Moves the shard on to its next state (0: not begun, 1: begun, 2: done). It is a fault if the shard was not in the state `from`.
     fn passed(&self, shard: usize, from: u64) {
         let state = if shard == 0 {
             &self.first
@@ -84,7 +84,7 @@ impl Gate for BothBegin {
     }
 }
 
-// The query for what has an n above 1.
+// The normal form of the selector for documents with an n above 1.
 pub(crate) fn above_one<R: Abort>(rt: &R, alloc: Global) -> Normal {
     let text = json(rt, alloc, r#"{"n":{"$gt":1}}"#);
     let Ok(selector) = Sel::read(alloc, &text) else {
@@ -93,7 +93,7 @@ pub(crate) fn above_one<R: Abort>(rt: &R, alloc: Global) -> Normal {
     Normal::of(alloc, &selector).expect(rt, "memory")
 }
 
-// Its range of ids.
+// The range of ids of a normal form.
 pub(crate) fn ids_of<R: Abort>(rt: &R, alloc: Global, normal: &Normal) -> KeyRange {
     let path = Path::parse(alloc, "_id").expect(rt, "a path");
     let mut columns = Vec::new(alloc);
@@ -101,13 +101,13 @@ pub(crate) fn ids_of<R: Abort>(rt: &R, alloc: Global, normal: &Normal) -> KeyRan
     KeyRange::of(alloc, &columns, normal).expect(rt, "memory")
 }
 
-// The id of a row of a shard's list.
+// The id of the row at a place of a shard's list; `None` past its end.
 fn id_at(lists: &[Vec<Row>], shard: usize, place: usize) -> Option<&str> {
     let row = lists.get(shard)?.get(place)?;
     Some(row.id.as_str())
 }
 
-// The rows of what has an n above 1, of a search of all documents in the shards.
+// The rows that a search of all documents of the shards finds for an n above 1.
 fn found<R: Threads + Sync + Abort>(
     rt: &R,
     alloc: Global,
@@ -124,7 +124,7 @@ fn found<R: Threads + Sync + Abort>(
     .expect(rt, "memory")
 }
 
-// Which row of which shard has which id.
+// A shard, a place in its list, and the expected id there.
 const FOUND: &[(usize, usize, Option<&str>)] = &[
     (0, 0, Some("b")),
     (0, 1, None),
@@ -144,7 +144,7 @@ fn is_scanned<R: Threads + Sync + Abort>(rt: &R, alloc: Global, shards: &[Arc<Sh
     gate.is_passed()
 }
 
-// Whether an index on n is built.
+// Whether an index on n is built, and both shards began before one was done.
 fn is_built<R: Threads + Sync + Abort>(rt: &R, alloc: Global, shards: &[Arc<Shard>]) -> bool {
     let gate = BothBegin::new();
     let body = json(

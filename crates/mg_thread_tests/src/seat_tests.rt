@@ -1,4 +1,4 @@
-//! A query of a seat over two shards, each of which a thread of its own has to begin before the other is done.
+//! A query at a seat over two shards. Each shard must be begun, by a thread of its own, before the other is done.
 ghost use Rattle.std.specs.Prelude.{◌≡◌, string_bytes};
 
 use crate::engine_tests::{DOCUMENTS, IDS, PAGE};
@@ -13,7 +13,7 @@ use std::sync::Wait;
 use std::sync::ledger::Blank;
 use std::thread::Threads;
 
-// A placement of its own: all documents on the first shard.
+// A placement of the test's own: all documents on the first shard.
 #[derive(Clone, Copy, Drop)]
 struct OnFirst;
 
@@ -35,7 +35,7 @@ fn is_written<D: Database, C: Ends, R: Wait + Threads + Sync + Abort>(
     seat.bulk(rt, &bulk, 1).status() == 201
 }
 
-// Whether it finds all ids.
+// Whether a query at the seat finds all ids.
 fn is_found<D: Database, C: Ends, R: Threads + Sync + Abort>(
     rt: &R,
     alloc: Global,

@@ -1,4 +1,4 @@
-//! How many shards a scan reads at one time: never more than there are workers, and each shard once.
+//! A scan reads as many shards at a time as there are workers, never more, and each shard once.
 ghost use Rattle.std.specs.Prelude.{◌<◌, ◌≤◌};
 
 use crate::engine_tests::DOCUMENTS;
@@ -14,8 +14,8 @@ use std::sync::Arc;
 use std::sync::atomic::{AtomicU64, Ordering};
 use std::thread::Threads;
 
-// Counts the shards that are being read, and holds each that begins until as many have begun as there are workers. A fault is a shard that
-// begins while as many others are being read as there are workers, that begins or is done out of turn, or that waits in vain.
+// Counts the shards that are being read, and holds each one that begins until as many have begun as there are workers. Counts faults: a
+// shard begins while every worker is reading another, begins or is done out of turn, or waits in vain.
 #[derive(Drop)]
 struct AtOnce {
     workers: u64,
@@ -23,7 +23,7 @@ struct AtOnce {
     being_read: AtomicU64,
     done: AtomicU64,
     faults: AtomicU64,
-    // where each shard stands: 0 before it began, 1 after that, 2 after it was done
+    // the state of each shard: 0 before it began, 1 after that, 2 after it was done
     states: [AtomicU64; 4],
 }
 
@@ -44,7 +44,7 @@ impl AtOnce {
         }
     }
 
-    // Whether each of four shards began and was done, in turn, and as many at one time as there are workers.
+    // Whether all four shards began and were done without a fault.
     fn is_passed(&self) -> bool {
         let begun = self.begun.load(Ordering::SeqCst);
         let done = self.done.load(Ordering::SeqCst);
@@ -97,7 +97,7 @@ impl Gate for AtOnce {
     }
 }
 
-// Four shards, on which four documents stand.
+// An engine with four documents on four shards.
 fn four_shards<R: Threads + Sync + Abort>(rt: &R, alloc: Global) -> Engine<Md5Placement> {
     let bulk = Command::Bulk(json(rt, alloc, DOCUMENTS));
     let mut engine = Engine::new(alloc, "db", Md5Placement, 4).expect(rt, "memory");
@@ -105,7 +105,7 @@ fn four_shards<R: Threads + Sync + Abort>(rt: &R, alloc: Global) -> Engine<Md5Pl
     engine
 }
 
-// How many documents a scan by so many workers finds.
+// How many documents a scan with this number of workers finds.
 fn found<R: Threads + Sync + Abort>(
     rt: &R,
     alloc: Global,
@@ -130,7 +130,7 @@ fn found<R: Threads + Sync + Abort>(
     found
 }
 
-// Whether a scan by so many workers reads each of the shards once, as many at one time, and finds the three documents with an n above 1.
+// Whether a scan with this number of workers reads each shard once, that many at a time, and finds the three documents with an n above 1.
 fn is_scanned<R: Threads + Sync + Abort>(
     rt: &R,
     alloc: Global,

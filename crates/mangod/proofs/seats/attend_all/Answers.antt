@@ -11,7 +11,7 @@ use Rattle.mangod.proofs.Crossing.{service_send}
 use Rattle.mangod.proofs.Turns.{shown_at}
 use Rattle.mangod.proofs.seats.attend_all.Goals as goal
 
--- services and seats may cross threads
+-- services and seats may be sent to other threads
 pub map_vec-requires-send-J : goal.map_vec-requires-send-J
 map_vec-requires-send-J g c κs within =
     let ends = waiting_send (copied 1 g.row.H) c.type_bounds.send-H in

@@ -1,7 +1,7 @@
 use Rattle.std.proofs.Common.{◌≡◌, length, map}
 use Rattle.mangod.proofs.seats.services.Given as goal
 
--- the services so far are those of the seats so far, with the workers that were asked for
+-- so far there is a service for each seat, with the number of workers of the settings
 abbrev pub invariant-loop-seat : goal.invariant-loop-seat
 invariant-loop-seat g l = record {
   count : length l.services.items ≡ length l.yielded;

@@ -5,7 +5,7 @@ use Rattle.mg_live.proofs.Crossing.{seat_send, waiting_send}
 use Rattle.mg_live.specs.contracts.database.Waiting as Waiting
 use Rattle.mg_thread_tests.proofs.commit_tests.hundred.Goals as goal
 
--- seats may cross threads
+-- seats may be sent to other threads
 pub map_vec-requires-send-J : goal.map_vec-requires-send-J
 map_vec-requires-send-J g c κs within =
     let ends = waiting_send (copied 1 g.row.R) c.type_bounds.send-R in
