@@ -19,7 +19,7 @@ impl Row {
 
     /// A deep copy.
     ///
-    /// Errors: `NoMemory` where a growth was refused. Cost: the size of the row.
+    /// Errors: `NoMemory` if an allocation fails. Cost: the size of the row.
     pub fn copy(&self, alloc: Global) -> Result<Row, NoMemory>
         ensures { IfOk result (λ row. row_view row ≡ row_view self.now) }
     {

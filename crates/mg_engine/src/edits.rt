@@ -27,7 +27,7 @@ pub(crate) struct Outcome {
 
 /// Applies edits that have ids, in order. Returns what became of each, and the shards after them, into which the bodies are moved.
 ///
-/// Errors: `NoMemory` where a growth was refused. Cost: the edits, each with its document, and the number of shards.
+/// Errors: `NoMemory` if an allocation fails. Cost: the edits, each with its document, and the number of shards.
 pub(crate) fn edited<P: Placement>(
     alloc: Global,
     placement: &P,

@@ -43,7 +43,7 @@ impl<P> Model for Engine<P> {
 impl<P: Placement + Drop> Engine<P> {
     /// Makes an empty database named `db`, with 1 to 64 shards. `Command::Reshard` can change their number later.
     ///
-    /// Errors: `NoMemory` where a growth was refused. Cost: the number of shards, and the name.
+    /// Errors: `NoMemory` if an allocation fails. Cost: the number of shards, and the name.
     pub fn new(alloc: Global, db: &str, placement: P, shards: usize) -> Result<Engine<P>, NoMemory>
         requires some { 1 ≤ shards }
         requires most { shards ≤ 64 }

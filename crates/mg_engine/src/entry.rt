@@ -20,7 +20,7 @@ const ENTRY_ROOM: usize = 96;
 
 /// The line of the reply to a bulk, with an entry for each edit that has one: if `new_edits` is false, only refused edits do.
 ///
-/// Errors: `NoMemory` where a growth was refused. Cost: the length of the line, in one buffer that grows.
+/// Errors: `NoMemory` if an allocation fails. Cost: the length of the line, in one buffer that grows.
 pub(crate) fn entries_line(
     alloc: Global,
     new_edits: bool,

@@ -48,7 +48,7 @@ impl<'a> Model for Prepared<'a> {
 impl ReadBulk {
     /// Reads the body of a bulk: first its shape, and then its documents in order, up to the first fault.
     ///
-    /// Errors: `NoMemory` where a growth was refused. Cost: a copy of its documents.
+    /// Errors: `NoMemory` if an allocation fails. Cost: a copy of its documents.
     pub(crate) fn of(alloc: Global, body: &Json) -> Result<ReadBulk, NoMemory>
         ensures { IfOk result (λ read. Determines read (bulk (view body.now))) }
     {
@@ -67,7 +67,7 @@ impl ReadBulk {
 impl<'a> Prepared<'a> {
     /// Reads the edits of a bulk ahead; of other commands it reads nothing. It needs no engine, and therefore no lock on one.
     ///
-    /// Errors: `NoMemory` where a growth was refused. Cost: for a bulk a copy of its documents, otherwise nothing.
+    /// Errors: `NoMemory` if an allocation fails. Cost: for a bulk a copy of its documents, otherwise nothing.
     pub fn of(alloc: Global, command: &'a Command) -> Result<Prepared<'a>, NoMemory>
         ensures { IfOk result (λ p. p ≡ asked command.now) }
     {

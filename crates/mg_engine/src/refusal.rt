@@ -95,7 +95,7 @@ pub enum Refusal {
     TooLarge,
     /// The head is too long, or has too many fields.
     HeadTooLarge,
-    /// A growth was refused.
+    /// An allocation failed.
     OutOfMemory,
     /// The bytes cannot begin a head, or the head has a malformed `Content-Length` or two different ones.
     BadHead,

@@ -10,7 +10,7 @@ use std::alloc::Global;
 pub enum Reply {
     /// A complete reply: its status, and its body with the final line feed.
     Full { status: u16, body: Vec<u8> },
-    /// A growth was refused; then nothing has changed.
+    /// An allocation failed; then nothing has changed.
     NoMemory,
 }
 
@@ -37,7 +37,7 @@ impl Reply {
         }
     }
 
-    /// The reply that refuses a command. Errors: `NoMemory` where a growth was refused. Cost: its text.
+    /// The reply that refuses a command. Errors: `NoMemory` if an allocation fails. Cost: its text.
     pub fn refusing(alloc: Global, refusal: Refusal) -> Result<Reply, NoMemory>
         ensures { IfOk result (λ r. said r ≡ Some (refused refusal)) }
     {

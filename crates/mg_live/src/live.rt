@@ -215,7 +215,7 @@ where
     /// Opens an empty database named `db`, with 1 to 64 shards, on which `placement` places the documents, and 1 to 16 seats, which are
     /// numbered from 0. The ledger has one part for each seat. `ends` ends the database once this `Live` and all seats are dropped.
     ///
-    /// Errors: `NoMemory` where a growth was refused. Cost: the number of shards and of seats, and the name.
+    /// Errors: `NoMemory` if an allocation fails. Cost: the number of shards and of seats, and the name.
     pub fn open(
         ends: C,
         alloc: Global,

@@ -55,7 +55,7 @@ fn is_at(seats: usize, event: &Event) -> bool
 /// event its reply: the complete reply to the command of a `Publish` or `Answer`, and `None` for `Enter` and `Told`. Each event has to be
 /// at one of these seats, which `are_at` tests.
 ///
-/// Errors: `NoMemory` where a growth was refused anywhere; therefore no reply is `Reply::NoMemory`. A write after
+/// Errors: `NoMemory` if an allocation fails anywhere; therefore no reply is `Reply::NoMemory`. A write after
 /// 18,446,744,073,709,551,615 commits is refused with 413 `too_large`. Cost: that of each command, as of `Engine::step`, and the number
 /// of seats; `Enter` and `Told` cost the same for any documents.
 pub fn replay<R: Threads + Sync>(

@@ -16,7 +16,7 @@ use std::alloc::Global;
 /// the lists have fewer, and none lost or repeated), and the lengths of the lists and of the result.
 /// Each list must be in that order, which `are_in_order` tests; it may be empty.
 ///
-/// Errors: `NoMemory` where a growth was refused.
+/// Errors: `NoMemory` if an allocation fails.
 /// Cost: a copy of each row of the result; for each of these rows, and for each list, a number of
 /// comparisons that grows with the logarithm of the number of lists, and none with one list. Of the
 /// other rows only the first one left of each list is read, and none is copied.
@@ -43,7 +43,7 @@ pub fn merge(
 /// lists and of the result. Of things with equal rows, those of an earlier list come first. Each list
 /// must be in that order, which `all_are_in_order` tests; it may be empty.
 ///
-/// Errors: `NoMemory` where a growth was refused.
+/// Errors: `NoMemory` if an allocation fails.
 /// Cost: for each thing of the result, and for each list, a number of comparisons that grows with the
 /// logarithm of the number of lists, and none with one list. No row is copied. Takes memory for the
 /// result, however large `take` is, and for a slice and a number for each list.

@@ -20,7 +20,7 @@ const FIRST_ROOM: usize = 64;
 /// pulled from the sources: at most `take`, and one more for each source. Each source must be in that
 /// order; it may be empty.
 ///
-/// Errors: `NoMemory` where a growth was refused.
+/// Errors: `NoMemory` if an allocation fails.
 /// Cost: what the sources need for the things that are pulled, and for each of these a number of
 /// comparisons that grows with the logarithm of the number of sources, and none with one source.
 pub fn merge_pulled<T: Ranked + Copy, S: RowSource<T>>(

@@ -143,7 +143,7 @@ impl<T: Keyed> Pages<T> {
 
     /// Builds a collection of duplicates of the elements, which must ascend. All pages but the last are full.
     ///
-    /// Errors: `NoMemory` where a growth was refused. Cost: a step for each element, without a search.
+    /// Errors: `NoMemory` if an allocation fails. Cost: a step for each element, without a search.
     pub fn from_sorted(alloc: Global, elements: &[T]) -> Result<Pages<T>, NoMemory>
         requires { Ascends T.order elements.now }
         ensures { IfOk result (λ p. p ≡ elements.now) }
@@ -346,7 +346,7 @@ impl<T: Keyed> Pages<T> {
 
     /// Another collection of the same elements, which shares all pages with this one.
     ///
-    /// Errors: `NoMemory` where a growth was refused. Cost: a copy of only the top level, which has a part for each
+    /// Errors: `NoMemory` if an allocation fails. Cost: a copy of only the top level, which has a part for each
     /// 30,000 to 260,000 elements, and for fewer after removals, since parts are never joined.
     pub fn share(&self, alloc: Global) -> Result<Pages<T>, NoMemory>
         ensures { IfOk result (λ p. p ≡ self.now) }
@@ -360,7 +360,7 @@ impl<T: Keyed> Pages<T> {
 
     /// Inserts an element, and returns whether it replaced one that ties.
     ///
-    /// Errors: `NoMemory` where a growth was refused, or where there are 2^64 - 1 elements; then nothing has changed.
+    /// Errors: `NoMemory` if an allocation fails, or where there are 2^64 - 1 elements; then nothing has changed.
     /// Cost: the logarithm of the number of elements, and a copy of each part on the way that others share.
     pub fn insert(&mut self, alloc: Global, element: T) -> Result<bool, NoMemory>
         ensures had { IfOk result (λ had. had ≡ is_some (found (T.order element) self.old)) }
@@ -374,7 +374,7 @@ impl<T: Keyed> Pages<T> {
     /// Removes the element that ties with the key, and returns whether there was one. Where there is no such element,
     /// nothing is copied.
     ///
-    /// Errors: `NoMemory` where a growth was refused, but never where there is no such element; then nothing has changed.
+    /// Errors: `NoMemory` if an allocation fails, but never where there is no such element; then nothing has changed.
     /// Cost: that of `insert`.
     pub fn remove<Q: Probe<T>>(&mut self, alloc: Global, key: &Q) -> Result<bool, NoMemory>
         ensures had { IfOk result (λ had. had ≡ is_some (found (Q.against key.now) self.old)) }

@@ -8,7 +8,7 @@ pub enum PathError {
     /// A step is empty: the text is empty, begins or ends with a dot, or has two dots in a row.
     #[error("a step of the path is empty")]
     Empty,
-    /// A growth was refused.
+    /// An allocation failed.
     #[error("out of memory")]
     NoMemory,
 }

@@ -47,7 +47,7 @@ impl Path {
     /// backslash before anything else is a backslash.
     ///
     /// Errors: `Empty` for exactly the texts with an empty step, before any memory is taken;
-    /// `NoMemory` where a growth is refused.
+    /// `NoMemory` if an allocation fails.
     /// Cost: the length of the text. Source: the field syntax of CouchDB's `_find`.
     pub fn parse(alloc: Global, text: &str) -> Result<Path, PathError>
         ensures ok { IfOk result (λ path. steps_of text.now ≡ Some path) }
@@ -87,7 +87,7 @@ impl Path {
         part_at(&self.steps, part?)
     }
 
-    /// A copy of the path. Errors: `NoMemory` where a growth is refused. Cost: the size of the path.
+    /// A copy of the path. Errors: `NoMemory` if an allocation fails. Cost: the size of the path.
     pub fn copy(&self, alloc: Global) -> Result<Path, NoMemory>
         ensures { IfOk result (λ path. path ≡ self.now) }
     {

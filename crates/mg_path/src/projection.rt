@@ -14,7 +14,7 @@ use std::mem;
 /// path, as names of nested objects; a later path replaces what an earlier one put there. A path is
 /// skipped where its part is missing, or where an earlier path put something other than an object on its way.
 ///
-/// Errors: `NoMemory` where a growth is refused.
+/// Errors: `NoMemory` if an allocation fails.
 /// Cost: for each path its steps, and the size of its part, also where a later one replaces it.
 /// Source: `fields` of CouchDB's `_find`.
 pub fn project<L: LentValue>(alloc: Global, value: L, paths: &[Path]) -> Result<Json, NoMemory>

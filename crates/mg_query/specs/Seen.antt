@@ -33,7 +33,7 @@ query_seen q = record {
   told_bookmark = q.told_bookmark.now;
 }
 
--- the result is the fault, or anything where a growth was refused
+-- the result is the fault, or anything if an allocation fails
 abbrev pub Fails : {Y : Type 0} → QueryError → Result Y QueryError → Type 0
 Fails Shape r = r ≡ Err Shape
 Fails InvalidOperator r = r ≡ Err InvalidOperator
@@ -42,7 +42,7 @@ Fails BadBookmark r = r ≡ Err BadBookmark
 Fails MixedSort r = r ≡ Err MixedSort
 Fails NoMemory r = Unit {0}
 
--- what a call returned is what is read, unless a growth was refused
+-- what a call returned is what is read, unless an allocation failed
 abbrev pub Gives : {X Y : Type 0} → (X → Y) → Result X QueryError → Result Y QueryError → Type 0
 Gives seen (Ok x) r = r ≡ Ok (seen x)
 Gives seen (Err e) r = Fails e r

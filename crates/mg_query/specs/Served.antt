@@ -10,13 +10,13 @@ use Rattle.mg_query.specs.declared.error.PageError.{PageError}
 use Rattle.mg_query.specs.declared.error.PageError.TheVariants.{NoUsableIndex, BadBookmark, NoMemory}
 use Rattle.mg_query.specs.declared.source.Source as code
 
--- why a query is not answered, unless a growth was refused
+-- why a query is not answered, unless an allocation failed
 abbrev pub Refuses : {Y : Type 0} → PageError → Result Y Unanswered → Type 0
 Refuses NoUsableIndex r = r ≡ Err no_usable_index
 Refuses BadBookmark r = r ≡ Err bad_bookmark
 Refuses NoMemory r = Unit {0}
 
--- what a call returned is the answer, unless a growth was refused
+-- what a call returned is the answer, unless an allocation failed
 abbrev pub PageAnswers : {X Y : Type 0} → (X → Y) → Result X PageError → Result Y Unanswered → Type 0
 PageAnswers seen (Ok x) r = r ≡ Ok (seen x)
 PageAnswers seen (Err e) r = Refuses e r

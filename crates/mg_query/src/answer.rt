@@ -37,7 +37,7 @@ use std::thread::Threads;
 /// row is read and after its last.
 ///
 /// Errors: `NoUsableIndex` where no index serves the query, then `BadBookmark` where its bookmark is of another index
-/// or direction; `NoMemory` where a growth was refused.
+/// or direction; `NoMemory` if an allocation fails.
 /// Cost: the choice of the index; in each shard a look-up of where to begin, then a look-up of a document and the selector on
 /// it for each row, until skip + limit are found; the merge of these; copies of what is shown. Source: `_find` of
 /// CouchDB's API reference.

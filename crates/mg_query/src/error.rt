@@ -23,7 +23,7 @@ pub enum QueryError {
     /// A sort in both directions.
     #[error("a sort has one direction")]
     MixedSort,
-    /// A growth was refused.
+    /// An allocation failed.
     #[error("out of memory")]
     NoMemory,
 }
@@ -100,7 +100,7 @@ pub enum PageError {
     /// The bookmark is of another index or direction.
     #[error("invalid bookmark")]
     BadBookmark,
-    /// A growth was refused.
+    /// An allocation failed.
     #[error("out of memory")]
     NoMemory,
 }

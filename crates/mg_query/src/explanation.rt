@@ -19,7 +19,7 @@ use std::alloc::Global;
 /// as they were given, `"all_fields"` where no fields were, the index as it is listed, and the range of its keys.
 ///
 /// Errors: `NoUsableIndex` where no index serves the query, then `BadBookmark` where its bookmark is of another index
-/// or direction; `NoMemory` where a growth was refused.
+/// or direction; `NoMemory` if an allocation fails.
 /// Cost: the size of the query, and for each definition its columns times the query's atoms. Source: `_explain` of
 /// CouchDB's API reference.
 pub fn explain(

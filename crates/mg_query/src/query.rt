@@ -56,7 +56,7 @@ impl<'a> Query<'a> {
     ///
     /// Errors, in this order: `Shape` for any other body, or a path of `sort` or `fields` with an empty step; the
     /// selector's first fault; `BadBookmark` where the text spells no bookmark; `MixedSort` for a sort in both
-    /// directions. `NoMemory` where a growth was refused, and never in place of a wrong shape or of the selector's fault.
+    /// directions. `NoMemory` if an allocation fails, and never in place of a wrong shape or of the selector's fault.
     /// Cost: the size of the selector, the sort, the fields and the bookmark. Source: `_find` of CouchDB's API
     /// reference.
     pub fn read(alloc: Global, body: &'a Json) -> Result<Query<'a>, QueryError>

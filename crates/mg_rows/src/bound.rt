@@ -45,7 +45,7 @@ impl Bound {
     /// The place before or after all rows whose key begins with these values. With no values it is before or
     /// after all rows.
     ///
-    /// Errors: `NoMemory` where a growth was refused. Cost: the size of the values.
+    /// Errors: `NoMemory` if an allocation fails. Cost: the size of the values.
     pub fn at(alloc: Global, values: &[Json], edge: Edge) -> Result<Bound, NoMemory>
         ensures { IfOk result (λ bound. bound ≡ (edge, items_view values.now)) }
     {

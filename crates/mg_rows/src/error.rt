@@ -5,7 +5,7 @@ use std::alloc::{AllocError, AllocFailed};
 pub(crate) enum DecodeError {
     /// The bytes are not those of any value. The bytes of a row never give this.
     NotStored,
-    /// A growth was refused.
+    /// An allocation failed.
     NoMemory,
 }
 

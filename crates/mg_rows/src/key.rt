@@ -51,7 +51,7 @@ impl KeyBytes {
 
     /// Appends a column, which is a lent value.
     ///
-    /// Errors: `NoMemory` where a growth was refused; then the key has no columns. Cost: the size of the value.
+    /// Errors: `NoMemory` if an allocation fails; then the key has no columns. Cost: the size of the value.
     pub fn push<L: LentValue>(&mut self, column: L) -> Result<(), NoMemory>
         ensures pushed { OnOk result
             (self.new ≡ joined_items self.old (item (L.value column) no_items)) }
@@ -63,7 +63,7 @@ impl KeyBytes {
 
     /// Makes the row of the key and the id of a document. A row of up to 45 bytes takes no memory.
     ///
-    /// Errors: `NoMemory` where a growth was refused. Cost: the size of the key and the id.
+    /// Errors: `NoMemory` if an allocation fails. Cost: the size of the key and the id.
     pub fn row(&self, alloc: Global, id: &str) -> Result<RowBytes, NoMemory>
         ensures { IfOk result (λ row. row ≡ (self.now, id.now)) }
     {
@@ -72,7 +72,7 @@ impl KeyBytes {
 
     /// The place before or after all rows whose key begins with these columns.
     ///
-    /// Errors: `NoMemory` where a growth was refused. Cost: the size of the key.
+    /// Errors: `NoMemory` if an allocation fails. Cost: the size of the key.
     pub fn bound(&self, alloc: Global, edge: Edge) -> Result<Bound, NoMemory>
         ensures { IfOk result (λ bound. bound ≡ (edge, self.now)) }
     {

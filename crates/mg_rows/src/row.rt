@@ -54,7 +54,7 @@ impl RowBytes {
 
     /// Makes the row of a key, with one value for each column, and the id of a document.
     ///
-    /// Errors: `NoMemory` where a growth was refused. Cost: the size of the key and the id; `KeyBytes` makes many
+    /// Errors: `NoMemory` if an allocation fails. Cost: the size of the key and the id; `KeyBytes` makes many
     /// rows with one buffer.
     pub fn of(alloc: Global, key: &[Json], id: &str) -> Result<RowBytes, NoMemory>
         ensures { IfOk result (λ row. row ≡ (items_view key.now, id.now)) }
@@ -119,7 +119,7 @@ impl RowBytes {
 
     /// Reads the values of the row's columns.
     ///
-    /// Errors: `NoMemory` where a growth was refused. Cost: the size of the key.
+    /// Errors: `NoMemory` if an allocation fails. Cost: the size of the key.
     pub fn key(&self, alloc: Global) -> Result<Vec<Json>, NoMemory>
         ensures { IfOk result (λ key. items_view key.items ≡ self.now.0) }
     {
@@ -133,7 +133,7 @@ impl RowBytes {
 
     /// Reads the row: its values and its id.
     ///
-    /// Errors: `NoMemory` where a growth was refused. Cost: the size of the row.
+    /// Errors: `NoMemory` if an allocation fails. Cost: the size of the row.
     pub fn row(&self, alloc: Global) -> Result<Row, NoMemory>
         ensures { IfOk result (λ row. row_view row ≡ self.now) }
     {

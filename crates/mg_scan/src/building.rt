@@ -185,7 +185,7 @@ fn with_all(
 /// are twice as many workers as shards left, as many threads extract the rows of a large shard as there are processors. The definition is copied once, and the shards share it.
 ///
 /// The gate is passed before a shard's first document is read and after its last row is made.
-/// Errors: `NoMemory` where a growth was refused. Cost: each document once, and its row to its place.
+/// Errors: `NoMemory` if an allocation fails. Cost: each document once, and its row to its place.
 pub fn build<R: Threads + Sync, G: Gate + Sync>(
     rt: &R,
     alloc: Global,

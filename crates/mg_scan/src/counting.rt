@@ -22,7 +22,7 @@ use std::sync::Arc;
 /// Whether a scan of all shards reads at most `most` documents or rows, wherever its range ends: so many come after where it begins.
 /// Nothing is read for it.
 ///
-/// Errors: `NoMemory` where a growth was refused. Cost: in each shard one look-up of where to begin, with the counts on the way there.
+/// Errors: `NoMemory` if an allocation fails. Cost: in each shard one look-up of where to begin, with the counts on the way there.
 pub fn reads_at_most(
     alloc: Global,
     shards: &[Arc<Shard>],

@@ -23,7 +23,7 @@ pub struct Hit<'a> {
 }
 
 impl<'a> Hit<'a> {
-    /// The row's key. Errors: `NoMemory` where a growth was refused. Cost: the size of the key.
+    /// The row's key. Errors: `NoMemory` if an allocation fails. Cost: the size of the key.
     pub fn key(&self, alloc: Global) -> Result<Vec<Json>, NoMemory>
         ensures { IfOk result (λ key. items_view key.items ≡ (hit_row self.now).0) }
     {
@@ -58,7 +58,7 @@ impl<'a> Hit<'a> {
         self.text
     }
 
-    /// A row of its own. Errors: `NoMemory` where a growth was refused. Cost: the size of the row.
+    /// A row of its own. Errors: `NoMemory` if an allocation fails. Cost: the size of the row.
     pub fn row(&self, alloc: Global) -> Result<Row, NoMemory>
         ensures { IfOk result (λ row. row_view row ≡ hit_row self.now) }
     {

@@ -31,7 +31,7 @@ impl<'a> HitRow<'a> {
         }
     }
 
-    /// Its key. Errors: `NoMemory` where a growth was refused. Cost: the size of the key.
+    /// Its key. Errors: `NoMemory` if an allocation fails. Cost: the size of the key.
     pub(crate) fn key(&self, alloc: Global) -> Result<Vec<Json>, NoMemory>
         ensures { IfOk result (λ key. items_view key.items ≡ (lent_row self.now).0) }
     {
@@ -41,7 +41,7 @@ impl<'a> HitRow<'a> {
         }
     }
 
-    /// A row of its own. Errors: `NoMemory` where a growth was refused. Cost: the size of the row.
+    /// A row of its own. Errors: `NoMemory` if an allocation fails. Cost: the size of the row.
     pub(crate) fn row(&self, alloc: Global) -> Result<Row, NoMemory>
         ensures { IfOk result (λ row. row_view row ≡ lent_row self.now) }
     {

@@ -30,7 +30,7 @@ use std::sync::Arc;
 /// strictly after the row, if one is named, those whose key is in the range and of whose document the selector holds. Beside them
 /// stands how many hits were looked for and found: at most `take`, and one more for each shard. All is done on the caller's thread.
 ///
-/// Errors: `NoMemory` where a growth was refused. Cost: in each shard one look-up of where to begin; then for each row that is
+/// Errors: `NoMemory` if an allocation fails. Cost: in each shard one look-up of where to begin; then for each row that is
 /// read, until those hits are found, a look-up of its document and the selector on it; the merge.
 pub fn pull_lent<'a>(
     alloc: Global,
@@ -81,7 +81,7 @@ fn pull_by<'a>(
 /// holds of its document. Documents are looked up only for the hits that are given, and the selector is not asked. Beside them stands
 /// how many rows were looked for and found: at most `take`, and one more for each shard. All is done on the caller's thread.
 ///
-/// Errors: `NoMemory` where a growth was refused. Cost: in each shard one look-up of where to begin; then a step for each row that is
+/// Errors: `NoMemory` if an allocation fails. Cost: in each shard one look-up of where to begin; then a step for each row that is
 /// read, until `take` are found, and the merge; a look-up of a document for each hit that is given. Of one shard the first `skip` rows
 /// of an index are passed over at once, by their count.
 pub fn pull_rows<'a>(

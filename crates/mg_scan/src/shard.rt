@@ -166,7 +166,7 @@ fn hits_of_index<'a>(
 
 /// What the search finds in a shard.
 ///
-/// Errors: `NoMemory` where a growth was refused. Cost: one look-up of where to begin, then for each row a look-up of its document, and
+/// Errors: `NoMemory` if an allocation fails. Cost: one look-up of where to begin, then for each row a look-up of its document, and
 /// the selector on it.
 pub(crate) fn hits_in<'a>(
     alloc: Global,

@@ -56,7 +56,7 @@ impl Document {
 
     /// The document of an id whose revision tree this is.
     ///
-    /// Errors: `NoMemory` where a growth was refused. Cost: the winner's body in a second block, and its text.
+    /// Errors: `NoMemory` if an allocation fails. Cost: the winner's body in a second block, and its text.
     pub(crate) fn of(alloc: Global, id: String, tree: RevTree) -> Result<Document, NoMemory>
         ensures id { IfOk result (λ d. string_bytes d.id ≡ string_bytes id) }
         ensures tree { IfOk result (λ d. d.tree ≡ tree) }

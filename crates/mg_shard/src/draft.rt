@@ -68,7 +68,7 @@ impl<'a> Draft<'a> {
     /// Applies one edit that has an id, and moves its body into the tree of its document. A refused edit, and one whose revision is
     /// known, touch nothing.
     ///
-    /// Errors: `NoMemory` where a growth was refused; the draft is then of no more use.
+    /// Errors: `NoMemory` if an allocation fails; the draft is then of no more use.
     /// Cost: a step of its document's tree, no copy of the body, and a copy of that tree where the draft has not touched it yet.
     pub fn edit(&mut self, alloc: Global, edit: Edit) -> Result<EditReply, NoMemory>
         ensures outcome { IfOk result (λ r. (hs : Histories) → DraftStandsFor self.old hs → outcome_seen r ≡ outcome_in hs edit) }
@@ -101,7 +101,7 @@ impl<'a> Draft<'a> {
     /// The shard that the bulk leaves, and none where the bulk has touched no document: then the shard is as it was.
     /// A document that was touched gets its served form and that form's text once, and each index its row.
     ///
-    /// Errors: `NoMemory` where a growth was refused. Cost: for each touched document a copy of its body, its text, and
+    /// Errors: `NoMemory` if an allocation fails. Cost: for each touched document a copy of its body, its text, and
     /// the pages on the way to it.
     pub fn finish(self, alloc: Global) -> Result<Option<Shard>, NoMemory>
         ensures stands { IfOk result (λ s. (hs : Histories) → DraftStandsFor self.entry hs → StandFor (unwrap_or s self.entry.shard).documents hs) }

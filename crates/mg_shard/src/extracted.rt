@@ -26,7 +26,7 @@ const LEAST_PIECE: usize = 128;
 
 /// These documents, deleted ones too, lent in their order. None of them is looked into.
 ///
-/// Errors: `NoMemory` where a growth was refused. Cost: a step a document.
+/// Errors: `NoMemory` if an allocation fails. Cost: a step a document.
 pub(crate) fn listed<'a>(
     alloc: Global,
     documents: &'a Pages<Shared<Document>>,
@@ -63,7 +63,7 @@ fn row_or_refusal(
 /// The rows of these documents, of those that are served and have every column, in the order of the documents, extracted by a thread
 /// for each piece, which has a scratch of its own.
 ///
-/// Errors: `NoMemory` where a growth was refused. Cost: the bytes of each row, shared among as many threads as there are processors.
+/// Errors: `NoMemory` if an allocation fails. Cost: the bytes of each row, shared among as many threads as there are processors.
 pub(crate) fn rows_by_threads<R: Threads + Sync>(
     rt: &R,
     alloc: Global,

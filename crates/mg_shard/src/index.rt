@@ -41,7 +41,7 @@ fn key_in(scratch: &mut KeyBytes, columns: &[Path], form: &Part<'_>) -> Result<b
 
 /// The row of a document in an index with these columns, if the document has them all, put together in the scratch that is lent.
 ///
-/// Errors: `NoMemory` where a growth was refused. Cost: the bytes of the key, and a block of memory where the row is too long to stand
+/// Errors: `NoMemory` if an allocation fails. Cost: the bytes of the key, and a block of memory where the row is too long to stand
 /// in its own value.
 pub(crate) fn row_in(
     alloc: Global,
@@ -197,7 +197,7 @@ impl IndexRows {
 
     /// Mends the rows where the document of an id changes, which had a form before and has another after.
     ///
-    /// Errors: `NoMemory` where a growth was refused; the index is then of no more use.
+    /// Errors: `NoMemory` if an allocation fails; the index is then of no more use.
     /// Cost: a look at the parts of both forms at the columns, and where these differ both rows, put together in the scratch that is
     /// lent, the way to both, and once the top of pages that others share. A row that stays costs no memory, unless an array or an
     /// object is among its columns.
@@ -229,7 +229,7 @@ impl IndexRows {
 
 /// Pages of rows, each of which stands once among them.
 ///
-/// Errors: `NoMemory` where a growth was refused. Cost: the rows sorted, and a step a row. The pages are full, but for the last.
+/// Errors: `NoMemory` if an allocation fails. Cost: the rows sorted, and a step a row. The pages are full, but for the last.
 pub(crate) fn pages_of(alloc: Global, rows: Vec<RowBytes>) -> Result<Pages<RowBytes>, NoMemory>
     requires { (z : RowValue) → times row_value_order z rows.items ≤ 1 }
     ensures { IfOk result (λ pages. pages ≡ sorted row_value_order rows.items) }
@@ -240,7 +240,7 @@ pub(crate) fn pages_of(alloc: Global, rows: Vec<RowBytes>) -> Result<Pages<RowBy
 
 /// Pages of rows that are in order, each of which stands once among them.
 ///
-/// Errors: `NoMemory` where a growth was refused. Cost: a step a row. The pages are full, but for the last.
+/// Errors: `NoMemory` if an allocation fails. Cost: a step a row. The pages are full, but for the last.
 pub(crate) fn pages_in_order(
     alloc: Global,
     rows: Vec<RowBytes>,
@@ -252,7 +252,7 @@ pub(crate) fn pages_in_order(
     Pages::from_sorted(alloc, &rows)
 }
 
-/// The rows sorted by key and id. Errors: `NoMemory` where a growth was refused. Cost: the number of the rows times its logarithm.
+/// The rows sorted by key and id. Errors: `NoMemory` if an allocation fails. Cost: the number of the rows times its logarithm.
 pub(crate) fn sorted_rows(mut rows: Vec<RowBytes>) -> Result<Vec<RowBytes>, NoMemory>
     ensures { IfOk result (λ v. v.items ≡ sorted row_value_order rows.items) }
 {

@@ -34,7 +34,7 @@ fn is_named(definition: &IndexDef, ddoc: &str, name: &str) -> bool
     ddoc == definition.ddoc() && name == definition.name()
 }
 
-/// The same indexes, their rows shared. Errors: `NoMemory` where a growth was refused. Cost: their number.
+/// The same indexes, their rows shared. Errors: `NoMemory` if an allocation fails. Cost: their number.
 pub(crate) fn shared(alloc: Global, indexes: &[IndexRows]) -> Result<Vec<IndexRows>, NoMemory>
     ensures { IfOk result (λ v. indexes_seen v.items ≡ indexes_seen indexes.now) }
 {
@@ -105,7 +105,7 @@ fn add_after(
 
 /// The indexes, their rows shared, with one in its place, instead of one of the same design document and name.
 ///
-/// Errors: `NoMemory` where a growth was refused. Cost: as of `shared`.
+/// Errors: `NoMemory` if an allocation fails. Cost: as of `shared`.
 pub(crate) fn with(
     alloc: Global,
     indexes: &[IndexRows],
@@ -122,7 +122,7 @@ pub(crate) fn with(
 
 /// The indexes, their rows shared, but the one of this design document and name.
 ///
-/// Errors: `NoMemory` where a growth was refused. Cost: as of `shared`.
+/// Errors: `NoMemory` if an allocation fails. Cost: as of `shared`.
 pub(crate) fn without(
     alloc: Global,
     indexes: &[IndexRows],
@@ -152,7 +152,7 @@ fn form_in<'a>(documents: &'a Pages<Shared<Document>>, id: &str) -> Option<&'a P
 
 /// Mends the rows of all indexes for a document that comes among others, instead of one of the same id.
 ///
-/// Errors: `NoMemory` where a growth was refused; the indexes are then of no more use.
+/// Errors: `NoMemory` if an allocation fails; the indexes are then of no more use.
 /// Cost: for each index a look at the parts that the document had and has at its columns, and where these differ both rows, put together
 /// in the scratch that is lent, and the ways to them. An index whose row stays costs no memory.
 pub(crate) fn mend_all(

@@ -18,7 +18,7 @@ use std::sync::Arc;
 
 /// The documents of all these shards, deleted ones too, lent one shard after the other.
 ///
-/// Errors: `NoMemory` where a growth was refused. Cost: a step a document.
+/// Errors: `NoMemory` if an allocation fails. Cost: a step a document.
 pub(crate) fn all_documents<'a>(
     alloc: Global,
     shards: &'a [Arc<Shard>],
@@ -46,7 +46,7 @@ fn add_documents<'a>(shard: &'a Shard, all: &mut Vec<&'a Shared<Document>>) -> R
 
 /// The shard of each of these documents, of so many, asked for on the caller's thread: a placement need not be one that threads may share.
 ///
-/// Errors: `NoMemory` where a growth was refused. Cost: the placement of each document.
+/// Errors: `NoMemory` if an allocation fails. Cost: the placement of each document.
 pub(crate) fn places_of<P: Placement>(
     alloc: Global,
     placement: &P,
@@ -82,7 +82,7 @@ fn put_if(
 
 /// The documents that are placed on this shard: where several have one id, the last of them.
 ///
-/// Errors: `NoMemory` where a growth was refused. Cost: a step a document, and for each that is placed there the way to its place.
+/// Errors: `NoMemory` if an allocation fails. Cost: a step a document, and for each that is placed there the way to its place.
 pub(crate) fn documents_at(
     alloc: Global,
     documents: &[&Shared<Document>],

@@ -33,7 +33,7 @@ use std::thread::Threads;
 /// The shards are the same for every number of workers. One worker starts no thread, and nor do fewer than 1,000 documents; otherwise a thread
 /// for each shard makes it. Where there are twice as many workers as shards, further threads extract and sort the rows of each.
 ///
-/// Errors: `NoMemory` where a growth was refused. Cost: for each document its placement and the way to its place, and for each index the
+/// Errors: `NoMemory` if an allocation fails. Cost: for each document its placement and the way to its place, and for each index the
 /// bytes of its row, and each shard's rows sorted.
 pub fn redeal<P: Placement, R: Threads + Sync>(
     rt: &R,

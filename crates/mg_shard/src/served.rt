@@ -18,7 +18,7 @@ pub(crate) struct Served {
 impl Served {
     /// A form with its text, both in blocks that are exactly as long as they are.
     ///
-    /// Errors: `NoMemory` where a growth was refused, or where the form takes more than 4,294,967,295 bytes. Cost: the length of the text.
+    /// Errors: `NoMemory` if an allocation fails, or where the form takes more than 4,294,967,295 bytes. Cost: the length of the text.
     pub(crate) fn of(alloc: Global, form: &Json) -> Result<Served, NoMemory>
         ensures { IfOk result (λ s. s.form ≡ view form.now) }
     {

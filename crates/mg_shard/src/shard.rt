@@ -81,7 +81,7 @@ impl Shard {
 
     /// The same documents and indexes, all of them shared.
     ///
-    /// Errors: `NoMemory` where a growth was refused. Cost: the top level of the documents and of each index, at most 65 parts.
+    /// Errors: `NoMemory` if an allocation fails. Cost: the top level of the documents and of each index, at most 65 parts.
     pub fn share(&self, alloc: Global) -> Result<Shard, NoMemory>
         ensures { IfOk result (λ s. s ≡ self.now) }
     {
@@ -206,7 +206,7 @@ impl Shard {
 
     /// The shard after edits that have ids, applied in order, and what became of each. A refusal of memory leaves this shard.
     ///
-    /// Errors: `NoMemory` where a growth was refused. Cost: a copy of each edit, whose body is moved into its document's tree; and for
+    /// Errors: `NoMemory` if an allocation fails. Cost: a copy of each edit, whose body is moved into its document's tree; and for
     /// each document that they touch a copy of its tree and its body, its text, and the pages on the way to it. A bulk that touches
     /// none copies no page but the top. A draft takes edits by value, without these copies.
     pub fn apply(&self, alloc: Global, edits: &[Edit]) -> Result<(Shard, Vec<EditReply>), NoMemory>
@@ -317,7 +317,7 @@ impl Shard {
     /// of workers. One worker starts no thread, and nor does a shard of fewer than 1,000 documents; otherwise as many threads
     /// extract the rows and sort them as there are processors.
     ///
-    /// Errors: `NoMemory` where a growth was refused. Cost: each document once, the bytes of its row, and the rows sorted. A row takes
+    /// Errors: `NoMemory` if an allocation fails. Cost: each document once, the bytes of its row, and the rows sorted. A row takes
     /// memory of its own only where it is too long to stand in its own value.
     pub fn rows_for<R: Threads + Sync>(
         &self,
@@ -356,7 +356,7 @@ impl Shard {
 
     /// The shard with an index of this definition, instead of one of its design document and name.
     ///
-    /// Errors: `NoMemory` where a growth was refused. Cost: each document once, the bytes of its row, and the rows sorted.
+    /// Errors: `NoMemory` if an allocation fails. Cost: each document once, the bytes of its row, and the rows sorted.
     pub fn with_index(&self, alloc: Global, definition: &IndexDef) -> Result<Shard, NoMemory>
         ensures { IfOk result (λ s. s ≡ record self.now { definitions = with_definition definition.now self.now.definitions }) }
     {
@@ -369,7 +369,7 @@ impl Shard {
     /// The shard with an index, as of `with_index`, whose rows the caller brings: those that `rows_for` gives. The definition is shared,
     /// not copied.
     ///
-    /// Errors: `NoMemory` where a growth was refused. Cost: a step a row.
+    /// Errors: `NoMemory` if an allocation fails. Cost: a step a row.
     pub fn with_rows(
         &self,
         alloc: Global,
@@ -385,7 +385,7 @@ impl Shard {
 
     /// The shard without the index of this design document and name, if there is one.
     ///
-    /// Errors: `NoMemory` where a growth was refused. Cost: as of `share`.
+    /// Errors: `NoMemory` if an allocation fails. Cost: as of `share`.
     pub fn without_index(&self, alloc: Global, ddoc: &str, name: &str) -> Result<Shard, NoMemory>
         ensures { IfOk result (λ s. s ≡ record self.now { definitions = without_definition ddoc.now name.now self.now.definitions }) }
     {

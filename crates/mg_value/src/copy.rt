@@ -23,7 +23,7 @@ pub(crate) fn copied(alloc: Global, value: &Json) -> Result<Json, NoMemory>
 
 /// Copies the values, deeply, into a new list.
 ///
-/// Errors: `NoMemory` where a growth was refused. Cost: the size of the values.
+/// Errors: `NoMemory` if an allocation fails. Cost: the size of the values.
 #[cycle(copied)]
 pub fn copy_items(alloc: Global, items: &[Json]) -> Result<Vec<Json>, NoMemory>
     ensures { IfOk result (λ v. items_view v.items ≡ items_view items.now) }
@@ -52,7 +52,7 @@ fn copied_members(
 
 /// Copies the texts into a new list.
 ///
-/// Errors: `NoMemory` where a growth was refused. Cost: the length of the texts.
+/// Errors: `NoMemory` if an allocation fails. Cost: the length of the texts.
 pub fn copy_texts(alloc: Global, texts: &[String]) -> Result<Vec<String>, NoMemory>
     ensures { IfOk result (λ copies. map string_bytes copies.items ≡ map string_bytes texts.now) }
 {

@@ -1,7 +1,7 @@
 use std::alloc::{AllocError, AllocFailed};
 use thiserror::Error;
 
-/// A growth was refused: the allocator did not give the memory that was asked for.
+/// An allocation failed: the allocator did not give the memory that was asked for.
 #[derive(Clone, Copy, PartialEq, Eq, Debug, Drop, Error)]
 #[error("out of memory")]
 pub struct NoMemory;
@@ -29,7 +29,7 @@ pub enum ReadError {
     /// `-0` and `9223372036854775808` are not.
     #[error("a number is not a whole number of 64 bits")]
     NotWhole,
-    /// A growth was refused.
+    /// An allocation failed.
     #[error("out of memory")]
     NoMemory,
 }

@@ -43,7 +43,7 @@ pub trait LentValue: Sized + Drop {
 
     /// Copies the value into a `Json` that owns its memory.
     ///
-    /// Errors: `NoMemory` where a growth was refused. Cost: the size of the value.
+    /// Errors: `NoMemory` if an allocation fails. Cost: the size of the value.
     fn to_json(&self, alloc: Global) -> Result<Json, NoMemory>
         ensures { IfOk result (λ copy. view copy ≡ value self.now) };
 

@@ -18,7 +18,7 @@ use std::collections::BTreeMap;
 ///
 /// Errors: `NotJson` where the bytes are not such a text, or a number is too large for a 64-bit float;
 /// `NotWhole` where they are, but a number of the value is not an `i64` (`1.5`, `1.0`, `1e2`, `-0` and
-/// `9223372036854775808` are not); `NoMemory` where a growth was refused. Bytes that are not UTF-8, and
+/// `9223372036854775808` are not); `NoMemory` if an allocation fails. Bytes that are not UTF-8, and
 /// the empty text, are `NotJson` even where there is no memory.
 /// Cost: the length of the text, and for each object its members times the logarithm of their count.
 pub fn read(alloc: Global, bytes: &[u8]) -> Result<Json, ReadError>

@@ -38,7 +38,7 @@ impl Json {
 
     /// A deep copy.
     ///
-    /// Errors: `NoMemory` where a growth was refused. Cost: the size of the value.
+    /// Errors: `NoMemory` if an allocation fails. Cost: the size of the value.
     pub fn copy(&self, alloc: Global) -> Result<Json, NoMemory>
         ensures { IfOk result (λ v. view v ≡ view self.now) }
     {
@@ -78,7 +78,7 @@ impl Json {
     /// Puts a member into an object, and replaces one with the same name. A value that is not an
     /// object stays as it is.
     ///
-    /// Errors: `NoMemory` where a growth was refused; then the value is as it was.
+    /// Errors: `NoMemory` if an allocation fails; then the value is as it was.
     /// Cost: the length of the name, and the logarithm of the count of members.
     pub fn insert(&mut self, alloc: Global, name: &str, value: Json) -> Result<(), NoMemory>
         ensures ok { OnOk result

@@ -20,7 +20,7 @@ const FIRST_ROOM: usize = 256;
 /// decimal. Only what RFC 8259 requires is escaped: quotes and backslashes by a backslash, control
 /// characters by their letter (such as `\n`) or, where they have none, by their number (`\u001f`).
 ///
-/// Errors: `NoMemory` where a growth was refused. Cost: the length of the text, in one buffer that grows.
+/// Errors: `NoMemory` if an allocation fails. Cost: the length of the text, in one buffer that grows.
 pub fn write(alloc: Global, value: &Json) -> Result<Vec<u8>, NoMemory>
     ensures text { IfOk result (λ b. b.items ≡ compact (view value.now)) }
     ensures reads_back { IfOk result (λ b. depth (view value.now) ≤ 127
