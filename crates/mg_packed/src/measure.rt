@@ -31,13 +31,13 @@ fn add(a: u32, b: u32) -> Result<u32, NoMemory>
 }
 
 // The size of a text, its length in four bytes, and `more` bytes.
-fn named_len(name: &str, more: u32) -> Result<u32, NoMemory>
+pub(crate) fn named_len(name: &str, more: u32) -> Result<u32, NoMemory>
     ensures { IfOk result (λ n. n ≡ 4 + length name.now + more) }
 {
     add(add(4, as_word(name.len())?)?, more)
 }
 
-fn text_len(text: &str) -> Result<u32, NoMemory>
+pub(crate) fn text_len(text: &str) -> Result<u32, NoMemory>
     ensures { IfOk result (λ n. n ≡ length (packed (string text.now))) }
 {
     let len = named_len(text, 1)?;
