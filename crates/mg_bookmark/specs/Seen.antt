@@ -1,4 +1,4 @@
--- The place that a `Bookmark` stands for, and the one that a `RowPlace` stands for.
+-- The place that a `Bookmark` stands for, and the one that a `BookmarkParts` stands for.
 use Rattle.std.specs.Prelude.{ℕ, List, option_map, string_bytes}
 use Rattle.mg_value.specs.Value.{Items, item, no_items, text}
 use Rattle.mg_value.specs.View.{items_view}
@@ -6,7 +6,7 @@ use Rattle.mg_bookmark.specs.Bookmark.{Place}
 use Rattle.mg_bookmark.specs.declared.bookmark.Bookmark.{Bookmark}
 use Rattle.mg_bookmark.specs.declared.place.RowKey.{RowKey}
 use Rattle.mg_bookmark.specs.declared.place.RowKey.TheVariants.{Columns, Id}
-use Rattle.mg_bookmark.specs.declared.place.RowPlace.{RowPlace}
+use Rattle.mg_bookmark.specs.declared.place.BookmarkParts.{BookmarkParts}
 
 -- the place that the code's bookmark names
 abbrev pub bookmark_place : Bookmark → Place
@@ -18,5 +18,5 @@ key_at (Columns columns) id = items_view columns.now
 key_at Id id = item (text id) no_items
 
 -- the place whose parts are lent
-abbrev pub place_at : RowPlace → Place
+abbrev pub place_at : BookmarkParts → Place
 place_at p = record { ddoc = option_map (λ s. s.now) p.ddoc; name = p.name.now; direction = p.direction; key = key_at p.key p.id.now; id = p.id.now }

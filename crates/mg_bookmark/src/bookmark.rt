@@ -1,7 +1,7 @@
 ghost use Rattle.std.specs.Prelude.{◌≡◌, ◌↔◌, codes, None, Some, Ok, Err, IfOk, IfSome, option_map, string_bytes};
 
 use crate::error::BookmarkError;
-use crate::place::{RowKey, RowPlace};
+use crate::place::{BookmarkParts, RowKey};
 use crate::spelling::spelled_by;
 use mg_collate::Direction;
 use mg_value::{Json, NoMemory};
@@ -39,10 +39,10 @@ impl Bookmark {
     }
 
     // The bookmark with its parts lent.
-    pub(crate) fn lent(&self) -> RowPlace<'_>
+    pub(crate) fn lent(&self) -> BookmarkParts<'_>
         ensures { place_at result ≡ bookmark_place self.now }
     {
-        RowPlace {
+        BookmarkParts {
             ddoc: self.ddoc.as_deref(),
             name: self.name.as_str(),
             direction: self.direction,

@@ -11,4 +11,4 @@ mod text;
 
 pub use bookmark::Bookmark;
 pub use error::BookmarkError;
-pub use place::{RowKey, RowPlace};
+pub use place::{BookmarkParts, RowKey};

@@ -23,7 +23,7 @@ pub enum RowKey<'a> {
 
 /// The parts of a bookmark, lent: a place in an index that is read in a direction.
 #[derive(Clone, Copy)]
-pub struct RowPlace<'a> {
+pub struct BookmarkParts<'a> {
     /// The design document of the index; `None` for `_all_docs`.
     pub ddoc: Option<&'a str>,
     /// The name of the index.
@@ -36,7 +36,7 @@ pub struct RowPlace<'a> {
     pub id: &'a str,
 }
 
-impl RowPlace<'_> {
+impl BookmarkParts<'_> {
     /// The text that a client gets for a page that ended with this row, as `Bookmark::encode` gives it
     /// for a bookmark of these parts. Parts are copied only into the text.
     ///

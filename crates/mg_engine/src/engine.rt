@@ -84,7 +84,7 @@ impl<P: Placement + Drop> Engine<P> {
         let workers = Workers::most(workers);
         let (reply, next) = self
             .state
-            .take(rt, alloc, &*self.placement, command, workers, &NoGate);
+            .execute(rt, alloc, &*self.placement, command, workers, &NoGate);
         if let Some(next) = next {
             self.state = next;
         }
@@ -109,7 +109,7 @@ impl<P: Placement + Drop> Engine<P> {
         let workers = Workers::exactly(workers);
         let (reply, _) = self
             .state
-            .take(rt, alloc, &*self.placement, command, workers, gate);
+            .execute(rt, alloc, &*self.placement, command, workers, gate);
         reply
     }
 
@@ -130,7 +130,7 @@ impl<P: Placement + Drop> Engine<P> {
         let workers = Workers::most(workers);
         let (reply, _) = self
             .state
-            .take(rt, alloc, &*self.placement, command, workers, &NoGate);
+            .execute(rt, alloc, &*self.placement, command, workers, &NoGate);
         reply
     }
 
@@ -184,7 +184,7 @@ impl<P: Placement + Drop> Engine<P> {
         let workers = Workers::most(workers);
         match self
             .state
-            .take_prepared(rt, alloc, &*self.placement, prepared, workers)
+            .execute_prepared(rt, alloc, &*self.placement, prepared, workers)
         {
             (reply, Some(state)) => (reply, Some(Engine { placement, state })),
             (reply, None) => (reply, None),

@@ -8,6 +8,7 @@ mod define;
 mod edits;
 mod engine;
 mod entry;
+mod execute;
 mod fault;
 pub mod laws;
 mod prepared;
@@ -17,7 +18,6 @@ mod refusal;
 mod reply;
 mod reshard;
 mod state;
-mod take;
 mod write;
 
 pub use command::Command;

@@ -13,7 +13,7 @@ use Rattle.mg_http.specs.declared.routes.Action.{Action}
 use Rattle.mg_http.specs.Routes.{Part, literal, parameter, Route, routes, same_part, takes, fits, passes_over, whole_path, means, parameters_of}
 use Rattle.mg_engine.specs.declared.refusal.Refusal.TheVariants.{Missing, NoDatabase}
 use Rattle.mg_http.specs.Target.{Request, refuses, names, requested_by, request_with, request_on}
-use Rattle.mg_http.specs.Walk.{Place, path_behind, behind, begins_with, goes_on, enter, enter_as, place_of_route, ends_here, ends_with, request_at}
+use Rattle.mg_http.specs.Walk.{RouteMatch, path_behind, behind, begins_with, goes_on, enter, enter_as, place_of_route, ends_here, ends_with, request_at}
 use Rattle.mg_http.proofs.ListLemmas.{or_true, and_false}
 
 -- a route that was found: its method, what it asks for, and its decoded parameters
@@ -233,7 +233,7 @@ spells_here p spelled (r ∷ rs) =
     ]
 
 -- what is asked in a state of the match, from the routes of which nothing is left
-at_place : (db method query : List ℕ) (place : Place)
+at_place : (db method query : List ℕ) (place : RouteMatch)
     → request_at db method query place
     ≡ request_with db (cond (list_any ends_here place.routes_left) (Some place.parameters) None)
     (option_map (λ r. r.asks) (find (ends_with method) place.routes_left)) query

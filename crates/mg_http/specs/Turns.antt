@@ -9,8 +9,8 @@ use Rattle.mg_http.specs.declared.head.HeadRead.TheVariants as head
 use Rattle.mg_http.specs.declared.head.Framed.{Framed}
 use Rattle.mg_http.specs.declared.head.Framing.{Framing}
 use Rattle.mg_http.specs.declared.head.Framing.TheVariants as framing
-use Rattle.mg_http.specs.declared.message.Front.{Front}
-use Rattle.mg_http.specs.declared.message.Front.TheVariants as front
+use Rattle.mg_http.specs.declared.message.Pending.{Pending}
+use Rattle.mg_http.specs.declared.message.Pending.TheVariants as front
 use Rattle.mg_http.specs.declared.inbox.Inbox.{Inbox}
 use Rattle.mg_http.specs.declared.inbox.Stop.{Stop}
 use Rattle.mg_http.specs.declared.inbox.Stop.TheVariants as stop
@@ -60,13 +60,13 @@ IsHeadRead db bytes (head.NoMemory silent) =
     (h : RequestHead) × (after : List ℕ) × ReadsRequest bytes h after × (silent ≡ is_silent h)
 
 -- what the code found is what the unanswered bytes begin with
-abbrev pub IsFront : List ℕ → List ℕ → Front → Type 0
-IsFront db bytes (front.Message f) =
+abbrev pub IsPending : List ℕ → List ℕ → Pending → Type 0
+IsPending db bytes (front.Message f) =
     (f.len ≤ length bytes) × (f.body ≤ 8388608)
     × (h : RequestHead) × HasHead bytes h (drop f.len bytes) × IsFramed db h f
-IsFront db bytes front.Waiting = IsPartHead bytes
-IsFront db bytes (front.Refused refusal silent) = IsRefused db bytes refusal silent
-IsFront db bytes (front.NoMemory silent) =
+IsPending db bytes front.Waiting = IsPartHead bytes
+IsPending db bytes (front.Refused refusal silent) = IsRefused db bytes refusal silent
+IsPending db bytes (front.NoMemory silent) =
     (h : RequestHead) × (after : List ℕ) × HasHead bytes h after × (silent ≡ is_silent h)
 
 -- The session continues with the bytes `left` unanswered, or it ended.

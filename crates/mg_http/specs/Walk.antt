@@ -32,12 +32,12 @@ abbrev pub goes_on : Part → List Route → Bool
 goes_on part rs = list_any (λ r. begins_with part r.path) rs
 
 -- the state of a match: the rest of each route that still fits, and the decoded parameters so far
-pub record Place : Type 0 where
+pub record RouteMatch : Type 0 where
   pub routes_left : List Route
   pub parameters : List (List ℕ)
 
 -- the state after one more segment, matched as a literal (true) or as a parameter
-abbrev pub enter_as : Bool → Place → List ℕ → Place
+abbrev pub enter_as : Bool → RouteMatch → List ℕ → RouteMatch
 enter_as true place segment = record place { routes_left = behind (literal segment) place.routes_left }
 enter_as false place segment = record {
   routes_left = if length segment == 0 then [] else behind parameter place.routes_left;
@@ -45,11 +45,11 @@ enter_as false place segment = record {
 }
 
 -- the state after one more segment: a literal goes before a parameter
-abbrev pub enter : Place → List ℕ → Place
+abbrev pub enter : RouteMatch → List ℕ → RouteMatch
 enter place segment = enter_as (goes_on (literal segment) place.routes_left) place segment
 
 -- the state after all segments, of which the first one names the database
-abbrev pub place_of_route : List (List ℕ) → Place
+abbrev pub place_of_route : List (List ℕ) → RouteMatch
 place_of_route [] = record { routes_left = []; parameters = [] }
 place_of_route (name ∷ below) =
     fold enter (record { routes_left = if length name == 0 then [] else routes; parameters = percent_decode name ∷ [] }) below
@@ -63,7 +63,7 @@ abbrev pub ends_with : List ℕ → Route → Bool
 ends_with method r = ends_here r && bytes_eq r.method method
 
 -- what the method and the query ask for in the state after all segments
-abbrev pub request_at : List ℕ → List ℕ → List ℕ → Place → Request
+abbrev pub request_at : List ℕ → List ℕ → List ℕ → RouteMatch → Request
 request_at db method query place =
     if not (list_any ends_here place.routes_left && list_all is_utf8 place.parameters) then refuses Missing
     else (if names db place.parameters

@@ -4,7 +4,7 @@ ghost use Rattle.std.specs.Io.KnownBytes.{Consumes, IsAtEnd, Keeps};
 ghost use Rattle.mg_http.specs.Device.{inner_of, has_failed};
 
 use crate::device::{Device, Fault};
-use crate::message::{Front, read_front};
+use crate::message::{Pending, read_front};
 use crate::table::Table;
 use httparse::spans::{EMPTY_HEADER_SPAN, HeaderSpan};
 use std::alloc::{AllocError, Global};
@@ -62,7 +62,7 @@ pub(crate) fn rest_of(held: &[u8], start: usize) -> &[u8]
 
 impl Inbox {
     ghost use Rattle.mg_http.specs.Inbox.{unanswered, turns_left};
-    ghost use Rattle.mg_http.specs.Turns.{IsFront};
+    ghost use Rattle.mg_http.specs.Turns.{IsPending};
 
     /// An empty inbox.
     ///
@@ -84,8 +84,8 @@ impl Inbox {
     }
 
     /// Reads what the unanswered bytes begin with.
-    pub(crate) fn front(&mut self, alloc: Global, db: &str) -> Front
-        ensures front { IsFront db.now (unanswered self.old) result }
+    pub(crate) fn front(&mut self, alloc: Global, db: &str) -> Pending
+        ensures front { IsPending db.now (unanswered self.old) result }
         ensures held { unanswered self.new ≡ unanswered self.old }
         ensures turns { turns_left self.new ≡ turns_left self.old }
         ensures requests { self.new.requests ≡ self.old.requests }

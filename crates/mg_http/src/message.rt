@@ -1,6 +1,6 @@
 //! Reads what unanswered bytes begin with.
 ghost use Rattle.std.specs.Prelude.{◌≡◌, ◌≤◌, length};
-ghost use Rattle.mg_http.specs.Turns.{IsFront};
+ghost use Rattle.mg_http.specs.Turns.{IsPending};
 
 use crate::head::{Framed, HeadRead, read_head};
 use crate::table::Table;
@@ -13,7 +13,7 @@ pub(crate) const MAX_HEAD: usize = 16_384;
 
 /// What unanswered bytes begin with.
 #[derive(Drop)]
-pub(crate) enum Front {
+pub(crate) enum Pending {
     /// A head; its body may still be incomplete.
     Message(Framed),
     /// An incomplete head within its limit, or no byte.
@@ -31,16 +31,16 @@ pub(crate) fn read_front(
     table: &Table,
     bytes: &[u8],
     spans: &mut [HeaderSpan],
-) -> Front
+) -> Pending
     requires { 5461 ≤ length spans.old }
-    ensures { IsFront db.now bytes.now result }
+    ensures { IsPending db.now bytes.now result }
 {
     match read_head(alloc, db, table, &bytes[..bytes.len().min(MAX_HEAD)], spans) {
-        HeadRead::Whole(framed) => Front::Message(framed),
-        HeadRead::Unframed(refusal, silent) => Front::Refused(refusal, silent),
-        HeadRead::Bad => Front::Refused(Refusal::BadHead, false),
-        HeadRead::Partial if bytes.len() < MAX_HEAD => Front::Waiting,
-        HeadRead::Partial => Front::Refused(Refusal::HeadTooLarge, false),
-        HeadRead::NoMemory(silent) => Front::NoMemory(silent),
+        HeadRead::Whole(framed) => Pending::Message(framed),
+        HeadRead::Unframed(refusal, silent) => Pending::Refused(refusal, silent),
+        HeadRead::Bad => Pending::Refused(Refusal::BadHead, false),
+        HeadRead::Partial if bytes.len() < MAX_HEAD => Pending::Waiting,
+        HeadRead::Partial => Pending::Refused(Refusal::HeadTooLarge, false),
+        HeadRead::NoMemory(silent) => Pending::NoMemory(silent),
     }
 }

@@ -18,7 +18,7 @@ use std::borrow::CowSlice;
 
 /// The state of a match: the rest of each route that still fits, and the decoded parameters so far.
 #[derive(Drop)]
-pub struct Place {
+pub struct RouteMatch {
     pub routes: CowSlice<'static, Route>,
     pub parameters: Vec<Vec<u8>>,
 }
@@ -156,9 +156,9 @@ fn is_literal(table: &Table, segment: &[u8]) -> bool
     }
 }
 
-impl Place {
+impl RouteMatch {
     /// The state after the database's name. No route fits an empty name.
-    fn new(alloc: Global, name: &[u8]) -> Result<Place, AllocError>
+    fn new(alloc: Global, name: &[u8]) -> Result<RouteMatch, AllocError>
         ensures place { IfOk result (λ p. place_in p ≡ record {
           routes_left = if length name.now == 0 then [] else routes;
           parameters = percent_decode name.now ∷ [];
@@ -168,12 +168,12 @@ impl Place {
         let mut parameters = Vec::new(alloc);
         parameters.push(decoded(alloc, name)?)?;
         if name.is_empty() {
-            return Ok(Place {
+            return Ok(RouteMatch {
                 routes: CowSlice::Borrowed(&[]),
                 parameters,
             });
         }
-        Ok(Place {
+        Ok(RouteMatch {
             routes: CowSlice::Borrowed(all_routes()),
             parameters,
         })
@@ -191,7 +191,12 @@ impl Place {
     }
 
     /// Matches one more segment: as a literal if some route that is left has it (`stands`), else as a parameter.
-    fn enter(mut self, alloc: Global, segment: &[u8], stands: bool) -> Result<Place, AllocError>
+    fn enter(
+        mut self,
+        alloc: Global,
+        segment: &[u8],
+        stands: bool,
+    ) -> Result<RouteMatch, AllocError>
         requires { stands ≡ goes_on (literal segment.now) (map route_of (cow_slice_items self.routes)) }
         ensures { IfOk result (λ p. place_in p ≡ enter (place_in self) segment.now) }
     {
@@ -211,17 +216,17 @@ impl Place {
     /// Matches the whole path.
     ///
     /// Errors: out of memory.
-    pub(crate) fn of(alloc: Global, table: &Table, path: &[u8]) -> Result<Place, AllocError>
+    pub(crate) fn of(alloc: Global, table: &Table, path: &[u8]) -> Result<RouteMatch, AllocError>
         ensures { IfOk result (λ p. place_in p ≡ place_of_route (segments_of path.now)) }
     {
         let mut segments = Segments::new(path);
         let Some(name) = segments.next() else {
-            return Ok(Place {
+            return Ok(RouteMatch {
                 routes: CowSlice::Borrowed(&[]),
                 parameters: Vec::new(alloc),
             });
         };
-        let mut place = Place::new(alloc, name)?;
+        let mut place = RouteMatch::new(alloc, name)?;
         let Some(second) = segments.next() else {
             return Ok(place);
         };

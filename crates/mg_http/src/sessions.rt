@@ -12,7 +12,7 @@ use crate::answer::answer;
 use crate::device::{Device, Fault};
 use crate::head::Framed;
 use crate::inbox::{Inbox, Stop, rest_of};
-use crate::message::Front;
+use crate::message::Pending;
 use crate::reply::{write_refusal, write_reply};
 use crate::service::Service;
 use mg_engine::Reply;
@@ -165,18 +165,18 @@ fn turn<H: Wait + Threads + Sync, S: Service, R: Read, W: Write>(
     ensures progress { OnOk result (turns_left inbox.new < turns_left inbox.old) }
 {
     match inbox.front(alloc, db) {
-        Front::Message(framed) => message(rt, alloc, inbox, reader, writer, service, &framed),
-        Front::Waiting => match inbox.read_piece(reader) {
+        Pending::Message(framed) => message(rt, alloc, inbox, reader, writer, service, &framed),
+        Pending::Waiting => match inbox.read_piece(reader) {
             Ok(()) => Ok(()),
             Err(stop) => Err(stopped(writer, &mut inbox.page, false, stop)),
         },
-        Front::Refused(refusal, silent) => Err(refused(write_refusal(
+        Pending::Refused(refusal, silent) => Err(refused(write_refusal(
             writer,
             &mut inbox.page,
             silent,
             refusal,
         ))),
-        Front::NoMemory(silent) => Err(refused(write_reply(
+        Pending::NoMemory(silent) => Err(refused(write_reply(
             writer,
             &mut inbox.page,
             silent,

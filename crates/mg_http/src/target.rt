@@ -8,7 +8,7 @@ ghost use Rattle.mg_http.specs.Turns.{request_in};
 ghost use Rattle.mg_http.specs.Walk.{request_at};
 
 use crate::decode::asks_conflicts;
-use crate::place::Place;
+use crate::place::RouteMatch;
 use crate::routes::{Action, Endpoint};
 use crate::table::Table;
 use mg_engine::{Command, Refusal};
@@ -111,7 +111,7 @@ fn target_at(
     db: &str,
     method: &[u8],
     query: &[u8],
-    place: Place,
+    place: RouteMatch,
 ) -> Result<Target, AllocError>
     ensures { IfOk result (λ t. request_in t ≡ request_at db.now method.now query.now (place_in place)) }
 {
@@ -146,6 +146,6 @@ pub(crate) fn read_target(
     ensures { IfOk result (λ t. request_in t ≡ request_of db.now method.now target.now) }
 {
     let (path, query) = split_query(target);
-    let place = Place::of(alloc, table, path)?;
+    let place = RouteMatch::of(alloc, table, path)?;
     target_at(alloc, db, method, query, place)
 }

@@ -3,13 +3,13 @@ use Rattle.std.specs.Prelude.{◌≡◌, ◌<◌, ◌≤◌, ℕ, List, length, 
 use Rattle.std.specs.List.{insert, remove}
 use Rattle.mg_index.specs.Catalog.{with_definition, without_definition, definition_at}
 use Rattle.mg_index.specs.Definition.{IndexDefinition}
-use Rattle.mg_index.specs.declared.catalog.Place.{Place}
-use Rattle.mg_index.specs.declared.catalog.Place.TheVariants.{At, Before}
+use Rattle.mg_index.specs.declared.catalog.Slot.{Slot}
+use Rattle.mg_index.specs.declared.catalog.Slot.TheVariants.{At, Before}
 
 -- the place of the definition of the same design document and name, or the place before which d is to be inserted
-abbrev pub IsPlaceOf : IndexDefinition → List IndexDefinition → Place → Type 0
-IsPlaceOf d ds (At n) = (n < length ds) × (with_definition d ds ≡ slice_set ds n d) × ((x : IndexDefinition) → definition_at d.ddoc d.name ds ≡ Some (slice_index_or ds n x))
-IsPlaceOf d ds (Before n) = (n ≤ length ds) × (with_definition d ds ≡ insert ds n d) × (definition_at d.ddoc d.name ds ≡ None)
+abbrev pub IsSlotOf : IndexDefinition → List IndexDefinition → Slot → Type 0
+IsSlotOf d ds (At n) = (n < length ds) × (with_definition d ds ≡ slice_set ds n d) × ((x : IndexDefinition) → definition_at d.ddoc d.name ds ≡ Some (slice_index_or ds n x))
+IsSlotOf d ds (Before n) = (n ≤ length ds) × (with_definition d ds ≡ insert ds n d) × (definition_at d.ddoc d.name ds ≡ None)
 
 -- the place, if there is one, is that of the definition of this design document and name
 abbrev pub IsPlaceAt : List ℕ → List ℕ → List IndexDefinition → Option ℕ → Type 0

@@ -1,6 +1,6 @@
 ghost use Rattle.std.specs.Prelude.{◌≡◌, ◌≢◌, List, [], ◌∷◌, IfOk, OnOk, OnErr, Ok, Some, true, option_map, is_some};
 ghost use Rattle.mg_index.specs.Catalog.{IsCatalog, definition_at, with_definition, without_definition};
-ghost use Rattle.mg_index.specs.Places.{IsPlaceAt, IsPlaceOf};
+ghost use Rattle.mg_index.specs.Places.{IsPlaceAt, IsSlotOf};
 ghost use Rattle.mg_index.specs.Same.{is_there};
 
 use crate::definition::IndexDef;
@@ -26,7 +26,7 @@ pub enum Added {
 
 // Where a definition goes.
 #[derive(Clone, Copy, Debug)]
-enum Place {
+enum Slot {
     At(usize),
     Before(usize),
 }
@@ -99,7 +99,7 @@ impl Catalog {
         ensures err { OnErr result (self.new ≡ self.old) }
     {
         match place_of(&self.definitions, &definition) {
-            Place::At(place) => {
+            Slot::At(place) => {
                 let added = if definition.is_same(&self.definitions[place]) {
                     Added::Exists
                 } else {
@@ -108,7 +108,7 @@ impl Catalog {
                 self.definitions[place] = definition;
                 Ok(added)
             }
-            Place::Before(place) => {
+            Slot::Before(place) => {
                 self.definitions.insert(place, definition)?;
                 Ok(Added::Created)
             }
@@ -162,18 +162,18 @@ fn place_at(definitions: &[IndexDef], ddoc: &str, name: &str) -> Option<usize>
 }
 
 // The place of a definition in a catalog, or the place where it is to be inserted.
-fn place_of(definitions: &[IndexDef], definition: &IndexDef) -> Place
+fn place_of(definitions: &[IndexDef], definition: &IndexDef) -> Slot
     requires { IsCatalog definitions.now }
-    ensures { IsPlaceOf definition.now definitions.now result }
+    ensures { IsSlotOf definition.now definitions.now result }
 {
     for (place, other) in definitions.iter().enumerate() {
         match definition.order(other) {
-            Ordering::Less => return Place::Before(place),
-            Ordering::Equal => return Place::At(place),
+            Ordering::Less => return Slot::Before(place),
+            Ordering::Equal => return Slot::At(place),
             Ordering::Greater => {}
         }
     }
-    Place::Before(definitions.len())
+    Slot::Before(definitions.len())
 }
 
 fn copied(alloc: Global, definitions: &[IndexDef]) -> Result<Vec<IndexDef>, NoMemory>

@@ -29,7 +29,7 @@ use Rattle.mg_live.specs.contracts.database.Waiting as Waiting
 use Rattle.mg_live.specs.contracts.desk.Desk as Desk
 use Rattle.mg_live.specs.contracts.desk.Desk.TheInside as desk
 use Rattle.mg_live.specs.contracts.tally.Tally.TheInside as tally
-use Rattle.mg_live.proofs.history.Front.TheSendSync as front
+use Rattle.mg_live.proofs.history.Prefix.TheSendSync as front
 use Rattle.mg_live.specs.contracts.markers.Ours as Ours
 use Rattle.mg_live.specs.contracts.markers.OursProtocolSnapshotUnit.TheImpl as protocol_of
 use Rattle.mg_live.specs.contracts.published.SnapshotAbsorbUnit.TheImpl as absorb_of

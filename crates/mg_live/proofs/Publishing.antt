@@ -19,7 +19,7 @@ use Rattle.mg_live.specs.Sitting.{IsLater, Sitting, Writes}
 use Rattle.mg_live.specs.Rules.{log_entry}
 use Rattle.mg_live.specs.View.{commit_seen, commits_seen}
 use Rattle.mg_live.specs.declared.markers.Entry.{Entry}
-use Rattle.mg_live.specs.declared.history.Front.{Front}
+use Rattle.mg_live.specs.declared.history.Prefix.{Prefix}
 use Rattle.mg_machine.specs.declared.point.Point.{Point}
 use Rattle.mg_live.specs.declared.snapshot.Snapshot.{Snapshot}
 use Rattle.mg_machine.proofs.Beginnings.{itself, two}
@@ -35,7 +35,7 @@ same_point name p q cs at engine commits = record {
 
 pub same_snapshot : {P : Type 0} {place : P → List ℕ → ℕ → ℕ} (book : Book) (name : List ℕ) (opened : ℕ) (s t : Snapshot P) → IsOf place book name opened s → t.front ≡ s.front → arc_value t.point.engine ≡ arc_value s.point.engine → t.point.commits ≡ s.point.commits → IsOf place book name opened t
 same_snapshot {place = place} book name opened s t is front engine commits =
-    let seen : commits_of t ≡ commits_of s = ap (λ (f : Front). commits_seen f.seen.log) front in record {
+    let seen : commits_of t ≡ commits_of s = ap (λ (f : Prefix). commits_seen f.seen.log) front in record {
       book = ap (λ f. f.seen.book) front ∙ is.book;
       after = subst (λ (cs : List Commit). IsAfter place name t.point cs) (sym seen) (same_point name s.point t.point (commits_of s) is.after engine commits);
       dealt = subst (λ (cs : List Commit). IsDealt opened t.point cs) (sym seen) (rw engine is.dealt);

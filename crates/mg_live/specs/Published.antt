@@ -6,7 +6,7 @@ use Rattle.mg_machine.specs.Laws.{IsPrefix}
 use Rattle.mg_machine.specs.Machine.{Commit, after_write, write_reply}
 use Rattle.mg_live.specs.View.{commits_seen}
 use Rattle.mg_live.specs.Sitting.{tally_after}
-use Rattle.mg_live.specs.declared.history.Front.{Front}
+use Rattle.mg_live.specs.declared.history.Prefix.{Prefix}
 
 -- the reply to a write after commits, and the commits after it if it is accepted
 abbrev pub Nexts : List ℕ → List Commit → Commit → Option Answer → Option (List Commit) → Type 0
@@ -21,7 +21,7 @@ pub record Standing : Type 0 where
   pub seen : List Commit
   pub tally : ℕ
 
-abbrev pub standing : List Commit → Front → ℕ → Standing
+abbrev pub standing : List Commit → Prefix → ℕ → Standing
 standing cs front tally = record { published = cs; seen = commits_seen front.seen.log; tally = tally }
 
 -- a write is answered after the published commits, of which its seat had seen a prefix. If it is accepted, it is published as the last

@@ -9,7 +9,7 @@ ghost use Rattle.mg_live.specs.Snapshots.{IsOf, IsPublished, commits_of};
 ghost use Rattle.mg_live.specs.View.{commits_seen};
 
 use crate::database::{Database, Ends};
-use crate::history::{Front, Head, Write};
+use crate::history::{Head, Prefix, Write};
 use crate::published::{Writes, publish};
 use crate::snapshot::Snapshot;
 use crate::tally::Tally;
@@ -91,7 +91,7 @@ where
         write: &Write<'_>,
         prepared: Prepared<'_>,
         tally: &mut Tally<D>,
-        front: &mut Front,
+        front: &mut Prefix,
     ) -> (Reply, Option<Snapshot<P>>)
         requires write { is_write (asked write.now.command.now) ≡ true }
         requires prepared { prepared ≡ asked write.now.command.now }
@@ -121,7 +121,7 @@ where
     }
 
     // Lets a seat catch up with what is published. Returns false, and changes nothing, if the seat is ahead of it.
-    pub(crate) fn tell(&self, front: &mut Front) -> bool
+    pub(crate) fn tell(&self, front: &mut Prefix) -> bool
         requires { front.old.seen.book ≡ D.history }
         ensures here { front.new.seen.book ≡ D.history }
         ensures told { MatchBool result ((commits_seen front.new.seen.log ≡ self.now) × IsPrefix (commits_seen front.old.seen.log) self.now) (front.new ≡ front.old) }
@@ -137,7 +137,7 @@ where
 
     // The number of commits, which is what all parts of the ledger count. A list that was seen, and is not longer than this number, is a
     // prefix of the published list.
-    pub(crate) fn settle(&mut self, all: &mut Share<D>, seen: &Front) -> u64
+    pub(crate) fn settle(&mut self, all: &mut Share<D>, seen: &Prefix) -> u64
         requires parts { all.old.parts ≡ D.parts }
         requires here { seen.now.seen.book ≡ D.history }
         requires within { length (commits_seen seen.now.seen.log) ≤ all.old.amount }

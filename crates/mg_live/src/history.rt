@@ -25,7 +25,7 @@ pub struct Head {
 
 /// A prefix of the commit log that was seen.
 #[derive(Drop)]
-pub struct Front {
+pub struct Prefix {
     count: u64,
     pub(crate) seen: Seen<Entry, u64, Law>,
     ghost counted: { count ≡ length seen.log },
@@ -33,12 +33,12 @@ pub struct Front {
 
 /// A new, empty commit log.
 #[derive(Drop)]
-pub struct History {
+pub struct CommitLog {
     pub(crate) head: Head,
-    pub(crate) front: Front,
+    pub(crate) front: Prefix,
 }
 
-impl Model for History {
+impl Model for CommitLog {
     ghost use Rattle.std.specs.Prelude.{◌≡◌, []};
     ghost use Rattle.logbook.specs.Pages.{Book};
 
@@ -51,28 +51,28 @@ impl Model for History {
     ghost invariant = { λ h. (h.head.word ≡ head_of h.front.seen.book) × (h.front.seen.log ≡ []) };
 }
 
-impl History {
+impl CommitLog {
     /// Makes an empty commit log, which belongs to no database yet.
-    pub fn new() -> History {
+    pub fn new() -> CommitLog {
         let (seen, mut first, _second) = Seen::open(Start::alone(), 0, 0);
         let word = Word::tracked(0, &mut first);
-        History {
+        CommitLog {
             head: Head { word },
-            front: Front { count: 0, seen },
+            front: Prefix { count: 0, seen },
         }
     }
 
     // The word of the log, and its empty prefix.
-    pub(crate) fn parts(self) -> (Head, Front)
+    pub(crate) fn parts(self) -> (Head, Prefix)
         ensures head { result.0.word ≡ head_of self }
         ensures front { (result.1.seen.book ≡ self) × (result.1.seen.log ≡ []) }
     {
-        let History { head, front } = self;
+        let CommitLog { head, front } = self;
         (head, front)
     }
 }
 
-impl Front {
+impl Prefix {
     /// The number of its commits.
     pub(crate) fn len(&self) -> u64
         ensures { result ≡ length self.now.seen.log }
@@ -81,17 +81,17 @@ impl Front {
     }
 
     /// A copy of this prefix.
-    pub(crate) fn again(&self) -> Front
+    pub(crate) fn again(&self) -> Prefix
         ensures { result ≡ self.now }
     {
-        Front {
+        Prefix {
             count: self.count,
             seen: self.seen.again(),
         }
     }
 
     /// Whether this prefix is not longer than the other. The shorter of two prefixes of one log is a prefix of the longer.
-    pub(crate) fn begins(&self, other: &Front) -> bool
+    pub(crate) fn begins(&self, other: &Prefix) -> bool
         requires { self.now.seen.book ≡ other.now.seen.book }
         ensures begins { MatchBool result
             (IsPrefix (commits_seen self.now.seen.log) (commits_seen other.now.seen.log))
@@ -107,7 +107,7 @@ impl Front {
 
     /// The longer of two prefixes of one log. Both are prefixes of it.
     #[tactic(auto, using(crate::proofs::Fronts::begins_itself))]
-    pub(crate) fn longer(self, other: &Front) -> Front
+    pub(crate) fn longer(self, other: &Prefix) -> Prefix
         requires { self.seen.book ≡ other.now.seen.book }
         ensures book { result.seen.book ≡ self.seen.book }
         ensures this { IsPrefix (commits_seen self.seen.log) (commits_seen result.seen.log) }
@@ -122,7 +122,7 @@ impl Front {
     }
 
     /// Adds a commit to the log right after this prefix. Returns the prefix with the commit, or `None` if the log is longer.
-    pub(crate) fn with(&self, head: &Head, write: &Write<'_>) -> Option<Front>
+    pub(crate) fn with(&self, head: &Head, write: &Write<'_>) -> Option<Prefix>
         requires head { head.now.word ≡ head_of self.now.seen.book }
         requires room { length self.now.seen.log ≢ 18446744073709551615 }
         ensures { IfSome result (λ f.
@@ -139,7 +139,7 @@ impl Front {
             .word
             .compare_exchange::<Add, Nothing>(count, count + 1, &mut seen, &mut offer, &mut pen);
         if found == count {
-            return Some(Front {
+            return Some(Prefix {
                 count: count + 1,
                 seen,
             });

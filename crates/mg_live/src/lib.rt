@@ -13,7 +13,7 @@ mod snapshot;
 mod tally;
 
 pub use database::{Database, Ends, Waiting};
-pub use history::History;
+pub use history::CommitLog;
 pub use live::{CloseError, Closed, Live};
 pub use mg_machine::{interleave, laws};
 pub use seat::{Seat, Seen};

@@ -8,7 +8,7 @@ ghost use Rattle.mg_live.specs.declared.live.CloseError.TheVariants.{Ahead, Miss
 
 use crate::database::{Database, Ends};
 use crate::desk::Desk;
-use crate::history::{Front, Head, History};
+use crate::history::{CommitLog, Head, Prefix};
 use crate::markers::Ours;
 use crate::published::Writes;
 use crate::seat::{Named, Seat, Shared};
@@ -32,7 +32,7 @@ where
     Snapshot<P>: Absorb<(), State = ()>,
 {
     shared: Arc<Shared<D, C, P>>,
-    first: Front,
+    first: Prefix,
     rest: Share<D>,
     seats: usize,
 }
@@ -81,7 +81,7 @@ where
 {
     shared: Shared<D, C, P>,
     factory: Factory<Snapshot<P>, (), Ours<D, P>>,
-    front: Front,
+    front: Prefix,
     all: Share<D>,
 }
 
@@ -99,7 +99,7 @@ fn begin<D: Database, C: Ends, P: Placement + Drop>(
     ends: C,
     alloc: Global,
     blank: Blank,
-    history: History,
+    history: CommitLog,
     db: &str,
     placement: P,
     shards: usize,
@@ -170,10 +170,10 @@ where
 
 // The longest of the lists that the seats have seen. All others are prefixes of it.
 fn longest<D: Database, C: Ends, P: Placement + Drop>(
-    first: &Front,
+    first: &Prefix,
     seats: &[Seat<D, C, P>],
     made: u128,
-) -> Front
+) -> Prefix
 where
     Snapshot<P>: Absorb<(), State = ()>,
     requires first { (first.now.seen.book ≡ D.history) × (first.now.seen.log ≡ []) }
@@ -220,7 +220,7 @@ where
         ends: C,
         alloc: Global,
         blank: Blank,
-        history: History,
+        history: CommitLog,
         db: &str,
         placement: P,
         shards: usize,

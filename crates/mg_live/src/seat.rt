@@ -8,7 +8,7 @@ ghost use Rattle.mg_live.specs.Sitting.{Answered, IsLater, Reads, Told, Writes};
 
 use crate::database::{Database, Ends};
 use crate::desk::Desk;
-use crate::history::{Front, Head, Write};
+use crate::history::{Head, Prefix, Write};
 use crate::published::{Reads, look};
 use crate::snapshot::Snapshot;
 use crate::tally::Tally;
@@ -48,7 +48,7 @@ where
 {
     pub(crate) number: usize,
     pub(crate) alloc: Global,
-    pub(crate) front: Front,
+    pub(crate) front: Prefix,
     pub(crate) tally: Tally<D>,
     pub(crate) reader: Option<Reads<D, P>>,
     pub(crate) shared: Arc<Shared<D, C, P>>,
@@ -75,7 +75,7 @@ where
 /// The commits that a seat has seen, for another seat to `learn`.
 #[derive(Drop)]
 pub struct Seen<D: Database> {
-    front: Front,
+    front: Prefix,
     of: PhantomData<D>,
 }
 

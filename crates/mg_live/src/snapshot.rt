@@ -10,7 +10,7 @@ ghost use Rattle.mg_shard.specs.Shard.{shards_seen};
 ghost use Rattle.mg_live.specs.Rules.{head_of};
 
 use crate::database::Database;
-use crate::history::{Front, Head, Write};
+use crate::history::{Head, Prefix, Write};
 use mg_engine::{Prepared, Reply};
 use mg_index::Catalog;
 use mg_machine::Point;
@@ -23,7 +23,7 @@ use std::thread::Threads;
 #[derive(Drop)]
 pub struct Snapshot<P = Md5Placement> {
     pub(crate) point: Point<P>,
-    pub(crate) front: Front,
+    pub(crate) front: Prefix,
 }
 
 impl<P: Placement + Drop> Snapshot<P> {

@@ -14,7 +14,7 @@ use Rattle.mg_index.specs.Choice.{is_usable}
 use Rattle.mg_index.specs.Definition.{Steps}
 use Rattle.mg_merge.specs.Merged.{joined, merged}
 use Rattle.mg_range.specs.Laws.{RangesAreComplete}
-use Rattle.mg_range.specs.Place.{has_key}
+use Rattle.mg_range.specs.RangeSide.{has_key}
 use Rattle.mg_range.specs.Range.{range_of}
 use Rattle.mg_shard.specs.Dealt.{Placing, ShardsStandFor}
 use Rattle.mg_shard.specs.Documents.{docs_of}

@@ -18,7 +18,7 @@ use Rattle.mg_index.specs.Definition.{Steps}
 use Rattle.mg_index.specs.Key.{key_of}
 use Rattle.mg_index.proofs.Paths.{paths_eq-Decides}
 use Rattle.mg_range.specs.Laws.{Has, HasKey, RangesAreComplete}
-use Rattle.mg_range.specs.Place.{has_key}
+use Rattle.mg_range.specs.RangeSide.{has_key}
 use Rattle.mg_range.specs.Range.{range_of}
 use Rattle.mg_range.proofs.Contained.{contained}
 use Rattle.mg_shard.specs.Histories.{ServedDocument, served_entry}

@@ -22,7 +22,7 @@ use Rattle.mg_merge.proofs.Rows.{by_rows, rows_of_merged}
 use Rattle.mg_normal.specs.Atoms.{atoms_of}
 use Rattle.mg_normal.specs.Normal.{IsNormalOf, NormalForm, normal_holds}
 use Rattle.mg_range.specs.Laws.{RangesAreComplete}
-use Rattle.mg_range.specs.Place.{has_key}
+use Rattle.mg_range.specs.RangeSide.{has_key}
 use Rattle.mg_range.specs.Range.{Range, range_of}
 use Rattle.mg_scan.specs.Decided.{IsDecidedIn}
 use Rattle.mg_scan.specs.Found.{asked, columns_of as columns_at, found_in}

@@ -89,9 +89,9 @@ query_made fields m selector bookmark direction = record {
   hint = m.hint;
   bookmark = bookmark;
   conflicts = m.conflicts;
-  told_selector = m.selector;
-  told_fields = told_fields_of fields;
-  told_bookmark = m.bookmark;
+  given_selector = m.selector;
+  given_fields = told_fields_of fields;
+  given_bookmark = m.bookmark;
 }
 
 abbrev read_in : Option Value → Shaped → Result Selector QueryError → Option (Option Place) → Option Direction → Result Query QueryError

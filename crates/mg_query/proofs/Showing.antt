@@ -98,12 +98,12 @@ pub bookmark_last : (s : Source) (q : Query) (hits : List Hit) (cs : List Candid
 bookmark_last s q hits cs h mark l e m =
     let last = lends_last (columns_of s) hits cs h l e in
     m ∙ ap (λ (r : RowValue). spelled (record { ddoc = ddoc_of s; name = name_of s; direction = q.direction; key = r.0; id = r.1 })) last.1.row
-    ∙ ap (λ (o : Option Candidate). option_map_or (bookmark_at s q) o q.told_bookmark) (sym last.2)
+    ∙ ap (λ (o : Option Candidate). option_map_or (bookmark_at s q) o q.given_bookmark) (sym last.2)
 
 -- of none
-pub bookmark_none : (s : Source) (q : Query) (hits : List Hit) (cs : List Candidate) (mark : List ℕ) → LendEach (columns_of s) hits cs → slice_get hits (length hits - 1) ≡ None → mark ≡ q.told_bookmark → mark ≡ bookmark_after s q cs
+pub bookmark_none : (s : Source) (q : Query) (hits : List Hit) (cs : List Candidate) (mark : List ℕ) → LendEach (columns_of s) hits cs → slice_get hits (length hits - 1) ≡ None → mark ≡ q.given_bookmark → mark ≡ bookmark_after s q cs
 bookmark_none s q hits cs mark l e m =
-    m ∙ ap (λ (o : Option Candidate). option_map_or (bookmark_at s q) o q.told_bookmark) (sym (lends_none (columns_of s) hits cs l e))
+    m ∙ ap (λ (o : Option Candidate). option_map_or (bookmark_at s q) o q.given_bookmark) (sym (lends_none (columns_of s) hits cs l e))
 
 -- ---- the page
 

@@ -17,9 +17,9 @@ listed_source (defined d) = listed_of d
 -- `{"dbname":..,"fields":..,"index":..,"limit":..,"range":..,"selector":..,"skip":..}`, of an index and a range as they are told
 abbrev pub told_of : List ℕ → Query → Value → Value → Value
 told_of db q index range =
-    object (member (codes "dbname") (text db) (member (codes "fields") q.told_fields (member (codes "index") index
+    object (member (codes "dbname") (text db) (member (codes "fields") q.given_fields (member (codes "index") index
     (member (codes "limit") (whole (pos q.limit)) (member (codes "range") range
-    (member (codes "selector") q.told_selector (member (codes "skip") (whole (pos q.skip)) no_members)))))))
+    (member (codes "selector") q.given_selector (member (codes "skip") (whole (pos q.skip)) no_members)))))))
 
 -- the explanation of a query that this index serves
 abbrev pub explained : List ℕ → Query → Source → Value

@@ -16,7 +16,7 @@ use Rattle.mg_query.specs.declared.error.QueryError.TheVariants.{BadBookmark}
 
 -- the query with its page beginning after a place, or with the first document, by this text as its bookmark
 abbrev pub asked_after : Query → Option Place → List ℕ → Query
-asked_after q place t = record q { bookmark = place; told_bookmark = t }
+asked_after q place t = record q { bookmark = place; given_bookmark = t }
 
 -- the body is the other one with this text as its bookmark
 pub record HasBookmark (t : List ℕ) (v other : Value) : Type 0 where

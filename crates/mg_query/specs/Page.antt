@@ -114,7 +114,7 @@ last (x ∷ y ∷ ys) = last (y ∷ ys)
 
 -- the bookmark of the last document, and the one that came in where there is none
 abbrev pub bookmark_after : Source → Query → List Candidate → List ℕ
-bookmark_after s q cs = option_map_or (bookmark_at s q) (last cs) q.told_bookmark
+bookmark_after s q cs = option_map_or (bookmark_at s q) (last cs) q.given_bookmark
 
 -- a page: its documents and its bookmark
 pub record Page : Type 0 where

@@ -34,9 +34,9 @@ pub record Query : Type 0 where
   pub hint : Hint
   pub bookmark : Option Place
   pub conflicts : Bool
-  pub told_selector : Value
-  pub told_fields : Value
-  pub told_bookmark : List ℕ
+  pub given_selector : Value
+  pub given_fields : Value
+  pub given_bookmark : List ℕ
 
 -- ---- faults
 
@@ -199,9 +199,9 @@ query_with fields m =
       hint = m.hint;
       bookmark = bookmark;
       conflicts = m.conflicts;
-      told_selector = m.selector;
-      told_fields = told_fields_of fields;
-      told_bookmark = m.bookmark;
+      given_selector = m.selector;
+      given_fields = told_fields_of fields;
+      given_bookmark = m.bookmark;
     }))))
 
 -- the query that a body is, or its first fault

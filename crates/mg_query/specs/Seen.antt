@@ -28,9 +28,9 @@ query_seen q = record {
   hint = hint_of q.hint;
   bookmark = option_map bookmark_place q.bookmark;
   conflicts = q.conflicts;
-  told_selector = view q.told_selector.now;
-  told_fields = told_fields_of (lent q.told_fields);
-  told_bookmark = q.told_bookmark.now;
+  given_selector = view q.given_selector.now;
+  given_fields = told_fields_of (lent q.given_fields);
+  given_bookmark = q.given_bookmark.now;
 }
 
 -- the result is the fault, or anything if an allocation fails

@@ -169,7 +169,7 @@ fn last_bookmark(
 {
     match hits.last() {
         Some(hit) => bookmark_at(alloc, source, query.sort.direction, hit),
-        None => Ok(String::from_str(alloc, query.told_bookmark)?),
+        None => Ok(String::from_str(alloc, query.given_bookmark)?),
     }
 }
 

@@ -49,9 +49,9 @@ fn told(
     ensures { IfOk result
         (λ v. view v ≡ told_of db.now (query_seen query.now) (view index) (view range)) }
 {
-    let fields = told_fields(alloc, query.told_fields)?;
+    let fields = given_fields(alloc, query.given_fields)?;
     let db = Json::Text(String::from_str(alloc, db)?);
-    let selector = query.told_selector.copy(alloc)?;
+    let selector = query.given_selector.copy(alloc)?;
     let mut told = Json::empty_object(alloc);
     told.insert(alloc, "skip", Json::Whole(i64::from(query.skip)))?;
     told.insert(alloc, "selector", selector)?;
@@ -64,7 +64,7 @@ fn told(
 }
 
 // The fields as they were given, `all_fields` where they are absent or empty.
-fn told_fields(alloc: Global, fields: Option<&Json>) -> Result<Json, NoMemory>
+fn given_fields(alloc: Global, fields: Option<&Json>) -> Result<Json, NoMemory>
     ensures { IfOk result (λ v. view v ≡ told_fields_of (lent fields.entry)) }
 {
     match fields {

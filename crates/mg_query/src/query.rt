@@ -37,11 +37,11 @@ pub struct Query<'a> {
     /// Whether documents are shown with their conflicts.
     pub conflicts: bool,
     /// The selector as it was given.
-    pub told_selector: &'a Json,
+    pub given_selector: &'a Json,
     /// The fields as they were given.
-    pub told_fields: Option<&'a Json>,
+    pub given_fields: Option<&'a Json>,
     /// The bookmark's text as it was given, `nil` where none was.
-    pub told_bookmark: &'a str,
+    pub given_bookmark: &'a str,
 }
 
 impl<'a> Query<'a> {
@@ -91,9 +91,9 @@ fn query_in(alloc: Global, body: &Json) -> Result<Query<'_>, QueryError>
 fn query_with<'a>(
     alloc: Global,
     members: Members<'a>,
-    told_fields: Option<&'a Json>,
+    given_fields: Option<&'a Json>,
 ) -> Result<Query<'a>, QueryError>
-    ensures { Gives query_seen result (query_given (lent told_fields.entry) (given_seen members.entry)) }
+    ensures { Gives query_seen result (query_given (lent given_fields.entry) (given_seen members.entry)) }
 {
     let fields = read_paths(alloc, members.fields)?;
     let paths = read_sort_paths(alloc, members.sort)?;
@@ -111,9 +111,9 @@ fn query_with<'a>(
         hint,
         bookmark,
         conflicts: members.conflicts,
-        told_selector: members.selector,
-        told_fields,
-        told_bookmark: members.bookmark,
+        given_selector: members.selector,
+        given_fields,
+        given_bookmark: members.bookmark,
     })
 }
 

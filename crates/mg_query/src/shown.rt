@@ -10,7 +10,7 @@ ghost use Rattle.mg_query.specs.Served.{source_seen};
 
 use crate::query::Query;
 use crate::source::Source;
-use mg_bookmark::{RowKey, RowPlace};
+use mg_bookmark::{BookmarkParts, RowKey};
 use mg_collate::Direction;
 use mg_doc::with_conflicts;
 use mg_packed::Part;
@@ -83,7 +83,7 @@ pub(crate) fn bookmark_of(
       id = id.now;
     })) }
 {
-    let place = RowPlace {
+    let place = BookmarkParts {
         ddoc: source.ddoc(),
         name: source.name(),
         direction,

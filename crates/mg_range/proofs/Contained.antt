@@ -13,9 +13,9 @@ use Rattle.mg_index.specs.Definition.{Steps}
 use Rattle.mg_index.specs.declared.bound.Comparison.{Comparison}
 use Rattle.mg_index.specs.declared.bound.Comparison.TheVariants.{Below, AtMost, Exactly, AtLeast, Above}
 use Rattle.mg_range.proofs.Limits.{and_false, and_true, above, is_within_some, meets_tightest}
-use Rattle.mg_range.specs.Place.{admits, is_within, is_before, is_past, place_from, is_place_within, has_key}
+use Rattle.mg_range.specs.RangeSide.{admits, is_within, is_before, is_past, place_from, is_place_within, has_key}
 use Rattle.mg_range.specs.Range.{Limit, Range, span_of, is_crossed, between, with_equal, range_from, range_of, in_range, tightest}
-use Rattle.mg_range.specs.declared.place.Place.TheVariants.{Before, Within, Past}
+use Rattle.mg_range.specs.declared.place.RangeSide.TheVariants.{Before, Within, Past}
 
 same_tests : (s t : Bool) → (s ≡ true → t ≡ true) → (t ≡ true → s ≡ true) → s ≡ t
 same_tests true t f g = sym (f refl)

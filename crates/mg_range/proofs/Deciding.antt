@@ -15,7 +15,7 @@ use Rattle.mg_range.proofs.Contained.{contained}
 use Rattle.mg_range.proofs.Limits.{and_true, four}
 use Rattle.mg_range.specs.Decided.{decides_of, is_decided}
 use Rattle.mg_range.specs.Laws.{HasKey, RangeDecides, RangeDecidesAtoms, RangeDecidesForm}
-use Rattle.mg_range.specs.Place.{has_key}
+use Rattle.mg_range.specs.RangeSide.{has_key}
 use Rattle.mg_range.specs.Range.{in_range, range_of}
 
 -- ---- tests of each element

@@ -4,9 +4,9 @@ use Rattle.std.specs.Ordering.{is_gt, is_lt}
 use Rattle.mg_collate.specs.Row.{RowValue}
 use Rattle.mg_range.proofs.Ends.{before_low, past_apart, past_high}
 use Rattle.mg_range.specs.InRows.{BothEnds, HasEnds, ends_at, ends_of, place_at}
-use Rattle.mg_range.specs.Place.{is_before, is_past, is_place_before, is_place_past, place_of}
+use Rattle.mg_range.specs.RangeSide.{is_before, is_past, is_place_before, is_place_past, place_of}
 use Rattle.mg_range.specs.Range.{Range, Span}
-use Rattle.mg_range.specs.declared.place.Place.TheVariants.{Before, Within, Past}
+use Rattle.mg_range.specs.declared.place.RangeSide.TheVariants.{Before, Within, Past}
 use Rattle.mg_range.specs.declared.row_range.Ends.{Ends}
 use Rattle.mg_rows.specs.Bound.{bound_order}
 use Rattle.mg_value.specs.Value.{item_list}

@@ -14,9 +14,9 @@ use Rattle.mg_collate.specs.declared.direction.Direction.TheVariants.{Asc, Desc}
 use Rattle.mg_collate.proofs.Flat.{items_order-item, items_order-above}
 use Rattle.mg_collate.proofs.Ties.{value_order_total}
 use Rattle.mg_range.proofs.Limits.{order_from_total}
-use Rattle.mg_range.specs.Place.{admits, is_within, is_before, is_past, place_of, place_rank}
+use Rattle.mg_range.specs.RangeSide.{admits, is_within, is_before, is_past, place_of, place_rank}
 use Rattle.mg_range.specs.Range.{Limit, Range, order_from}
-use Rattle.mg_range.specs.declared.place.Place.TheVariants.{Before, Within, Past}
+use Rattle.mg_range.specs.declared.place.RangeSide.TheVariants.{Before, Within, Past}
 
 not_gt : (o : Ordering) → is_le o ≡ true → is_gt o ≡ false
 not_gt Less h = refl

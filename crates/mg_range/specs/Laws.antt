@@ -16,7 +16,7 @@ use Rattle.mg_index.specs.Choice.{is_usable, id_path, rev_path}
 use Rattle.mg_index.specs.Definition.{Steps}
 use Rattle.mg_index.specs.Key.{key_of}
 use Rattle.mg_range.specs.Decided.{decides_of, undecided}
-use Rattle.mg_range.specs.Place.{has_key, place_of, place_rank}
+use Rattle.mg_range.specs.RangeSide.{has_key, place_of, place_rank}
 use Rattle.mg_range.specs.Range.{Range, in_range, range_of}
 
 -- the document has the part at the path

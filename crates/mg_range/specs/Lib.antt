@@ -1,5 +1,5 @@
 pub mod Range
-pub mod Place
+pub mod RangeSide
 pub mod Enter
 pub mod Ends
 pub mod Decided

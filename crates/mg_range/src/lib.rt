@@ -12,6 +12,6 @@ mod span;
 mod text;
 
 pub use decided::{decides, is_decided};
-pub use place::Place;
+pub use place::RangeSide;
 pub use range::KeyRange;
 pub use row_range::RowRange;

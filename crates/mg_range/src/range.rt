@@ -2,12 +2,12 @@ ghost use Rattle.std.specs.Prelude.{◌≡◌, ℕ, List, [], ◌∷◌, IfOk, i
 ghost use Rattle.mg_value.specs.Value.{Value, text as string};
 ghost use Rattle.mg_value.specs.View.{view as json_view};
 ghost use Rattle.mg_range.specs.Listed.{range_value};
-ghost use Rattle.mg_range.specs.Place.{has_key, place_of};
+ghost use Rattle.mg_range.specs.RangeSide.{has_key, place_of};
 ghost use Rattle.mg_range.specs.Enter.{limit_entered};
 ghost use Rattle.mg_range.specs.Range.{in_range, limit_at, range_of};
 
 use crate::listed::{empty_json, span_json};
-use crate::place::Place;
+use crate::place::RangeSide;
 use crate::span::{Span, place_in, span_of};
 use crate::text;
 use mg_collate::Direction;
@@ -63,9 +63,9 @@ impl KeyRange {
         ensures { result ≡ has_key self.now (map json_view key.now) }
     {
         match self.place(key) {
-            Place::Before => false,
-            Place::Within => true,
-            Place::Past => false,
+            RangeSide::Before => false,
+            RangeSide::Within => true,
+            RangeSide::Past => false,
         }
     }
 
@@ -73,23 +73,23 @@ impl KeyRange {
     ///
     /// Among rows in order, all before the range come first, then all in it, then all past it. So a binary
     /// search finds the ends of the range.
-    pub fn place(&self, key: &[Json]) -> Place
+    pub fn place(&self, key: &[Json]) -> RangeSide
         ensures { result ≡ place_of self.now (map json_view key.now) }
     {
         match &self.span {
             Some(span) => place_in(span, key),
-            None => Place::Past,
+            None => RangeSide::Past,
         }
     }
 
     /// Does what `place` does, for the key that is this one text. Takes no memory. Cost: at most one pass over
     /// the text for each limit.
-    pub fn place_of_text(&self, text: &str) -> Place
+    pub fn place_of_text(&self, text: &str) -> RangeSide
         ensures { result ≡ place_of self.now (string text.now ∷ []) }
     {
         match &self.span {
             Some(span) => text::place_in(span, text),
-            None => Place::Past,
+            None => RangeSide::Past,
         }
     }
 

@@ -7,10 +7,10 @@ ghost use Rattle.mg_rows.specs.Bound.{bound_order};
 ghost use Rattle.mg_rows.specs.Laws.{joined_items};
 ghost use Rattle.mg_range.specs.Ends.{end_values, high_edge as high_side, low_edge as low_side};
 ghost use Rattle.mg_range.specs.InRows.{ends_at, ends_of as both_ends, place_at};
-ghost use Rattle.mg_range.specs.Place.{is_early as stands_early, is_late as stands_late, is_place_before, is_place_past, place_of};
+ghost use Rattle.mg_range.specs.RangeSide.{is_early as stands_early, is_late as stands_late, is_place_before, is_place_past, place_of};
 ghost use Rattle.mg_range.specs.View.{limit_seen, span_seen};
 
-use crate::place::Place;
+use crate::place::RangeSide;
 use crate::range::KeyRange;
 use crate::span::{Limit, Span};
 use mg_collate::Direction;
@@ -69,12 +69,12 @@ impl<'a> RowRange<'a> {
 
     /// Whether the key of the row is before, within or past the range. Takes no memory. Cost: one comparison of bytes for a row
     /// before the range, else two.
-    pub fn place(&self, row: &RowBytes) -> Place
+    pub fn place(&self, row: &RowBytes) -> RangeSide
         ensures { result ≡ place_of self.now (item_list row.now.0) }
     {
         match &self.ends {
             Some(ends) => place_between(ends, row),
-            None => Place::Past,
+            None => RangeSide::Past,
         }
     }
 
@@ -134,15 +134,15 @@ fn is_past(ends: &Ends, row: &RowBytes) -> bool
 }
 
 // Whether the row is before, between or past the ends.
-fn place_between(ends: &Ends, row: &RowBytes) -> Place
+fn place_between(ends: &Ends, row: &RowBytes) -> RangeSide
     ensures { result ≡ place_at ends.now row.now }
 {
     if is_before(ends, row) {
-        Place::Before
+        RangeSide::Before
     } else if is_past(ends, row) {
-        Place::Past
+        RangeSide::Past
     } else {
-        Place::Within
+        RangeSide::Within
     }
 }
 

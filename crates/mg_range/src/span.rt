@@ -5,11 +5,11 @@ ghost use Rattle.mg_normal.specs.View.{atoms_view};
 ghost use Rattle.mg_collate.specs.declared.direction.Direction.TheVariants.{Asc, Desc};
 ghost use Rattle.mg_range.specs.Edge.{edge_seen};
 ghost use Rattle.mg_range.specs.Range.{range_of, between, are_crossed as cross, is_crossed as is_cross};
-ghost use Rattle.mg_range.specs.Place.{place_from, is_before as stands_before, is_past as stands_past, is_within as stands_within};
+ghost use Rattle.mg_range.specs.RangeSide.{place_from, is_before as stands_before, is_past as stands_past, is_within as stands_within};
 ghost use Rattle.mg_range.specs.View.{limit_seen, span_seen, with_equals};
 
 use crate::edge::{Edge, fixed_value, meets_all, tightest};
-use crate::place::Place;
+use crate::place::RangeSide;
 use mg_collate::{Direction, compare};
 use mg_normal::Atom;
 use mg_path::Path;
@@ -113,34 +113,38 @@ fn kept(alloc: Global, edge: Option<Edge<'_>>) -> Result<Option<Limit>, NoMemory
 }
 
 // Whether the key is before, within or past the span.
-pub(crate) fn place_in(span: &Span, key: &[Json]) -> Place
+pub(crate) fn place_in(span: &Span, key: &[Json]) -> RangeSide
     ensures { result ≡ place_from (map view span.now.equal.items) (option_map limit_seen span.now.lower)
         (option_map limit_seen span.now.upper) (map view key.now) }
 {
     for (place, fixed) in span.equal.iter().enumerate() {
         let Some(value) = key.get(place) else {
-            return Place::Before;
+            return RangeSide::Before;
         };
         match compare(value, fixed) {
-            Ordering::Less => return Place::Before,
+            Ordering::Less => return RangeSide::Before,
             Ordering::Equal => {}
-            Ordering::Greater => return Place::Past,
+            Ordering::Greater => return RangeSide::Past,
         }
     }
     place_at_limits(&span.lower, &span.upper, &key[span.equal.len()..])
 }
 
 // Whether the rest of a key is before, within or past the limits.
-pub(crate) fn place_at_limits(lower: &Option<Limit>, upper: &Option<Limit>, rest: &[Json]) -> Place
+pub(crate) fn place_at_limits(
+    lower: &Option<Limit>,
+    upper: &Option<Limit>,
+    rest: &[Json],
+) -> RangeSide
     ensures { result ≡ place_from [] (option_map limit_seen lower.now) (option_map limit_seen upper.now)
         (map view rest.now) }
 {
     if is_before(lower, rest) {
-        Place::Before
+        RangeSide::Before
     } else if is_past(upper, rest) {
-        Place::Past
+        RangeSide::Past
     } else {
-        Place::Within
+        RangeSide::Within
     }
 }
 

@@ -2,17 +2,17 @@
 ghost use Rattle.std.specs.Prelude.{◌≡◌, [], ◌∷◌, map, option_map};
 ghost use Rattle.mg_value.specs.Value.{text as string};
 ghost use Rattle.mg_value.specs.View.{view};
-ghost use Rattle.mg_range.specs.Place.{place_from, is_before as stands_before, is_past as stands_past, is_within as stands_within};
+ghost use Rattle.mg_range.specs.RangeSide.{place_from, is_before as stands_before, is_past as stands_past, is_within as stands_within};
 ghost use Rattle.mg_range.specs.View.{limit_seen};
 
-use crate::place::Place;
+use crate::place::RangeSide;
 use crate::span::{Limit, Span, place_at_limits};
 use mg_collate::{Direction, compare_text};
 use mg_value::Json;
 use std::cmp::Ordering;
 
 // Whether the key of one text is before, within or past the span.
-pub(crate) fn place_in(span: &Span, text: &str) -> Place
+pub(crate) fn place_in(span: &Span, text: &str) -> RangeSide
     ensures { result ≡ place_from (map view span.now.equal.items) (option_map limit_seen span.now.lower)
         (option_map limit_seen span.now.upper) (string text.now ∷ []) }
 {
@@ -20,34 +20,34 @@ pub(crate) fn place_in(span: &Span, text: &str) -> Place
         return place_of_text(&span.lower, &span.upper, text);
     };
     match compare_text(text, fixed) {
-        Ordering::Less => Place::Before,
+        Ordering::Less => RangeSide::Before,
         Ordering::Equal => place_of_ended(others, &span.lower, &span.upper),
-        Ordering::Greater => Place::Past,
+        Ordering::Greater => RangeSide::Past,
     }
 }
 
 // Whether a key that has no more values is before, within or past the fixed values that are left and the limits.
-fn place_of_ended(equal: &[Json], lower: &Option<Limit>, upper: &Option<Limit>) -> Place
+fn place_of_ended(equal: &[Json], lower: &Option<Limit>, upper: &Option<Limit>) -> RangeSide
     ensures { result ≡ place_from (map view equal.now) (option_map limit_seen lower.now)
         (option_map limit_seen upper.now) [] }
 {
     match equal.split_first() {
-        Some(_) => Place::Before,
+        Some(_) => RangeSide::Before,
         None => place_at_limits(lower, upper, &[]),
     }
 }
 
 // Whether the key of one text is before, within or past the limits.
-fn place_of_text(lower: &Option<Limit>, upper: &Option<Limit>, text: &str) -> Place
+fn place_of_text(lower: &Option<Limit>, upper: &Option<Limit>, text: &str) -> RangeSide
     ensures { result ≡ place_from [] (option_map limit_seen lower.now) (option_map limit_seen upper.now)
         (string text.now ∷ []) }
 {
     if is_before(lower, text) {
-        Place::Before
+        RangeSide::Before
     } else if is_past(upper, text) {
-        Place::Past
+        RangeSide::Past
     } else {
-        Place::Within
+        RangeSide::Within
     }
 }
 

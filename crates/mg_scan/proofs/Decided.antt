@@ -9,7 +9,7 @@ use Rattle.mg_collate.specs.declared.direction.Direction.{Direction}
 use Rattle.mg_index.specs.Definition.{Steps}
 use Rattle.mg_normal.specs.Normal.{NormalForm, normal_holds}
 use Rattle.mg_range.specs.Decided.{decides_of}
-use Rattle.mg_range.specs.Place.{has_key}
+use Rattle.mg_range.specs.RangeSide.{has_key}
 use Rattle.mg_range.specs.Range.{Range, range_of}
 use Rattle.mg_range.proofs.Deciding.{decides_rows}
 use Rattle.mg_scan.specs.Decided.{IsDecidedIn, everything}

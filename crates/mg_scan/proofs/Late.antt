@@ -4,13 +4,13 @@ use Rattle.mg_collate.specs.Row.{RowValue}
 use Rattle.mg_collate.specs.declared.direction.Direction.{Direction}
 use Rattle.mg_collate.specs.declared.direction.Direction.TheVariants.{Asc, Desc}
 use Rattle.mg_range.specs.Range.{Range}
-use Rattle.mg_range.specs.declared.place.Place.{Place}
-use Rattle.mg_range.specs.declared.place.Place.TheVariants.{Before, Within, Past}
+use Rattle.mg_range.specs.declared.place.RangeSide.{RangeSide}
+use Rattle.mg_range.specs.declared.place.RangeSide.TheVariants.{Before, Within, Past}
 use Rattle.mg_scan.specs.Begins.{Follows, NotAfter, follows, place_row}
-use Rattle.mg_range.specs.Place.{is_late}
+use Rattle.mg_range.specs.RangeSide.{is_late}
 use Rattle.mg_scan.specs.Walked.{is_late_row}
 
-late_place : (direction : Direction) (p q : Place) → Follows direction p q → is_late direction p ≡ true → is_late direction q ≡ true
+late_place : (direction : Direction) (p q : RangeSide) → Follows direction p q → is_late direction p ≡ true → is_late direction q ≡ true
 late_place Asc Past Past h e = refl
 late_place Asc Past Before h e = absurd (omega (arith, h))
 late_place Asc Past Within h e = absurd (omega (arith, h))

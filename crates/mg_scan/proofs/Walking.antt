@@ -14,10 +14,10 @@ use Rattle.mg_collate.proofs.Directed.{directed_total, sorted_descending}
 use Rattle.mg_collate.proofs.Sorting.{NoneBelow, Rises, rises_sorted}
 use Rattle.mg_index.specs.Definition.{Steps}
 use Rattle.mg_normal.specs.Normal.{NormalForm, normal_holds}
-use Rattle.mg_range.specs.Place.{is_early, is_late, is_place_within}
+use Rattle.mg_range.specs.RangeSide.{is_early, is_late, is_place_within}
 use Rattle.mg_range.specs.Range.{Range}
-use Rattle.mg_range.specs.declared.place.Place.{Place}
-use Rattle.mg_range.specs.declared.place.Place.TheVariants.{Before, Within, Past}
+use Rattle.mg_range.specs.declared.place.RangeSide.{RangeSide}
+use Rattle.mg_range.specs.declared.place.RangeSide.TheVariants.{Before, Within, Past}
 use Rattle.mg_scan.specs.Scan.{Request, all_scanned, comes_after, is_wanted, scanned}
 use Rattle.mg_scan.specs.Walked.{begin_order, holds_at, is_beyond, is_late_row, walked, walked_all}
 use Rattle.mg_scan.specs.Begins.{place_row, reached}
@@ -137,7 +137,7 @@ walked_all_is late holds (r ∷ rows) h = all_step late holds r rows (late r) (h
 
 -- ---- which rows are wanted
 
-chosen : (direction : Direction) (place : Place) (b h : Bool) → ((not (is_early direction place) && b) && (not (is_late direction place) && h)) ≡ (h && (is_place_within place && b))
+chosen : (direction : Direction) (place : RangeSide) (b h : Bool) → ((not (is_early direction place) && b) && (not (is_late direction place) && h)) ≡ (h && (is_place_within place && b))
 chosen Asc Before b true = refl
 chosen Asc Before b false = refl
 chosen Asc Within true true = refl

@@ -4,7 +4,7 @@ use Rattle.std.specs.FinMap.{entries}
 use Rattle.std.specs.Option.{option_map_or}
 use Rattle.mg_collate.specs.Row.{RowValue, row_value_order}
 use Rattle.mg_collate.specs.declared.direction.Direction.{Direction}
-use Rattle.mg_range.specs.Place.{place_of}
+use Rattle.mg_range.specs.RangeSide.{place_of}
 use Rattle.mg_range.specs.Range.{Range}
 use Rattle.mg_scan.specs.Walked.{begin_order, id_row}
 use Rattle.mg_scan.specs.declared.target.Target.{Target}

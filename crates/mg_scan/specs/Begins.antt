@@ -15,10 +15,10 @@ use Rattle.mg_collate.proofs.Directed.{directed_total}
 use Rattle.mg_collate.proofs.Flat.{items_order-item, text_order, then_equal}
 use Rattle.mg_pages.specs.Identified.{id_order}
 use Rattle.mg_pages.specs.Order.{IsProbe}
-use Rattle.mg_range.specs.Place.{is_early, place_of, place_rank}
+use Rattle.mg_range.specs.RangeSide.{is_early, place_of, place_rank}
 use Rattle.mg_range.specs.Range.{Range}
-use Rattle.mg_range.specs.declared.place.Place.{Place}
-use Rattle.mg_range.specs.declared.place.Place.TheVariants.{Before, Within, Past}
+use Rattle.mg_range.specs.declared.place.RangeSide.{RangeSide}
+use Rattle.mg_range.specs.declared.place.RangeSide.TheVariants.{Before, Within, Past}
 use Rattle.mg_range.proofs.Together.{rows_together}
 use Rattle.mg_scan.specs.Search.{after_of, begin_at}
 use Rattle.mg_scan.specs.Walked.{begin_order, id_row, is_beyond, reaches}
@@ -45,7 +45,7 @@ not_gt-le Equal e = refl
 not_gt-le Greater e = absurd cc
 
 -- where the key of a row stands
-abbrev pub place_row : Range → RowValue → Place
+abbrev pub place_row : Range → RowValue → RangeSide
 place_row range r = place_of range (item_list r.0)
 
 -- the places of rows that are in order are in order
@@ -54,7 +54,7 @@ places_rise range x y e =
     rows_together range (item_list x.0) (item_list y.0) x.1 y.1 (ap₂ (λ a b. is_le (row_value_order a b)) (same_row x) (same_row y) ∙ not_gt-le (row_value_order x y) e)
 
 -- the second place does not come before the first in a direction
-abbrev pub Follows : Direction → Place → Place → Type 0
+abbrev pub Follows : Direction → RangeSide → RangeSide → Type 0
 Follows Asc p q = place_rank p ≤ place_rank q
 Follows Desc p q = place_rank q ≤ place_rank p
 
@@ -63,7 +63,7 @@ pub follows : (direction : Direction) (range : Range) (x y : RowValue) → NotAf
 follows Asc range x y e = places_rise range x y e
 follows Desc range x y e = places_rise range y x (ap is_gt (row_value_order_total.antisymm y x) ∙ e)
 
-early_place : (direction : Direction) (p q : Place) → Follows direction p q → is_early direction q ≡ true → is_early direction p ≡ true
+early_place : (direction : Direction) (p q : RangeSide) → Follows direction p q → is_early direction q ≡ true → is_early direction p ≡ true
 early_place Asc Before q h e = refl
 early_place Asc Within Before h e = absurd (omega (arith, h))
 early_place Asc Past Before h e = absurd (omega (arith, h))

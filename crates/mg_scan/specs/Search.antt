@@ -5,7 +5,7 @@ use Rattle.std.specs.List.{filter_map}
 use Rattle.std.specs.declared.cmp.Ordering.{Ordering}
 use Rattle.mg_collate.specs.Row.{RowValue, row_value_order}
 use Rattle.mg_index.specs.Definition.{Steps}
-use Rattle.mg_range.specs.Place.{place_of}
+use Rattle.mg_range.specs.RangeSide.{place_of}
 use Rattle.mg_scan.specs.Found.{all_found_in, asked, found_in}
 use Rattle.mg_scan.specs.Scan.{Request}
 use Rattle.mg_scan.specs.Walked.{begin_order, holds_at, is_late_row, walked, walked_all}

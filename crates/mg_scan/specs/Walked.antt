@@ -8,9 +8,9 @@ use Rattle.mg_collate.specs.Direction.{directed}
 use Rattle.mg_collate.specs.declared.direction.Direction.{Direction}
 use Rattle.mg_collate.specs.Row.{RowValue}
 use Rattle.mg_normal.specs.Normal.{NormalForm, normal_holds}
-use Rattle.mg_range.specs.Place.{is_early, is_late, place_of}
+use Rattle.mg_range.specs.RangeSide.{is_early, is_late, place_of}
 use Rattle.mg_range.specs.Range.{Range}
-use Rattle.mg_range.specs.declared.place.Place.{Place}
+use Rattle.mg_range.specs.declared.place.RangeSide.{RangeSide}
 use Rattle.mg_shard.specs.Documents.{KeptDocuments, form_at}
 use Rattle.mg_value.specs.Value.{item, item_list, no_items, text}
 
@@ -19,11 +19,11 @@ abbrev pub is_beyond : Direction → Option Ordering → Bool
 is_beyond direction order = option_map_or (λ o. is_gt (directed direction o)) order true
 
 -- what stands so to a range, and to the row after which a search begins, is among what the search looks at, or comes later
-abbrev pub reaches : Direction → Place → Option Ordering → Bool
+abbrev pub reaches : Direction → RangeSide → Option Ordering → Bool
 reaches direction place order = not (is_early direction place) && is_beyond direction order
 
 -- where a search begins, against something that stands so
-abbrev pub begin_order : Direction → Place → Option Ordering → Ordering
+abbrev pub begin_order : Direction → RangeSide → Option Ordering → Ordering
 begin_order direction place order = directed direction (if reaches direction place order then Less else Greater)
 
 -- the row comes after the range in a direction

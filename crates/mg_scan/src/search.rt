@@ -3,14 +3,14 @@ ghost use Rattle.std.specs.Prelude.{◌≡◌, option_map, IfOk, if◌then◌els
 ghost use Rattle.std.specs.declared.cmp.Ordering.TheVariants.{Less, Greater};
 ghost use Rattle.mg_collate.specs.Direction.{directed};
 ghost use Rattle.mg_collate.specs.Row.{row_value_order, row_view};
-ghost use Rattle.mg_range.specs.Place.{is_early as stands_early, is_late as stands_late};
+ghost use Rattle.mg_range.specs.RangeSide.{is_early as stands_early, is_late as stands_late};
 ghost use Rattle.mg_scan.specs.Search.{begin_at};
 ghost use Rattle.mg_scan.specs.Walked.{id_row, is_beyond as stands_beyond, is_late_row};
 
 use crate::target::Target;
 use mg_collate::{Direction, Row};
 use mg_normal::Normal;
-use mg_range::{Place, RowRange};
+use mg_range::{RangeSide, RowRange};
 use mg_rows::RowBytes;
 use mg_value::NoMemory;
 use std::alloc::Global;
@@ -38,23 +38,23 @@ pub(crate) fn bytes_of(alloc: Global, after: Option<&Row>) -> Result<Option<RowB
 }
 
 // Whether a key of this place comes before the range in the direction.
-fn is_early(direction: Direction, place: Place) -> bool
+fn is_early(direction: Direction, place: RangeSide) -> bool
     ensures { result ≡ stands_early direction place }
 {
     match (direction, place) {
-        (Direction::Asc, Place::Before) => true,
-        (Direction::Desc, Place::Past) => true,
+        (Direction::Asc, RangeSide::Before) => true,
+        (Direction::Desc, RangeSide::Past) => true,
         _ => false,
     }
 }
 
 // Whether a key of this place comes after the range in the direction.
-fn is_late(direction: Direction, place: Place) -> bool
+fn is_late(direction: Direction, place: RangeSide) -> bool
     ensures { result ≡ stands_late direction place }
 {
     match (direction, place) {
-        (Direction::Asc, Place::Past) => true,
-        (Direction::Desc, Place::Before) => true,
+        (Direction::Asc, RangeSide::Past) => true,
+        (Direction::Desc, RangeSide::Before) => true,
         _ => false,
     }
 }

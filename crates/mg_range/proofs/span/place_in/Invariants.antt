@@ -1,6 +1,6 @@
 use Rattle.std.proofs.Common.{◌≡◌, ◌≤◌, drop, length, map, option_map}
 use Rattle.mg_value.specs.View.{view}
-use Rattle.mg_range.specs.Place.{place_from}
+use Rattle.mg_range.specs.RangeSide.{place_from}
 use Rattle.mg_range.specs.View.{limit_seen}
 use Rattle.mg_range.proofs.span.place_in.Given as goal
 

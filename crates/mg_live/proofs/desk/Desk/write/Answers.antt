@@ -5,7 +5,7 @@ use Rattle.mg_machine.specs.Machine.{Commit}
 use Rattle.mg_live.specs.Published.{Nexts, standing}
 use Rattle.mg_live.specs.View.{commits_seen}
 use Rattle.mg_live.specs.Snapshots.{IsOf, commits_of}
-use Rattle.mg_live.specs.declared.history.Front.{Front}
+use Rattle.mg_live.specs.declared.history.Prefix.{Prefix}
 use Rattle.mg_live.proofs.Publishing.{added, published}
 use Rattle.mg_live.proofs.desk.Desk.write.Goals as goal
 
@@ -33,5 +33,5 @@ returns-clause-publishes g c =
     let is : commits_of c.in-Some.next ≡ shown = ap commits_of (sym c.publish-before.ensures) in
     let later : IsPrefix (commits_seen c.args.front.now.seen.log) c.args.self.now = rw now at c.if-not-begins.ensures.begins in
     let adds : Nexts db c.args.self.now write reply (Some shown) = rw (now, is) at next in
-    let seen : commits_seen c.again-2.result.seen.log ≡ shown = ap (λ (f : Front). commits_seen f.seen.log) c.again-2.ensures ∙ is in
+    let seen : commits_seen c.again-2.result.seen.log ≡ shown = ap (λ (f : Prefix). commits_seen f.seen.log) c.again-2.ensures ∙ is in
     published db write (standing c.args.self.now c.args.front.now c.args.tally.now) (standing shown c.again-2.result c.add.new.self) reply later adds seen c.add.ensures.tally

@@ -1,12 +1,12 @@
 use Rattle.std.proofs.Common.{◌≡◌, [], ap, ◌∙◌, arith, add-one, refl}
-use Rattle.mg_live.specs.declared.history.Front.{Front}
+use Rattle.mg_live.specs.declared.history.Prefix.{Prefix}
 use Rattle.mg_live.proofs.live.Live.open.Goals as goal
 
 pub loop-number-preserved : goal.loop-number-preserved
 loop-number-preserved g c =
     let l = c.loop-number in
     let tally = c.new-in-loop-number.ensures in
-    let front : c.again.result.seen.log ≡ [] = ap (λ (f : Front). f.seen.log) c.again.ensures ∙ c.in_ok-shared.ensures.front.1 in
+    let front : c.again.result.seen.log ≡ [] = ap (λ (f : Prefix). f.seen.log) c.again.ensures ∙ c.in_ok-shared.ensures.front.1 in
     record {
       parts = omega (arith, tally.rest.0, l.invariant.parts);
       amount = tally.rest.1 ∙ l.invariant.amount;

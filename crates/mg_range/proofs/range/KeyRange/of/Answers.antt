@@ -3,7 +3,7 @@ use Rattle.mg_normal.specs.View.{atoms_view}
 use Rattle.mg_range.proofs.Contained.{contained}
 use Rattle.mg_range.proofs.Ends.{range_uncrossed}
 use Rattle.mg_range.specs.Ends.{IsUncrossed}
-use Rattle.mg_range.specs.Place.{has_key}
+use Rattle.mg_range.specs.RangeSide.{has_key}
 use Rattle.mg_range.specs.Range.{Range, range_of}
 use Rattle.mg_range.proofs.range.KeyRange.of.Goals as goal
 

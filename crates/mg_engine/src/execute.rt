@@ -20,7 +20,7 @@ use std::thread::Threads;
 impl State {
     /// Executes a command. Returns the reply, and the next state if the command is a write and was accepted. Where memory is refused, there
     /// is no next state. A query passes the gate.
-    pub(crate) fn take<P: Placement, R: Threads + Sync, G: Gate + Sync>(
+    pub(crate) fn execute<P: Placement, R: Threads + Sync, G: Gate + Sync>(
         &self,
         rt: &R,
         alloc: Global,
@@ -48,8 +48,8 @@ impl State {
         }
     }
 
-    /// Executes a prepared command as `take` does, without a gate.
-    pub(crate) fn take_prepared<P: Placement, R: Threads + Sync>(
+    /// Executes a prepared command as `execute` does, without a gate.
+    pub(crate) fn execute_prepared<P: Placement, R: Threads + Sync>(
         &self,
         rt: &R,
         alloc: Global,
@@ -66,7 +66,7 @@ impl State {
         let Prepared { command, bulk } = prepared;
         match bulk {
             Some(read) => settled(self.apply(alloc, placement, read)),
-            None => self.take(rt, alloc, placement, command, workers, &NoGate),
+            None => self.execute(rt, alloc, placement, command, workers, &NoGate),
         }
     }
 }

@@ -7,7 +7,7 @@ use Rattle.mg_http.specs.declared.routes.Route as rust
 use Rattle.mg_http.specs.RouteViews.{route_of}
 use Rattle.mg_http.specs.Walk.{ends_here}
 use Rattle.mg_http.proofs.ListLemmas.{any_map}
-use Rattle.mg_http.proofs.place.Place.is_end.Goals as goal
+use Rattle.mg_http.proofs.place.RouteMatch.is_end.Goals as goal
 
 pub returns : goal.returns
 returns c =

@@ -7,8 +7,8 @@ use Rattle.mg_collate.specs.Order.{value_order}
 use Rattle.mg_collate.specs.declared.direction.Direction.{Direction}
 use Rattle.mg_collate.specs.declared.direction.Direction.TheVariants.{Asc, Desc}
 use Rattle.mg_range.specs.Range.{Limit, Range, order_from}
-use Rattle.mg_range.specs.declared.place.Place.{Place}
-use Rattle.mg_range.specs.declared.place.Place.TheVariants.{Before, Within, Past}
+use Rattle.mg_range.specs.declared.place.RangeSide.{RangeSide}
+use Rattle.mg_range.specs.declared.place.RangeSide.TheVariants.{Before, Within, Past}
 
 -- a value with this order to a limit, which is inclusive or not, is within the limit
 abbrev pub admits : Bool → Ordering → Bool
@@ -37,16 +37,16 @@ is_past [] (Some u) [] = false
 is_past [] None key = false
 
 -- whether a key is before, within or past the span of these fixed values and limits
-abbrev pub place_from : List Value → Option Limit → Option Limit → List Value → Place
+abbrev pub place_from : List Value → Option Limit → Option Limit → List Value → RangeSide
 place_from equal lower upper key = if is_before equal lower key then Before else if is_past equal upper key then Past else Within
 
 -- whether a key is before, within or past a range; all keys are past an empty range
-abbrev pub place_of : Range → List Value → Place
+abbrev pub place_of : Range → List Value → RangeSide
 place_of None key = Past
 place_of (Some s) key = place_from s.equal s.lower s.upper key
 
 -- the place is within
-abbrev pub is_place_within : Place → Bool
+abbrev pub is_place_within : RangeSide → Bool
 is_place_within Within = true
 is_place_within place = false
 
@@ -55,27 +55,27 @@ abbrev pub has_key : Range → List Value → Bool
 has_key range key = is_place_within (place_of range key)
 
 -- the place is before
-abbrev pub is_place_before : Place → Bool
+abbrev pub is_place_before : RangeSide → Bool
 is_place_before Before = true
 is_place_before place = false
 
 -- the place is past
-abbrev pub is_place_past : Place → Bool
+abbrev pub is_place_past : RangeSide → Bool
 is_place_past Past = true
 is_place_past place = false
 
 -- a key of this place comes before the range in a direction
-abbrev pub is_early : Direction → Place → Bool
+abbrev pub is_early : Direction → RangeSide → Bool
 is_early Asc place = is_place_before place
 is_early Desc place = is_place_past place
 
 -- a key of this place comes after the range in a direction
-abbrev pub is_late : Direction → Place → Bool
+abbrev pub is_late : Direction → RangeSide → Bool
 is_late Asc place = is_place_past place
 is_late Desc place = is_place_before place
 
 -- the places in their order
-abbrev pub place_rank : Place → ℕ
+abbrev pub place_rank : RangeSide → ℕ
 place_rank Before = 0
 place_rank Within = 1
 place_rank Past = 2

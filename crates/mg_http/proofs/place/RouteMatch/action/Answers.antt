@@ -9,8 +9,8 @@ use Rattle.mg_http.specs.RouteViews.{route_of}
 use Rattle.mg_http.specs.Routes.{Route}
 use Rattle.mg_http.specs.Walk.{ends_with}
 use Rattle.mg_http.proofs.ListLemmas.{find_map}
-use Rattle.mg_http.proofs.place.Place.action.Goals.{After-find}
-use Rattle.mg_http.proofs.place.Place.action.Goals as goal
+use Rattle.mg_http.proofs.place.RouteMatch.action.Goals.{After-find}
+use Rattle.mg_http.proofs.place.RouteMatch.action.Goals as goal
 
 pub returns-in_err-route : goal.returns-in_err-route
 returns-in_err-route c =

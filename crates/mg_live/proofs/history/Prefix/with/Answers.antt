@@ -1,7 +1,7 @@
 use Rattle.std.proofs.Common.{sym, ◌∙◌, ap}
 use Rattle.mg_live.specs.Rules.{log_entry}
 use Rattle.mg_live.proofs.Adding.{adds_moves}
-use Rattle.mg_live.proofs.history.Front.with.Goals as goal
+use Rattle.mg_live.proofs.history.Prefix.with.Goals as goal
 
 pub compare_exchange-found-requires : goal.compare_exchange-found-requires
 compare_exchange-found-requires c =

@@ -3,7 +3,7 @@ use Rattle.std.proofs.lemmas.Grind.{common_steps}
 use Rattle.std.specs.Cow.{cow_slice_items}
 use Rattle.mg_http.specs.RouteViews.{route_of}
 use Rattle.mg_http.proofs.RouteLemmas.{the_table}
-use Rattle.mg_http.proofs.place.Place.stands_second.Goals as goal
+use Rattle.mg_http.proofs.place.RouteMatch.stands_second.Goals as goal
 
 pub returns : goal.returns
 returns c =
