@@ -16,7 +16,7 @@ use crate::arguments::{sessions, settings};
 use crate::ends::{NO_MEMORY, WRONG_WORDS};
 use crate::program::run;
 use mg_http::Device;
-use mg_live::History;
+use mg_live::CommitLog;
 use std::env;
 use std::io::ErrorKind;
 use std::marker::Brand;
@@ -32,7 +32,7 @@ fn main(rt: HostRuntime) -> ExitCode {
                     rt,
                     asked,
                     Blank::new(sessions(asked) as u64),
-                    History::new(),
+                    CommitLog::new(),
                     &mut Device::new(rt.stdin()),
                     &mut Device::new(rt.stdout()),
                 )

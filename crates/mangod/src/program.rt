@@ -15,7 +15,7 @@ use crate::lobby::Lobby;
 use crate::seats::serve;
 use mg_engine::Engine;
 use mg_http::{Device, Solo};
-use mg_live::{Database, History, Live, Waiting};
+use mg_live::{CommitLog, Database, Live, Waiting};
 use mg_shard::Md5Placement;
 use mg_value::NoMemory;
 use std::io::{Eprint, ErrorKind, Read, Write};
@@ -46,7 +46,7 @@ pub(crate) fn run<
     rt: H,
     asked: Option<Settings<'_>>,
     blank: Blank,
-    history: History,
+    history: CommitLog,
     reader: &mut Device<R>,
     writer: &mut Device<W>,
 ) -> Exit
@@ -104,7 +104,7 @@ fn listen<
         + Clock
         + Eprint
         + Net<Listener = TcpListener, Stream = TcpStream>,
->(rt: H, settings: Settings<'_>, blank: Blank, history: History) -> Exit
+>(rt: H, settings: Settings<'_>, blank: Blank, history: CommitLog) -> Exit
     requires name { settings.db.now ≡ D.db }
     requires opened { settings.shards ≡ D.shards }
     requires history { history ≡ D.history }

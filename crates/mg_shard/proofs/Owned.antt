@@ -54,10 +54,10 @@ some_is : {X : Type 0} (x y : X) → Some x ≡ Some y → x ≡ y
 some_is x y e = cc
 
 -- so is what is made of it
-pub own_made : (id : List ℕ) (o : Option Json) (form : Json) (made : Served) → IfSome o (λ f. (l : Leaf) × (view f ≡ served_form id l)) → o ≡ Some form → made.form ≡ view form → IsServedOwn id (Some made)
+pub own_made : (id : List ℕ) (o : Option Value) (form : Value) (made : Served) → IfSome o (λ f. (l : Leaf) × (f ≡ served_form id l)) → o ≡ Some form → made.form ≡ form → IsServedOwn id (Some made)
 own_made id None form made h is same = absurd cc
 own_made id (Some f) form made h is same =
-    λ s e. subst (λ (x : Served). HasOwnId id x.form) (some_is made s e) (own_leaf id h.0 made.form (same ∙ ap view (sym (some_is f form is)) ∙ h.1))
+    λ s e. subst (λ (x : Served). HasOwnId id x.form) (some_is made s e) (own_leaf id h.0 made.form (same ∙ sym (some_is f form is) ∙ h.1))
 
 pub none_made : (id : List ℕ) → IsServedOwn id None
 none_made id = λ s is. absurd cc

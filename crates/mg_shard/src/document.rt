@@ -6,7 +6,7 @@ ghost use Rattle.mg_doc.specs.Served.{served_of};
 ghost use Rattle.mg_shard.specs.Own.{IsServedOwn, IsServedOwn-prop};
 
 use crate::served::Served;
-use mg_doc::served;
+use mg_doc::served_packed;
 use mg_packed::{Packed, Part};
 use mg_pages::Identified;
 use mg_revtree::RevTree;
@@ -37,8 +37,8 @@ fn served_in(alloc: Global, id: &str, tree: &RevTree) -> Result<Option<Served>, 
     ensures own { IfOk result (λ served. IsServedOwn id.now served) }
     ensures served { IfOk result (λ served. (h : History) → StandsFor tree.now h → option_map (λ s. s.form) served ≡ served_of id.now h) }
 {
-    match served(alloc, id, tree)? {
-        Some(form) => Ok(Some(Served::of(alloc, &form)?)),
+    match served_packed(alloc, id, tree)? {
+        Some(form) => Ok(Some(Served::of(alloc, form)?)),
         None => Ok(None),
     }
 }

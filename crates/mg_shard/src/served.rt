@@ -1,10 +1,9 @@
 //! The form in which a document is served, with its text.
 ghost use Rattle.std.specs.Prelude.{◌≡◌, IfOk};
-ghost use Rattle.mg_value.specs.View.{view};
 ghost use Rattle.mg_value.specs.Text.{compact};
 
 use mg_packed::Packed;
-use mg_value::{Json, NoMemory, write};
+use mg_value::NoMemory;
 use std::alloc::Global;
 
 /// The form in which a document is served, in one block, and its compact text.
@@ -16,15 +15,14 @@ pub(crate) struct Served {
 }
 
 impl Served {
-    /// A form with its text, both in blocks that are exactly as long as they are.
+    /// A form with its text, in a block of exactly the size that it needs.
     ///
-    /// Errors: `NoMemory` if an allocation fails, or where the form takes more than 4,294,967,295 bytes. Cost: the length of the text.
-    pub(crate) fn of(alloc: Global, form: &Json) -> Result<Served, NoMemory>
-        ensures { IfOk result (λ s. s.form ≡ view form.now) }
+    /// Errors: `NoMemory` if an allocation fails. Cost: the length of the text.
+    pub(crate) fn of(alloc: Global, form: Packed) -> Result<Served, NoMemory>
+        ensures { IfOk result (λ s. s.form ≡ form) }
     {
-        let packed = Packed::of(alloc, form)?;
-        let written = write(alloc, form)?;
+        let written = form.part().text(alloc)?;
         let text = Vec::from_slice(alloc, &written)?;
-        Ok(Served { form: packed, text })
+        Ok(Served { form, text })
     }
 }

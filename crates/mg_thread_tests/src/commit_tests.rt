@@ -3,7 +3,7 @@ ghost use Rattle.std.specs.Prelude.{◌≡◌, string_bytes};
 
 use crate::given::{check, string};
 use mg_engine::Reply;
-use mg_live::{CloseError, Database, Ends, History, Live, Seat, Waiting};
+use mg_live::{CloseError, CommitLog, Database, Ends, Live, Seat, Waiting};
 use mg_shard::Md5Placement;
 use mg_value::{Json, read};
 use std::alloc::Global;
@@ -34,7 +34,7 @@ fn hundred<D: Database + Send + Sync, R: Threads + Wait + Abort + Sync + Send + 
     rt: R,
     alloc: Global,
     blank: Blank,
-    history: History,
+    history: CommitLog,
     db: String,
 )
     requires name { string_bytes db ≡ D.db }
@@ -68,7 +68,7 @@ fn hundred<D: Database + Send + Sync, R: Threads + Wait + Abort + Sync + Send + 
 fn four_seats_make_a_hundred_commits(rt: HostRuntime) {
     let alloc = rt.alloc();
     let db = string(&rt, alloc, "db");
-    hundred::<Brand, _>(rt, alloc, Blank::new(4), History::new(), db)
+    hundred::<Brand, _>(rt, alloc, Blank::new(4), CommitLog::new(), db)
 }
 
 #[derive(Clone, Copy, Drop)]
@@ -297,7 +297,7 @@ fn two<D: Database + Send + Sync, R: Threads + Wait + Abort + Sync + Send + Drop
     rt: R,
     alloc: Global,
     blank: Blank,
-    history: History,
+    history: CommitLog,
     db: String,
     calls: &[Call],
     commits: u64,
@@ -337,12 +337,12 @@ fn two<D: Database + Send + Sync, R: Threads + Wait + Abort + Sync + Send + Drop
 fn two_seats_tell_each_other_and_close(rt: HostRuntime) {
     let alloc = rt.alloc();
     let db = string(&rt, alloc, "db");
-    two::<Brand, _>(rt, alloc, Blank::new(2), History::new(), db, &[], 4)
+    two::<Brand, _>(rt, alloc, Blank::new(2), CommitLog::new(), db, &[], 4)
 }
 
 #[test]
 fn a_reshard_is_one_commit_and_changes_no_page(rt: HostRuntime) {
     let alloc = rt.alloc();
     let db = string(&rt, alloc, "db");
-    two::<Brand, _>(rt, alloc, Blank::new(2), History::new(), db, RESHARDED, 6)
+    two::<Brand, _>(rt, alloc, Blank::new(2), CommitLog::new(), db, RESHARDED, 6)
 }

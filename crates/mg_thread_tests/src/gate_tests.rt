@@ -2,7 +2,7 @@
 ghost use Rattle.std.specs.Prelude.{◌≡◌, string_bytes};
 
 use crate::given::string;
-use mg_live::{Database, Ends, History, Live, Seat, Waiting};
+use mg_live::{CommitLog, Database, Ends, Live, Seat, Waiting};
 use mg_scan::{Gate, Place};
 use mg_shard::Md5Placement;
 use mg_value::read;
@@ -165,7 +165,7 @@ fn act<D: Database, C: Ends, R: Wait + Threads + Sync>(
 fn write_during_query<
     D: Database + Send + Sync,
     R: Threads + Wait + Abort + Sync + Send + Drop + Copy,
->(rt: R, alloc: Global, blank: Blank, history: History, db: String, during: During)
+>(rt: R, alloc: Global, blank: Blank, history: CommitLog, db: String, during: During)
     requires name { string_bytes db ≡ D.db }
     requires history { history ≡ D.history }
     requires ledger { (blank.name ≡ D.name) × (blank.parts ≡ D.parts) }
@@ -200,7 +200,7 @@ fn write_during_query<
 fn a_bulk_is_answered_during_a_query(rt: HostRuntime) {
     let alloc = rt.alloc();
     let db = string(&rt, alloc, "db");
-    write_during_query::<Brand, _>(rt, alloc, Blank::new(2), History::new(), db, During::Bulk)
+    write_during_query::<Brand, _>(rt, alloc, Blank::new(2), CommitLog::new(), db, During::Bulk)
 }
 
 // A reshard is answered while a query is held at its snapshot. The query's reply is the same as without the reshard.
@@ -212,7 +212,7 @@ fn a_reshard_is_answered_during_a_query(rt: HostRuntime) {
         rt,
         alloc,
         Blank::new(2),
-        History::new(),
+        CommitLog::new(),
         db,
         During::Reshard,
     )

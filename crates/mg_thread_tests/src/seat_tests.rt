@@ -4,7 +4,7 @@ ghost use Rattle.std.specs.Prelude.{◌≡◌, string_bytes};
 use crate::engine_tests::{DOCUMENTS, IDS, PAGE};
 use crate::given::{json, string};
 use crate::scan_tests::BothBegin;
-use mg_live::{Database, Ends, History, Live, Seat, Waiting};
+use mg_live::{CommitLog, Database, Ends, Live, Seat, Waiting};
 use mg_shard::Placement;
 use std::alloc::Global;
 use std::marker::Brand;
@@ -50,7 +50,7 @@ fn begun<D: Database + Send + Sync, R: Threads + Wait + Abort + Sync + Send + Dr
     rt: R,
     alloc: Global,
     blank: Blank,
-    history: History,
+    history: CommitLog,
     db: String,
 )
     requires name { string_bytes db ≡ D.db }
@@ -85,5 +85,5 @@ fn begun<D: Database + Send + Sync, R: Threads + Wait + Abort + Sync + Send + Dr
 fn two_shards_begun_by_a_seat(rt: HostRuntime) {
     let alloc = rt.alloc();
     let db = string(&rt, alloc, "db");
-    begun::<Brand, _>(rt, alloc, Blank::new(1), History::new(), db)
+    begun::<Brand, _>(rt, alloc, Blank::new(1), CommitLog::new(), db)
 }
