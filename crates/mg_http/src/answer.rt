@@ -16,7 +16,7 @@ use crate::routes::Endpoint;
 use crate::service::Service;
 use crate::target::Target;
 use mg_engine::{Command, Refusal, Reply};
-use mg_value::{Json, ReadError};
+use mg_value::{Json, ReadBuffer, ReadError, read_in};
 use std::alloc::Global;
 use std::io::Write;
 use std::sync::Wait;
@@ -44,6 +44,7 @@ fn answer_body<H: Wait + Threads + Sync, S: Service, W: Write>(
     service: &mut S,
     writer: &mut Device<W>,
     page: &mut Vec<u8>,
+    buffer: &mut ReadBuffer,
     silent: bool,
     endpoint: Endpoint,
     body: &[u8],
@@ -54,7 +55,7 @@ fn answer_body<H: Wait + Threads + Sync, S: Service, W: Write>(
         × Writes (W.contents (inner_of writer.old)) (W.contents (inner_of writer.new)) (reply_text silent reply) result }
     ensures failed { has_failed writer.new ≡ (if is_ok result then has_failed writer.old else true) }
 {
-    match mg_value::read(alloc, body) {
+    match read_in(alloc, body, buffer) {
         Ok(value) => {
             let reply = service.ask(rt, alloc, &command_of(endpoint, value));
             write_reply(writer, page, silent, &reply)
@@ -74,6 +75,7 @@ pub(crate) fn answer<H: Wait + Threads + Sync, S: Service, W: Write>(
     service: &mut S,
     writer: &mut Device<W>,
     page: &mut Vec<u8>,
+    buffer: &mut ReadBuffer,
     silent: bool,
     target: &Target,
     body: &[u8],
@@ -86,7 +88,9 @@ pub(crate) fn answer<H: Wait + Threads + Sync, S: Service, W: Write>(
 {
     match target {
         Target::Body(endpoint) => {
-            answer_body(rt, alloc, service, writer, page, silent, *endpoint, body)
+            answer_body(
+                rt, alloc, service, writer, page, buffer, silent, *endpoint, body,
+            )
         }
         Target::Asks(command) => {
             let reply = service.ask(rt, alloc, command);

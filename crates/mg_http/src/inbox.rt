@@ -7,6 +7,7 @@ use crate::device::{Device, Fault};
 use crate::message::{Pending, read_front};
 use crate::table::Table;
 use httparse::spans::{EMPTY_HEADER_SPAN, HeaderSpan};
+use mg_value::ReadBuffer;
 use std::alloc::{AllocError, Global};
 use std::io::Read;
 
@@ -30,6 +31,8 @@ pub(crate) struct Inbox {
     pub(crate) piece: Vec<u8>,
     /// Room for one write.
     pub(crate) page: Vec<u8>,
+    /// Memory for reading a body.
+    pub(crate) buffer: ReadBuffer,
     /// The number of messages answered.
     pub(crate) requests: u32,
     /// The number of calls of the reader.
@@ -78,6 +81,7 @@ impl Inbox {
             spans: vec![in alloc; EMPTY_HEADER_SPAN; SPANS]?,
             piece: vec![in alloc; 0; PIECE]?,
             page: Vec::new(alloc),
+            buffer: ReadBuffer::new(alloc),
             requests: 0,
             reads: 0,
         })

@@ -126,6 +126,7 @@ fn message<H: Wait + Threads + Sync, S: Service, R: Read, W: Write>(
         service,
         writer,
         &mut inbox.page,
+        &mut inbox.buffer,
         framed.silent,
         &framed.target,
         body,

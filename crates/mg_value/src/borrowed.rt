@@ -16,12 +16,41 @@ use std::collections::BTreeMap;
 // How deep arrays and objects may nest: the limit of `serde_json`.
 const MAX_DEPTH: usize = 127;
 
+// The longest text, in bytes, for whose strings a buffer keeps room.
+const LONGEST_KEPT: usize = 65_536;
+
+/// Memory that reading needs besides the value, lent to one text after another: a table of 16 KiB, which is
+/// cleared once, and room for the strings of the longest text of at most 64 KiB.
+#[derive(Drop)]
+pub struct ReadBuffer {
+    scratch: Scratch,
+}
+
+impl ReadBuffer {
+    /// A new buffer, without room for strings. Takes no memory.
+    pub fn new(alloc: Global) -> ReadBuffer {
+        ReadBuffer {
+            scratch: Scratch::new(alloc),
+        }
+    }
+}
+
 // The value of the text; `None` where it is not JSON, any of its numbers is not an `i64`, or memory ran out.
-pub(crate) fn read_whole(alloc: Global, text: &str) -> Option<Json>
+pub(crate) fn read_whole(alloc: Global, text: &str, buffer: &mut ReadBuffer) -> Option<Json>
     ensures { IfSome result (λ v. Reads text.now (view v)) }
 {
-    let mut scratch = Scratch::new(alloc);
-    let Ok(mut reader) = Reader::new(text, &mut scratch) else {
+    if text.len() > LONGEST_KEPT {
+        let mut scratch = Scratch::new(alloc);
+        return whole_in(alloc, text, &mut scratch);
+    }
+    whole_in(alloc, text, &mut buffer.scratch)
+}
+
+// The same value, read with this scratch.
+fn whole_in(alloc: Global, text: &str, scratch: &mut Scratch) -> Option<Json>
+    ensures { IfSome result (λ v. Reads text.now (view v)) }
+{
+    let Ok(mut reader) = Reader::new(text, scratch) else {
         return None;
     };
     let Ok(tree) = Tree::read(alloc, &mut reader, MAX_DEPTH) else {

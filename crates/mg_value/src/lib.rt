@@ -10,10 +10,11 @@ mod reader;
 mod value;
 mod writer;
 
+pub use borrowed::ReadBuffer;
 pub use copy::{copy_items, copy_texts};
 pub use error::{NoMemory, ReadError};
 pub use kind::Kind;
 pub use lent::{LentValue, lend_part};
-pub use reader::read;
+pub use reader::{read, read_in};
 pub use value::Json;
 pub use writer::write;

@@ -8,7 +8,7 @@ use Rattle.mg_value.specs.Borrowed.{IsWhole}
 use Rattle.mg_value.specs.Text.{Reads}
 use Rattle.mg_value.specs.View.{view}
 use Rattle.mg_value.specs.declared.value.Json.{Json}
-use Rattle.mg_value.proofs.borrowed.read_whole.Goals as goal
+use Rattle.mg_value.proofs.borrowed.whole_in.Goals as goal
 
 weaker : (P Q : Json → Type 0) (o : Option Json) → ((v : Json) → P v → Q v) → IfSome o P → IfSome o Q
 weaker P Q None step h = tt
