@@ -15,6 +15,6 @@ mod path;
 pub use change::Change;
 pub use conflicts::with_conflicts;
 pub use digest::rev_id;
-pub use document::served;
+pub use document::{served, served_packed};
 pub use edit::Edit;
 pub use error::{DocError, EditError, Refused};
