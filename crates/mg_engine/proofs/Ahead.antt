@@ -1,4 +1,4 @@
--- What was read of a bulk determines what it answers and leaves.
+-- What was read of a bulk determines its answer and the world that it leaves.
 use Rattle.std.proofs.Common.{◌≡◌, ℕ, Option, Some, None, Result, Ok, Err, IfOk, IfSome, length, unwrap_or, refl, sym, ap, ◌∙◌}
 use Rattle.mg_value.specs.Value.{Value}
 use Rattle.mg_engine.specs.Bulk.{Bulk, BulkEdits, bulk_of, edits_of, edits_or_refusal, edits_read}
@@ -31,7 +31,7 @@ all_read v b es is read =
 
 -- ---- a bulk that was read, on a state
 
--- it leaves as many shards
+-- the number of shards stays the same
 keeps_number : (read : ReadBulk) (c : Asked) → Determines read c → (n : ℕ) → shards_after n c ≡ n
 keeps_number (Edits new_edits edits) c d n = d.shards n
 keeps_number (Refused r) c d n = d.shards n
@@ -40,7 +40,7 @@ if_some : {X : Type 0} {Y : Type 0} (o : Option X) → Y → IfSome o (λ _. Y)
 if_some None y = tt
 if_some (Some x) y = y
 
--- what was made of it answers the command that it determines
+-- the reply and the state made from what was read are right for each command that it determines
 pub answers : {E : Type 0} (place : Placing) (s : Shown) (read : ReadBulk) (c : Asked) (made : Result (Reply × Option Shown) E) (w : World)
     → IfOk made (λ r. (c : Asked) → Determines read c → (w : World) → Holds place s w → (said r.0 ≡ Some (reply_of w c)) × Holds place (unwrap_or r.1 s) (next w c))
     → Determines read c → Holds place s w → Answers w c (said (settled_of made).0) (Holds place (unwrap_or (settled_of made).1 s))

@@ -1,4 +1,4 @@
--- A whole number of the code.
+-- What a whole number of the code stands for.
 use Rattle.std.proofs.Common.{◌≡◌, ℤ, rules}
 use Rattle.mg_value.specs.Value as value
 use Rattle.mg_value.specs.View.{view}

@@ -1,4 +1,4 @@
--- The edits of a bulk take the counter's numbers from the front: the first edit, and then the others, from the number that was given last.
+-- Numbering the edits of a bulk from the front: first one edit, then the others, from the number that was given last.
 use Rattle.std.proofs.Common.{◌≡◌, ℕ, suc, ◌+◌, cond, List, [], ◌∷◌, Option, Some, None, is_none, is_some, filter, length, map, take, if◌then◌else◌, refl, ap, ap₂, ◌∙◌, arith}
 use Rattle.std.specs.List.{enumerate_from}
 use Rattle.mg_doc.specs.Document.{Edit}
@@ -12,7 +12,7 @@ counter_by : (n : ℕ) (e : Edit) (es : List Edit) (id : Option (List ℕ)) → 
 counter_by n e es None = refl
 counter_by n e es (Some id) = refl
 
--- the counter after an edit and others
+-- the counter after one edit in front of others
 pub counter_cons : (n : ℕ) (e : Edit) (es : List Edit) → counter_after n (e ∷ es) ≡ counter_after (last_after n e) es
 counter_cons n e es = counter_by n e (filter (λ (f : Edit). is_none f.id) es) e.id
 
@@ -21,14 +21,14 @@ first_by : (n : ℕ) (e : Edit) (id : Option (List ℕ))
 first_by n e None = refl
 first_by n e (Some id) = refl
 
--- what is made of each edit by its place, where the places begin one later
+-- a map over edits with positions, where the positions begin one later
 later_places : (f g : ℕ × Edit → Edit) → ((i : ℕ) (e : Edit) → f (suc i, e) ≡ g (i, e)) → (m : ℕ) (es : List Edit) → map f (enumerate_from (suc m) es) ≡ map g (enumerate_from m es)
 later_places f g same m [] = refl
 later_places f g same m (e ∷ es) =
     let next : suc m + 1 ≡ suc (m + 1) = omega arith in
     ap₂ (λ (d : Edit) (ds : List Edit). d ∷ ds) (same m e) (ap (λ (k : ℕ). map f (enumerate_from k es)) next ∙ later_places f g same (m + 1) es)
 
--- an edit and others, with numbers
+-- one edit in front of others, with numbers
 pub numbered_cons : (n : ℕ) (e : Edit) (es : List Edit) → numbered n (e ∷ es) ≡ with_number (number_after n) e ∷ numbered (last_after n e) es
 numbered_cons n e es =
     ap₂ (λ (d : Edit) (ds : List Edit). d ∷ ds) (first_by n e e.id)

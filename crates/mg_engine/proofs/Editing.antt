@@ -1,4 +1,4 @@
--- Shards while a bulk is applied: what is said of each draft in its place.
+-- Shards while a bulk is applied: what holds of the draft at each position.
 use Rattle.std.proofs.Common.{◌≡◌, ℕ, zero, suc, ◌<◌, List, [], ◌∷◌, ◌++◌, Option, Some, None, option_map, unwrap_or, length, get_or, map, set, slice_get, take, refl, sym, ap, ◌∙◌, subst, arith}
 use Rattle.std.proofs.lemmas.List.{length-map}
 use Rattle.std.proofs.lemmas.Option.{slice_get-map}
@@ -14,7 +14,7 @@ use Rattle.std.specs.declared.alloc.Global.{Global}
 use Rattle.std.specs.declared.sync.Arc.{Arc}
 use Rattle.mg_engine.specs.StateView.{AllLeave, before, fresh}
 
--- ---- one place of a list
+-- ---- one position of a list
 
 pub got_at : {X : Type 0} (xs : List X) (i : ℕ) (x : X) → i < length xs → x ≡ get_or xs i x → slice_get xs i ≡ Some x
 got_at [] i x l e = absurd (omega arith)
@@ -33,18 +33,18 @@ pub nothing : {X : Type 0} (xs : List X) → length xs ≡ 0 → xs ≡ []
 nothing [] h = refl
 nothing (x ∷ xs) h = absurd (omega arith)
 
--- the shard in its place
+-- the shard at a position
 pub shard_at : (xs : List (Arc ShardView Global)) (i : ℕ) (x : Arc ShardView Global) → i < length xs → x ≡ get_or xs i x → slice_get (shards_seen xs) i ≡ Some (arc_value x)
 shard_at xs i x l e = slice_get-map (λ (a : Arc ShardView Global). arc_value a) xs i ∙ ap (option_map (λ (a : Arc ShardView Global). arc_value a)) (got_at xs i x l e)
 
--- what a slice of a vector was written to, in the vector
+-- the first n items of two joined lists are the first list, if it has n items
 pub written : {X : Type 0} (xs ys : List X) (n : ℕ) → n ≡ length xs → take n (xs ++ ys) ≡ xs
 written [] ys zero h = refl
 written [] ys (suc n) h = absurd (omega (arith, h))
 written (x ∷ xs) ys zero h = absurd (omega (arith, h))
 written (x ∷ xs) ys (suc n) h = ap (λ zs. x ∷ zs) (written xs ys n (omega (arith, h)))
 
--- ---- drafts of shards, at first
+-- ---- drafts before the first edit
 
 pub before-fresh : (shards : List ShardView) → before (map fresh shards) ≡ shards
 before-fresh [] = refl

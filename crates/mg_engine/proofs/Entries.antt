@@ -10,7 +10,7 @@ use Rattle.mg_engine.specs.Bulk.{entries_of, entry_before, entry_of, refused_ent
 use Rattle.mg_engine.specs.Outcomes.{entries_told, reply_in, told_id}
 use Rattle.mg_engine.specs.declared.edits.Outcome.{Outcome}
 
--- the entries by the ids of the edits are those of the edits
+-- the entries by the outcomes are those by the edits, if both have the same ids
 pub by_ids : (b : Bool) (es : List Edit) (os : List Outcome) → map id_in es ≡ map told_id os → entries_of b es (map reply_in os) ≡ entries_told b os
 by_ids b [] [] h = refl
 by_ids b [] (o ∷ os) h = absurd cc
@@ -20,7 +20,7 @@ by_ids b (e ∷ es) (o ∷ os) h =
     let rest : map id_in es ≡ map told_id os = cc in
     ap₂ (λ i vs. entry_before (entry_of b i (reply_in o)) vs) id (by_ids b es os rest)
 
--- a refused edit is told of, whether edits are new or not
+-- a refused edit has an entry, whether edits are new or not
 pub conflict_told : (b : Bool) (id : List ℕ) → entry_of b id (Err Conflict) ≡ Some (refused_entry (codes "conflict") id (codes "Document update conflict."))
 conflict_told true id = refl
 conflict_told false id = refl
@@ -29,7 +29,7 @@ pub bad_history_told : (b : Bool) (id : List ℕ) → entry_of b id (Err BadHist
 bad_history_told true id = refl
 bad_history_told false id = refl
 
--- the tokens of a value, before those of the items that are still to come
+-- the tokens of a value, in front of those of the items that follow
 pub tokens_before : (old new : List Token) (v : Value) → new ≡ old ++ tokens_of v → (vs : Items) → new ++ items_tokens_of vs ≡ old ++ items_tokens_of (item v vs)
 tokens_before old new v e vs = ap (λ t. t ++ items_tokens_of vs) e ∙ append_assoc old (tokens_of v) (items_tokens_of vs)
 

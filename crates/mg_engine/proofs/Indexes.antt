@@ -24,16 +24,16 @@ use Rattle.mg_scan.specs.Built.{with_index}
 use Rattle.mg_engine.specs.Stands.{HaveRows, Holds, Shown, definitions_of}
 use Rattle.mg_engine.specs.StateView.{empty_shard}
 
--- the refusal of a fault
+-- the refusal in a fault, or this one for `NoMemory`
 abbrev refusal_in : Refusal → Fault → Refusal
 refusal_in otherwise (Refused x) = x
 refusal_in otherwise want = otherwise
 
--- shards of the same indexes
+-- shards have the rows of these indexes if shards with the same indexes do
 pub have_same : (ds : List IndexDefinition) (ss ts : List ShardView) → definitions_of ss ≡ definitions_of ts → HaveRows ds ts → HaveRows ds ss
 have_same ds ss ts e h = subst (λ xs. All (λ given. given ≡ ds) xs) (sym e) h
 
--- each of them has these indexes
+-- each shard has these indexes
 pub each_has : (ds : List IndexDefinition) (ss : List ShardView) → HaveRows ds ss → All (λ s. s.definitions ≡ ds) ss
 each_has ds [] h k x lt = absurd (omega arith)
 each_has ds (s ∷ ss) h zero x lt = h zero [] (omega arith)
@@ -54,7 +54,7 @@ same_number_of (s ∷ ss) (t ∷ ts) e = ap suc (same_number_of ss ts (ap (λ xs
     but_first [] = []
     but_first (x ∷ xs) = xs
 
--- shards of which each is changed alike
+-- the rows of shards that are all changed in the same way
 pub changed_rows : (f : ShardView → ShardView) (g : List IndexDefinition → List IndexDefinition) (ds : List IndexDefinition) (ss : List ShardView)
     → ((s : ShardView) → (f s).definitions ≡ g s.definitions) → HaveRows ds ss → HaveRows (g ds) (map f ss)
 changed_rows f g ds [] e h k x lt = absurd (omega arith)
@@ -119,7 +119,7 @@ holds_without place ddoc name s w h = record {
   objects = h.objects;
 }
 
--- a world whose indexes are told otherwise, and are the same
+-- a state stands also for the world with an equal list of indexes
 pub holds_same : (place : Placing) (ds : List IndexDefinition) (s : Shown) (w : World) → ds ≡ w.indexes → Holds place s w → Holds place s (record w { indexes = ds })
 holds_same place ds s w e h = record {
   name = h.name;
@@ -130,7 +130,7 @@ holds_same place ds s w e h = record {
   objects = h.objects;
 }
 
--- ---- no index to be dropped
+-- ---- dropping an index that does not exist
 
 kept_if : (ddoc name : List ℕ) (d : IndexDefinition) (ds : List IndexDefinition) → (is_some (definition_at ddoc name ds) ≡ false → without_definition ddoc name ds ≡ ds)
     → (b : Bool) → is_some (cond b (Some d) (definition_at ddoc name ds)) ≡ false → cond b ds (d ∷ without_definition ddoc name ds) ≡ d ∷ ds

@@ -1,4 +1,4 @@
--- How many shards there are while commands are gone through from the front.
+-- How many shards there are while commands are executed in order.
 use Rattle.std.proofs.Common.{◌≡◌, ℕ, ◌+◌, ◌<◌, ◌≤◌, List, [], ◌∷◌, ◌++◌, Option, Some, None, IfNone, IfSome, map, length, drop, get_or, refl, sym, ap, ◌∙◌, append_assoc, append-nil}
 use Rattle.std.proofs.Math.ListN.{drop_of_length-le}
 use Rattle.std.proofs.lemmas.List.{map-append}
@@ -9,7 +9,7 @@ use Rattle.mg_engine.specs.declared.command.Command.{Command}
 use Rattle.mg_engine.specs.declared.reply.Reply.{Reply}
 use Rattle.mg_engine.proofs.Runs.{drop_item}
 
--- the number after one command, which is as it was where memory was refused
+-- the number of shards after one command; it stays as it was where memory was refused
 abbrev pub number_then : ℕ → Asked → Option Answer → ℕ
 number_then n c None = n
 number_then n c (Some a) = shards_after n c
@@ -24,7 +24,7 @@ first_of : (n : ℕ) (c : Asked) (r : Option Answer) (cs : List Asked) (rs : Lis
 first_of n c None cs rs = refl
 first_of n c (Some a) cs rs = refl
 
--- the loop's step: what is left, from the number after the command, ends where all commands do from the first number
+-- the loop's step: from the number after this command, the rest of the commands give the number that all commands give from the first
 pub number_after : (first now then : ℕ) (cs : List Command) (i : ℕ) (c : Command) (replies : List Reply) (r : Reply) (rs : List (Option Answer))
     → i < length cs → c ≡ get_or cs i c → then ≡ number_then now (asked c) (said r)
     → ((rs : List (Option Answer)) → shards_after_all now (kept (map asked (drop i cs)) rs) ≡ shards_after_all first (kept (map asked cs) (map said replies ++ rs)))
@@ -37,7 +37,7 @@ number_after first now then cs i c replies r rs h e did on =
     ∙ ap (λ ds. shards_after_all now (kept (map asked ds) (said r ∷ rs))) (sym (drop_item cs i c h e))
     ∙ on (said r ∷ rs))
 
--- what is left is nothing
+-- the loop's end: no command is left
 pub number_here : (first now : ℕ) (cs : List Command) (i : ℕ) (replies : List Reply) → length cs ≤ i
     → ((rs : List (Option Answer)) → shards_after_all now (kept (map asked (drop i cs)) rs) ≡ shards_after_all first (kept (map asked cs) (map said replies ++ rs)))
     → now ≡ shards_after_all first (kept (map asked cs) (map said replies))

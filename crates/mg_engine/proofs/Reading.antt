@@ -3,7 +3,7 @@ use Rattle.std.proofs.Common.{◌≡◌, List, [], ◌∷◌, ◌++◌, Result, 
 use Rattle.mg_doc.specs.Document.{Edit, then_read}
 use Rattle.mg_doc.specs.declared.error.DocError.{DocError}
 
--- what was read, before the rest
+-- the edits that were read, in front of the rest
 abbrev pub edits_before : List Edit → Result (List Edit) DocError → Result (List Edit) DocError
 edits_before found (Ok es) = Ok (found ++ es)
 edits_before found (Err e) = Err e

@@ -1,4 +1,4 @@
--- Commands that are gone through from the front. `ends` says of a world that it is the one in the end.
+-- Commands that are executed in order. `ends w` says that w is the world at the end.
 use Rattle.std.proofs.Common.{◌≡◌, ℕ, ◌+◌, ◌<◌, ◌≤◌, List, [], ◌∷◌, ◌++◌, Option, Some, None, map, length, drop, get_or, refl, ap, ◌∙◌, suc, add-one, append_assoc, append-nil}
 use Rattle.std.proofs.Math.Seq.{drop-cons}
 use Rattle.std.proofs.Math.ListN.{drop_of_length-le}
@@ -10,16 +10,16 @@ use Rattle.mg_engine.specs.World.{World}
 use Rattle.mg_engine.specs.Commands.{Asked, Answer, reply_of, next}
 use Rattle.mg_engine.specs.Run.{IsRun, Answers}
 
--- what is left from an item on begins with the item
+-- the rest of a list from the item at i begins with this item
 pub drop_item : {A : Type 0} (xs : List A) (i : ℕ) (x : A) → i < length xs → x ≡ get_or xs i x → drop i xs ≡ x ∷ drop (i + 1) xs
 drop_item xs i x h e = drop-cons xs i x h ∙ rw (add-one, ← e)
 
--- a reply that is the definition's, with a state for the world that the command leaves
+-- a command is answered if the reply is the definition's and the end is the world that the command leaves
 pub answered : (w : World) (c : Asked) (o : Option Answer) (ends : World → Type 0) → o ≡ Some (reply_of w c) → ends (next w c) → Answers w c o ends
 answered w c None ends e h = absurd cc
 answered w c (Some a) ends e h = (cc, h)
 
--- with no command, the run is over
+-- the run of no commands
 over : (w : World) (ends : World → Type 0) → ends w → IsRun w [] [] ends
 over w ends h = record { one_each = refl; replies = refl; world = h }
 
@@ -32,14 +32,14 @@ pub ends_then : (w : World) (c : Asked) (r : Option Answer) (ends : World → Ty
 ends_then w c None ends h = h
 ends_then w c (Some a) ends h = h.1
 
--- a command and its reply before a run
+-- a run with one more command and its reply in front
 one_more : (w : World) (c : Asked) (r : Option Answer) (now : World → Type 0) (cs : List Asked) (rs : List (Option Answer)) (ends : World → Type 0)
     → Answers w c r now → IsRun (world_then w c r) cs rs ends → IsRun w (c ∷ cs) (r ∷ rs) ends
 one_more w c None now cs rs ends h run = record { one_each = ap suc run.one_each; replies = run.replies; world = run.world }
 one_more w c (Some a) now cs rs ends h run =
     record { one_each = ap suc run.one_each; replies = (λ i. h.0 i ∷ run.replies i); world = run.world }
 
--- the loop's step: what goes on from after the command goes on from before it
+-- the loop's step: a run from after the command completes one from before it
 pub goes_on_after : (w u : World) (cs : List Command) (i : ℕ) (c : Command) (replies : List Reply) (r : Reply) (now ends : World → Type 0) (rs : List (Option Answer))
     → i < length cs → c ≡ get_or cs i c → Answers u (asked c) (said r) now
     → ((rs : List (Option Answer)) → IsRun u (map asked (drop i cs)) rs ends → IsRun w (map asked cs) (map said replies ++ rs) ends)
@@ -50,7 +50,7 @@ goes_on_after w u cs i c replies r now ends rs h e did on run =
     let all : IsRun u (map asked (drop i cs)) (said r ∷ rs) ends = rw (drop_item cs i c h e) longer in
     rw (map-append, append_assoc) (on (said r ∷ rs) all)
 
--- what is left is nothing
+-- the loop's end: no command is left
 pub ends_here : (w u : World) (cs : List Command) (i : ℕ) (replies : List Reply) (ends : World → Type 0) → length cs ≤ i → ends u
     → ((rs : List (Option Answer)) → IsRun u (map asked (drop i cs)) rs ends → IsRun w (map asked cs) (map said replies ++ rs) ends)
     → IsRun w (map asked cs) (map said replies) ends

@@ -1,4 +1,4 @@
--- Pages, and refusals of a query that is not answered, as they are told.
+-- The answers to queries: pages, and refusals of queries that are not answered.
 use Rattle.std.proofs.Common.{◌≡◌, ℕ, List, [], ◌∷◌, ◌++◌, Result, Ok, Err, sym, ap, ◌∙◌}
 use Rattle.mg_value.specs.Value.{Value}
 use Rattle.mg_query.specs.Page.{Page, Unanswered, page_value}
@@ -16,7 +16,7 @@ not_answered value page_fault.NoUsableIndex r h = ap (told_or_refused value) h
 not_answered value page_fault.BadBookmark r h = ap (told_or_refused value) h
 not_answered value page_fault.NoMemory r h = tt
 
--- why a page has no text is why there is no page
+-- if there is no text of the page for this reason, there is no page for this reason
 no_text : (e : PageError) (r : Result Page Unanswered) → Refuses e (text_of r) → Refuses e r
 no_text page_fault.NoUsableIndex (Ok p) h = absurd cc
 no_text page_fault.NoUsableIndex (Err why) h = ap (λ r. as_page why r) h

@@ -40,7 +40,7 @@ then_ok : {A B : Type 0} (r : Result A DocError) (f : A → Result B DocError) (
 then_ok (Ok a) f b e = (a, refl, e)
 then_ok (Err x) f b e = absurd cc
 
--- what is read of a document behind its mark, and behind its id
+-- what is read of a document after its mark, and after its id
 abbrev with_change : Bool → Members → Bool → Option (List ℕ) → Change → Result Edit DocError
 with_change new_edits ms deleted id change = Ok (record { id = id; change = change; deleted = deleted; body = object (own_members ms) })
 
@@ -89,7 +89,7 @@ not_refused new_edits (Ok x) es h = ap Ok (ap (λ r. edits_in r es.edits) h)
     edits_in (Err e) y = y
 not_refused new_edits (Err e) es h = absurd cc
 
--- the edits that are read of a bulk
+-- the edits that are read from a bulk
 pub read_whole : (new_edits : Bool) (vs : Items) (es : BulkEdits) → edits_or_refusal new_edits (edits_of new_edits vs) ≡ Ok es → BringObjects es.edits
 read_whole new_edits vs es h = read_objects new_edits vs es.edits (not_refused new_edits (edits_of new_edits vs) es h)
 
@@ -185,7 +185,7 @@ either Less a b c f g h = f
 either Equal a b c f g h = g
 either Greater a b c f g h = h
 
--- a value at a name, where there was one at the name or another
+-- a name that has a value still has one after a value is put at this name or another
 changed_some : (o : Ordering) (a b : Option Value) (v w : Value) → (is_some a ≡ true → is_some b ≡ true) → is_some (match_ordering o a (Some w) a) ≡ true → is_some (match_ordering o b (Some v) b) ≡ true
 changed_some Less a b v w more h = more h
 changed_some Equal a b v w more h = refl

@@ -1,4 +1,4 @@
--- For private clauses: what was read of a bulk before a state is asked.
+-- For private clauses: the body of a bulk that was read ahead, without a state.
 use Rattle.std.specs.Prelude.{◌≡◌, ℕ, Bool, List}
 use Rattle.mg_doc.specs.Document.{Edit}
 use Rattle.mg_engine.specs.Commands.{Asked, edits_effect, next, refused, reply_of, shards_after}
@@ -8,20 +8,20 @@ use Rattle.mg_engine.specs.declared.prepared.ReadBulk.{ReadBulk}
 use Rattle.mg_engine.specs.declared.prepared.ReadBulk.TheVariants.{Edits, Refused}
 use Rattle.mg_engine.specs.declared.refusal.Refusal.{Refusal}
 
--- a command is to make these edits, whatever the world is
+-- in every world the command has the effect of these edits
 pub record Makes (new_edits : Bool) (es : List Edit) (c : Asked) : Type 0 where
   pub objects : BringObjects es
   pub reply : (w : World) → reply_of w c ≡ (edits_effect w new_edits es).answer
   pub world : (w : World) → next w c ≡ (edits_effect w new_edits es).world
   pub shards : (n : ℕ) → shards_after n c ≡ n
 
--- a command is refused, whatever the world is
+-- in every world the command is refused for this reason, and changes nothing
 pub record IsRefused (r : Refusal) (c : Asked) : Type 0 where
   pub reply : (w : World) → reply_of w c ≡ refused r
   pub world : (w : World) → next w c ≡ w
   pub shards : (n : ℕ) → shards_after n c ≡ n
 
--- what was read determines the command
+-- what was read determines what the command does in every world
 abbrev pub Determines : ReadBulk → Asked → Type 0
 Determines (Edits new_edits edits) c = Makes new_edits edits.items c
 Determines (Refused r) c = IsRefused r c

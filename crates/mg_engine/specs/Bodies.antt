@@ -9,7 +9,7 @@ use Rattle.mg_index.specs.Definition.{IndexDefinition, listed_of, listed_all_doc
 abbrev pub line_of : Value → List ℕ
 line_of v = compact v ++ 10 ∷ []
 
--- `{"id":..,"name":..,"result":..}`: an index that was created, or was there
+-- `{"id":..,"name":..,"result":..}`: an index that was created, or exists already
 abbrev pub index_value : IndexDefinition → List ℕ → Value
 index_value d word = object (member (codes "id") (text d.ddoc) (member (codes "name") (text d.name) (member (codes "result") (text word) no_members)))
 

@@ -37,11 +37,11 @@ shaped (Some (list vs)) None = of_objects true vs
 shaped (Some (list vs)) (Some (flag b)) = of_objects b vs
 shaped docs new_edits = None
 
--- the bulk that a body is; anything else has the wrong shape
+-- the bulk in a body; `None` if the body has the wrong shape
 abbrev pub bulk_of : Value → Option Bulk
 bulk_of v = shaped (member_of (codes "docs") v) (member_of (codes "new_edits") v)
 
--- its edits, or the first fault of its documents
+-- the edits of the documents, or the first fault
 abbrev pub edits_of : Bool → Items → Result (List Edit) DocError
 edits_of new_edits no_items = Ok []
 edits_of new_edits (item v vs) = then_read (edit_of new_edits v) (λ e. then_read (edits_of new_edits vs) (λ es. Ok (e ∷ es)))
@@ -68,7 +68,7 @@ abbrev pub edits_read : Option Bulk → Result BulkEdits Refusal
 edits_read None = Err WrongShape
 edits_read (Some b) = edits_or_refusal b.new_edits (edits_of b.new_edits b.documents)
 
--- what a body is as a bulk: edits, or a refusal
+-- the edits in the body of a bulk, or why it is refused
 abbrev pub bulk_read : Value → Result BulkEdits Refusal
 bulk_read v = edits_read (bulk_of v)
 
@@ -82,11 +82,11 @@ number_after n = (n + 1) % 2 ^ 64
 abbrev pub kth_after : ℕ → ℕ → ℕ
 kth_after n k = iterate number_after k n
 
--- a number as an id: 32 lower hexadecimal digits, of which its own are the last 16
+-- a number as an id: 16 zeros, then its 16 lowercase hexadecimal digits
 abbrev pub number_text : ℕ → List ℕ
 number_text n = codes "0000000000000000" ++ encode_lower (to_be_bytes w64 n)
 
--- an edit without an id takes this number as one
+-- an edit without an id gets this number as its id; an edit with an id stays as it is
 abbrev pub with_number : ℕ → Edit → Edit
 with_number n e = if is_some e.id then e else record e { id = Some (number_text n) }
 
@@ -94,7 +94,7 @@ with_number n e = if is_some e.id then e else record e { id = Some (number_text 
 abbrev pub count_without_id : List Edit → ℕ
 count_without_id es = length (filter (λ e. is_none e.id) es)
 
--- the edit at a place, which counts from 0: the k-th edit without an id takes the k-th number after the counter n
+-- the edit at a position, which counts from 0: the k-th edit without an id gets the k-th number after the counter n
 abbrev pub numbered_at : ℕ → List Edit → ℕ × Edit → Edit
 numbered_at n es p = with_number (kth_after n (count_without_id (take (suc p.0) es))) p.1
 
@@ -102,7 +102,7 @@ numbered_at n es p = with_number (kth_after n (count_without_id (take (suc p.0) 
 abbrev pub numbered : ℕ → List Edit → List Edit
 numbered n es = map (numbered_at n es) (enumerate_from 0 es)
 
--- the counter after them: as many numbers further as there are edits without an id
+-- the counter after the edits: it moves by one number for each edit without an id
 abbrev pub counter_after : ℕ → List Edit → ℕ
 counter_after n es = kth_after n (count_without_id es)
 
@@ -116,7 +116,7 @@ done_entry id r = object (member (codes "id") (text id) (member (codes "ok") (fl
 abbrev pub refused_entry : List ℕ → List ℕ → List ℕ → Value
 refused_entry error id reason = object (member (codes "error") (text error) (member (codes "id") (text id) (member (codes "reason") (text reason) no_members)))
 
--- an edit that is done is told of where edits are new; one that is refused always
+-- the entry of an edit: an applied edit has one only if edits are new; a refused edit always has one
 abbrev pub entry_of : Bool → List ℕ → Result Revision Refused → Option Value
 entry_of true id (Ok r) = Some (done_entry id r)
 entry_of false id (Ok r) = None
@@ -128,7 +128,7 @@ abbrev pub entry_before : Option Value → Items → Items
 entry_before None vs = vs
 entry_before (Some v) vs = item v vs
 
--- the entries of the reply, in the order of the documents: of each edit, and of what became of it
+-- the entries of the reply, in the order of the documents, by each edit and what became of it
 abbrev pub entries_of : Bool → List Edit → List (Result Revision Refused) → Items
 entries_of new_edits (e ∷ es) (o ∷ os) = entry_before (entry_of new_edits (id_in e) o) (entries_of new_edits es os)
 entries_of new_edits es os = no_items

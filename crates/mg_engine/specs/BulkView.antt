@@ -1,4 +1,4 @@
--- The bulk that the code's `Bulk` stands for, and the edits that are read of it.
+-- The bulk that the code's `Bulk` stands for, and the edits that are read from it.
 use Rattle.std.specs.Prelude.{Bool}
 use Rattle.std.specs.declared.alloc.Global.{Global}
 use Rattle.std.specs.declared.vec.Vec.{Vec}
@@ -7,7 +7,7 @@ use Rattle.mg_doc.specs.Document.{Edit}
 use Rattle.mg_engine.specs.Bulk.{Bulk, BulkEdits}
 use Rattle.mg_engine.specs.declared.bulk.Bulk as code
 
--- the bulk that the code's stands for
+-- the bulk that the code's `Bulk` stands for
 abbrev pub bulk_seen : code.Bulk → Bulk
 bulk_seen b = record { new_edits = b.new_edits; documents = items_view b.documents.now }
 

@@ -6,11 +6,11 @@ use Rattle.mg_value.specs.Code.{value_code}
 use Rattle.mg_value.specs.Value.{Value}
 use Rattle.mg_engine.specs.Commands.{Asked, bulk, create_index, drop_index, list_indexes, find, explain, get, reshard}
 
--- the bodies, one of five kinds
+-- the body of a command, for the five kinds of commands that have one
 abbrev pub Bodies : Type 0
 Bodies = (Value ⊎ Value) ⊎ (Value ⊎ (Value ⊎ Value))
 
--- the names: of an index, of a document, or a number that says nothing
+-- what other commands carry: the names of an index; a document's id and a flag; or, for `list_indexes`, an unused number
 abbrev pub Names : Type 0
 Names = (List ℕ × List ℕ) ⊎ ((List ℕ × Bool) ⊎ ℕ)
 

@@ -26,9 +26,9 @@ use Rattle.mg_engine.specs.Bulk.{BulkEdits, bulk_read, counter_after, entries_of
 use Rattle.mg_engine.specs.Reshard.{shards_asked}
 use Rattle.mg_engine.specs.Bodies.{line_of, done_value, index_value, indexes_value}
 
--- a command: the body of a `_bulk_docs`; the body of an `_index` that creates one; the design document and name of one to be dropped;
--- the list of indexes; the body of a `_find` or of an `_explain`; a document's id and whether its conflicts are asked for; or the body
--- of a `_placement`, which asks for another number of shards
+-- a command, with what it carries: the body of a `_bulk_docs`, of an `_index`, of a `_find`, of an `_explain`, or of a `_placement`, which
+-- asks for a number of shards; for `drop_index` the design document and the name of the index; for `get` the document's id and whether its
+-- conflicts are asked for
 pub data Asked : Type 0 where
   bulk : Value → Asked
   create_index : Value → Asked
@@ -39,7 +39,7 @@ pub data Asked : Type 0 where
   get : List ℕ → Bool → Asked
   reshard : Value → Asked
 
--- whether a command is one of the writes, of which each that is accepted is a commit
+-- whether a command is a write; each write that is accepted is a commit
 abbrev pub is_write : Asked → Bool
 is_write (bulk v) = true
 is_write (create_index v) = true
@@ -59,7 +59,7 @@ pub record Answer : Type 0 where
 abbrev pub refused : Refusal → Answer
 refused r = record { status = status_of r; body = refusal_body r }
 
--- the answer that is done, with a value to tell
+-- the answer of a command that is done: 200, and a value as its body
 abbrev pub done : Value → Answer
 done v = record { status = 200; body = line_of v }
 
@@ -69,20 +69,20 @@ done v = record { status = 200; body = line_of v }
 abbrev pub edits_answer : World → Bool → List Edit → Answer
 edits_answer w new_edits es = record { status = 201; body = line_of (list (entries_of new_edits es (outcomes w.docs es))) }
 
--- what a command comes to: its answer, and the world that it leaves
+-- the effect of a command: its answer, and the world that it leaves
 pub record Effect : Type 0 where
   pub answer : Answer
   pub world : World
 
--- what edits come to: an answer that tells of each, and the world with those that are accepted. The counter moves for each edit
--- without an id, whatever becomes of it
+-- the effect of edits: the answer with their entries, and the world with the accepted edits. The counter moves for each edit without
+-- an id, accepted or refused
 abbrev pub edits_effect : World → Bool → List Edit → Effect
 edits_effect w new_edits es = record {
   answer = edits_answer w new_edits (numbered w.counter es);
   world = record w { docs = after_edits w.docs (numbered w.counter es); counter = counter_after w.counter es };
 }
 
--- what a bulk comes to: that of its edits, or a refusal, which leaves the world as it is
+-- the effect of a bulk: that of its edits, or a refusal, which leaves the world as it is
 abbrev pub bulk_effect : World → Result BulkEdits Refusal → Effect
 bulk_effect w (Ok b) = edits_effect w b.new_edits b.edits
 bulk_effect w (Err r) = record { answer = refused r; world = w }
@@ -95,17 +95,17 @@ refusal_of_index index_fault.Shape = WrongShape
 refusal_of_index index_fault.Mixed = MixedSort
 refusal_of_index index_fault.NoMemory = OutOfMemory
 
--- the answer to a definition that was read, or refused
+-- the answer to a definition that was read, or why it was not
 abbrev pub created : World → Result IndexDefinition IndexError → Answer
 created w (Ok d) = done (index_value d (if is_there d w.indexes then codes "exists" else codes "created"))
 created w (Err e) = refused (refusal_of_index e)
 
--- the world with the definition, instead of another of its design document and name
+-- the world with the definition, which replaces one of the same design document and name
 abbrev pub world_defined : World → Result IndexDefinition IndexError → World
 world_defined w (Ok d) = record w { indexes = with_definition d w.indexes }
 world_defined w (Err e) = w
 
--- the answer to a deletion, by whether there is such an index
+-- the answer to `drop_index`, by whether there is such an index
 abbrev pub dropped : Bool → Answer
 dropped true = done done_value
 dropped false = refused Missing
@@ -126,7 +126,7 @@ abbrev pub refusal_for : Unanswered → Refusal
 refusal_for no_usable_index = NoUsableIndex
 refusal_for bad_bookmark = BadBookmark
 
--- what is told of a query, or why it is not answered
+-- the answer with the value that a query gives, or the refusal if it gives none
 abbrev pub told_or_refused : {A : Type 0} → (A → Value) → Result A Unanswered → Answer
 told_or_refused value (Ok a) = done (value a)
 told_or_refused value (Err why) = refused (refusal_for why)
@@ -148,7 +148,7 @@ abbrev pub with_asked : Bool → History → Value → Value
 with_asked true h v = with_conflicts_of h v
 with_asked false h v = v
 
--- the answer where there is a history: the document, or that it is deleted
+-- the answer where there is a history: the served document, or `deleted` if none is served
 abbrev pub shown_or_deleted : Option Value → Answer
 shown_or_deleted (Some v) = done v
 shown_or_deleted None = refused Deleted
@@ -183,7 +183,7 @@ reply_of w (explain v) = explained w (query_of v)
 reply_of w (get id conflicts) = got id conflicts (finite.get w.docs id)
 reply_of w (reshard v) = resharded (shards_asked v)
 
--- the world that a command leaves: one that is refused, that reads, or that asks for other shards leaves it as it is
+-- the world that a command leaves. A command that is refused, that reads, or that reshards leaves it as it is
 abbrev pub next : World → Asked → World
 next w (bulk v) = (bulk_effect w (bulk_read v)).world
 next w (create_index v) = world_defined w (definition_of v)
@@ -199,7 +199,7 @@ abbrev pub replies_of : World → List Asked → List Answer
 replies_of w [] = []
 replies_of w (c ∷ cs) = reply_of w c ∷ replies_of (next w c) cs
 
--- the world that they leave
+-- the world after commands, executed in order
 abbrev pub world_after : World → List Asked → World
 world_after w [] = w
 world_after w (c ∷ cs) = world_after (next w c) cs

@@ -1,4 +1,4 @@
--- What a call that reads a body returns, beside the definition's reading.
+-- Compares what a call that reads a body returns with what the definition reads.
 use Rattle.std.specs.Prelude.{◌≡◌, Result, Ok, Err}
 use Rattle.mg_query.specs.Page.{bad_bookmark, no_usable_index}
 use Rattle.mg_query.specs.declared.error.PageError.{PageError}
@@ -9,13 +9,13 @@ use Rattle.mg_engine.specs.declared.fault.Fault.TheVariants.{Refused, NoMemory}
 use Rattle.mg_engine.specs.declared.refusal.Refusal.{Refusal}
 use Rattle.mg_engine.specs.declared.refusal.Refusal.TheVariants.{OutOfMemory}
 
--- what was read is the definition's, or so is the refusal, or memory was refused
+-- the call read what the definition reads, or refused as the definition does, or memory was refused
 abbrev pub Gives : {A B : Type 0} → (A → B) → Result A Fault → Result B Refusal → Type 0
 Gives seen (Ok a) r = r ≡ Ok (seen a)
 Gives seen (Err (Refused f)) r = r ≡ Err f
 Gives seen (Err NoMemory) r = Unit {0}
 
--- what the code makes of a refusal: `NoMemory` of the one for want of memory, and of any other the refusal itself
+-- the fault that stands for a refusal: `NoMemory` for `OutOfMemory`, otherwise the refusal itself
 abbrev pub fault_of : Refusal → Fault
 fault_of OutOfMemory = NoMemory
 fault_of r = Refused r

@@ -1,4 +1,4 @@
--- Histories whose documents are objects, as all are that come of commands: so each served form has its id and its revision.
+-- Histories whose documents are objects. Commands make no others; this is why each served form has its id and its revision.
 use Rattle.std.specs.Prelude.{◌≡◌, ℕ, true, List, Some}
 use Rattle.std.specs.FinMap.{get}
 use Rattle.std.specs.List.{AllByRecursion}
@@ -10,7 +10,7 @@ use Rattle.mg_shard.specs.Histories.{Histories}
 abbrev pub HasObjects : History → Type 0
 HasObjects h = AllByRecursion (λ p. is_object p.body ≡ true) h
 
--- so it is of each document
+-- each document's bodies are objects
 pub record HaveObjects (hs : Histories) : Type 0 where
   pub each : (id : List ℕ) (h : History) → get hs id ≡ Some h → HasObjects h
 

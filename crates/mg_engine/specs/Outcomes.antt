@@ -1,4 +1,4 @@
--- For private clauses: what is told of edits that were made.
+-- For private clauses: the entries for edits that the code has applied or refused.
 use Rattle.std.specs.Prelude.{ℕ, Bool, List, [], ◌∷◌, string_bytes, Result}
 use Rattle.mg_value.specs.Value.{Items, no_items}
 use Rattle.mg_revtree.specs.Revision.{Revision}
@@ -11,11 +11,11 @@ use Rattle.mg_engine.specs.declared.edits.Outcome.{Outcome}
 abbrev pub told_id : Outcome → List ℕ
 told_id o = string_bytes o.id
 
--- what became of it
+-- what became of the edit
 abbrev pub reply_in : Outcome → Result Revision Refused
 reply_in o = outcome_seen o.reply
 
--- the entries of the reply, by the ids of the edits
+-- the entries of the reply, by the outcomes of the edits
 abbrev pub entries_told : Bool → List Outcome → Items
 entries_told new_edits [] = no_items
 entries_told new_edits (o ∷ os) = entry_before (entry_of new_edits (told_id o) (reply_in o)) (entries_told new_edits os)

@@ -7,6 +7,6 @@ abbrev pub shard_number : Option Value → Option ℕ
 shard_number (Some (whole (pos n))) = if nat_le 1 n && nat_le n 64 then Some n else None
 shard_number v = None
 
--- the number of shards that a body asks for, in its member `shards`; other members are not looked at
+-- the number of shards that a body asks for, in its member `shards`; other members are ignored
 abbrev pub shards_asked : Value → Option ℕ
 shards_asked v = shard_number (member_of (codes "shards") v)

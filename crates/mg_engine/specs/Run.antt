@@ -1,27 +1,27 @@
--- One command, and a whole run of commands. `ends` says of a world that it is the one in the end.
+-- One command, and a whole run of commands. `ends w` says that w is the world at the end.
 use Rattle.std.specs.Prelude.{◌≡◌, List, [], ◌∷◌, Option, Some, None, length}
 use Rattle.mg_engine.specs.World.{World}
 use Rattle.mg_engine.specs.Commands.{Asked, Answer, reply_of, next, replies_of, world_after}
 
--- at w, the command is answered, or memory was refused and nothing changed
+-- in the world w the command gets the definition's answer and leaves its next world; or memory was refused, and the world is still w
 abbrev pub Answers : World → Asked → Option Answer → (World → Type 0) → Type 0
 Answers w c None ends = ends w
 Answers w c (Some a) ends = (a ≡ reply_of w c) × ends (next w c)
 
--- the commands that were answered: those whose reply is not a want of memory
+-- the commands that were answered, without those that were refused memory
 abbrev pub kept : List Asked → List (Option Answer) → List Asked
 kept [] rs = []
 kept (c ∷ cs) [] = c ∷ cs
 kept (c ∷ cs) (None ∷ rs) = kept cs rs
 kept (c ∷ cs) (Some a ∷ rs) = c ∷ kept cs rs
 
--- the replies that are not a want of memory
+-- the answers to the commands that were answered
 abbrev pub told : List (Option Answer) → List Answer
 told [] = []
 told (None ∷ rs) = told rs
 told (Some a ∷ rs) = a ∷ told rs
 
--- from w the commands have these replies: those of the commands that were not refused memory are as if the others were not there
+-- from w the commands have these replies: a command that was refused memory counts as not given, and the others are answered by definition
 pub record IsRun (w : World) (cs : List Asked) (rs : List (Option Answer)) (ends : World → Type 0) : Type 0 where
   pub one_each : length rs ≡ length cs
   pub replies : told rs ≡ replies_of w (kept cs rs)

@@ -1,4 +1,4 @@
--- Which replies are no refusal, and which state a command on indexes leaves.
+-- Which replies accept their command, and which state a command on indexes leaves.
 use Rattle.std.specs.Prelude.{◌≡◌, ℕ, List, Bool, false, ◌||◌, ◌==◌, map, Option, None, is_some, Result, Ok, Err}
 use Rattle.std.specs.Option.{option_map_or}
 use Rattle.mg_index.specs.Catalog.{with_definition, without_definition}
@@ -11,36 +11,36 @@ use Rattle.mg_engine.specs.View.{said}
 use Rattle.mg_engine.specs.declared.reply.Reply.{Reply}
 use Rattle.mg_engine.specs.declared.reply.Reply.TheVariants.{NoMemory}
 
--- a command is accepted where its status is 200 or 201
+-- an answer accepts its command if its status is 200 or 201
 abbrev pub is_accepted : Answer → Bool
 is_accepted a = a.status == 200 || a.status == 201
 
--- the reply is made whole, and accepts its command
+-- the reply is complete, and accepts its command
 abbrev pub accepts : Reply → Bool
 accepts r = option_map_or is_accepted (said r) false
 
--- a write leaves another state, or the same one to be put in its place, exactly where its reply accepts it
+-- a write leaves a next state, which may equal the one before, exactly if its reply accepts it
 abbrev pub IsSettled : {X : Type 0} → Reply → Option X → Type 0
 IsSettled r next = is_some next ≡ accepts r
 
--- a shard without one
+-- a shard without an index
 abbrev pub shard_without : List ℕ → List ℕ → ShardView → ShardView
 shard_without ddoc name s = record s { definitions = without_definition ddoc name s.definitions }
 
--- a state with an index over all its shards
+-- a state with an index on all its shards
 abbrev pub state_with : IndexDefinition → Shown → Shown
 state_with d s = record s { catalog = with_definition d s.catalog; shards = map (with_index d) s.shards }
 
--- a state without one
+-- a state without an index on any of its shards
 abbrev pub state_without : List ℕ → List ℕ → Shown → Shown
 state_without ddoc name s = record s { catalog = without_definition ddoc name s.catalog; shards = map (shard_without ddoc name) s.shards }
 
--- the reply that was made, or that memory was refused
+-- the reply that was made, or `NoMemory`
 abbrev pub reply_made : {E : Type 0} → Result Reply E → Reply
 reply_made (Ok reply) = reply
 reply_made (Err e) = NoMemory
 
--- what a write made, or that memory was refused, which leaves nothing
+-- what a write made, or `NoMemory` without a next state
 abbrev pub settled_of : {X E : Type 0} → Result (Reply × Option X) E → Reply × Option X
 settled_of (Ok made) = made
 settled_of (Err e) = (NoMemory, None)

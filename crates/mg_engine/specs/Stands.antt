@@ -7,7 +7,7 @@ use Rattle.mg_shard.specs.Shard.{ShardView, shard_code}
 use Rattle.mg_engine.specs.Objects.{HaveObjects}
 use Rattle.mg_engine.specs.World.{World}
 
--- what a state holds: the database's name, the catalog of its indexes, its shards, and the number that was given last
+-- what a state holds: the database's name, the catalog of its indexes, its shards, and the number last given to a document without an id
 pub record Shown : Type 0 where
   pub name : List ℕ
   pub catalog : List IndexDefinition
@@ -29,9 +29,9 @@ definitions_of shards = map (λ s. s.definitions) shards
 abbrev pub HaveRows : List IndexDefinition → List ShardView → Type 0
 HaveRows ds shards = All (λ given. given ≡ ds) (definitions_of shards)
 
--- a state whose documents are placed by `place` stands for a world where its shards stand for the histories, its catalog is the list of
--- indexes and each shard has the rows of exactly these, and the names and the counters are the same. The documents of such a world have
--- objects as bodies, as all have that commands brought
+-- a state whose documents are placed by `place` stands for a world if its shards stand for the histories, its catalog is the list of
+-- indexes, each shard has the rows of exactly these indexes, and the names and the counters are the same. The documents of such a world
+-- have objects as bodies: commands bring no others
 pub record Holds (place : Placing) (s : Shown) (w : World) : Type 0 where
   pub name : s.name ≡ w.name
   pub documents : ShardsStandFor place s.shards w.docs
@@ -44,6 +44,6 @@ pub record Holds (place : Placing) (s : Shown) (w : World) : Type 0 where
 abbrev pub Stands : {P : Type 0} → (P → List ℕ → ℕ → ℕ) → P × Shown → World → Type 0
 Stands place e w = Holds (place e.0) e.1 w
 
--- on how many shards an engine keeps its documents
+-- how many shards an engine has
 abbrev pub shard_count : {P : Type 0} → P × Shown → ℕ
 shard_count e = length e.1.shards

@@ -28,16 +28,16 @@ empty_shard = record { documents = finite.empty; definitions = [] }
 abbrev pub fresh : ShardView → DraftView
 fresh s = record { shard = s; touched = finite.empty }
 
--- the shards as they were before
+-- the shards as they were before the bulk
 abbrev pub before : List DraftView → List ShardView
 before drafts = map (λ d. d.shard) drafts
 
--- a shard is what a draft leaves: it stands for what the draft stands for, with the same indexes
+-- a draft leaves a shard that stands for what the draft stands for, with the same indexes
 pub record Leaves (d : DraftView) (s : ShardView) : Type 0 where
   pub stands : (hs : Histories) → DraftStandsFor d hs → StandFor s.documents hs
   pub definitions : s.definitions ≡ d.shard.definitions
 
--- these shards are what those drafts leave, one for each
+-- the drafts leave these shards, one for each draft
 abbrev pub AllLeave : List DraftView → List ShardView → Type 0
 AllLeave [] [] = Unit {0}
 AllLeave [] (s ∷ ss) = ⊥

@@ -1,4 +1,4 @@
--- For private clauses: what a call that makes the body of a reply returned, beside the definition's answer.
+-- For private clauses: compares what a call that makes the body of a reply returned with the definition's answer.
 use Rattle.std.specs.Prelude.{◌≡◌, ℕ, Result, Ok, Err}
 use Rattle.std.specs.declared.alloc.Global.{Global}
 use Rattle.std.specs.declared.vec.Vec.{Vec}
@@ -6,7 +6,7 @@ use Rattle.mg_engine.specs.Commands.{Answer, refused}
 use Rattle.mg_engine.specs.declared.fault.Fault.{Fault}
 use Rattle.mg_engine.specs.declared.fault.Fault.TheVariants.{Refused, NoMemory}
 
--- the body, or the refusal, is the answer's, unless memory was refused
+-- the body, or the refusal, makes this answer; true also where memory was refused
 abbrev pub Tells : Result (Vec ℕ Global) Fault → Answer → Type 0
 Tells (Ok body) a = a ≡ record { status = 200; body = body.items }
 Tells (Err (Refused x)) a = a ≡ refused x

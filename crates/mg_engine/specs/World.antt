@@ -11,6 +11,6 @@ pub record World : Type 0 where
   pub indexes : List IndexDefinition
   pub counter : ℕ
 
--- the world of a database of this name at first: no document, no index, and no number given
+-- the world of a new database of this name: no document, no index, and no number given
 abbrev pub empty_world : List ℕ → World
 empty_world name = record { name = name; docs = finite.empty; indexes = []; counter = 0 }

@@ -14,7 +14,7 @@ pub(crate) fn line(alloc: Global, value: &Json) -> Result<Vec<u8>, NoMemory>
     with_line_feed(text)
 }
 
-/// A text that was made, and a line feed behind it.
+/// Appends a line feed to a text.
 pub(crate) fn with_line_feed(text: Vec<u8>) -> Result<Vec<u8>, NoMemory>
     ensures { IfOk result (λ b. b.items ≡ text.items ++ 10 ∷ []) }
 {
@@ -23,7 +23,7 @@ pub(crate) fn with_line_feed(text: Vec<u8>) -> Result<Vec<u8>, NoMemory>
     Ok(line)
 }
 
-/// A copy of a text, and a line feed.
+/// Copies a text and appends a line feed.
 pub(crate) fn text_line(alloc: Global, text: &[u8]) -> Result<Vec<u8>, NoMemory>
     ensures { IfOk result (λ b. b.items ≡ text.now ++ 10 ∷ []) }
 {

@@ -1,4 +1,4 @@
-//! How the body of a bulk is read.
+//! Reads the body of a bulk.
 ghost use Rattle.std.specs.Prelude.{◌≡◌, codes, IfOk, is_some, option_map, string_bytes, true, if◌then◌else◌};
 ghost use Rattle.mg_value.specs.View.{view, items_view};
 ghost use Rattle.mg_doc.specs.Document.{is_object};
@@ -18,7 +18,7 @@ pub(crate) struct Bulk<'a> {
     pub(crate) documents: &'a [Json],
 }
 
-/// The bulk that a body is, if it has the shape of one.
+/// Reads a body as a bulk, without its edits. `None` if the body has another shape, or a document is not an object.
 pub(crate) fn read_bulk(body: &Json) -> Option<Bulk<'_>>
     ensures { option_map bulk_seen result ≡ bulk_of (view body.now) }
 {
@@ -70,7 +70,7 @@ fn is_object(value: &Json) -> bool
     }
 }
 
-/// The edits of documents, or the first fault of them.
+/// Reads the edit of each document, in order. The error is the first fault.
 pub(crate) fn read_edits(
     alloc: Global,
     new_edits: bool,
@@ -88,7 +88,7 @@ pub(crate) fn read_edits(
     Ok(edits)
 }
 
-/// The edits, of which the k-th without an id takes the k-th number after `last`, and the number that was given last.
+/// Gives the k-th edit without an id the k-th number after `last` as its id. Returns the edits, and the counter after them.
 pub(crate) fn numbered(
     alloc: Global,
     edits: Vec<Edit>,
@@ -107,7 +107,7 @@ pub(crate) fn numbered(
     Ok((found, number))
 }
 
-// The edit, with the number after `last` for an id where it has none, and the number that was given last.
+// Gives an edit without an id the number after `last` as its id. Returns the edit, and the counter after it.
 fn named(alloc: Global, edit: Edit, last: u64) -> Result<(Edit, u64), NoMemory>
     ensures edit { IfOk result (λ r. r.0 ≡ with_number (number_after last) edit) }
     ensures last { IfOk result (λ r. r.1 ≡ (if is_some edit.id then last else number_after last)) }
@@ -120,7 +120,7 @@ fn named(alloc: Global, edit: Edit, last: u64) -> Result<(Edit, u64), NoMemory>
     Ok((edit.with_id(id), number))
 }
 
-// A number as an id.
+// A number as an id: 16 zeros, then its 16 lowercase hexadecimal digits.
 fn number_text(alloc: Global, number: u64) -> Result<String, NoMemory>
     ensures { IfOk result (λ t. string_bytes t ≡ number_text number) }
 {

@@ -4,30 +4,29 @@ ghost use Rattle.mg_engine.specs.View.{asked};
 
 use mg_value::Json;
 
-/// What the engine is asked. The values are the bodies of requests.
+/// One command to the engine. Each `Json` is the body of a request.
 #[derive(Debug, Drop)]
 pub enum Command {
-    /// A bulk of edits: `{"docs":[..],"new_edits":..}`.
+    /// Applies a bulk of edits: `{"docs":[..],"new_edits":..}`.
     Bulk(Json),
-    /// An index to be created: `{"index":{"fields":[..]},"ddoc":..,"name":..}`.
+    /// Creates an index: `{"index":{"fields":[..]},"ddoc":..,"name":..}`.
     CreateIndex(Json),
-    /// An index to be dropped: its design document, with or without `_design/` in front, and its name.
+    /// Drops an index, by its design document, with or without `_design/` in front, and its name.
     DropIndex { ddoc: String, name: String },
-    /// The list of the indexes.
+    /// Lists the indexes.
     ListIndexes,
-    /// A query: `{"selector":{..},"fields":[..],"sort":[..],"limit":..,"skip":..,"bookmark":..,"use_index":..,"conflicts":..}`.
+    /// Answers a query: `{"selector":{..},"fields":[..],"sort":[..],"limit":..,"skip":..,"bookmark":..,"use_index":..,"conflicts":..}`.
     Find(Json),
-    /// A query that is to be explained: which index serves it, and which of its keys.
+    /// Explains a query: which index serves it, and which range of the index it looks at.
     Explain(Json),
-    /// The document of an id, with its conflicts where they are asked for.
+    /// Gets the document of an id, with its conflicts if `conflicts` is true.
     Get { id: String, conflicts: bool },
-    /// Another number of shards, from 1 to 64: `{"shards":..}`.
+    /// Changes the number of shards, which is 1 to 64: `{"shards":..}`.
     Reshard(Json),
 }
 
 impl Command {
-    /// Whether the command may change the database: a bulk, an index that is created or dropped, and another
-    /// number of shards. Takes no memory.
+    /// Whether the command is a write, that is, may change documents, indexes or the number of shards. Takes no memory.
     pub fn is_write(&self) -> bool
         ensures { result ≡ is_write (asked self.now) }
     {

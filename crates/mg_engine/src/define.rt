@@ -27,8 +27,9 @@ use std::sync::Arc;
 use std::thread::Threads;
 
 impl State {
-    /// The reply to an index that is to be created, and the next state, if the body defines one.
-    /// Cost: nothing more where the same definition stands; else each document, and its rows sorted.
+    /// Creates an index. Returns the reply, and the next state, or `None` if the body defines no index.
+    /// Cost: the number of shards and of indexes if the same definition is there already; otherwise each document, and the sorting of
+    /// its rows.
     pub(crate) fn create_index<R: Threads + Sync>(
         &self,
         rt: &R,
@@ -54,7 +55,7 @@ impl State {
         }
     }
 
-    // The reply to a definition, and the state with it.
+    // The reply to a definition, and the state that has it.
     fn define<R: Threads + Sync>(
         &self,
         rt: &R,
@@ -74,7 +75,7 @@ impl State {
         Ok((Reply::Full { status: 200, body }, next))
     }
 
-    // The state with a definition, which is as it was where the same one is there.
+    // The state with a definition. If the same definition is there already, the state is shared as it is.
     fn defined<R: Threads + Sync>(
         &self,
         rt: &R,
@@ -96,7 +97,7 @@ impl State {
         }
     }
 
-    // The state with an index, over all shards.
+    // The state with an index, which is built on all shards.
     fn with_index<R: Threads + Sync>(
         &self,
         rt: &R,
@@ -112,8 +113,8 @@ impl State {
         self.with_catalog(alloc, catalog, shards)
     }
 
-    /// The reply to an index that is to be dropped, and the next state, if there is such an index. Cost: the number of the shards
-    /// and of the indexes.
+    /// Drops an index. Returns the reply, and the next state, or `None` if there is no such index. Cost: the number of shards and of
+    /// indexes.
     pub(crate) fn drop_index(
         &self,
         alloc: Global,
@@ -135,7 +136,7 @@ impl State {
         Ok((Reply::Full { status: 200, body }, Some(next)))
     }
 
-    // The state without an index, over all shards.
+    // The state without an index, which is dropped from all shards.
     fn without_index(&self, alloc: Global, ddoc: &str, name: &str) -> Result<State, NoMemory>
         ensures { IfOk result (λ s. s ≡ state_without ddoc.now name.now self.now) }
     {
@@ -145,7 +146,7 @@ impl State {
         self.with_catalog(alloc, catalog, shards)
     }
 
-    /// The reply that lists the indexes, that of all documents first. Cost: their number.
+    /// The reply that lists the indexes, `_all_docs` first. Cost: their number.
     pub(crate) fn list_indexes(&self, alloc: Global) -> Result<Reply, NoMemory>
         ensures { IfOk result (λ r. (place : Placing) (w : World) → Holds place self.now w → said r ≡ Some (reply_of w list_indexes)) }
     {
@@ -162,7 +163,7 @@ fn has_index(catalog: &Catalog, ddoc: &str, name: &str) -> bool
     catalog.find(ddoc, name).is_some()
 }
 
-/// The body of a reply that tells no more than that the command is done.
+/// The body `{"ok":true}` and a line feed.
 pub(crate) fn done_line(alloc: Global) -> Result<Vec<u8>, NoMemory>
     ensures { IfOk result (λ b. b.items ≡ line_of done_value) }
 {
@@ -183,7 +184,7 @@ fn indexes_json(alloc: Global, definitions: &[IndexDef]) -> Result<Json, NoMemor
     Ok(indexes)
 }
 
-// The body of the reply to an index that was created, or was there.
+// The body of the reply to a definition: `exists` if the same one is `there` already, otherwise `created`.
 fn created_line(alloc: Global, definition: &IndexDef, there: bool) -> Result<Vec<u8>, NoMemory>
     ensures { IfOk result (λ b. b.items ≡ line_of (index_value definition.now (if there then codes "exists" else codes "created"))) }
 {
@@ -203,7 +204,7 @@ fn created_line(alloc: Global, definition: &IndexDef, there: bool) -> Result<Vec
     line(alloc, &created)
 }
 
-// All shards with an index.
+// Builds an index on all shards.
 fn all_with<R: Threads + Sync>(
     rt: &R,
     alloc: Global,
@@ -217,7 +218,7 @@ fn all_with<R: Threads + Sync>(
     shared(alloc, built)
 }
 
-/// Shards that can be shared. Cost: their number.
+/// Puts each shard into an `Arc`. Cost: their number.
 pub(crate) fn shared(alloc: Global, shards: Vec<Shard>) -> Result<Vec<Arc<Shard>>, NoMemory>
     ensures { IfOk result (λ v. shards_seen v.items ≡ shards.items) }
 {
@@ -228,7 +229,7 @@ pub(crate) fn shared(alloc: Global, shards: Vec<Shard>) -> Result<Vec<Arc<Shard>
     Ok(all)
 }
 
-// All shards without an index.
+// Drops an index from all shards.
 fn all_without(
     alloc: Global,
     shards: &[Arc<Shard>],
@@ -244,7 +245,7 @@ fn all_without(
     Ok(all)
 }
 
-// The definitions as they are listed, the index of all documents first.
+// The listed form of each definition, after that of `_all_docs`.
 fn all_listed(alloc: Global, definitions: &[IndexDef]) -> Result<Vec<Json>, NoMemory>
     ensures { IfOk result (λ v. map view v.items ≡ listed_all_docs ∷ map listed_of definitions.now) }
 {

@@ -1,4 +1,4 @@
-//! The edits of a bulk, each made on the shard on which the placement puts its document.
+//! Applies the edits of a bulk, each on the shard of its document.
 ghost use Rattle.std.specs.Prelude.{◌≡◌, ◌<◌, IfOk, OnOk, map, length};
 ghost use Rattle.mg_shard.specs.Dealt.{DraftsStandFor, ShardsStandFor};
 ghost use Rattle.mg_shard.specs.Edits.{after_edit, after_edits, id_in, outcome_in, outcomes};
@@ -18,16 +18,16 @@ use mg_value::NoMemory;
 use std::alloc::Global;
 use std::sync::Arc;
 
-/// What became of an edit that has an id, and that id.
+/// What became of an edit, with the edit's id.
 #[derive(Drop)]
 pub(crate) struct Outcome {
     pub(crate) id: String,
     pub(crate) reply: EditReply,
 }
 
-/// What became of edits that have ids and are made in order, and the shards that they leave. Their bodies are moved into these.
+/// Applies edits that have ids, in order. Returns what became of each, and the shards after them, into which the bodies are moved.
 ///
-/// Errors: `NoMemory` where a growth was refused. Cost: the edits, each with its document, and the number of the shards.
+/// Errors: `NoMemory` where a growth was refused. Cost: the edits, each with its document, and the number of shards.
 pub(crate) fn edited<P: Placement>(
     alloc: Global,
     placement: &P,
@@ -49,7 +49,7 @@ pub(crate) fn edited<P: Placement>(
     Ok((replies, finished(alloc, drafts, shards)?))
 }
 
-// The shards before the bulk touches a document.
+// A draft of each shard, in which no document is touched yet.
 fn drafts_of<'a>(alloc: Global, shards: &'a [Arc<Shard>]) -> Result<Vec<Draft<'a>>, NoMemory>
     ensures { IfOk result (λ v. v.items ≡ map fresh (shards_seen shards.now)) }
 {
@@ -60,7 +60,7 @@ fn drafts_of<'a>(alloc: Global, shards: &'a [Arc<Shard>]) -> Result<Vec<Draft<'a
     Ok(drafts)
 }
 
-// Makes edits in order, and says what became of each.
+// Applies edits in order, and returns what became of each.
 fn edit_all<P: Placement>(
     alloc: Global,
     placement: &P,
@@ -83,7 +83,7 @@ fn edit_all<P: Placement>(
     Ok(outcomes)
 }
 
-// Makes one edit, on the shard of its id.
+// Applies one edit, to the draft of its id's shard.
 fn edit_one<P: Placement>(
     alloc: Global,
     placement: &P,
@@ -107,7 +107,7 @@ fn edit_one<P: Placement>(
     Ok(Outcome { id, reply })
 }
 
-// The shards that drafts leave: of a draft that touched nothing the shard as it was.
+// Finishes the drafts of all shards. A shard whose draft touched no document is kept, and shared.
 fn finished(
     alloc: Global,
     drafts: Vec<Draft<'_>>,
@@ -124,7 +124,7 @@ fn finished(
     Ok(left)
 }
 
-// The shard that a draft of it leaves.
+// Finishes the draft of a shard. If it touched no document, the shard is kept, and shared.
 fn left_by(alloc: Global, draft: Draft<'_>, shard: &Arc<Shard>) -> Result<Arc<Shard>, NoMemory>
     requires { draft.shard ≡ arc_value shard.now }
     ensures { IfOk result (λ s. Leaves draft.entry (arc_value s)) }

@@ -20,8 +20,8 @@ use std::marker::Model;
 use std::sync::Arc;
 use std::thread::Threads;
 
-/// A database for one caller: documents, placed on shards, indexes over them, and the commands on these. What an engine holds is
-/// shared with the one that a write makes of it.
+/// A database for one caller: documents placed on shards, indexes over them, and the commands. An engine shares what it holds with
+/// the engine that a write makes from it.
 #[derive(Drop)]
 pub struct Engine<P> {
     placement: Arc<P>,
@@ -41,7 +41,7 @@ impl<P> Model for Engine<P> {
 }
 
 impl<P: Placement + Drop> Engine<P> {
-    /// A database of this name with no document, and 1 to 64 shards at the start, which a command may change.
+    /// Makes an empty database named `db`, with 1 to 64 shards. `Command::Reshard` can change their number later.
     ///
     /// Errors: `NoMemory` where a growth was refused. Cost: the number of shards, and the name.
     pub fn new(alloc: Global, db: &str, placement: P, shards: usize) -> Result<Engine<P>, NoMemory>
@@ -56,12 +56,13 @@ impl<P: Placement + Drop> Engine<P> {
         Ok(Engine { placement, state })
     }
 
-    /// Answers one command. Where memory is refused, nothing has changed.
+    /// Executes one command and returns its reply. Where memory is refused, nothing changes.
     ///
-    /// A bulk costs its edits, each with its document and its rows; a query costs its page, where an index serves it, and else the
-    /// documents that it looks at until the page is found; an index that is created, and another number of shards, cost each document.
-    /// Any number of workers, 1 to 32, gives the same reply. They are a most: a query that is not worth a second thread runs on the
-    /// caller's.
+    /// The number of workers, 1 to 32, does not change the reply. It is a maximum: a query that is not worth a second thread runs on
+    /// the thread of the caller.
+    ///
+    /// Cost: a bulk costs its edits, each with its document and its rows. A query costs its page if an index serves it, otherwise the
+    /// documents that it looks at until the page is found. A new index, or another number of shards, costs every document.
     pub fn step<R: Threads + Sync>(
         &mut self,
         rt: &R,
@@ -90,8 +91,8 @@ impl<P: Placement + Drop> Engine<P> {
         reply
     }
 
-    /// The reply to a command that reads, by as many workers as are given, for every gate, which a query passes: `ShardBegun` before a shard's first row is read and
-    /// `ShardDone` after its last. Cost: as of `step`.
+    /// Returns the reply to a read, with exactly `workers` workers, whatever the gate does. A query passes the gate at `ShardBegun` before
+    /// it reads the first row of a shard, and at `ShardDone` after the last. Cost: as of `step`.
     pub fn answer<R: Threads + Sync, G: Gate + Sync>(
         &self,
         rt: &R,
@@ -112,8 +113,8 @@ impl<P: Placement + Drop> Engine<P> {
         reply
     }
 
-    /// The reply to a command that reads, with at most so many workers: a query that is not worth a second thread runs on the
-    /// caller's. Cost: as of `step`.
+    /// Returns the reply to a read, with at most `workers` workers: a query that is not worth a second thread runs on the thread of the
+    /// caller. Cost: as of `step`.
     pub fn reply<R: Threads + Sync>(
         &self,
         rt: &R,
@@ -133,7 +134,7 @@ impl<P: Placement + Drop> Engine<P> {
         reply
     }
 
-    /// The reply to a write, and the engine that it leaves, which is there exactly for the statuses 200 and 201. This engine stays.
+    /// Returns the reply to a write, and the engine after it if the status is 200 or 201, otherwise `None`. `self` does not change.
     /// Cost: as of `step`.
     pub fn commit<R: Threads + Sync>(
         &self,
@@ -158,8 +159,8 @@ impl<P: Placement + Drop> Engine<P> {
         }
     }
 
-    /// Does what `commit` does, of a command that was prepared before: what its body says by itself is read already. Cost: as of
-    /// `step`, but for a bulk without the reading of its documents.
+    /// Does what `commit` does, for a command that `Prepared::of` has prepared. Cost: as of `step`, but without the reading of a
+    /// bulk's documents.
     pub fn commit_prepared<R: Threads + Sync>(
         &self,
         rt: &R,
@@ -205,10 +206,10 @@ impl<P: Placement + Drop> Engine<P> {
         self.state.whole_shards()
     }
 
-    /// Answers commands in order: the replies are those of a single thread that runs the commands whose reply is not
-    /// a want of memory.
+    /// Executes commands in order, and returns one reply for each. A command whose reply is `NoMemory` has changed nothing; the other
+    /// replies are those of a single thread that is given only the other commands.
     ///
-    /// Errors: `NoMemory` where the room for the replies was refused; then no command was run.
+    /// Errors: `NoMemory` where the room for the replies was refused; then no command was executed.
     pub fn run<R: Threads + Sync>(
         &mut self,
         rt: &R,

@@ -15,10 +15,10 @@ use mg_shard::EditReply;
 use mg_value::NoMemory;
 use std::alloc::Global;
 
-// The bytes that are asked for at first for each entry: the text of most fits.
+// Bytes reserved for each entry at first. Most entries fit.
 const ENTRY_ROOM: usize = 96;
 
-/// The line of the reply to a bulk: the entries of its edits, by what became of each, for those that are told of.
+/// The line of the reply to a bulk, with an entry for each edit that has one: if `new_edits` is false, only refused edits do.
 ///
 /// Errors: `NoMemory` where a growth was refused. Cost: the length of the line, in one buffer that grows.
 pub(crate) fn entries_line(
@@ -35,7 +35,7 @@ pub(crate) fn entries_line(
     Ok(with_line_feed(out.into_inner())?)
 }
 
-// Writes the entries, and the bracket behind them.
+// Writes the entries and the closing bracket.
 fn write_entries(
     alloc: Global,
     new_edits: bool,
@@ -52,7 +52,7 @@ fn write_entries(
     Ok(())
 }
 
-// Writes the entry of an edit, if it is told of, before those that are still to come.
+// Writes the entry of an edit, if it has one. In the contract `vs` are the entries that follow.
 fn write_entry(
     alloc: Global,
     new_edits: bool,

@@ -4,18 +4,18 @@ ghost use Rattle.mg_engine.specs.Commands.{Answer, Asked};
 ghost use Rattle.mg_engine.specs.Laws.{ReshardsChangeNoReply, ReshardsChangeNoWorld};
 ghost use Rattle.mg_engine.specs.Run.{kept, told};
 
-/// Where memory suffices, all commands are kept and all replies count.
+/// Where memory suffices, `kept` are all commands and `told` are all replies.
 pub fn where_memory_suffices()
     ensures kept { (cs : List Asked) (answers : List Answer) → length answers ≡ length cs → kept cs (map Some answers) ≡ cs }
     ensures told { (answers : List Answer) → told (map Some answers) ≡ answers }
 {}
 
-/// Reshards change no other reply: it is the one that is given where no reshard is asked for.
+/// Reshards change no other reply: every other command has the reply that it has without the reshards.
 pub fn reshards_change_no_reply()
     ensures { ReshardsChangeNoReply }
 {}
 
-/// Reshards leave the world that the other commands leave.
+/// Reshards do not change the world that the other commands leave.
 pub fn reshards_change_no_world()
     ensures { ReshardsChangeNoWorld }
 {}

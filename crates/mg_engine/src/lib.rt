@@ -1,4 +1,4 @@
-//! The engine: commands on documents, indexes and shards, answered as one thread would that keeps plain revision paths.
+//! The engine: executes commands on documents, indexes and shards. Its replies are those of one thread that keeps plain revision paths.
 #![tactic(auto)]
 
 mod body;

@@ -1,4 +1,4 @@
-//! Commands whose bodies were read before a state is asked.
+//! Commands whose bodies were read ahead, without a state.
 ghost use Rattle.std.specs.Prelude.{◌≡◌, IfOk};
 ghost use Rattle.mg_value.specs.View.{view};
 ghost use Rattle.mg_engine.specs.Commands.{bulk};
@@ -14,14 +14,14 @@ use mg_value::{Json, NoMemory};
 use std::alloc::Global;
 use std::marker::Model;
 
-/// What the body of a bulk says, whatever documents there are: its edits and whether they are new, or why it is refused.
+/// The body of a bulk, read without a state: its edits and whether they are new, or why it is refused.
 #[derive(Drop)]
 pub(crate) enum ReadBulk {
     Edits { new_edits: bool, edits: Vec<Edit> },
     Refused(Refusal),
 }
 
-/// A command of which was read what its body says by itself: the edits of a bulk. Contracts see it as what the command asks.
+/// A command, with the edits of its body if it is a bulk. Contracts see it as what the command asks.
 #[derive(Drop)]
 pub struct Prepared<'a> {
     pub(crate) command: &'a Command,
@@ -65,9 +65,9 @@ impl ReadBulk {
 }
 
 impl<'a> Prepared<'a> {
-    /// Reads of a command what its body says by itself. No engine is asked, so this needs no lock on one.
+    /// Reads the edits of a bulk ahead; of other commands it reads nothing. It needs no engine, and therefore no lock on one.
     ///
-    /// Errors: `NoMemory` where a growth was refused. Cost: of a bulk a copy of its documents, and of another command nothing.
+    /// Errors: `NoMemory` where a growth was refused. Cost: for a bulk a copy of its documents, otherwise nothing.
     pub fn of(alloc: Global, command: &'a Command) -> Result<Prepared<'a>, NoMemory>
         ensures { IfOk result (λ p. p ≡ asked command.now) }
     {

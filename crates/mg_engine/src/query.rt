@@ -1,4 +1,4 @@
-//! Queries, and how they would be answered.
+//! Queries and their explanations.
 ghost use Rattle.std.specs.Prelude.{◌≡◌, IfOk, Ok, Some};
 ghost use Rattle.mg_value.specs.View.{view};
 ghost use Rattle.mg_shard.specs.Dealt.{Placing, ShardsStandFor};
@@ -27,8 +27,8 @@ use std::sync::Arc;
 use std::thread::Threads;
 
 impl State {
-    /// The reply to a query: its page. Cost: the choice of the index; in each shard a look-up, and what is read until the page's rows are
-    /// found; the page.
+    /// The reply to a query: its page. Cost: the choice of the index; in each shard a look-up, and what it reads until the rows of the page
+    /// are found; the page.
     pub(crate) fn find<R: Threads + Sync, G: Gate + Sync>(
         &self,
         rt: &R,
@@ -52,7 +52,7 @@ impl State {
         Ok(reply)
     }
 
-    /// The reply to a query that is to be explained. Cost: the choice of the index, and the query.
+    /// The reply that explains a query. Cost: the choice of the index, and the query.
     pub(crate) fn explain(&self, alloc: Global, body: &Json) -> Result<Reply, NoMemory>
         ensures { IfOk result (λ r. (place : Placing) (w : World) → Holds place self.now w → said r ≡ Some (reply_of w (explain_command (view body.now)))) }
     {
@@ -62,7 +62,7 @@ impl State {
     }
 }
 
-// The line of a query's page, over the indexes of the catalog, which each shard has.
+// Reads a query and writes the line of its page. Each shard has the indexes of the catalog.
 fn page_line<R: Threads + Sync, G: Gate + Sync>(
     rt: &R,
     alloc: Global,
@@ -80,7 +80,7 @@ fn page_line<R: Threads + Sync, G: Gate + Sync>(
     answer_line(rt, alloc, catalog, shards, &query, workers, gate)
 }
 
-// The line of the page of a query that was read.
+// Writes the line of a query's page.
 fn answer_line<R: Threads + Sync, G: Gate + Sync>(
     rt: &R,
     alloc: Global,
@@ -103,7 +103,7 @@ fn answer_line<R: Threads + Sync, G: Gate + Sync>(
     }
 }
 
-// The line that explains a query in a database of this name, over the indexes of the catalog.
+// Reads a query and writes the line that explains it, for a database of this name and catalog.
 fn explained(alloc: Global, name: &str, catalog: &Catalog, body: &Json) -> Result<Vec<u8>, Fault>
     ensures { (w : World) → w.name ≡ name.now → w.indexes ≡ catalog.now → Tells result (explained_of w (query_of (view body.now))) }
 {
@@ -112,7 +112,7 @@ fn explained(alloc: Global, name: &str, catalog: &Catalog, body: &Json) -> Resul
     Ok(line(alloc, &value)?)
 }
 
-// The reply of this body, or of the refusal.
+// The reply with this body, or the refusal as a reply.
 fn told(alloc: Global, body: Result<Vec<u8>, Fault>) -> Result<Reply, NoMemory>
     ensures { IfOk result (λ r. (a : Answer) → Tells body a → said r ≡ Some a) }
 {

@@ -27,8 +27,8 @@ use std::alloc::Global;
 use std::sync::Arc;
 
 impl State {
-    /// The reply to a `GET` of a document: the placement, one look-up in one shard, and a copy of the text that is kept, or, where
-    /// conflicts are asked for, a copy of the document.
+    /// The reply to a `GET` of a document. Cost: the placement, one look-up in one shard, and a copy of the document's text, or of the
+    /// document if conflicts are asked for.
     pub(crate) fn get<P: Placement>(
         &self,
         alloc: Global,
@@ -85,7 +85,7 @@ fn conflicted_line(alloc: Global, form: &Part<'_>, tree: &RevTree) -> Result<Vec
     Ok(body)
 }
 
-// The line of a document that is served in this form, by the text that is kept of it.
+// The line of a document that is served in this form. Copies the document's text if it is kept.
 fn served_line(alloc: Global, document: &Document, form: &Part<'_>) -> Result<Vec<u8>, NoMemory>
     requires { form_of document.now ≡ Some form.now }
     ensures { IfOk result (λ b. b.items ≡ line_of form.now) }

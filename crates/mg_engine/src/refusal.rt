@@ -52,52 +52,52 @@ pub const BAD_HEAD: &str = "{\"error\":\"bad_head\",\"reason\":\"Bad request hea
 pub const CONFLICT_ERROR: &str = "conflict";
 /// The `reason` of an edit that is a conflict.
 pub const CONFLICT_REASON: &str = "Document update conflict.";
-/// The `error` of an edit that the history does not admit.
+/// The `error` of an edit whose revision history does not fit the document.
 pub const BAD_HISTORY_ERROR: &str = "bad_history";
-/// The `reason` of an edit that the history does not admit.
+/// The `reason` of an edit whose revision history does not fit the document.
 pub const BAD_HISTORY_REASON: &str = "Revision history does not fit the document.";
 
-/// Why a request is refused. The definitions write its texts out themselves (specs/Refusals.antt), and `body` is proved to give them;
-/// the constants above are the code's.
+/// Why a request is refused. The definitions write out the texts once more (specs/Refusals.antt), and `body`, which uses the constants
+/// above, is proved to return the same texts.
 #[derive(Clone, Copy, PartialEq, Eq, Debug, Drop)]
 pub enum Refusal {
-    /// The body is no JSON text, or has a number that is no 64-bit integer.
+    /// The body is not JSON, or has a number that is not a 64-bit integer.
     InvalidJson,
-    /// The body has another shape than the request takes.
+    /// The body does not have the shape that the request needs.
     WrongShape,
-    /// A selector has an operator that is not known.
+    /// A selector has an unknown operator.
     InvalidOperator,
     /// An operator of a selector has an argument that it does not take.
     BadArg,
-    /// The bookmark of a query is none, or one of another index or direction.
+    /// The bookmark of a query is malformed, or belongs to another index or direction.
     BadBookmark,
     /// A sort, or an index, has columns in both directions.
     MixedSort,
     /// No index serves the sort of a query.
     NoUsableIndex,
-    /// A document has a reserved member that is not known.
+    /// A document has an unknown reserved member, or a `_deleted` that is neither true nor false.
     BadMember,
-    /// A document has an id that is none.
+    /// The `_id` of a document is not a string, is empty, or begins with an underscore.
     BadId,
-    /// A document has a revision that is none, or has none where it needs one.
+    /// The `_rev` or `_revisions` of a document is malformed, or missing where it is required.
     BadRev,
-    /// There is no such document.
+    /// There is no such document, index or path.
     Missing,
     /// The document is deleted.
     Deleted,
     /// The target names another database.
     NoDatabase,
-    /// The path is one of a route, but not with this method.
+    /// The path matches a route, but the route has another method.
     MethodNotAllowed,
-    /// The head gives no length of the body where it has to, or asks for another framing.
+    /// The head has no `Content-Length` where it needs one, or it has a `Transfer-Encoding`.
     LengthRequired,
-    /// The body would be longer than one may be.
+    /// The body would be too long, or the database can count no more commits.
     TooLarge,
-    /// The head is longer than one may be, or has more fields.
+    /// The head is too long, or has too many fields.
     HeadTooLarge,
     /// A growth was refused.
     OutOfMemory,
-    /// The bytes begin with nothing that a head could be, or with a head whose lengths are none or differ.
+    /// The bytes cannot begin a head, or the head has a malformed `Content-Length` or two different ones.
     BadHead,
 }
 

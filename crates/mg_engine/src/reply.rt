@@ -8,7 +8,7 @@ use std::alloc::Global;
 /// The reply to a command.
 #[derive(Debug, Drop)]
 pub enum Reply {
-    /// A reply that was made whole: its status, and its body with the final line feed.
+    /// A complete reply: its status, and its body with the final line feed.
     Full { status: u16, body: Vec<u8> },
     /// A growth was refused; then nothing has changed.
     NoMemory,
@@ -17,7 +17,7 @@ pub enum Reply {
 impl Reply {
     ghost use Rattle.mg_engine.specs.View.{answer_in, said};
 
-    /// The status, 503 where memory was refused. Takes no memory.
+    /// The status: 503 where memory was refused. Takes no memory.
     pub fn status(&self) -> u16
         ensures { result ≡ (answer_in self.now).status }
     {
@@ -27,7 +27,7 @@ impl Reply {
         }
     }
 
-    /// The body with its final line feed, that of `out_of_memory` where memory was refused. Takes no memory.
+    /// The body with its final line feed: the body of `OutOfMemory` where memory was refused. Takes no memory.
     pub fn body(&self) -> &[u8]
         ensures { result.now ≡ (answer_in self.now).body }
     {

@@ -1,4 +1,4 @@
-//! Another number of shards.
+//! Changes the number of shards.
 ghost use Rattle.std.specs.Prelude.{◌≡◌, ◌<◌, IfOk, IfSome, List, Some, length, option_map, unwrap_or};
 ghost use Rattle.mg_value.specs.Value.{whole};
 ghost use Rattle.mg_value.specs.View.{view};
@@ -25,9 +25,9 @@ use std::sync::Arc;
 use std::thread::Threads;
 
 impl State {
-    /// The reply to a body that asks for a number of shards, and the next state, if that is whole and from 1 to 64; any other
-    /// body is refused as of the wrong shape. The documents, the indexes and the counter stay as they are. Cost: the shards, where
-    /// they are as many already; else each document, to its place, and its row in each index.
+    /// Deals the documents to the number of shards that the body asks for. Returns the reply, and the next state, or `None` if the body
+    /// does not ask for a whole number from 1 to 64: it is then refused as `WrongShape`. The documents, the indexes and the counter stay
+    /// as they are. Cost: the number of shards, if it does not change; otherwise each document, and its row in each index.
     pub(crate) fn reshard<P: Placement, R: Threads + Sync>(
         &self,
         rt: &R,
@@ -51,7 +51,7 @@ impl State {
         Ok((Reply::Full { status: 200, body }, Some(next)))
     }
 
-    // The state over so many shards, all of it shared where they are as many already.
+    // The state over `count` shards. If it has that many already, it is shared as it is.
     fn over_shards<P: Placement, R: Threads + Sync>(
         &self,
         rt: &R,
@@ -75,7 +75,7 @@ impl State {
     }
 }
 
-// So many shards with the documents of these, and the rows of the same indexes.
+// Deals the documents of these shards to `count` new ones, with the rows of the same indexes.
 fn dealt_anew<P: Placement, R: Threads + Sync>(
     rt: &R,
     alloc: Global,
@@ -96,7 +96,7 @@ fn dealt_anew<P: Placement, R: Threads + Sync>(
     Ok(shards)
 }
 
-// The number of shards that a body asks for, if it has the shape of one that does.
+// The number of shards that a body asks for in its member `shards`, if that is a whole number from 1 to 64.
 fn shards_asked(body: &Json) -> Option<usize>
     ensures asked { result ≡ shards_asked (view body.now) }
     ensures some { IfSome result (λ n. 0 < n) }
@@ -104,7 +104,7 @@ fn shards_asked(body: &Json) -> Option<usize>
     shard_number(body.member("shards"))
 }
 
-// The number of shards that a member asks for, if it is such a number.
+// The member `shards` as a number of shards, if it is a whole number from 1 to 64.
 fn shard_number(value: Option<&Json>) -> Option<usize>
     ensures asked { result ≡ shard_number (option_map (λ j. view j.now) value.entry) }
     ensures some { IfSome result (λ n. 0 < n) }
@@ -115,7 +115,7 @@ fn shard_number(value: Option<&Json>) -> Option<usize>
     }
 }
 
-// A whole number, if it is one from 1 to 64.
+// A whole number as a number of shards, if it is from 1 to 64.
 fn shards_within(count: i64) -> Option<usize>
     ensures asked { result ≡ shard_number (Some (whole count)) }
     ensures some { IfSome result (λ n. 0 < n) }

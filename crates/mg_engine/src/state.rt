@@ -40,7 +40,7 @@ impl Model for State {
 }
 
 impl State {
-    /// A database of this name, with shards that have no document, and no index. Cost: their number, and the name.
+    /// The state of an empty database: shards without a document, and no index. Cost: the number of shards, and the name.
     pub(crate) fn new(alloc: Global, name: &str, shards: usize) -> Result<State, NoMemory>
         requires { 0 < shards }
         ensures stands { IfOk result (λ s. (place : Placing) → Holds place s (empty_world name.now)) }
@@ -58,7 +58,7 @@ impl State {
         })
     }
 
-    /// The state with other shards, of the same indexes, and another number. Cost: none.
+    /// The state with these shards, which have the rows of its indexes, and this counter. Cost: constant.
     pub(crate) fn with_shards(
         &self,
         shards: Vec<Arc<Shard>>,
@@ -76,7 +76,7 @@ impl State {
         })
     }
 
-    /// The state with another catalog, and shards of its indexes. Cost: none.
+    /// The state with this catalog, and with these shards, which have the rows of its indexes. Cost: constant.
     pub(crate) fn with_catalog(
         &self,
         alloc: Global,
@@ -95,7 +95,7 @@ impl State {
         })
     }
 
-    /// The shards, each of which has the indexes of the catalog. Takes no memory.
+    /// The shards, each of which has the rows of exactly the indexes of the catalog. Takes no memory.
     pub(crate) fn whole_shards(&self) -> &[Arc<Shard>]
         ensures shards { shards_seen result.now ≡ self.now.shards }
         ensures rows { All (λ s. s.definitions ≡ self.now.catalog) (shards_seen result.now) }
@@ -103,7 +103,7 @@ impl State {
         &self.shards
     }
 
-    /// The same state, all of it shared. Cost: the number of the shards.
+    /// A second state that shares all parts of this one. Cost: the number of shards.
     pub(crate) fn share(&self, alloc: Global) -> Result<State, NoMemory>
         ensures { IfOk result (λ s. s ≡ self.now) }
     {
@@ -113,7 +113,7 @@ impl State {
     }
 }
 
-// So many shards without a document.
+// Makes shards without documents and indexes.
 fn empty_shards(alloc: Global, shards: usize) -> Result<Vec<Arc<Shard>>, NoMemory>
     ensures { IfOk result (λ v. shards_seen v.items ≡ replicate shards empty_shard) }
 {
@@ -124,7 +124,7 @@ fn empty_shards(alloc: Global, shards: usize) -> Result<Vec<Arc<Shard>>, NoMemor
     Ok(made)
 }
 
-// The same shards, all of them shared.
+// A second list that shares these shards.
 fn shares(alloc: Global, shards: &[Arc<Shard>]) -> Result<Vec<Arc<Shard>>, NoMemory>
     ensures { IfOk result (λ v. shards_seen v.items ≡ shards_seen shards.now) }
 {

@@ -1,4 +1,4 @@
-//! One command on a state.
+//! Executes one command on a state.
 ghost use Rattle.std.specs.Prelude.{◌≡◌, IfSome, None, false, length, true, unwrap_or};
 ghost use Rattle.mg_engine.specs.Commands.{is_write, shards_after};
 ghost use Rattle.mg_engine.specs.Run.{Answers};
@@ -18,8 +18,8 @@ use std::alloc::Global;
 use std::thread::Threads;
 
 impl State {
-    /// The reply to a command, made whole, and the next state, if the command is a write that is accepted. Where memory is refused,
-    /// there is none. A query passes the gate.
+    /// Executes a command. Returns the reply, and the next state if the command is a write and was accepted. Where memory is refused, there
+    /// is no next state. A query passes the gate.
     pub(crate) fn take<P: Placement, R: Threads + Sync, G: Gate + Sync>(
         &self,
         rt: &R,
@@ -48,7 +48,7 @@ impl State {
         }
     }
 
-    /// The same for a command that was prepared, and no gate.
+    /// Executes a prepared command as `take` does, without a gate.
     pub(crate) fn take_prepared<P: Placement, R: Threads + Sync>(
         &self,
         rt: &R,
@@ -71,7 +71,7 @@ impl State {
     }
 }
 
-// The reply of a write and what it leaves, or that memory was refused.
+// The reply to a write and the next state. Where memory was refused, the reply is `NoMemory`.
 fn settled(made: Result<(Reply, Option<State>), NoMemory>) -> (Reply, Option<State>)
     ensures { result ≡ settled_of made }
 {
@@ -81,7 +81,7 @@ fn settled(made: Result<(Reply, Option<State>), NoMemory>) -> (Reply, Option<Sta
     }
 }
 
-// A reply that leaves nothing, or that memory was refused.
+// The reply to a read, which leaves no state. Where memory was refused, the reply is `NoMemory`.
 fn told(made: Result<Reply, NoMemory>) -> (Reply, Option<State>)
     ensures { result ≡ (reply_made made, None) }
 {

@@ -1,4 +1,4 @@
-//! Bulks of edits, each with the state that it leaves.
+//! Executes bulks of edits.
 ghost use Rattle.std.specs.Prelude.{◌≡◌, IfOk, Some, true, length, unwrap_or};
 ghost use Rattle.mg_value.specs.View.{view};
 ghost use Rattle.mg_engine.specs.Commands.{Asked, bulk, edits_effect, next, reply_of};
@@ -21,7 +21,7 @@ use mg_value::{Json, NoMemory};
 use std::alloc::Global;
 
 impl State {
-    /// The reply to a bulk, and the next state, if the bulk is accepted. Cost: its documents.
+    /// Executes a bulk. Returns the reply, and the next state, or `None` if the bulk is refused. Cost: its documents.
     pub(crate) fn bulk<P: Placement>(
         &self,
         alloc: Global,
@@ -38,7 +38,7 @@ impl State {
         self.apply(alloc, placement, read)
     }
 
-    /// The same of a bulk whose body was read: the reply is to each command that is determined by what was read. Cost: its documents.
+    /// Executes a bulk whose body was read. The contract holds for every command that `read` determines. Cost: its documents.
     pub(crate) fn apply<P: Placement>(
         &self,
         alloc: Global,
@@ -59,7 +59,7 @@ impl State {
         }
     }
 
-    // The reply to edits, and the next state.
+    // Executes the edits of an accepted bulk. Returns the reply and the next state.
     fn accept<P: Placement>(
         &self,
         alloc: Global,

@@ -1,4 +1,4 @@
--- Snapshots may cross threads and be looked at by several, and seats may cross them, where the placement of documents may.
+-- Snapshots are `Send` and `Sync`, and seats are `Send`, if the placement of documents is `Send` and `Sync`.
 use denote.Builtin.{unit}
 use denote.Param.Send.{IsSend, IsSync, sendable, view_send, view_sync}
 use denote.Param.SendFields.{as_row_send, as_row_sync, declared_send, declared_sync}
@@ -119,7 +119,7 @@ module _ (D C P : RattleType) (d : database.Ghosts D.Denot) (l : ledger.Ghosts D
   shared_sync : IsSync (Shared.the_row D C P d l p b)
   shared_sync = declared_sync (Shared.the_type D C P d l p b) (named_sync D d l, (mutex_sync (Desk.the_row D C P b d l p) desk_send, tt))
 
-  -- a seat may cross threads where what ends its database may, and the placement of its documents
+  -- a seat is `Send` if what ends its database is `Send`, and the placement of its documents is `Send` and `Sync`
   pub seat_send_by : IsSend (Seat.the_row D C P d l p b)
   seat_send_by = view_send _ _ _ _ _ (declared_send (seat.the_type D C P d l p b) (
     search sendable depth 10,
@@ -140,10 +140,10 @@ module _ (D C P : RattleType) (d : database.Ghosts D.Denot) (l : ledger.Ghosts D
 
 -- ---- the program's seats
 
--- so may what ends a database, where its runtime may
+-- `Waiting` is `Send` if its runtime is
 pub waiting_send : (R : RattleType) → IsSend R → IsSend (Waiting.the_row R)
 waiting_send R s = declared_send (Waiting.the_type R) (as_row_send (row_field R) s, tt)
 
--- a seat over the program's placement may cross threads where what ends its database may
+-- a seat over the program's placement is `Send` if what ends its database is
 pub seat_send : (D C : RattleType) (d : database.Ghosts D.Denot) (l : ledger.Ghosts D.Denot) → IsSend C → IsSend (Seat.the_row D C Md5Placement.the_row d l md5.ghosts (absorb_of.ghosts Md5Placement.the_row))
 seat_send D C d l c = seat_send_by D C Md5Placement.the_row d l md5.ghosts (absorb_of.ghosts Md5Placement.the_row) c (search sendable depth 10) (search sendable depth 10)

@@ -1,4 +1,4 @@
--- Beginnings of one history.
+-- Prefixes of one commit log.
 use Rattle.std.proofs.lemmas.Bool.{leb-true, leb-false}
 use Rattle.std.proofs.lemmas.List.{get_or_read, map-append}
 use Rattle.std.proofs.Common.{Bool, true, false, leb, MatchBool, ◌<◌, ◌⊎◌, ◌+◌, ⊎_elim, inl, inr, subst, get_or, ◌≡◌, ℕ, ◌≤◌, List, [], ◌∷◌, length, refl, ap, sym, ◌∙◌, arith}
@@ -11,7 +11,7 @@ use Rattle.mg_machine.proofs.Beginnings.{itself}
 use Rattle.mg_live.specs.View.{commit_seen, commits_seen}
 use Rattle.mg_live.specs.declared.markers.Entry.{Entry}
 
--- of two beginnings of one list the shorter begins the longer
+-- of two prefixes of one list, the shorter is a prefix of the longer
 pub prefix_shorter : {A : Type 0} (xs ys zs : List A) → IsPrefix xs zs → IsPrefix ys zs → length xs ≤ length ys → IsPrefix xs ys
 prefix_shorter [] ys zs p q le = (ys, refl)
 prefix_shorter (x ∷ xs) [] zs p q le = absurd (omega arith)
@@ -21,7 +21,7 @@ prefix_shorter (x ∷ xs) (y ∷ ys) (z ∷ zs) p q le =
     let rest = prefix_shorter xs ys zs (p.0, cc (p.1)) (q.0, cc (q.1)) (omega arith) in
     (rest.0, cc (heads, rest.1))
 
--- a beginning as long as the whole is the whole
+-- a prefix as long as the whole is the whole
 pub prefix_whole : {A : Type 0} (xs ys : List A) → IsPrefix xs ys → length ys ≤ length xs → xs ≡ ys
 prefix_whole [] [] p le = refl
 prefix_whole [] (y ∷ ys) p le = absurd (omega arith)
@@ -29,15 +29,15 @@ prefix_whole (x ∷ xs) [] p le = absurd (cc (p.1))
 prefix_whole (x ∷ xs) (y ∷ ys) p le =
     let rest = prefix_whole xs ys (p.0, cc (p.1)) (omega arith) in cc (p.1, rest)
 
--- the commits of a beginning begin those of the whole
+-- the commits of a prefix are a prefix of the commits of the whole
 pub seen_begins : (xs ys : List Entry) → IsPrefix xs ys → Begins (commits_seen xs) (commits_seen ys)
 seen_begins xs ys p = (commits_seen p.0, sym (ap commits_seen p.1) ∙ map-append commit_seen xs p.0)
 
--- commits begin themselves
+-- commits are a prefix of themselves
 pub begins_itself : (cs : List Commit) → Begins cs cs
 begins_itself cs = itself cs
 
--- two beginnings of one list, compared by their lengths
+-- the lengths of two prefixes of one list decide which is a prefix of the other
 pub compared : (xs ys zs : List Entry) → IsPrefix xs zs → IsPrefix ys zs → (b : Bool) → leb (length xs) (length ys) ≡ b
     → MatchBool b (Begins (commits_seen xs) (commits_seen ys)) (Begins (commits_seen ys) (commits_seen xs))
 compared xs ys zs p q true is = seen_begins xs ys (prefix_shorter xs ys zs p q (leb-true (length xs) (length ys) is))

@@ -1,4 +1,4 @@
--- What is published, and what a write makes of it.
+-- What is published, and how a write changes it.
 use Rattle.std.proofs.Common.{◌≡◌, ◌≢◌, ℕ, ◌+◌, Bool, true, false, List, [], ◌∷◌, ◌++◌, inl, inr, Option, Some, None, length, refl, ap, sym, ◌∙◌, subst, arith}
 use Rattle.std.proofs.lemmas.List.{length-map, map-append}
 use Rattle.std.proofs.lemmas.Bool.Decides.{nat_tests}
@@ -26,7 +26,7 @@ use Rattle.mg_machine.proofs.Beginnings.{itself, two}
 
 -- ---- the same snapshot in another place
 
--- a point over the same engine after as many commits
+-- a point with the same engine and the same number of commits stands after the same commits
 same_point : {P : Type 0} {place : P → List ℕ → ℕ → ℕ} (name : List ℕ) (p q : Point P) (cs : List Commit) → IsAfter place name p cs → arc_value q.engine ≡ arc_value p.engine → q.commits ≡ p.commits → IsAfter place name q cs
 same_point name p q cs at engine commits = record {
   engine = rw engine at.engine;
@@ -47,7 +47,7 @@ stands_after book name opened s is = record { commits = refl; stands = is.after.
 
 -- ---- a write
 
--- whether its reply accepts it
+-- whether the reply to a write accepts it
 answered : (r : Reply) (a : Answer) (b : Bool) → said r ≡ Some a → accepts r ≡ b → is_accepted a ≡ b
 answered r a b is accepts = rw is at accepts
 
@@ -56,7 +56,7 @@ refused_write name cs seat c r is denied =
     let refuses : is_accepted (write_reply name cs c) ≡ false = answered r (write_reply name cs c) false is denied in
     rw is (refl, refuses)
 
--- where one is accepted, there is room for one commit more
+-- if a write is accepted, there is room for one more commit
 free : (name : List ℕ) (cs : List Commit) (c : Asked) → is_accepted (write_reply name cs c) ≡ true → are_full cs ≡ false
 free name cs c t = elim (two (are_full cs)) [
   | inl full ↦ absurd (let no : is_accepted (refused TooLarge) ≡ true = rw full at t in cc)
@@ -71,7 +71,7 @@ has_room name log c r is taken =
     let cs = commits_seen log in
     subst (λ (n : ℕ). n ≢ 18446744073709551615) (length-map log commit_seen) (room_for name cs c (answered r (write_reply name cs c) true is taken))
 
--- the commits after it
+-- the commits after an accepted write
 more : (log after : List Entry) (seat : ℕ) (c : Command) → after ≡ log ++ log_entry seat c ∷ [] → commits_seen after ≡ commits_seen log ++ (seat, asked c) ∷ []
 more log after seat c is = ap commits_seen is ∙ map-append commit_seen log (log_entry seat c ∷ [])
 
@@ -82,7 +82,7 @@ one_more name log after seat c r is taken added =
     let accepted : is_accepted (write_reply name cs (asked c)) ≡ true = answered r (write_reply name cs (asked c)) true is taken in
     rw is (refl, accepted, more log after seat c added)
 
--- the point after it
+-- the point after an accepted write
 pub there : {P : Type 0} {place : P → List ℕ → ℕ → ℕ} (name : List ℕ) (log after : List Entry) (seat : ℕ) (c : Command) (r : Reply) (p : Point P) → said r ≡ Some (write_reply name (commits_seen log) (asked c)) → accepts r ≡ true → after ≡ log ++ log_entry seat c ∷ []
     → IsAfter place name p (after_write name (commits_seen log) seat (asked c)) → IsAfter place name p (commits_seen after)
 there {place = place} name log after seat c r p is taken added at =
@@ -91,7 +91,7 @@ there {place = place} name log after seat c r p is taken added at =
     let now : IsAfter place name p (cs ++ (seat, asked c) ∷ []) = rw accepted at at in
     subst (λ (ds : List Commit). IsAfter place name p ds) (sym (more log after seat c added)) now
 
--- the shards after it
+-- the shards after an accepted write
 pub dealt : {P : Type 0} (name : List ℕ) (opened : ℕ) (log after : List Entry) (seat : ℕ) (c : Command) (r : Reply) (p : Point P) → said r ≡ Some (write_reply name (commits_seen log) (asked c)) → accepts r ≡ true → after ≡ log ++ log_entry seat c ∷ []
     → IsDealt opened p (after_write name (commits_seen log) seat (asked c)) → IsDealt opened p (commits_seen after)
 dealt name opened log after seat c r p is taken added at =
@@ -100,12 +100,12 @@ dealt name opened log after seat c r p is taken added at =
     let now : IsDealt opened p (cs ++ (seat, asked c) ∷ []) = rw accepted at at in
     subst (λ (ds : List Commit). IsDealt opened p ds) (sym (more log after seat c added)) now
 
--- the commits where there is a snapshot after it
+-- the commits after a write that leaves a snapshot
 pub added : (name : List ℕ) (cs : List Commit) (write : Commit) (o : Option Answer) (new : List Commit) → Nexts name cs write o (Some new) → new ≡ cs ++ write ∷ []
 added name cs write None new h = absurd h
 added name cs write (Some a) new h = h.2
 
--- what it does to the published commits, to what its seat has seen, and to the seat's tally
+-- what an accepted write does to the published commits, to what its seat has seen, and to the seat's tally
 pub published : (name : List ℕ) (write : Commit) (old new : Standing) (o : Option Answer) → IsPrefix old.seen old.published → Nexts name old.published write o (Some new.published) → new.seen ≡ new.published
     → new.tally ≡ old.tally + 1 → Publishes name write old o new
 published name write old new None later h seen tally = absurd h
@@ -113,7 +113,7 @@ published name write old new (Some a) later h seen tally =
     let yes : is_accepted (write_reply name old.published write.1) ≡ true = rw h.0 at h.1 in
     record { later = later; answer = h.0; published = rw yes h.2; seen = seen; tally = rw h.1 tally }
 
--- what a seat sees of it
+-- what a seat sees of a write
 pub wrote : (name : List ℕ) (old : Sitting) (cs : List Commit) (c : Asked) (o : Option Answer) (new : Standing) → Publishes name (old.number, c) (record { published = cs; seen = old.seen; tally = old.tally }) o new
     → Writes name old c o (record { number = old.number; seen = new.seen; tally = new.tally })
 wrote name old cs c None new p = ap (λ (s : Standing). record { number = old.number; seen = s.seen; tally = s.tally }) p

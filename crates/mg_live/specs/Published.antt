@@ -1,4 +1,4 @@
--- For private clauses: what a write makes of what is published.
+-- For private clauses: how a write changes what is published.
 use Rattle.std.specs.Prelude.{◌≡◌, ◌++◌, ◌∷◌, [], ℕ, List, true, false, Option, Some, None}
 use Rattle.mg_engine.specs.Commands.{Answer}
 use Rattle.mg_engine.specs.Settled.{is_accepted}
@@ -8,7 +8,7 @@ use Rattle.mg_live.specs.View.{commits_seen}
 use Rattle.mg_live.specs.Sitting.{tally_after}
 use Rattle.mg_live.specs.declared.history.Front.{Front}
 
--- the reply to a write after commits, and the commits after it where it is accepted
+-- the reply to a write after commits, and the commits after it if it is accepted
 abbrev pub Nexts : List ℕ → List Commit → Commit → Option Answer → Option (List Commit) → Type 0
 Nexts name cs write None None = Unit {0}
 Nexts name cs write None (Some new) = ⊥
@@ -24,8 +24,8 @@ pub record Standing : Type 0 where
 abbrev pub standing : List Commit → Front → ℕ → Standing
 standing cs front tally = record { published = cs; seen = commits_seen front.seen.log; tally = tally }
 
--- a write is answered after the published commits, which begin with what its seat had seen. Where it is accepted it is the last that
--- is published, and its seat's tally counts it
+-- a write is answered after the published commits, of which its seat had seen a prefix. If it is accepted, it is published as the last
+-- commit, and its seat's tally counts it
 pub record IsAnswered (name : List ℕ) (write : Commit) (old : Standing) (a : Answer) (new : Standing) : Type 0 where
   pub later : IsPrefix old.seen old.published
   pub answer : a ≡ write_reply name old.published write.1

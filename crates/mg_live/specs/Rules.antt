@@ -1,18 +1,18 @@
--- For private clauses: the rule of the history, and what its steps tell.
+-- For private clauses: the rule of the commit log, and what its steps show.
 use Rattle.std.specs.Prelude.{ℕ, ◌≡◌, ◌==◌, true, List, [], ◌∷◌, ◌++◌, length, MatchBool}
 use Rattle.logbook.specs.Pages.{Book, Cell, Named, Step, View}
 use Rattle.mg_engine.specs.declared.command.Command.{Command}
 use Rattle.mg_live.specs.declared.markers.Entry.{Entry}
 
--- the first word is the length of the history; a book has two words, of which this one leaves the second at 0
+-- the first word is the length of the commit log; a book has two words, and the second is not used and stays 0
 abbrev pub IsKept : List Cell → List Entry → Type 0
 IsKept cells log = cells ≡ (length log, true) ∷ (0, true) ∷ []
 
--- the word that counts
+-- the word that counts the entries
 abbrev pub head_of : Book → Named
 head_of b = record { tracked = true; key = 0; book = b }
 
--- the entry was added to all that had been seen; or the history was longer, and was seen
+-- the entry was added after all that had been seen; or the log was longer, and all of it has then been seen
 abbrev pub Adds : Step Entry → View Entry ℕ → ℕ → View Entry ℕ → Type 0
 Adds s v found w = MatchBool (found == s.old) (w.0 ≡ v.0 ++ s.ask ∷ []) (length w.0 ≡ found)
 

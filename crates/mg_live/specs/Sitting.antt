@@ -1,4 +1,4 @@
--- What the calls of a seat do, by what clauses see of seats: the number, the commits that were seen, and the tally of those that were made.
+-- What the calls of a seat do. Clauses see the seat's number, the commits that it has seen, and how many commits it has made.
 use Rattle.std.specs.Prelude.{◌≡◌, ◌+◌, ℕ, zero, suc, List, [], ◌∷◌, ◌++◌, All, Any, ◌<◌, length, Option, Some, None, MatchBool, if◌then◌else◌, refl}
 use Rattle.std.specs.Coded.{Coded, code_by, coded×, coded_ℕ}
 use Rattle.std.specs.List.{sum_by}
@@ -21,7 +21,7 @@ sitting_code = code_by (ℕ × (List Commit × ℕ)) (coded× coded_ℕ (coded×
 abbrev pub at_first : ℕ → Sitting
 at_first n = record { number = n; seen = []; tally = 0 }
 
--- so many of them, which are numbered from 0
+-- this many new seats, which are numbered from 0
 abbrev pub new_seats : ℕ → List Sitting
 new_seats zero = []
 new_seats (suc n) = new_seats n ++ at_first n ∷ []
@@ -34,7 +34,7 @@ pub record IsLater (old new : Sitting) : Type 0 where
 
 -- ---- reading
 
--- the seat looks, and is answered by what it has then seen; or memory was refused
+-- the seat may see more commits, and the reply is right after those that it has then seen; or memory was refused
 abbrev pub Reads : List ℕ → Sitting → Asked → Option Answer → Sitting → Type 0
 Reads name old c None new = IsLater old new
 Reads name old c (Some a) new = IsLater old new × (a ≡ reply_of (world_of name new.seen) c)
@@ -45,8 +45,8 @@ Reads name old c (Some a) new = IsLater old new × (a ≡ reply_of (world_of nam
 abbrev pub tally_after : ℕ → Answer → ℕ
 tally_after tally a = if is_accepted a then tally + 1 else tally
 
--- There is a list of commits, which begins with what the seat had seen, after which the write is answered. The seat has then seen
--- that list, with its commit at the end where that was accepted, which its tally counts.
+-- the write is answered after a list of commits, of which the seat had seen a prefix. The seat has then seen this list and, if the write
+-- was accepted, the write as its last commit, which the seat's tally counts
 pub record Written (name : List ℕ) (old : Sitting) (c : Asked) (a : Answer) (new : Sitting) : Type 0 where
   pub commits : List Commit
   pub later : IsPrefix old.seen commits
@@ -60,15 +60,15 @@ abbrev pub Writes : List ℕ → Sitting → Asked → Option Answer → Sitting
 Writes name old c None new = new ≡ old
 Writes name old c (Some a) new = Written name old c a new
 
--- ---- both
+-- ---- reading or writing
 
--- the command decides what is done
+-- a write is answered as by `Writes`, any other command as by `Reads`
 abbrev pub Answered : List ℕ → Sitting → Asked → Option Answer → Sitting → Type 0
 Answered name old c o new = MatchBool (is_write c) (Writes name old c o new) (Reads name old c o new)
 
--- ---- telling
+-- ---- learning
 
--- the seat has learned a list of commits: it has then seen the longer of both, with which both begin
+-- the seat has learned a list of commits: it has then seen the longer of both lists, and both are prefixes of it
 pub record Told (old : Sitting) (heard : List Commit) (new : Sitting) : Type 0 where
   pub longer : new.seen ≡ longer_of old.seen heard
   pub own : IsPrefix old.seen new.seen
@@ -82,11 +82,11 @@ pub record Told (old : Sitting) (heard : List Commit) (new : Sitting) : Type 0 w
 abbrev pub all_tallies : List Sitting → ℕ
 all_tallies seats = sum_by (λ s. s.tally) seats
 
--- some seat has seen more commits than so many
+-- some seat has seen more than `made` commits
 abbrev pub IsAhead : List Sitting → ℕ → Type 0
 IsAhead seats made = Any (λ s. made < length s.seen) seats
 
--- the commits of all seats: what each has seen begins them, and their number is the sum of the tallies
+-- the commits of all seats: what each seat has seen is a prefix of them, and their number is the sum of the tallies
 pub record AreAll (commits : List Commit) (seats : List Sitting) (n : ℕ) : Type 0 where
   pub begin : All (λ s. IsPrefix s.seen commits) seats
   pub number : n ≡ length commits

@@ -12,19 +12,19 @@ use Rattle.mg_live.specs.declared.snapshot.Snapshot.{Snapshot}
 abbrev pub commits_of : {P : Type 0} → Snapshot P → List Commit
 commits_of s = commits_seen s.front.seen.log
 
--- what its engine holds
+-- what a snapshot's engine holds
 abbrev pub shown_of : {P : Type 0} → Snapshot P → Shown
 shown_of s = (arc_value s.point.engine).1
 
--- a snapshot of a history, and of a database of this name, whose documents are placed by `place` and which was opened with so many
+-- a snapshot of the database with this commit log and name, whose documents are placed by `place` and which was opened with `opened`
 -- shards: its point stands after its commits
 pub record IsOf {P : Type 0} (place : P → List ℕ → ℕ → ℕ) (history : Book) (name : List ℕ) (opened : ℕ) (s : Snapshot P) : Type 0 where
   pub book : s.front.seen.book ≡ history
   pub after : IsAfter place name s.point (commits_of s)
   pub dealt : IsDealt opened s.point (commits_of s)
 
--- a snapshot of a database of this name, whose documents are placed by `place` and which was opened with so many shards, after these
--- commits: it stands for the world that they leave, over as many shards as the last of them asked for
+-- a snapshot, after these commits, of a database of this name, whose documents are placed by `place` and which was opened with `opened`
+-- shards: it stands for the world that the commits leave, with the number of shards that they leave
 pub record StandsAfter {P : Type 0} (place : P → List ℕ → ℕ → ℕ) (name : List ℕ) (opened : ℕ) (s : Snapshot P) (cs : List Commit) : Type 0 where
   pub commits : commits_of s ≡ cs
   pub stands : Stands place (arc_value s.point.engine) (world_of name cs)

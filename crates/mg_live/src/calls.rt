@@ -1,4 +1,4 @@
-//! The calls of a seat, each for one kind of command.
+//! The calls of a seat, one for each kind of command.
 ghost use Rattle.std.specs.Prelude.{◌≤◌};
 ghost use Rattle.mg_value.specs.View.{view};
 ghost use Rattle.mg_engine.specs.Commands.{bulk, create_index, drop_index, explain, find, get, list_indexes, reshard};
@@ -16,7 +16,7 @@ use mg_value::Json;
 use std::sync::Wait;
 use std::thread::Threads;
 
-// Each is answered as `Seat::answer` answers the command.
+// Each call is answered as `Seat::answer` answers its command.
 impl<D: Database, C: Ends, P: Placement + Drop> Seat<D, C, P>
 where
     Snapshot<P>: Absorb<(), State = ()>,
@@ -33,8 +33,8 @@ where
         }
     }
 
-    /// The same, for every gate: it passes `Snapshot` right after its snapshot, and then what the engine's query passes. From its
-    /// snapshot on it holds no lock.
+    /// The page of a query, by exactly `workers` workers, 1 to 32, whatever the gate does. It passes the gate at `Snapshot` right after it
+    /// has its snapshot, and then where the engine's query passes it. It holds no lock once it has its snapshot.
     pub fn find_with<R: Threads + Sync, G: Gate + Sync>(
         &mut self,
         rt: &R,
@@ -52,7 +52,7 @@ where
         }
     }
 
-    /// Which index serves a query, and which of its keys.
+    /// Explains a query: which index serves it, and which range of the index it looks at.
     pub fn explain<R: Threads + Sync>(&mut self, rt: &R, body: &Json) -> Reply
         ensures { Answered D.db self.old (explain (view body.now)) (said result) self.new }
     {
@@ -69,7 +69,7 @@ where
         self.reply(rt, &Command::ListIndexes, 1)
     }
 
-    /// The document of an id, with its conflicts where they are asked for.
+    /// The document of an id, with its conflicts if `conflicts` is true.
     pub fn get<R: Threads + Sync>(&mut self, rt: &R, id: &str, conflicts: bool) -> Reply
         ensures { Answered D.db self.old (get id.now conflicts) (said result) self.new }
     {
@@ -79,7 +79,7 @@ where
         }
     }
 
-    /// Applies a bulk of edits, by 1 to 32 workers.
+    /// Applies a bulk of edits, on the thread of the caller. `workers` is 1 to 32 and has no effect.
     pub fn bulk<R: Wait + Threads + Sync>(&mut self, rt: &R, body: &Json, workers: usize) -> Reply
         requires some { 1 ≤ workers }
         requires most { workers ≤ 32 }
@@ -108,7 +108,7 @@ where
         }
     }
 
-    /// Drops the index of a design document and a name, by 1 to 32 workers.
+    /// Drops the index of a design document and a name, on the thread of the caller. `workers` is 1 to 32 and has no effect.
     pub fn drop_index<R: Wait + Threads + Sync>(
         &mut self,
         rt: &R,
@@ -129,7 +129,7 @@ where
         }
     }
 
-    /// Deals the documents to another number of shards, by 1 to 32 workers. No other reply changes.
+    /// Deals the documents to another number of shards, by 1 to 32 workers. This changes no other reply.
     pub fn reshard<R: Wait + Threads + Sync>(
         &mut self,
         rt: &R,

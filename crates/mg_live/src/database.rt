@@ -1,4 +1,4 @@
-//! Which database it is, and what ends it.
+//! Which database a seat belongs to, for contracts, and what ends a database.
 use crate::published::Writes;
 use crate::snapshot::Snapshot;
 use left_right::Absorb;
@@ -7,14 +7,14 @@ use std::marker::Brand;
 use std::sync::Wait;
 use std::sync::ledger::Ledger;
 
-/// Which database it is: its name, the number of shards that it is opened with, the history of its commits, and the ledger of its
-/// tallies. A function over it is called with
-/// `Brand`, where a proof picks it; such a function takes and gives no `&str` itself.
+/// A database as contracts name it: its name, the number of shards that it is opened with, its commit log, and the ledger of its
+/// tallies. A function that is generic over it is called with `Brand`, and the proof of the call picks the database. Such a function
+/// itself neither takes nor returns a `&str`.
 pub trait Database: Ledger {
     ghost use Rattle.logbook.specs.Pages.{Book};
     ghost use Rattle.std.specs.Prelude.{ℕ, List};
 
-    // the history of its commits
+    // its commit log
     ghost history: { Book };
 
     // its name
@@ -34,9 +34,9 @@ impl Database for Brand {
     ghost shards = { 0 };
 }
 
-/// What ends the writer of a database that is let go.
+/// What ends the writer of a database that is dropped.
 pub trait Ends: Drop {
-    /// Ends it, and may wait for readers.
+    /// Ends the writer. May wait for readers.
     fn end<D: Database, P: Placement + Drop>(&self, writer: Writes<D, P>)
     where
         Snapshot<P>: Absorb<(), State = ()>;

@@ -1,4 +1,4 @@
-//! What lies under the lock: the writer, whose published commits are the history, and the book of the tallies that count them.
+//! The desk, which lies under the lock: the writer, which publishes all commits, and the book of the tallies that count them.
 ghost use Rattle.std.specs.Prelude.{◌≡◌, ◌≤◌, true, [], length, MatchBool};
 ghost use Rattle.mg_engine.specs.Commands.{is_write};
 ghost use Rattle.mg_engine.specs.View.{asked, said};
@@ -22,7 +22,7 @@ use std::sync::Wait;
 use std::sync::ledger::{Book, Share};
 use std::thread::Threads;
 
-/// Contracts see it as the published commits.
+/// What a write needs: the writer, the book of the tallies, and what ends the database. Contracts see the published commits.
 pub struct Desk<D: Database, C: Ends, P: Placement + Drop>
 where
     Snapshot<P>: Absorb<(), State = ()>,
@@ -79,9 +79,10 @@ where
         Desk { writer, book, ends }
     }
 
-    // A write of a seat, which then has seen what is published. Where it is accepted it is published, in one step, and its seat's
-    // tally counts it. What takes memory comes before the commit is in the history, and nothing after that can fail. The snapshot that is
-    // let go comes back with the reply, so that this need not happen under the lock.
+    // Executes a write of a seat, after all published commits, and returns its reply. If it is accepted, it is published in one step,
+    // and the seat's tally counts it. Unless memory was refused, the seat has then seen what is published. All memory is taken before the
+    // commit is in the commit log, and nothing after that can fail. The snapshot that is replaced comes back with the reply, so that the
+    // caller can drop it without the lock.
     pub(crate) fn write<R: Wait + Threads + Sync>(
         &mut self,
         rt: &R,
@@ -119,7 +120,7 @@ where
         (reply, Some(before))
     }
 
-    // A seat sees what is published. False where it is ahead.
+    // Lets a seat catch up with what is published. Returns false, and changes nothing, if the seat is ahead of it.
     pub(crate) fn tell(&self, front: &mut Front) -> bool
         requires { front.old.seen.book ≡ D.history }
         ensures here { front.new.seen.book ≡ D.history }
@@ -134,8 +135,8 @@ where
         true
     }
 
-    // The number of commits, for whoever has all parts of the ledger: what these count. The published list begins with whatever was
-    // seen that is no longer than this.
+    // The number of commits, which is what all parts of the ledger count. A list that was seen, and is not longer than this number, is a
+    // prefix of the published list.
     pub(crate) fn settle(&mut self, all: &mut Share<D>, seen: &Front) -> u64
         requires parts { all.old.parts ≡ D.parts }
         requires here { seen.now.seen.book ≡ D.history }

@@ -1,4 +1,4 @@
-//! The history of a database: its commits, each added in one step. It takes no memory but its length.
+//! The commit log of a database: its commits, each added in one step. In memory there is only its length; contracts see the entries.
 ghost use Rattle.std.specs.Prelude.{◌≡◌, ◌≢◌, ◌≤◌, ◌<◌, ◌++◌, ℕ, ◌∷◌, [], length, MatchBool, IfSome};
 ghost use Rattle.mg_machine.specs.Laws.{IsPrefix};
 ghost use Rattle.mg_live.specs.Rules.{head_of, log_entry};
@@ -9,7 +9,7 @@ use logbook::{Offer, Seen, Start, Word};
 use mg_engine::Command;
 use std::marker::Model;
 
-/// A write that a seat asks for, with so many workers.
+/// A write that a seat asks for, with its number of workers.
 #[derive(Clone, Copy)]
 pub(crate) struct Write<'a> {
     pub(crate) seat: usize,
@@ -17,13 +17,13 @@ pub(crate) struct Write<'a> {
     pub(crate) workers: usize,
 }
 
-/// The word that counts the entries.
+/// The word in memory that counts the entries of the commit log.
 #[derive(Drop)]
 pub struct Head {
     word: Word<Entry, u64, Law>,
 }
 
-/// A beginning of the history that was seen.
+/// A prefix of the commit log that was seen.
 #[derive(Drop)]
 pub struct Front {
     count: u64,
@@ -31,7 +31,7 @@ pub struct Front {
     ghost counted: { count ≡ length seen.log },
 }
 
-/// A new history, which is empty. It takes no memory.
+/// A new, empty commit log.
 #[derive(Drop)]
 pub struct History {
     pub(crate) head: Head,
@@ -52,7 +52,7 @@ impl Model for History {
 }
 
 impl History {
-    /// A history of no database yet.
+    /// Makes an empty commit log, which belongs to no database yet.
     pub fn new() -> History {
         let (seen, mut first, _second) = Seen::open(Start::alone(), 0, 0);
         let word = Word::tracked(0, &mut first);
@@ -62,7 +62,7 @@ impl History {
         }
     }
 
-    // Its word, and its beginning without an entry.
+    // The word of the log, and its empty prefix.
     pub(crate) fn parts(self) -> (Head, Front)
         ensures head { result.0.word ≡ head_of self }
         ensures front { (result.1.seen.book ≡ self) × (result.1.seen.log ≡ []) }
@@ -80,7 +80,7 @@ impl Front {
         self.count
     }
 
-    /// The same once more.
+    /// A copy of this prefix.
     pub(crate) fn again(&self) -> Front
         ensures { result ≡ self.now }
     {
@@ -90,7 +90,7 @@ impl Front {
         }
     }
 
-    /// Whether this beginning is no longer than the other. The shorter of two begins the longer.
+    /// Whether this prefix is not longer than the other. The shorter of two prefixes of one log is a prefix of the longer.
     pub(crate) fn begins(&self, other: &Front) -> bool
         requires { self.now.seen.book ≡ other.now.seen.book }
         ensures begins { MatchBool result
@@ -105,7 +105,7 @@ impl Front {
         self.count <= other.count
     }
 
-    /// The longer of two, with which both begin.
+    /// The longer of two prefixes of one log. Both are prefixes of it.
     #[tactic(auto, using(crate::proofs::Fronts::begins_itself))]
     pub(crate) fn longer(self, other: &Front) -> Front
         requires { self.seen.book ≡ other.now.seen.book }
@@ -121,7 +121,7 @@ impl Front {
         self
     }
 
-    /// The beginning with one more commit, which the history then has. None where the history is longer.
+    /// Adds a commit to the log right after this prefix. Returns the prefix with the commit, or `None` if the log is longer.
     pub(crate) fn with(&self, head: &Head, write: &Write<'_>) -> Option<Front>
         requires head { head.now.word ≡ head_of self.now.seen.book }
         requires room { length self.now.seen.log ≢ 18446744073709551615 }

@@ -74,7 +74,7 @@ pub enum CloseError {
     Ahead,
 }
 
-// What a database begins with: what its seats share, what makes their readers, what they have seen, and all parts of the ledger.
+// What a new database has: what its seats share, what makes their readers, what they have seen, and all parts of the ledger.
 struct Start<D: Database, C: Ends, P: Placement + Drop>
 where
     Snapshot<P>: Absorb<(), State = ()>,
@@ -94,7 +94,7 @@ impl Closed {
     }
 }
 
-// What a database of this name begins with.
+// Makes what a new database of this name has.
 fn begin<D: Database, C: Ends, P: Placement + Drop>(
     ends: C,
     alloc: Global,
@@ -141,7 +141,7 @@ where
     })
 }
 
-// How many commits the seats have made together, each no more than a u64 counts.
+// How many commits the seats have made together. Each tally is a u64, so the sum does not overflow.
 fn all_made<D: Database, C: Ends, P: Placement + Drop>(seats: &[Seat<D, C, P>]) -> u128
 where
     Snapshot<P>: Absorb<(), State = ()>,
@@ -154,7 +154,7 @@ where
     made
 }
 
-// Whether a seat has seen more commits than this.
+// Whether a seat has seen more than `made` commits.
 fn is_ahead<D: Database, C: Ends, P: Placement + Drop>(seats: &[Seat<D, C, P>], made: u128) -> bool
 where
     Snapshot<P>: Absorb<(), State = ()>,
@@ -168,7 +168,7 @@ where
     false
 }
 
-// What the seats have seen together: the longest of their lists, with which all others begin.
+// The longest of the lists that the seats have seen. All others are prefixes of it.
 fn longest<D: Database, C: Ends, P: Placement + Drop>(
     first: &Front,
     seats: &[Seat<D, C, P>],
@@ -189,7 +189,7 @@ where
     longest
 }
 
-// Joins the parts of all seats.
+// Joins the parts of the ledger that all seats have.
 fn join_all<D: Database, C: Ends, P: Placement + Drop>(
     rest: Share<D>,
     seats: Vec<Seat<D, C, P>>,
@@ -212,8 +212,8 @@ impl<D: Database, C: Ends, P: Placement + Drop> Live<D, C, P>
 where
     Snapshot<P>: Absorb<(), State = ()>,
 {
-    /// Opens an empty database of this name, over this number of shards, 1 to 64, on which `placement` places its documents, and with
-    /// 1 to 16 seats, which are numbered from 0. The ledger has a part for each seat. `ends` ends the database once all of it was let go.
+    /// Opens an empty database named `db`, with 1 to 64 shards, on which `placement` places the documents, and 1 to 16 seats, which are
+    /// numbered from 0. The ledger has one part for each seat. `ends` ends the database once this `Live` and all seats are dropped.
     ///
     /// Errors: `NoMemory` where a growth was refused. Cost: the number of shards and of seats, and the name.
     pub fn open(
@@ -264,10 +264,10 @@ where
         Ok((live, each))
     }
 
-    /// Closes the database, once all seats were given back.
+    /// Closes the database. All its seats must be given back.
     ///
-    /// Errors, with all that was given: `Missing` where a seat is absent, and `Ahead` where one has seen more commits than all
-    /// seats have made.
+    /// Errors: `Missing` where a seat is absent, and `Ahead` where a seat has seen more commits than all seats have made. The error
+    /// returns the database and the seats.
     pub fn close<R: Wait>(
         self,
         rt: &R,

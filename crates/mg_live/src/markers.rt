@@ -1,4 +1,4 @@
-//! Markers, of which no value is made: types that name rules and steps for proofs.
+//! Markers: types of which no value is made. They name rules and steps for proofs.
 use crate::database::Database;
 use crate::history::Write;
 use crate::snapshot::Snapshot;
@@ -8,15 +8,15 @@ use mg_engine::Command;
 use mg_shard::Placement;
 use std::marker::PhantomData;
 
-// ---- the history
+// ---- the commit log
 
-/// An entry of the history: the seat that made the commit, and its command.
+/// An entry of the commit log: the seat that made the commit, and its command.
 pub struct Entry {
     pub seat: usize,
     pub command: Command,
 }
 
-/// The rule of the history.
+/// The rule of the commit log.
 pub struct Law;
 
 impl Rule<Entry, u64> for Law {
@@ -37,7 +37,7 @@ impl Rule<Entry, u64> for Law {
     ghost moves = { λ ask before after answer. Unit {0} };
 }
 
-/// Seats trade nothing.
+/// A seat gains nothing from a step.
 pub(crate) struct Nothing;
 
 impl Gain<Entry, u64> for Nothing {

@@ -1,4 +1,4 @@
-//! What is published: a snapshot, which readers take without a lock, and one writer replaces.
+//! The published snapshot: readers take it without a lock, and one writer replaces it.
 ghost use Rattle.std.specs.Prelude.{◌≡◌, IfOk};
 ghost use Rattle.mg_live.specs.Snapshots.{IsOf};
 
@@ -13,8 +13,8 @@ use mg_shard::Placement;
 use std::alloc::AllocError;
 use std::sync::Wait;
 
-// No operation is ever given to the writer, since a snapshot replaces a copy as a whole. Every snapshot meets this bound; the types
-// that hold a writer repeat it, since the prover looks for no impl of a generic type there.
+// The writer never gets an operation, since a snapshot replaces a copy as a whole. Every snapshot meets this bound. Types that hold a
+// writer repeat it, since the prover does not look for the impl of a generic type there.
 impl<P> Absorb<()> for Snapshot<P> {
     type State = ();
 
@@ -27,14 +27,14 @@ impl<P> Absorb<()> for Snapshot<P> {
     }
 }
 
-/// Reads what is published.
+/// Reads the published snapshot.
 pub(crate) type Reads<D, P> = Reader<Snapshot<P>, (), Ours<D, P>>;
 
-/// Publishes.
+/// Replaces the published snapshot.
 pub type Writes<D, P> = Writer<Snapshot<P>, (), (), Ours<D, P>>;
 
-/// Publishes a snapshot, in one step, which takes no memory and cannot fail. It waits for the readers that still look at the copy
-/// that the snapshot replaces, and gives that one back: to let it go may cost as much as it holds alone.
+/// Publishes a snapshot in one step, which takes no memory and cannot fail. It waits for the readers that still look at the copy that
+/// the snapshot replaces, and returns this copy: dropping it may cost as much as what it alone holds.
 pub(crate) fn publish<D: Database, P: Placement + Drop, R: Wait>(
     rt: &R,
     writer: &mut Writes<D, P>,
@@ -50,7 +50,7 @@ where
     })
 }
 
-// The same, for a writer that is given and given back.
+// Does what `publish` does, for a writer that is moved in and returned.
 fn show<D: Database, P: Placement + Drop, R: Wait>(
     rt: &R,
     writer: Writes<D, P>,
@@ -68,7 +68,7 @@ where
     (writer, before)
 }
 
-/// What is published now. It waits for nobody.
+/// A copy of the snapshot that is published now. It waits for nobody.
 pub(crate) fn look<D: Database, P: Placement + Drop>(
     reader: Reads<D, P>,
 ) -> (Reads<D, P>, Result<Snapshot<P>, AllocError>)

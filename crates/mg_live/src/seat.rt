@@ -1,4 +1,4 @@
-//! Seats: at each a session reads and writes.
+//! Seats: at each seat a session reads and writes.
 ghost use Rattle.std.specs.Prelude.{◌≡◌, ◌≤◌, true, false, IfOk, OnErr, OnOk};
 ghost use Rattle.mg_engine.specs.Commands.{is_write};
 ghost use Rattle.mg_engine.specs.View.{asked, said};
@@ -22,7 +22,7 @@ use std::marker::{Model, PhantomData};
 use std::sync::{Arc, Mutex, Wait};
 use std::thread::Threads;
 
-/// What all seats share: the word of the history, and the desk under the writer's lock.
+/// What all seats share: the word of the commit log, and the desk under the writer's lock.
 #[derive(Drop)]
 pub(crate) struct Shared<D: Database, C: Ends, P: Placement + Drop>
 where
@@ -32,7 +32,7 @@ where
     pub(crate) desk: Mutex<Desk<D, C, P>>,
 }
 
-/// The word of this database's history.
+/// The word of this database's commit log.
 #[derive(Drop)]
 pub(crate) struct Named<D: Database> {
     pub(crate) head: Head,
@@ -72,7 +72,7 @@ where
     ghost invariant = { λ s. s.front.seen.book ≡ D.history };
 }
 
-/// What a seat has seen, for another one to learn.
+/// The commits that a seat has seen, for another seat to `learn`.
 #[derive(Drop)]
 pub struct Seen<D: Database> {
     front: Front,
@@ -99,9 +99,9 @@ impl<D: Database, C: Ends, P: Placement + Drop> Seat<D, C, P>
 where
     Snapshot<P>: Absorb<(), State = ()>,
 {
-    /// The database as it is now, by what is published: after the commits that the seat has then seen. It waits for nobody.
+    /// Catches up with what is published, and returns the database after the commits that the seat has then seen. It waits for nobody.
     ///
-    /// Errors: `NoMemory` where the snapshot was not given. Cost: the same for any documents.
+    /// Errors: `NoMemory` where the snapshot cannot be taken. Cost: the same for any documents.
     pub fn snapshot(&mut self) -> Result<Snapshot<P>, NoMemory>
         ensures later { IsLater self.old self.new }
         ensures snapshot { IfOk result (λ s. StandsAfter P.place D.db D.shards s self.new.seen) }
@@ -119,10 +119,10 @@ where
         Ok(snapshot)
     }
 
-    /// The reply to a command, by 1 to 32 workers. A command that reads is answered over one snapshot, and waits for nobody. A write is
-    /// answered after all commits; one that is accepted is one commit more.
+    /// The reply to a command, by 1 to 32 workers. A read is answered over one snapshot, and waits for nobody. A write is answered after
+    /// all commits; if it is accepted, it is one more commit.
     ///
-    /// Where memory was refused, a write is no commit. Cost: that of the engine's reply.
+    /// Where memory was refused, a write is not a commit, and the seat is as it was. Cost: that of the engine's reply.
     pub fn answer<R: Wait + Threads + Sync>(
         &mut self,
         rt: &R,
@@ -140,7 +140,7 @@ where
         }
     }
 
-    // The reply to a command that reads, over one snapshot, by at most so many workers.
+    // The reply to a read, over one snapshot, by at most `workers` workers.
     pub(crate) fn reply<R: Threads + Sync>(
         &mut self,
         rt: &R,
@@ -161,7 +161,7 @@ where
         }
     }
 
-    // The reply to a command that reads, over one snapshot, by so many workers, which pass the gate.
+    // The reply to a read, over one snapshot, by exactly `workers` workers, which pass the gate.
     pub(crate) fn read<R: Threads + Sync, G: Gate + Sync>(
         &mut self,
         rt: &R,
@@ -184,8 +184,8 @@ where
         }
     }
 
-    // The reply to a write, after all commits. What the command says by itself is read before the lock is taken, and the snapshot that
-    // the write replaces is let go after the lock.
+    // The reply to a write, after all commits. So that the lock is held briefly, the documents of a bulk are read before it is taken, and
+    // the snapshot that the write replaces is dropped after it is released.
     pub(crate) fn write<R: Wait + Threads + Sync>(
         &mut self,
         rt: &R,
@@ -231,7 +231,7 @@ where
 
     /// Catches up with all commits, under the writer's lock, and returns what another seat can `learn`: the list that is published then.
     ///
-    /// Errors: `NoMemory` where the seat is ahead of what is published; then it is as it was.
+    /// Errors: `NoMemory` where the seat is ahead of what is published; then the seat is as it was.
     pub fn share<R: Wait>(&mut self, rt: &R) -> Result<Seen<D>, NoMemory>
         ensures later { IsLater self.old self.new }
         ensures seen { IfOk result (λ s. s ≡ self.new.seen) }
@@ -248,7 +248,7 @@ where
         })
     }
 
-    /// Learns what another seat has seen, and has then seen the longer of both. Takes no memory.
+    /// Learns what another seat has seen: this seat has then seen the longer of both lists. Takes no memory.
     pub fn learn(&mut self, seen: &Seen<D>)
         ensures { Told self.old seen.now self.new }
     {

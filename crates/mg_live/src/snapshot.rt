@@ -19,7 +19,7 @@ use std::alloc::{AllocError, Global};
 use std::sync::Arc;
 use std::thread::Threads;
 
-/// A database as it stood after some of its commits: nothing changes it.
+/// A database as it stood after some of its commits. A snapshot never changes.
 #[derive(Drop)]
 pub struct Snapshot<P = Md5Placement> {
     pub(crate) point: Point<P>,
@@ -43,7 +43,7 @@ impl<P: Placement + Drop> Snapshot<P> {
         self.point.engine.shards()
     }
 
-    // The same snapshot once more, over the same engine.
+    // A copy of this snapshot, which shares the engine.
     pub(crate) fn again(&self) -> Result<Snapshot<P>, AllocError>
         ensures front { IfOk result (λ s. s.front ≡ self.now.front) }
         ensures engine { IfOk result (λ s. arc_value s.point.engine ≡ arc_value self.now.point.engine) }
@@ -57,7 +57,7 @@ impl<P: Placement + Drop> Snapshot<P> {
         })
     }
 
-    // The reply to a write, and the snapshot after it where it is accepted: its commit then stands in the history.
+    // The reply to a write, and the snapshot after it if the write is accepted: its commit is then in the commit log.
     pub(crate) fn next<D: Database, R: Threads + Sync>(
         &self,
         rt: &R,

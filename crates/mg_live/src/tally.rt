@@ -1,11 +1,11 @@
-//! The tally of a seat: how many commits it has made, by its own part of a ledger. Whoever has all parts knows that the commits of
-//! the database are as many as its seats have made together.
+//! The tally of a seat: how many commits the seat has made, backed by its own part of a ledger. All parts together prove that the
+//! database has as many commits as its seats have made.
 ghost use Rattle.std.specs.Prelude.{◌≡◌, ◌+◌, ◌<◌};
 
 use std::marker::Model;
 use std::sync::ledger::{Book, Ledger, Share};
 
-/// Contracts see how many commits the seat has made.
+/// How many commits a seat has made. Contracts see this number.
 #[derive(Drop)]
 pub struct Tally<L: Ledger> {
     count: u64,
@@ -23,7 +23,7 @@ impl<L: Ledger> Model for Tally<L> {
 }
 
 impl<L: Ledger> Tally<L> {
-    // A tally of no commit, over one of the parts that are left.
+    // A tally of no commits. It takes one of the parts that are left.
     pub(crate) fn new(rest: &mut Share<L>) -> Tally<L>
         requires part { 0 < rest.old.parts }
         requires backed { rest.old.parts ≡ 1 → rest.old.amount ≡ 0 }
@@ -41,7 +41,7 @@ impl<L: Ledger> Tally<L> {
         self.count
     }
 
-    // Counts a commit, in the book too.
+    // Counts one more commit, here and in the book.
     pub(crate) fn add(&mut self, book: &mut Book<L>)
         requires room { book.old.total < 18446744073709551615 }
         ensures tally { self.new ≡ self.old + 1 }
@@ -52,7 +52,7 @@ impl<L: Ledger> Tally<L> {
         self.count += 1;
     }
 
-    // Adds its part, with what it counts, to other parts.
+    // Adds the part of this tally, with what it counts, to other parts.
     pub(crate) fn join(self, all: &mut Share<L>)
         ensures parts { all.new.parts ≡ all.old.parts + 1 }
         ensures amount { all.new.amount ≡ all.old.amount + self }

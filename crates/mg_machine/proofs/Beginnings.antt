@@ -1,4 +1,4 @@
--- Lists of commits that begin with others.
+-- Prefixes of lists of commits.
 use Rattle.std.proofs.Common.{◌≡◌, ◌≤◌, Bool, true, false, List, [], ◌∷◌, ◌++◌, ◌⊎◌, inl, inr, length, nat_lt, refl, ap, sym, ◌∙◌, arith}
 use Rattle.std.proofs.lemmas.List.{append-nil, append_assoc}
 use Rattle.std.proofs.lemmas.Bool.Decides.{nat_tests}
@@ -15,7 +15,7 @@ itself xs = ([], sym (append-nil xs))
 pub in_turn : (xs ys zs : List Commit) → IsPrefix xs ys → IsPrefix ys zs → IsPrefix xs zs
 in_turn xs ys zs p q = (p.0 ++ q.0, q.1 ∙ ap (λ l. l ++ q.0) p.1 ∙ append_assoc xs p.0 q.0)
 
--- of two beginnings of one list the shorter begins the longer
+-- of two prefixes of one list, the shorter is a prefix of the longer
 shorter : {A : Type 0} (xs ys zs p q : List A) → zs ≡ xs ++ p → zs ≡ ys ++ q → length xs ≤ length ys → (rest : List A) × (ys ≡ xs ++ rest)
 shorter [] ys zs p q h k le = (ys, refl)
 shorter (x ∷ xs) [] zs p q h k le = absurd (omega (arith, le))

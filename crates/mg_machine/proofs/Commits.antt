@@ -24,7 +24,7 @@ world_of-one name cs p = ap (world_after _) (map-append (λ c. c.1) cs (p ∷ []
 
 -- ---- one event
 
--- what the accepted write of an event, if it has one, adds
+-- what the accepted write of an event, if there is one, adds to the commits
 abbrev pub Adds : List ℕ → Machine → Machine → Option (Commit × Answer) → Type 0
 Adds name m n None = n.commits ≡ m.commits
 Adds name m n (Some p) = (n.commits ≡ m.commits ++ p.0 ∷ []) × (p.1 ≡ reply_of (world_of name m.commits) p.0.1)
@@ -56,7 +56,7 @@ firsts xs = map (λ p. p.0) xs
 abbrev seconds : List (Commit × Answer) → List Answer
 seconds xs = map (λ p. p.1) xs
 
--- what is committed after m, up to the commits cs
+-- the accepted writes that lead from the commits of m to the commits cs, with the replies of the definition
 abbrev pub Commits : List ℕ → Machine → List Commit → List (Commit × Answer) → Type 0
 Commits name m cs xs = (cs ≡ m.commits ++ firsts xs) × (seconds xs ≡ replies_of (world_of name m.commits) (commands_of (firsts xs)))
 

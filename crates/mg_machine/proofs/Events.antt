@@ -1,4 +1,4 @@
--- What an event changes, and what many do.
+-- What one event changes, and what many events change.
 use Rattle.std.proofs.Common.{◌≡◌, ◌≢◌, ◌<◌, ℕ, zero, suc, List, [], ◌∷◌, ◌++◌, inl, inr, length, slice_set, refl, ap, sym, ◌∙◌, subst}
 use Rattle.std.proofs.lemmas.List.{get_or-set_other, get_or-set_same, length-replicate, length-set}
 use Rattle.std.proofs.lemmas.Option.{unwrap_or-slice_get}
@@ -26,7 +26,7 @@ each_seat m seat j cs P here is other =
 
 -- ---- one event
 
--- so many seats, each of which has seen a beginning of the commits
+-- a machine with this number of seats, each of which has seen a prefix of the commits
 pub record Stands (seats : ℕ) (m : Machine) : Type 0 where
   pub count : length m.seen ≡ seats
   pub beginnings : (seat : ℕ) → IsPrefix (seen_by m seat) m.commits
@@ -38,7 +38,7 @@ pub record Goes (seats : ℕ) (m n : Machine) : Type 0 where
 stays : (seats : ℕ) (m : Machine) → Stands seats m → Goes seats m m
 stays seats m s = record { stands = s; grows = record { commits = itself m.commits; seen = λ j. itself (seen_by m j) } }
 
--- a seat has seen more, of commits that may be more
+-- a seat sees more commits, and the commits may be more
 sees : (seats : ℕ) (m : Machine) (seat : ℕ) (cs new : List Commit) → seat < seats → Stands seats m → IsPrefix m.commits new → IsPrefix (seen_by m seat) cs → IsPrefix cs new → Goes seats m (with_seen (record m { commits = new }) seat cs)
 sees seats m seat cs new at s more seen within =
     let here : seat < length m.seen = subst (λ (n : ℕ). seat < n) (sym s.count) at in
@@ -74,7 +74,7 @@ step name seats m (told seat by) at s =
     (longer_left (seen_by m seat) (seen_by m by) m.commits (s.beginnings seat) (s.beginnings by))
     (longer_within (seen_by m seat) (seen_by m by) m.commits (s.beginnings seat) (s.beginnings by))
 
--- a seat that is told has seen what the other has
+-- a seat that learns from another has seen what the other has seen
 pub tells : (name : List ℕ) (seats : ℕ) (m : Machine) (seat by : ℕ) → seat < seats → Stands seats m → IsPrefix (seen_by m by) (seen_by (happens name m (told seat by)).0 seat)
 tells name seats m seat by at s =
     let here : seat < length m.seen = subst (λ (n : ℕ). seat < n) (sym s.count) at in

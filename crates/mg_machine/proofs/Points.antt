@@ -1,4 +1,4 @@
--- Points of a run: what stands after which commits, and the seats that follow a machine.
+-- Which commits points stand after, and which machine seats follow.
 use Rattle.std.proofs.Common.{◌≡◌, ◌+◌, ◌<◌, ℕ, zero, suc, true, false, List, [], ◌∷◌, ◌++◌, All, IfSome, Option, Some, None, is_some, length, get_or, slice_get, slice_set, replicate, unwrap_or, refl, ap, sym, ◌∙◌, subst, arith, nat_lt, ◌≤◌, length-append}
 use Rattle.std.proofs.lemmas.Bool.Decides.{nat_tests}
 use Rattle.std.proofs.lemmas.List.{map-append}
@@ -22,14 +22,14 @@ use Rattle.mg_machine.proofs.Commits.{world_of-one}
 
 -- ---- one read
 
--- an answer that was given is the one that it has to be
+-- an answer that is given, and is a if it is given, is a
 pub said_is : (o : Option Answer) (a : Answer) → is_some o ≡ true → IfSome o (λ x. x ≡ a) → o ≡ Some a
 said_is None a some is = absurd cc
 said_is (Some x) a some is = ap Some is
 
 -- ---- one write
 
--- what is told of a write after commits, and where the point after it stands
+-- the reply to a write after commits, and where the point after it stands
 abbrev pub Written : {P : Type 0} → (P → List ℕ → ℕ → ℕ) → List ℕ → List Commit → ℕ → Asked → Option Answer → Point P → Type 0
 Written place name cs seat c o p = (o ≡ Some (write_reply name cs c)) × IsAfter place name p (after_write name cs seat c)
 
@@ -53,7 +53,7 @@ module _ {P : Type 0} {place : P → List ℕ → ℕ → ℕ} where
       } in
       (ap Some reply, rw yes more)
 
-  -- a write that is accepted: `r` is the engine's reply `given`, made whole, and the point `q` has the engine `e` that it left
+  -- a write that is accepted: `r` is the engine's reply `given`, which is complete, and the point `q` has the engine `e` after it
   pub one_more : (name : List ℕ) (p q : Point P) (cs : List Commit) (seat : ℕ) (c : Asked) (r given : Reply) (next : Option (P × Shown)) (now e : P × Shown)
       → p.commits < 18446744073709551615 → IsAfter place name p cs → (r ≡ given) × (is_some (said r) ≡ true) → now ≡ arc_value p.engine → next ≡ Some e → arc_value q.engine ≡ e → q.commits ≡ p.commits + 1
       → ((w : World) → Stands place now w → Answers w c (said given) (Stands place (unwrap_or next now))) → IsSettled given next → Written place name cs seat c (said r) q
@@ -72,7 +72,7 @@ module _ {P : Type 0} {place : P → List ℕ → ℕ → ℕ} where
       let no : is_accepted (write_reply name cs c) ≡ false = sym (refuses ∙ ap is_accepted reply) in
       (ap Some reply, rw no again)
 
-  -- a write that is refused: `r` is the engine's reply `given`, made whole, and the point `q` has the same engine
+  -- a write that is refused: `r` is the engine's reply `given`, which is complete, and the point `q` has the same engine
   pub no_more : (name : List ℕ) (p q : Point P) (cs : List Commit) (seat : ℕ) (c : Asked) (r given : Reply) (next : Option (P × Shown)) (now : P × Shown)
       → p.commits < 18446744073709551615 → IsAfter place name p cs → (r ≡ given) × (is_some (said r) ≡ true) → now ≡ arc_value p.engine → next ≡ None → arc_value q.engine ≡ arc_value p.engine → q.commits ≡ p.commits
       → ((w : World) → Stands place now w → Answers w c (said given) (Stands place (unwrap_or next now))) → IsSettled given next → Written place name cs seat c (said r) q
@@ -129,7 +129,7 @@ after_get name (q ∷ ps) [] seat d h at = absurd h
 after_get name (q ∷ ps) (c ∷ css) zero d h at = h.0
 after_get name (q ∷ ps) (c ∷ css) (suc n) d h at = after_get name ps css n d h.1 (omega (arith, at))
 
--- a seat that has seen what it had seen
+-- a seat that has seen nothing more
 pub after_same : (name : List ℕ) (ps : List (Point Md5Placement)) (css : List (List Commit)) (seat : ℕ) → AreAfter name ps css → AreAfter name ps (slice_set css seat (unwrap_or (slice_get css seat) []))
 after_same name [] [] seat h = tt
 after_same name [] (d ∷ css) seat h = absurd h
@@ -152,16 +152,16 @@ moved name s t m seat p cs f latest each at = record {
   each = subst (λ (ps : List (Point Md5Placement)). AreAfter name ps (slice_set m.seen seat cs)) (sym each) (after_set name s.each.items m.seen seat p cs f.each at);
 }
 
--- a seat that looks
+-- a seat that catches up
 pub looks : (name : List ℕ) (s t : Seats) (m : Machine) (seat : ℕ) (p : Point Md5Placement) → Follow name s m → t.latest ≡ s.latest → t.each.items ≡ slice_set s.each.items seat p
     → ((n : List ℕ) (cs : List Commit) → IsAfter by_md5 n s.latest cs → IsAfter by_md5 n p cs) → Follow name t (entered m seat)
 looks name s t m seat p f latest each again = moved name s t m seat p m.commits f latest each (again name m.commits f.latest)
 
--- where a seat stands
+-- the point of a seat stands after what the seat has seen
 pub at_seat : (name : List ℕ) (s : Seats) (m : Machine) (seat : ℕ) (p : Point Md5Placement) → Follow name s m → seat < length s.each.items → p ≡ get_or s.each.items seat p → IsAfter by_md5 name p (seen_by m seat)
 at_seat name s m seat p f here is = subst (λ (x : Point Md5Placement). IsAfter by_md5 name x (seen_by m seat)) (sym is) (after_get name s.each.items m.seen seat p f.each here)
 
--- a seat that is told of more than it has seen
+-- a seat that learns of more than it has seen
 pub hears : (name : List ℕ) (s t : Seats) (m : Machine) (seat by : ℕ) (p q r next : Point Md5Placement) → Follow name s m → seat < length s.each.items → by < length s.each.items
     → p ≡ get_or s.each.items seat p → q ≡ get_or s.each.items by q → r ≡ get_or s.each.items by r → p.commits < q.commits → t.latest ≡ s.latest → t.each.items ≡ slice_set s.each.items seat next
     → ((n : List ℕ) (cs : List Commit) → IsAfter by_md5 n r cs → IsAfter by_md5 n next cs) → Follow name t (with_seen m seat (longer_of (seen_by m seat) (seen_by m by)))
@@ -171,7 +171,7 @@ hears name s t m seat by p q r next f here there is other same more latest each 
     let longer : nat_lt (length (seen_by m seat)) (length (seen_by m by)) ≡ true = grind (arith, nat_tests, more, old.commits, new.commits) in
     rw longer (moved name s t m seat next (seen_by m by) f latest each (again name (seen_by m by) (at_seat name s m by r f there same)))
 
--- a seat that is told of no more than it has seen
+-- a seat that learns of no more than it has seen
 pub stays : (name : List ℕ) (s : Seats) (m : Machine) (seat by : ℕ) (p q : Point Md5Placement) → Follow name s m → seat < length s.each.items → by < length s.each.items
     → p ≡ get_or s.each.items seat p → q ≡ get_or s.each.items by q → q.commits ≤ p.commits → Follow name s (with_seen m seat (longer_of (seen_by m seat) (seen_by m by)))
 stays name s m seat by p q f here there is other more =
@@ -180,7 +180,7 @@ stays name s m seat by p q f here there is other more =
     let longer : nat_lt (length (seen_by m seat)) (length (seen_by m by)) ≡ false = grind (arith, nat_tests, more, old.commits, new.commits) in
     rw longer (record { latest = f.latest; each = after_same name s.each.items m.seen seat f.each })
 
--- the latest point after a write, before its seat looks
+-- the latest point after a write, before its seat catches up
 pub wrote : (name : List ℕ) (s t : Seats) (m : Machine) (cs : List Commit) → Follow name s m → IsAfter by_md5 name t.latest cs → t.each ≡ s.each → Follow name t (record m { commits = cs })
 wrote name s t m cs f at each = record {
   latest = at;

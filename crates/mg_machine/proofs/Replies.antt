@@ -1,4 +1,4 @@
--- Replies to events that are gone through one after another.
+-- Replies to events that are replayed one after another.
 use Rattle.std.proofs.Common.{◌≡◌, ◌+◌, ◌<◌, ◌≤◌, ℕ, zero, suc, List, [], ◌∷◌, ◌++◌, Option, is_some, length, get_or, map, option_and_then, take, refl, ap, sym, ◌∙◌, subst, arith}
 use Rattle.std.proofs.lemmas.List.{map-append, map_more, take_all}
 use Rattle.mg_engine.specs.Commands.{Answer}
@@ -12,11 +12,11 @@ use Rattle.mg_machine.proofs.Events.{after-append}
 
 -- ---- events of the program
 
--- those up to one more
+-- the events up to i, and one more
 pub seen_more : (es : List code.Event) (i : ℕ) (e : code.Event) → i < length es → e ≡ get_or es i e → events_seen (take (i + 1) es) ≡ events_seen (take i es) ++ event_seen e ∷ []
 seen_more es i e here is = map_more event_seen es i e here ∙ ap (λ x. events_seen (take i es) ++ event_seen x ∷ []) (sym is)
 
--- all of them
+-- the events up to the end are all events
 pub seen_all : (es : List code.Event) (i : ℕ) → length es ≤ i → events_seen (take i es) ≡ events_seen es
 seen_all es i over = ap events_seen (take_all i es over)
 
@@ -25,7 +25,7 @@ item_at seats [] i d at here = absurd (omega (arith, here))
 item_at seats (e ∷ es) zero d at here = at.0
 item_at seats (e ∷ es) (suc n) d at here = item_at seats es n d at.1 (omega (arith, here))
 
--- each is at one of the seats
+-- each event is at one of the seats
 pub event_at : (seats : ℕ) (es : List code.Event) (i : ℕ) (e : code.Event) → AreAt seats (events_seen es) → i < length es → e ≡ get_or es i e → IsAt seats (event_seen e)
 event_at seats es i e at here is = subst (λ (x : code.Event). IsAt seats (event_seen x)) (sym is) (item_at seats es i e at here)
 
@@ -33,18 +33,18 @@ at_both : (seats : ℕ) (es : List Event) (e : Event) → AreAt seats es → IsA
 at_both seats [] e at here = (here, tt)
 at_both seats (d ∷ es) e at here = (at.0, at_both seats es e at.1 here)
 
--- one more is at one of the seats
+-- the events up to i are at the seats, and one more
 pub at_more : (seats : ℕ) (es : List code.Event) (i : ℕ) (e : code.Event) → i < length es → e ≡ get_or es i e
     → AreAt seats (events_seen (take i es)) → IsAt seats (event_seen e) → AreAt seats (events_seen (take (i + 1) es))
 at_more seats es i e below is at here = subst (AreAt seats) (sym (seen_more es i e below is)) (at_both seats (events_seen (take i es)) (event_seen e) at here)
 
 -- ---- one event more
 
--- what is told at an event after others
+-- what happens at an event after others
 abbrev pub told_at : List ℕ → Machine → List Event → Event → Machine × Option Answer
 told_at name m es e = happens name (machine_after name m es) e
 
--- the machine after it
+-- the machine after one event more
 pub machine_more : (name : List ℕ) (m : Machine) (es more : List Event) (e : Event) → more ≡ es ++ e ∷ [] → machine_after name m more ≡ (told_at name m es e).0
 machine_more name m es more e is = ap (machine_after name m) is ∙ after-append name m es (e ∷ [])
 
@@ -52,14 +52,14 @@ replies_more : (name : List ℕ) (m : Machine) (es : List Event) (e : Event) →
 replies_more name m [] e = refl
 replies_more name m (d ∷ es) e = ap (λ rs. (happens name m d).1 ∷ rs) (replies_more name (happens name m d).0 es e)
 
--- the replies with its own
+-- the replies, with the reply to one event more
 pub said_more : (name : List ℕ) (m : Machine) (es more : List Event) (e : Event) (rs new : List (Option Reply)) (r : Option Reply) → more ≡ es ++ e ∷ [] → new ≡ rs ++ r ∷ []
     → option_and_then said r ≡ (told_at name m es e).1 → map (option_and_then said) rs ≡ replies_of_events name m es → map (option_and_then said) new ≡ replies_of_events name m more
 said_more name m es more e rs new r is now one before =
     ap (map (option_and_then said)) now ∙ map-append (option_and_then said) rs (r ∷ []) ∙ ap (λ l. l ++ option_and_then said r ∷ []) before
     ∙ ap (λ a. replies_of_events name m es ++ a ∷ []) one ∙ sym (replies_more name m es e) ∙ ap (replies_of_events name m) (sym is)
 
--- which events have one
+-- which events have a reply, with one event more
 pub some_more : (name : List ℕ) (m : Machine) (es more : List Event) (e : Event) (rs new : List (Option Reply)) (r : Option Reply) → more ≡ es ++ e ∷ [] → new ≡ rs ++ r ∷ []
     → is_some r ≡ is_some (told_at name m es e).1 → map is_some rs ≡ map is_some (replies_of_events name m es) → map is_some new ≡ map is_some (replies_of_events name m more)
 some_more name m es more e rs new r is now one before =

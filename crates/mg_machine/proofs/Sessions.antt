@@ -45,7 +45,7 @@ reads_are_of_the_seen name seats es seat c a at reads said =
     let h : Some (reply_of (world_of name cs) c) ≡ Some a = rw reads at said in
     replies-one (empty_world name) (commands_of cs) c ∙ ap (λ x. replies_of (empty_world name) (commands_of cs) ++ x ∷ []) (is_said (reply_of (world_of name cs) c) a h)
 
--- what a seat saw when it looked is what it sees while only others do something
+-- what a seat has seen when it catches up is what it has seen while all events are at other seats
 looked : (name : List ℕ) (seats : ℕ) (es others : List Event) (seat : ℕ) → AreAt seats (es ++ enter seat ∷ others) → AreApart seat others → seen_by (after name seats (es ++ enter seat ∷ others)) seat ≡ (after name seats es).commits
 looked name seats es others seat at ne =
     let m = after name seats es in

@@ -1,4 +1,4 @@
--- For private clauses: seats, of which each has seen a point, and the machine that they follow.
+-- For private clauses: which machine the code's seats follow.
 use Rattle.std.specs.Prelude.{ℕ, List, [], ◌∷◌}
 use Rattle.mg_shard.specs.Placement.{md5_place}
 use Rattle.mg_shard.specs.declared.placement.Md5Placement.{Md5Placement}
@@ -11,7 +11,7 @@ use Rattle.mg_machine.specs.declared.seats.Seats.{Seats}
 abbrev pub by_md5 : Md5Placement → List ℕ → ℕ → ℕ
 by_md5 p id shards = md5_place id shards
 
--- points, one for each of these lists of commits, stand after them
+-- each point stands after the list of commits at its position; there is one point for each list
 abbrev pub AreAfter : List ℕ → List (Point Md5Placement) → List (List Commit) → Type 0
 AreAfter name [] [] = Unit {0}
 AreAfter name [] (cs ∷ css) = ⊥

@@ -1,4 +1,4 @@
--- What holds of sessions that run side by side, for every number of seats and every list of events at these seats.
+-- What holds of sessions side by side, for every number of seats and every list of events at these seats.
 use Rattle.std.specs.Prelude.{◌≡◌, ◌≢◌, ◌<◌, ℕ, List, [], ◌∷◌, ◌++◌, true, false, Option, Some, None, if◌then◌else◌, map, option_and_then}
 use Rattle.std.specs.List.{cons_option}
 use Rattle.mg_engine.specs.World.{empty_world}
@@ -6,37 +6,36 @@ use Rattle.mg_engine.specs.Commands.{Asked, Answer, is_write, reply_of, replies_
 use Rattle.mg_machine.specs.Machine.{Commit, Event, publish, enter, answer, told, Machine, opened, seen_by, commands_of, world_of, happens, machine_after}
 use Rattle.mg_engine.specs.Settled.{is_accepted}
 
--- the seats of an event are among so many, which are numbered from 0
+-- the seats that an event names exist: this many seats are numbered from 0
 abbrev pub IsAt : ℕ → Event → Type 0
 IsAt seats (publish seat c) = seat < seats
 IsAt seats (enter seat) = seat < seats
 IsAt seats (answer seat c) = seat < seats
 IsAt seats (told seat by) = (seat < seats) × (by < seats)
 
--- and so are those of all events
+-- the seats that the events name exist
 abbrev pub AreAt : ℕ → List Event → Type 0
 AreAt seats [] = Unit {0}
 AreAt seats (e ∷ es) = IsAt seats e × AreAt seats es
 
--- so many seats after events
+-- the machine after events, from its start with this number of seats
 abbrev pub after : List ℕ → ℕ → List Event → Machine
 after name seats es = machine_after name (opened seats) es
 
--- a list that another begins with
+-- the first list is a prefix of the second
 abbrev pub IsPrefix : List Commit → List Commit → Type 0
 IsPrefix cs ds = (rest : List Commit) × (ds ≡ cs ++ rest)
 
 -- ---- what a command is
 
--- the command decides what is done: a write is published, however it is given; what only reads is read, and to publish it is to
--- look before
+-- the command decides what is done: a write is published, also by `answer`; and to publish a read is to catch up and then to read
 pub record TheCommandDecides : Type 0 where
   pub writes : (name : List ℕ) (m : Machine) (seat : ℕ) (c : Asked) → is_write c ≡ true → happens name m (answer seat c) ≡ happens name m (publish seat c)
   pub reads : (name : List ℕ) (m : Machine) (seat : ℕ) (c : Asked) → is_write c ≡ false → happens name m (publish seat c) ≡ happens name (happens name m (enter seat)).0 (answer seat c)
 
 -- ---- what seats have seen
 
--- each seat has seen a beginning of the commits
+-- each seat has seen a prefix of the commit log
 abbrev pub SeatsSeeBeginnings : Type 0
 SeatsSeeBeginnings =
     (name : List ℕ) (seats : ℕ) (es : List Event) → AreAt seats es
@@ -50,7 +49,7 @@ pub record Grows (m n : Machine) : Type 0 where
 abbrev pub NothingIsLost : Type 0
 NothingIsLost = (name : List ℕ) (seats : ℕ) (es more : List Event) → AreAt seats (es ++ more) → Grows (after name seats es) (after name seats (es ++ more))
 
--- what a seat was told of, it has seen ever since
+-- what a seat has learned from another, it has seen from then on
 abbrev pub WhatWasToldIsSeen : Type 0
 WhatWasToldIsSeen =
     (name : List ℕ) (seats : ℕ) (es more : List Event) (seat by : ℕ) → AreAt seats (es ++ told seat by ∷ more)
@@ -65,7 +64,7 @@ write_of (enter seat) = None
 write_of (answer seat c) = if is_write c then Some (seat, c) else None
 write_of (told seat by) = None
 
--- a write with its reply, if that accepts it
+-- a write with its reply, if the reply accepts it
 abbrev pub if_accepted : Commit → Answer → Option (Commit × Answer)
 if_accepted c a = if is_accepted a then Some (c, a) else None
 
@@ -73,13 +72,13 @@ if_accepted c a = if is_accepted a then Some (c, a) else None
 abbrev pub accepted_of : List ℕ → Machine → Event → Option (Commit × Answer)
 accepted_of name m e = option_and_then (λ c. option_and_then (if_accepted c) (happens name m e).1) (write_of e)
 
--- those of all events, in order
+-- the accepted writes of all events, with their replies, in order
 abbrev pub all_accepted : List ℕ → Machine → List Event → List (Commit × Answer)
 all_accepted name m [] = []
 all_accepted name m (e ∷ es) = cons_option (accepted_of name m e) (all_accepted name (happens name m e).0 es)
 
--- the commits are the writes that were accepted, each once and in order, and each was answered as one caller would be who gave
--- these commands alone, one after another: by the reply at its place
+-- the commits are the accepted writes, each once and in order, and their replies are those that one caller gets who gives these
+-- commands alone, one after another
 pub record AreAnswered (name : List ℕ) (cs : List Commit) (accepted : List (Commit × Answer)) : Type 0 where
   pub commits : map (λ p. p.0) accepted ≡ cs
   pub replies : map (λ p. p.1) accepted ≡ replies_of (empty_world name) (commands_of cs)
@@ -89,7 +88,7 @@ CommitsAreAnswered = (name : List ℕ) (seats : ℕ) (es : List Event) → AreAt
 
 -- ---- the replies to reads
 
--- a read is answered as one caller would be who gave the commands that its seat has seen, and then this one
+-- a read has the reply that one caller gets who gives the commands that its seat has seen, and then this read
 abbrev pub ReadsAreOfTheSeen : Type 0
 ReadsAreOfTheSeen =
     (name : List ℕ) (seats : ℕ) (es : List Event) (seat : ℕ) (c : Asked) (a : Answer) → AreAt seats es → is_write c ≡ false
@@ -97,19 +96,19 @@ ReadsAreOfTheSeen =
     → replies_of (empty_world name) (commands_of (seen_by (after name seats es) seat) ++ c ∷ [])
     ≡ replies_of (empty_world name) (commands_of (seen_by (after name seats es) seat)) ++ a ∷ []
 
--- an event changes what another seat has seen, or nothing
+-- an event is at another seat: it does not change what this seat has seen
 abbrev pub IsApart : ℕ → Event → Type 0
 IsApart seat (publish other c) = other ≢ seat
 IsApart seat (enter other) = other ≢ seat
 IsApart seat (answer other c) = other ≢ seat
 IsApart seat (told other by) = other ≢ seat
 
--- and so do all of these
+-- all events are at other seats
 abbrev pub AreApart : ℕ → List Event → Type 0
 AreApart seat [] = Unit {0}
 AreApart seat (e ∷ es) = IsApart seat e × AreApart seat es
 
--- a read is answered by the world of all commits that there were when its seat looked, whatever others have published since
+-- a read is answered by the world of all commits that there were when its seat caught up, whatever others have published since
 abbrev pub LooksAreKept : Type 0
 LooksAreKept =
     (name : List ℕ) (seats : ℕ) (es others : List Event) (seat : ℕ) (c : Asked) → AreAt seats (es ++ enter seat ∷ others) → AreApart seat others → is_write c ≡ false

@@ -1,6 +1,6 @@
 -- The live machine: one database and several seats, at each of which a session reads and writes while the others do.
--- There is one list of commits, the writes that were accepted, in order; and each seat has seen a beginning of it.
--- A write is answered at the end of that list, a read by what its seat has seen.
+-- There is one commit log, which holds the accepted writes in order, and each seat has seen a prefix of it.
+-- A write is answered at the end of the log, a read by what its seat has seen.
 use Rattle.std.specs.Prelude.{ℕ, ◌==◌, List, [], ◌∷◌, ◌++◌, Bool, Option, Some, None, if◌then◌else◌, length, map, nat_lt, replicate, slice_get, slice_set, unwrap_or}
 use Rattle.mg_engine.specs.declared.refusal.Refusal.TheVariants.{TooLarge}
 use Rattle.mg_engine.specs.World.{World, empty_world}
@@ -11,7 +11,7 @@ use Rattle.mg_engine.specs.Settled.{is_accepted}
 abbrev pub Commit : Type 0
 Commit = ℕ × Asked
 
--- what happens at a seat: it writes, it looks at all commits, it reads, or another seat tells it what that has seen
+-- an event at a seat: it writes, it catches up with all commits, it reads, or it learns what another seat has seen
 pub data Event : Type 0 where
   publish : ℕ → Asked → Event
   enter : ℕ → Event
@@ -23,7 +23,7 @@ pub record Machine : Type 0 where
   pub commits : List Commit
   pub seen : List (List Commit)
 
--- so many seats at first: no commit, and nothing seen
+-- the machine at its start, with this number of seats: no commit, and nothing seen
 abbrev pub opened : ℕ → Machine
 opened seats = record { commits = []; seen = replicate seats [] }
 
@@ -31,7 +31,7 @@ opened seats = record { commits = []; seen = replicate seats [] }
 abbrev pub seen_by : Machine → ℕ → List Commit
 seen_by m seat = unwrap_or (slice_get m.seen seat) []
 
--- the same commits, of which a seat has now seen these
+-- the machine in which a seat has now seen these commits
 abbrev pub with_seen : Machine → ℕ → List Commit → Machine
 with_seen m seat cs = record m { seen = slice_set m.seen seat cs }
 
@@ -43,7 +43,7 @@ commands_of cs = map (λ c. c.1) cs
 abbrev pub world_of : List ℕ → List Commit → World
 world_of name cs = world_after (empty_world name) (commands_of cs)
 
--- how many shards there are after commits, of a database that was opened with so many: as many as the last of these asked for
+-- how many shards there are after commits: as many as the last reshard asked for, or as the database was opened with if none did
 abbrev pub shards_of : ℕ → List Commit → ℕ
 shards_of opened cs = shards_after_all opened (commands_of cs)
 
@@ -53,15 +53,15 @@ shards_of opened cs = shards_after_all opened (commands_of cs)
 abbrev pub are_full : List Commit → Bool
 are_full cs = length cs == 18446744073709551615
 
--- the reply to a write after these commits: that there can be no more comes before any other refusal
+-- the reply to a write after these commits. If there can be no more commits, it is `TooLarge`, before any other refusal
 abbrev pub write_reply : List ℕ → List Commit → Asked → Answer
 write_reply name cs c = if are_full cs then refused TooLarge else reply_of (world_of name cs) c
 
--- the commits after a write of a seat: one more where it is accepted
+-- the commits after a write of a seat: one more if the write is accepted
 abbrev pub after_write : List ℕ → List Commit → ℕ → Asked → List Commit
 after_write name cs seat c = if is_accepted (write_reply name cs c) then cs ++ (seat, c) ∷ [] else cs
 
--- other commits, which a seat has all seen
+-- the machine with these commits, all of which a seat has seen
 abbrev pub with_commits : Machine → ℕ → List Commit → Machine
 with_commits m seat cs = with_seen (record m { commits = cs }) seat cs
 
@@ -69,9 +69,9 @@ with_commits m seat cs = with_seen (record m { commits = cs }) seat cs
 abbrev pub written : List ℕ → Machine → ℕ → Asked → Machine × Option Answer
 written name m seat c = (with_commits m seat (after_write name m.commits seat c), Some (write_reply name m.commits c))
 
--- ---- looking, reading and telling
+-- ---- catching up, reading and learning
 
--- a seat looks, and has then seen all commits
+-- a seat catches up, and has then seen all commits
 abbrev pub entered : Machine → ℕ → Machine
 entered m seat = with_seen m seat m.commits
 
@@ -79,14 +79,14 @@ entered m seat = with_seen m seat m.commits
 abbrev pub read : List ℕ → Machine → ℕ → Asked → Machine × Option Answer
 read name m seat c = (m, Some (reply_of (world_of name (seen_by m seat)) c))
 
--- the longer of two lists, the first where they are as long
+-- the longer of two lists; the first if both are equally long
 abbrev pub longer_of : List Commit → List Commit → List Commit
 longer_of cs ds = if nat_lt (length cs) (length ds) then ds else cs
 
 -- ---- all events
 
--- the machine after an event, and its reply, if it has one. The command decides what is done: to publish a command that only reads
--- is to look and then to read, and to answer a write is to publish it
+-- the machine after an event, and its reply, if it has one. The command decides what is done: to publish a read is to catch up and then
+-- to read, and to answer a write is to publish it
 abbrev pub happens : List ℕ → Machine → Event → Machine × Option Answer
 happens name m (publish seat c) = if is_write c then written name m seat c else read name (entered m seat) seat c
 happens name m (enter seat) = (entered m seat, None)
@@ -98,7 +98,7 @@ abbrev pub replies_of_events : List ℕ → Machine → List Event → List (Opt
 replies_of_events name m [] = []
 replies_of_events name m (e ∷ es) = (happens name m e).1 ∷ replies_of_events name (happens name m e).0 es
 
--- the machine that they leave
+-- the machine after all events
 abbrev pub machine_after : List ℕ → Machine → List Event → Machine
 machine_after name m [] = m
 machine_after name m (e ∷ es) = machine_after name (happens name m e).0 es

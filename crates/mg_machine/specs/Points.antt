@@ -1,16 +1,16 @@
--- For public clauses: the commits that a point of a database's history stands after.
+-- For public clauses: the commits that a point of a database's commit log stands after.
 use Rattle.std.specs.Prelude.{◌≡◌, ℕ, List, length}
 use Rattle.std.specs.Arc.{arc_value}
 use Rattle.mg_engine.specs.Stands.{Stands, shard_count}
 use Rattle.mg_machine.specs.Machine.{Commit, shards_of, world_of}
 use Rattle.mg_machine.specs.declared.point.Point.{Point}
 
--- a point, whose documents are placed by `place`, stands after commits where its engine stands for the world that they leave, and where
--- it counts them
+-- a point, whose documents are placed by `place`, stands after commits if its engine stands for the world that they leave and it has
+-- their number
 pub record IsAfter {P : Type 0} (place : P → List ℕ → ℕ → ℕ) (name : List ℕ) (p : Point P) (cs : List Commit) : Type 0 where
   pub engine : Stands place (arc_value p.engine) (world_of name cs)
   pub commits : p.commits ≡ length cs
 
--- after commits a point of a database that was opened with so many shards has as many as the last of these asked for
+-- a point after commits has as many shards as the last reshard asked for, or as the database was opened with if none did
 abbrev pub IsDealt : {P : Type 0} → ℕ → Point P → List Commit → Type 0
 IsDealt opened p cs = shard_count (arc_value p.engine) ≡ shards_of opened cs

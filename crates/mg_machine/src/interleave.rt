@@ -1,4 +1,4 @@
-//! Sessions that run side by side, one event after another.
+//! Sessions side by side, replayed one event after another.
 ghost use Rattle.std.specs.Prelude.{◌≡◌, ◌↔◌, ℕ, List, IfOk, IsTrue, is_some, map, option_and_then, vec_len};
 ghost use Rattle.mg_engine.specs.View.{said};
 ghost use Rattle.mg_machine.specs.Laws.{AreAt, IsAt};
@@ -12,23 +12,22 @@ use mg_value::NoMemory;
 use std::alloc::Global;
 use std::thread::Threads;
 
-/// What happens at a seat. The seats are numbered from 0.
+/// An event at a seat. The seats are numbered from 0.
 ///
-/// The command decides what is done: to publish one that only reads is to enter and then to have it answered, and to have
-/// a write answered is to publish it.
+/// The command decides what is done: `Publish` of a read is `Enter` and then `Answer`, and `Answer` of a write is `Publish`.
 #[derive(Debug, Drop)]
 pub enum Event {
-    /// A write, after all commits. Where it is accepted it is one commit more, and its seat has then seen all commits either way.
+    /// A write, after all commits. If it is accepted, it is one more commit. Accepted or not, its seat has then seen all commits.
     Publish { seat: usize, command: Command },
-    /// The seat looks: it has then seen all commits.
+    /// The seat catches up: it has then seen all commits.
     Enter { seat: usize },
     /// A read, by the commits that its seat has seen.
     Answer { seat: usize, command: Command },
-    /// The seat is told what another has seen: it has then seen the longer of the two lists of commits.
+    /// The seat learns what seat `by` has seen: it has then seen the longer of the two lists of commits.
     Told { seat: usize, by: usize },
 }
 
-/// Whether each of these events is at one of so many seats, as `replay` asks of its caller. Takes no memory. Cost: the events.
+/// Whether each event is at one of `seats` seats, as `replay` requires. Takes no memory. Cost: the number of events.
 pub fn are_at(seats: usize, events: &[Event]) -> bool
     ensures { IsTrue result ↔ AreAt seats (events_seen events.now) }
 {
@@ -40,7 +39,7 @@ pub fn are_at(seats: usize, events: &[Event]) -> bool
     true
 }
 
-// Whether an event is at one of so many seats.
+// Whether an event is at one of `seats` seats.
 fn is_at(seats: usize, event: &Event) -> bool
     ensures { IsTrue result ↔ IsAt seats (event_seen event.now) }
 {
@@ -52,12 +51,13 @@ fn is_at(seats: usize, event: &Event) -> bool
     }
 }
 
-/// The replies to events at so many seats, over one shard and with one worker, by this thread alone: of `Publish` and `Answer`
-/// the reply to the command, whole, and none of `Enter` and `Told`. Each event has to be at one of these seats, which `are_at` tests.
+/// Replays events at `seats` seats of an empty database, over one shard, with one worker and on this thread alone. Returns for each
+/// event its reply: the complete reply to the command of a `Publish` or `Answer`, and `None` for `Enter` and `Told`. Each event has to be
+/// at one of these seats, which `are_at` tests.
 ///
-/// Errors: `NoMemory` where a growth was refused anywhere; so no reply is a want of memory. A write is refused by 413 `too_large`
-/// where 18,446,744,073,709,551,615 commits stand already. Cost: that of each command, as of `Engine::step`, and the number of seats;
-/// `Enter` and `Told` cost the same for any documents.
+/// Errors: `NoMemory` where a growth was refused anywhere; therefore no reply is `Reply::NoMemory`. A write after
+/// 18,446,744,073,709,551,615 commits is refused with 413 `too_large`. Cost: that of each command, as of `Engine::step`, and the number
+/// of seats; `Enter` and `Told` cost the same for any documents.
 pub fn replay<R: Threads + Sync>(
     rt: &R,
     alloc: Global,
@@ -78,7 +78,7 @@ pub fn replay<R: Threads + Sync>(
     Ok(replies)
 }
 
-// What happens at an event, and its reply.
+// Executes an event and returns its reply.
 fn happen<R: Threads + Sync>(
     rt: &R,
     alloc: Global,

@@ -1,14 +1,14 @@
 ghost use Rattle.mg_machine.specs.Laws.{CommitsAreAnswered, LooksAreKept, NothingIsLost, ReadsAreOfTheSeen, SeatsSeeBeginnings, TheCommandDecides, WhatWasToldIsSeen};
 
-/// What holds of sessions that run side by side, for every number of seats and every list of events at these:
+/// What holds of sessions side by side, for every number of seats and every list of events at these seats:
 ///
-/// - each seat has seen a beginning of one list of commits, and nothing that it has seen is lost;
-/// - what a seat was told of, it has seen ever since;
-/// - the commits are the writes that were accepted, and each has the reply that is at its place among the replies to
-///   them all, given one after another by one caller;
-/// - a read has the reply right after the commits that its seat has seen, and where the seat looked before, right after
+/// - each seat has seen a prefix of one commit log, and nothing that it has seen is lost;
+/// - what a seat has learned from another, it has seen from then on;
+/// - the commits are the accepted writes, and their replies are those that one caller gets who gives these writes alone, one
+///   after another;
+/// - a read is answered right after the commits that its seat has seen. If the last event of the seat was to catch up, these are
 ///   all commits that there were then, whatever others have published since;
-/// - the command decides what is done: a write is published, and to publish what only reads is to look and then to read.
+/// - the command decides what is done: a write is published, and to publish a read is to catch up and then to read.
 pub fn running_sessions()
     ensures beginnings { SeatsSeeBeginnings }
     ensures kept { NothingIsLost }

@@ -1,4 +1,4 @@
-//! The machine of events at the seats of a database: what happens at each seat, one event after another, and what holds of it all.
+//! The machine of sessions side by side: events at the seats of a database, one after another, and the laws that hold of them.
 #![tactic(auto)]
 
 pub mod interleave;

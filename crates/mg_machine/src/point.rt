@@ -1,4 +1,4 @@
-//! Points of a database's history.
+//! Points of a database's commit log.
 ghost use Rattle.std.specs.Prelude.{◌≡◌, ◌<◌, ◌≤◌, ℕ, List, [], IfOk, Some, true, false, is_some};
 ghost use Rattle.std.specs.Arc.{arc_value};
 ghost use Rattle.mg_engine.specs.Commands.{is_write, reply_of};
@@ -16,7 +16,7 @@ use std::alloc::Global;
 use std::sync::Arc;
 use std::thread::Threads;
 
-/// A point of a database's history: the engine as it stood there, and the number of commits before it.
+/// A point of a database's commit log: the engine as it stands there, and the number of commits before it.
 #[derive(Drop)]
 pub struct Point<P> {
     pub engine: Arc<Engine<P>>,
@@ -24,8 +24,8 @@ pub struct Point<P> {
 }
 
 impl<P: Placement + Drop> Point<P> {
-    /// The point before the first commit to a database of this name, over so many shards, on which documents are placed so.
-    /// Cost: their number, and the name.
+    /// The point before the first commit to a database of this name, over `shards` shards on which `placement` places the documents.
+    /// Cost: the number of shards, and the name.
     pub fn first(alloc: Global, db: &str, placement: P, shards: usize) -> Result<Point<P>, NoMemory>
         requires some { 1 ≤ shards }
         requires most { shards ≤ 64 }
@@ -37,7 +37,7 @@ impl<P: Placement + Drop> Point<P> {
         Ok(Point { engine, commits: 0 })
     }
 
-    /// The same point once more, over the same engine.
+    /// A copy of this point, which shares the engine.
     pub fn again(&self) -> Result<Point<P>, NoMemory>
         ensures after { IfOk result (λ p. (name : List ℕ) (cs : List Commit) → IsAfter P.place name self.now cs → IsAfter P.place name p cs) }
         ensures engine { IfOk result (λ p. arc_value p.engine ≡ arc_value self.now.engine) }
@@ -49,7 +49,7 @@ impl<P: Placement + Drop> Point<P> {
         })
     }
 
-    /// The reply to a command that reads, for every gate. Cost: that of the engine's reply.
+    /// The reply to a read, with exactly `workers` workers, whatever the gate does. Cost: that of the engine's reply.
     pub fn read<R: Threads + Sync, G: Gate + Sync>(
         &self,
         rt: &R,
@@ -67,7 +67,7 @@ impl<P: Placement + Drop> Point<P> {
         whole(self.engine.answer(rt, alloc, command, workers, gate))
     }
 
-    /// The reply to a command that reads, by at most so many workers. Cost: that of the engine's reply.
+    /// The reply to a read, with at most `workers` workers. Cost: that of the engine's reply.
     pub fn reply<R: Threads + Sync>(
         &self,
         rt: &R,
@@ -84,7 +84,7 @@ impl<P: Placement + Drop> Point<P> {
         whole(self.engine.reply(rt, alloc, command, workers))
     }
 
-    /// The reply to a write, and the point after it, which is one commit more where it is accepted, and else the same once more.
+    /// The reply to a write, and the point after it: one commit later if the write is accepted, otherwise a copy of this point.
     /// Cost: that of the engine's commit.
     pub fn write<R: Threads + Sync>(
         &self,
@@ -107,7 +107,7 @@ impl<P: Placement + Drop> Point<P> {
         self.write_prepared(rt, alloc, prepared, workers)
     }
 
-    /// The reply to a write whose body was read before, and the point after it, as `write` gives them.
+    /// Does what `write` does, for a prepared command. Where no more commits can be counted, the write is refused as `TooLarge`.
     pub fn write_prepared<R: Threads + Sync>(
         &self,
         rt: &R,
@@ -132,7 +132,7 @@ impl<P: Placement + Drop> Point<P> {
         self.commit(rt, alloc, prepared, workers)
     }
 
-    // The same where there can be one commit more.
+    // Does what `write_prepared` does, where one more commit can be counted.
     fn commit<R: Threads + Sync>(
         &self,
         rt: &R,
@@ -168,7 +168,7 @@ impl<P: Placement + Drop> Point<P> {
     }
 }
 
-// A reply that was made whole.
+// The reply if it is complete; `Reply::NoMemory` becomes the error.
 fn whole(reply: Reply) -> Result<Reply, NoMemory>
     ensures { IfOk result (λ r. (r ≡ reply) × (is_some (said r) ≡ true)) }
 {

@@ -1,4 +1,4 @@
-//! Seats at a database, gone through by one caller.
+//! The seats of a database, all driven by one caller.
 ghost use Rattle.std.specs.Prelude.{◌≡◌, ◌<◌, ℕ, List, All, IfOk, OnOk, false, true, vec_len};
 ghost use Rattle.mg_engine.specs.Commands.{is_write};
 ghost use Rattle.mg_engine.specs.View.{asked, said};
@@ -22,7 +22,7 @@ pub(crate) struct Seats {
 }
 
 impl Seats {
-    /// So many seats at a database of this name that has no commit. Cost: their number, and the name.
+    /// Opens a database of this name that has no commit, with this number of seats. Cost: their number, and the name.
     pub(crate) fn open(alloc: Global, db: &str, seats: usize) -> Result<Seats, NoMemory>
         ensures follow { IfOk result (λ s. Follow db.now s (opened seats)) }
         ensures number { IfOk result (λ s. vec_len s.each ≡ seats) }
@@ -32,7 +32,8 @@ impl Seats {
         Ok(Seats { latest, each })
     }
 
-    /// The reply to a command that is published at a seat. Cost: that of the engine's reply.
+    /// Publishes a command at a seat and returns its reply. For a read, the seat first catches up with all commits.
+    /// Cost: that of the engine's reply.
     pub(crate) fn publish<R: Threads + Sync>(
         &mut self,
         rt: &R,
@@ -54,7 +55,8 @@ impl Seats {
         }
     }
 
-    /// The reply to a command that is answered at a seat. Cost: that of the engine's reply.
+    /// Answers a command at a seat: a read by the commits that the seat has seen, a write after all commits.
+    /// Cost: that of the engine's reply.
     pub(crate) fn answer<R: Threads + Sync>(
         &mut self,
         rt: &R,
@@ -75,7 +77,7 @@ impl Seats {
         }
     }
 
-    /// Has a seat look, which has then seen all commits.
+    /// Lets a seat catch up with all commits.
     pub(crate) fn enter(&mut self, seat: usize) -> Result<(), NoMemory>
         requires { seat < vec_len self.old.each }
         ensures follow { OnOk result ((name : List ℕ) (m : Machine) → Follow name self.old m → Follow name self.new (entered m seat)) }
@@ -85,7 +87,7 @@ impl Seats {
         Ok(())
     }
 
-    /// Tells a seat what another has seen.
+    /// Lets a seat learn what seat `by` has seen.
     pub(crate) fn tell(&mut self, seat: usize, by: usize) -> Result<(), NoMemory>
         requires seat { seat < vec_len self.old.each }
         requires by { by < vec_len self.old.each }
@@ -99,7 +101,7 @@ impl Seats {
         Ok(())
     }
 
-    // The reply to a command that reads, by what its seat has seen.
+    // The reply to a read, by what its seat has seen.
     fn read<R: Threads + Sync>(
         &self,
         rt: &R,
@@ -117,7 +119,7 @@ impl Seats {
         Ok(reply)
     }
 
-    // The reply to a write at a seat, which has then seen all commits.
+    // The reply to a write, after all commits. Its seat has then seen all commits.
     fn write<R: Threads + Sync>(
         &mut self,
         rt: &R,
@@ -139,7 +141,7 @@ impl Seats {
     }
 }
 
-// A point as often as is asked. Cost: their number.
+// Copies a point `number` times. Cost: this number.
 fn copies(
     alloc: Global,
     point: &Point<Md5Placement>,

@@ -35,7 +35,7 @@ pub(crate) fn shown(
     tree: &RevTree,
 ) -> Result<Json, NoMemory>
     ensures { IfOk result (λ v. (id : List ℕ) (h : Paths) → StandsFor tree.now h
-        → view v ≡ shown_of (query_seen query.now) (record { id = id; form = form; history = h })) }
+        → view v ≡ shown_of (query_seen query.now) (record { id = id; form = form.entry; history = h })) }
 {
     if query.conflicts {
         let whole = with_conflicts(alloc, form.copy(alloc)?, tree)?;
@@ -58,7 +58,7 @@ fn parts_in(alloc: Global, fields: &[Path], document: Json) -> Result<Json, NoMe
 
 // The same of a document that is lent.
 fn parts_of(alloc: Global, fields: &[Path], document: Part<'_>) -> Result<Json, NoMemory>
-    ensures { IfOk result (λ v. view v ≡ projected fields.now document) }
+    ensures { IfOk result (λ v. view v ≡ projected fields.now document.entry) }
 {
     if fields.is_empty() {
         document.copy(alloc)

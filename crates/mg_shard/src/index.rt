@@ -77,7 +77,7 @@ fn row_if(
 
 // Whether two parts are seen to be the same: two arrays or objects are not looked into.
 fn is_same(part: Part<'_>, other: Part<'_>) -> bool
-    ensures { result ≡ true → part ≡ other }
+    ensures { result ≡ true → part.entry ≡ other.entry }
 {
     match (part.kind(), other.kind()) {
         (Kind::Null, Kind::Null) => true,
@@ -90,7 +90,7 @@ fn is_same(part: Part<'_>, other: Part<'_>) -> bool
 
 // The same of parts that may be missing.
 fn are_same(part: Option<Part<'_>>, other: Option<Part<'_>>) -> bool
-    ensures { result ≡ true → part ≡ other }
+    ensures { result ≡ true → part.entry ≡ other.entry }
 {
     match (part, other) {
         (Some(part), Some(other)) => is_same(part, other),

@@ -3,7 +3,7 @@ use Rattle.std.specs.Vec.Iter.{into_iter_items}
 use Rattle.mg_engine.specs.Bulk.{counter_after, numbered}
 use Rattle.mg_engine.proofs.bulk.numbered.Given as goal
 
--- what is left decides
+-- the edits so far, followed by the rest with numbers from here on, are all edits with numbers
 abbrev pub invariant-loop-edit : goal.invariant-loop-edit
 invariant-loop-edit l = record {
   can_next : (goal.iterator-loop-edit).can_next l.edit-iterator;

@@ -4,7 +4,7 @@ use Rattle.mg_engine.specs.Bulk.{are_objects, edits_of}
 use Rattle.mg_engine.proofs.Reading.{edits_before}
 use Rattle.mg_engine.proofs.bulk.read_edits.Given as goal
 
--- what is left decides
+-- the edits so far, followed by those of the rest, are the edits of all documents
 abbrev pub invariant-loop-document : goal.invariant-loop-document
 invariant-loop-document l = record {
   objects : are_objects (items_view (drop l.document-index l.documents)) ≡ true;

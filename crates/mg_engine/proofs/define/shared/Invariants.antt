@@ -3,7 +3,7 @@ use Rattle.std.specs.Vec.Iter.{into_iter_items}
 use Rattle.mg_shard.specs.Shard.{shards_seen}
 use Rattle.mg_engine.proofs.define.shared.Given as goal
 
--- what is left decides
+-- the shards so far, followed by the rest, are all shards
 abbrev pub invariant-loop-shard : goal.invariant-loop-shard
 invariant-loop-shard l = record {
   can_next : (goal.iterator-loop-shard).can_next l.shard-iterator;

@@ -7,7 +7,7 @@ use Rattle.mg_engine.specs.Outcomes.{reply_in, told_id}
 use Rattle.mg_engine.specs.StateView.{before}
 use Rattle.mg_engine.proofs.edits.edit_all.Given as goal
 
--- what is left decides, from the histories for which the drafts stand now
+-- the outcomes so far, followed by those of the rest from the histories that the drafts stand for now, are the outcomes of all edits
 abbrev pub invariant-loop-edit : goal.invariant-loop-edit
 invariant-loop-edit g l = record {
   can_next : (goal.iterator-loop-edit g).can_next l.edit-iterator;

@@ -4,7 +4,7 @@ use Rattle.mg_shard.specs.Shard.{ShardView, shards_seen}
 use Rattle.mg_engine.specs.StateView.{AllLeave, before}
 use Rattle.mg_engine.proofs.edits.finished.Given as goal
 
--- what is left decides
+-- the shards so far, followed by what the rest of the drafts leave, are what all drafts leave
 abbrev pub invariant-loop-draft : goal.invariant-loop-draft
 invariant-loop-draft l = record {
   can_next : (goal.iterator-loop-draft).can_next l.draft-iterator;

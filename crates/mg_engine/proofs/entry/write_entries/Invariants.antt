@@ -3,7 +3,7 @@ use Rattle.mg_value.specs.Held.{items_tokens_of}
 use Rattle.mg_engine.specs.Outcomes.{entries_told}
 use Rattle.mg_engine.proofs.entry.write_entries.Given as goal
 
--- what is left completes what is written
+-- the tokens so far, followed by those of the rest, are the tokens of all entries
 abbrev pub invariant-loop-outcome : goal.invariant-loop-outcome
 invariant-loop-outcome l = record {
   before : l.out.before ≡ l.fn.out.before;

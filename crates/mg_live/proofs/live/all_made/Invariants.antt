@@ -2,7 +2,7 @@ use Rattle.std.proofs.Common.{◌≡◌, ◌≤◌, ◌*◌, take}
 use Rattle.mg_live.specs.Sitting.{all_tallies}
 use Rattle.mg_live.proofs.live.all_made.Given as goal
 
--- what the seats so far have made
+-- how many commits the seats so far have made, and a bound on this number
 abbrev pub invariant-loop-seat : goal.invariant-loop-seat
 invariant-loop-seat g l =
     record {

@@ -4,7 +4,7 @@ use Rattle.mg_live.specs.View.{commits_seen}
 use Rattle.mg_live.specs.Sitting.{Sitting}
 use Rattle.mg_live.proofs.live.longest.Given as goal
 
--- the longest list of the seats so far
+-- what each seat so far has seen is a prefix of `longest`
 abbrev pub invariant-loop-seat : goal.invariant-loop-seat
 invariant-loop-seat g l =
     record {

@@ -5,7 +5,7 @@ use Rattle.mg_machine.specs.Follow.{Follow}
 use Rattle.mg_machine.specs.View.{events_seen}
 use Rattle.mg_machine.proofs.interleave.replay.Given as goal
 
--- the seats follow the machine after the events so far, whose replies were made
+-- the seats follow the machine after the events so far, and the replies so far are the machine's
 abbrev pub invariant-loop-event : goal.invariant-loop-event
 invariant-loop-event g l =
     let done = events_seen (take l.event-index l.events) in

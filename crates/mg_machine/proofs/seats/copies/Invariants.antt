@@ -4,7 +4,7 @@ use Rattle.mg_machine.specs.Follow.{by_md5}
 use Rattle.mg_machine.specs.Points.{IsAfter}
 use Rattle.mg_machine.proofs.seats.copies.Given as goal
 
--- as many as were made, each at the point
+-- one copy for each turn so far, and each is at the point
 abbrev pub invariant-loop : goal.invariant-loop
 invariant-loop l =
     record {

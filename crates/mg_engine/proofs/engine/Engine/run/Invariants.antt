@@ -6,7 +6,7 @@ use Rattle.mg_engine.specs.Stands.{Stands, Shown, shard_count}
 use Rattle.mg_engine.specs.Run.{IsRun, kept}
 use Rattle.mg_engine.proofs.engine.Engine.run.Given as goal
 
--- a run of what is left, from where the engine stands now, makes a run of all, and so it is of the numbers of shards
+-- a run of the rest, from a world that the engine stands for now, completes a run of all; the same holds of the number of shards
 abbrev pub invariant-loop-command : goal.invariant-loop-command
 invariant-loop-command g l =
     let place = g.P.Placement.place in

@@ -2,7 +2,7 @@ use Rattle.std.proofs.Common.{◌≡◌, ◌+◌}
 use Rattle.mg_live.specs.Sitting.{new_seats}
 use Rattle.mg_live.proofs.live.Live.open.Given as goal
 
--- so many seats have a part each, and the others are left
+-- each seat so far has one part of the ledger, and the other parts are left
 abbrev pub invariant-loop-number : goal.invariant-loop-number
 invariant-loop-number g l =
     record {
