@@ -1,19 +1,17 @@
 -- What shards hand over for a page: which rows, in which order, and how many.
-use Rattle.std.proofs.Common.{◌≡◌, ℕ, suc, ◌+◌, ◌≤◌, min, Bool, true, false, ◌&&◌, cond, Ordering, List, [], ◌∷◌, ◌++◌, Option, Some, None, All, Vec, Global, option_map, map, take, drop, length, is_gt, refl, sym, ap, ap₂, ◌∙◌, subst, arith}
+use Rattle.std.proofs.Common.{◌≡◌, ℕ, suc, ◌+◌, ◌≤◌, min, Bool, true, false, ◌&&◌, cond, Ordering, List, [], ◌∷◌, ◌++◌, Option, Some, None, All, Vec, Global, option_map, map, take, drop, length, is_gt, is_some, refl, sym, ap, ap₂, ◌∙◌, subst, arith}
 use Rattle.std.specs.List.{AllByRecursion, filter, filter_map, sum}
 use Rattle.std.specs.Option.{option_map_or}
 use Rattle.std.proofs.lemmas.List.{drop-map, length-append, length-map, length-take}
 use Rattle.std.proofs.lemmas.List.Sums.{sum_by-append}
 use Rattle.std.proofs.lemmas.List.Elements.{All-from_recursion, All-weaker, filter_agree, recursion_from_All}
-use denote.Ref.{Bor}
 use Rattle.mg_value.specs.Value.{item_list}
 use Rattle.mg_collate.specs.declared.direction.Direction.{Direction}
-use Rattle.mg_collate.specs.declared.row.Row.{Row}
-use Rattle.mg_collate.specs.Row.{RowValue, directed_order, row_view}
+use Rattle.mg_collate.specs.Row.{RowValue, directed_order}
 use Rattle.mg_collate.specs.Sorted.{IsInOrder, sorted_with, sorted, sorted_rows}
 use Rattle.mg_bookmark.specs.Bookmark.{Place}
-use Rattle.mg_index.specs.Choice.{Source, is_usable}
-use Rattle.mg_index.specs.Definition.{IndexDefinition, Steps}
+use Rattle.mg_index.specs.Choice.{is_usable}
+use Rattle.mg_index.specs.Definition.{Steps}
 use Rattle.mg_merge.specs.Merged.{IsInOrderBy, contents_of, joined, merged, merged_by, order_by}
 use Rattle.mg_merge.specs.Work.{Hand}
 use Rattle.mg_merge.specs.Sharding.{Document, rows_of}
@@ -21,26 +19,28 @@ use Rattle.mg_merge.proofs.Cuts.{cut_in_order}
 use Rattle.mg_merge.proofs.Rows.{by_rows, rows_of_merged}
 use Rattle.mg_normal.specs.Atoms.{atoms_of}
 use Rattle.mg_normal.specs.Normal.{IsNormalOf, NormalForm, normal_holds}
+use Rattle.mg_range.specs.Decided.{decides_of}
 use Rattle.mg_range.specs.Laws.{RangesAreComplete}
 use Rattle.mg_range.specs.RangeSide.{has_key}
-use Rattle.mg_range.specs.Range.{Range, range_of}
+use Rattle.mg_range.specs.Range.{range_of}
 use Rattle.mg_scan.specs.Decided.{IsDecidedIn}
-use Rattle.mg_scan.specs.Found.{asked, columns_of as columns_at, found_in}
+use Rattle.mg_scan.specs.Found.{asked, columns_of as columns_at}
 use Rattle.mg_scan.specs.Hit.{hit_row, hit_rows}
-use Rattle.mg_scan.specs.Scan.{Request, scanned}
-use Rattle.mg_scan.specs.declared.target.Target.{Target}
+use Rattle.mg_scan.specs.Scan.{scanned}
+use Rattle.mg_scan.specs.Search.{after_of, asked_by, found_by}
 use Rattle.mg_scan.specs.declared.hit.Hit.{Hit}
+use Rattle.mg_scan.specs.declared.search.Search.{Search}
 use Rattle.mg_shard.specs.Dealt.{Placing, ShardsStandFor}
 use Rattle.mg_shard.specs.Documents.{docs_of}
 use Rattle.mg_shard.specs.Histories.{Histories}
 use Rattle.mg_shard.specs.Rows.{row_of}
 use Rattle.mg_shard.specs.Shard.{ShardView}
-use Rattle.mg_query.specs.Asked.{AreFirst, AreOfPage, IsDecidedBy}
+use Rattle.mg_query.specs.Asked.{AreFirst, AreOfPage, IsAskedBy, IsSearchOf, rows_asked_of}
 use Rattle.mg_query.specs.Page.{candidates_of, columns_of, page_rows, row_by}
 use Rattle.mg_query.specs.Paged.{IsWithin}
 use Rattle.mg_query.specs.Lent.{row_at, shard_rows}
 use Rattle.mg_query.specs.Query.{Query}
-use Rattle.mg_query.specs.Served.{AreWhole, IsListed}
+use Rattle.mg_query.specs.Served.{AreWhole, IsListed, source_seen}
 use Rattle.mg_query.specs.declared.found.Asked.{Asked}
 use Rattle.mg_query.proofs.Answered.{is_wanted_by, rows_of_answer}
 use Rattle.mg_query.proofs.Gathered.{listed, listed_sorted, lists_in_order, rows_asked}
@@ -78,45 +78,51 @@ length_joined (v ∷ lists) =
 pub merged_same : (direction : Direction) (hits : List Hit) (m n : ℕ) (lists others : List (Vec Hit Global)) → hits ≡ merged_by hit_row direction m (contents_of lists) → m ≡ n → lists ≡ others → hits ≡ merged_by hit_row direction n (contents_of others)
 merged_same direction hits m n lists others e f g = e ∙ ap₂ (λ k ls. merged_by hit_row direction k (contents_of ls)) f g
 
--- what a scan finds in a shard that has the columns of its target
-found_at : (q : Query) (columns : List Steps) (normal : NormalForm) (target : Target) (range : Range) (after : Option RowValue) (count : ℕ) → range ≡ range_of normal.atoms columns → after ≡ option_map row_at q.bookmark → count ≡ q.skip + q.limit
-    → (s : ShardView) → columns_at target s.definitions ≡ Some columns → found_in target (asked normal range after count q.direction) s ≡ shard_rows normal columns q s
-found_at q columns normal target range after count r a n s e =
-    ap (λ o. option_map_or (λ cs. scanned (asked normal range after count q.direction cs) (docs_of s.documents)) o []) e
-    ∙ ap (λ x. scanned (asked normal x after count q.direction columns) (docs_of s.documents)) r
-    ∙ ap₂ (λ x m. scanned (asked normal (range_of normal.atoms columns) x m q.direction columns) (docs_of s.documents)) a n
+-- what the query's search finds in a shard that has the columns of its target
+found_at : (q : Query) (a : Asked) (search : Search) → IsAskedBy q a → IsSearchOf q a search → (s : ShardView) → columns_at search.target s.definitions ≡ Some (columns_of (source_seen a.source)) → found_by search s ≡ rows_asked_of q a s
+found_at q a search asks is s e =
+    let columns = columns_of (source_seen a.source) in
+    let documents = docs_of s.documents in
+    ap (λ o. option_map_or (λ cs. scanned (asked_by search cs) documents) o []) e
+    ∙ ap₂ (λ normal range. scanned (asked normal range (after_of search) search.take search.direction columns) documents) is.normal (is.range ∙ asks.range)
+    ∙ ap₂ (λ after count. scanned (asked a.normal (range_of a.normal.atoms columns) after count search.direction columns) documents) (is.after ∙ asks.after) is.take
+    ∙ ap (λ direction. scanned (asked a.normal (range_of a.normal.atoms columns) (option_map row_at q.bookmark) (q.skip + q.limit) direction columns) documents) is.direction
 
-found_each : (target : Target) (request : List Steps → Request) (columns : List Steps) (rows : ShardView → List RowValue) → ((s : ShardView) → columns_at target s.definitions ≡ Some columns → found_in target request s ≡ rows s)
-    → (shards : List ShardView) → AllByRecursion (λ s. columns_at target s.definitions ≡ Some columns) shards → map (found_in target request) shards ≡ map rows shards
-found_each target request columns rows f [] h = refl
-found_each target request columns rows f (s ∷ shards) h = ap₂ (λ x xs. x ∷ xs) (f s h.0) (found_each target request columns rows f shards h.1)
+found_each : (q : Query) (a : Asked) (search : Search) → IsAskedBy q a → IsSearchOf q a search → (shards : List ShardView) → AllByRecursion (λ s. IsListed s.definitions (source_seen a.source)) shards
+    → map (found_by search) shards ≡ map (rows_asked_of q a) shards
+found_each q a search asks is [] h = refl
+found_each q a search asks is (s ∷ shards) h = ap₂ (λ x xs. x ∷ xs) (found_at q a search asks is s (is.target s.definitions h.0)) (found_each q a search asks is shards h.1)
 
-pub found_rows : (q : Query) (columns : List Steps) (normal : NormalForm) (target : Target) (range : Range) (after : Option RowValue) (count : ℕ) → range ≡ range_of normal.atoms columns → after ≡ option_map row_at q.bookmark → count ≡ q.skip + q.limit
-    → (shards : List ShardView) → All (λ s. columns_at target s.definitions ≡ Some columns) shards → map (found_in target (asked normal range after count q.direction)) shards ≡ map (shard_rows normal columns q) shards
-found_rows q columns normal target range after count r a n shards h =
-    found_each target (asked normal range after count q.direction) columns (shard_rows normal columns q) (found_at q columns normal target range after count r a n) shards
-    (recursion_from_All (λ s. columns_at target s.definitions ≡ Some columns) shards h)
+-- what it finds in shards in which the index is listed
+pub found_rows : (q : Query) (a : Asked) (search : Search) → IsAskedBy q a → IsSearchOf q a search → (shards : List ShardView) → All (λ s. IsListed s.definitions (source_seen a.source)) shards
+    → map (found_by search) shards ≡ map (rows_asked_of q a) shards
+found_rows q a search asks is shards listed = found_each q a search asks is shards (recursion_from_All (λ s. IsListed s.definitions (source_seen a.source)) shards listed)
 
--- shards in which the index is listed have the columns of its target
-pub listed_at : (source : Source) (target : Target) (shards : List ShardView) → ((ds : List IndexDefinition) → IsListed ds source → columns_at target ds ≡ Some (columns_of source)) → All (λ s. IsListed s.definitions source) shards
-    → All (λ s. columns_at target s.definitions ≡ Some (columns_of source)) shards
-listed_at source target shards at listed = All-weaker (λ s. IsListed s.definitions source) (λ s. columns_at target s.definitions ≡ Some (columns_of source)) (λ s l. at s.definitions l) shards listed
+-- and the first of all that
+pub found_first : (q : Query) (a : Asked) (search : Search) → IsAskedBy q a → IsSearchOf q a search → (shards : List ShardView) → All (λ s. IsListed s.definitions (source_seen a.source)) shards
+    → merged search.direction search.take (map (found_by search) shards) ≡ merged q.direction (q.skip + q.limit) (map (rows_asked_of q a) shards)
+found_first q a search asks is shards listed =
+    ap₂ (λ direction count. merged direction count (map (found_by search) shards)) is.direction is.take
+    ∙ ap (merged q.direction (q.skip + q.limit)) (found_rows q a search asks is shards listed)
 
 -- where the range decides, it does so in each shard
-pub decided_in : (source : Source) (target : Target) (normal : NormalForm) (range : Range) (shards : List ShardView) → All (λ s. columns_at target s.definitions ≡ Some (columns_of source)) shards
-    → IsDecidedBy (columns_of source) normal → range ≡ range_of normal.atoms (columns_of source) → All (IsDecidedIn target normal range) shards
-decided_in source target normal range shards there decided is =
-    All-weaker (λ s. columns_at target s.definitions ≡ Some (columns_of source)) (IsDecidedIn target normal range)
-    (λ s e. record { columns = columns_of source; there = e; alone = decided.0; decides = decided.1; bounds = is }) shards there
+pub decided_in : (q : Query) (a : Asked) (search : Search) → IsAskedBy q a → IsSearchOf q a search → a.is_decided ≡ true → (shards : List ShardView) → All (λ s. IsListed s.definitions (source_seen a.source)) shards
+    → All (IsDecidedIn search.target search.normal.now search.range.now) shards
+decided_in q a search asks is decides shards listed =
+    let columns = columns_of (source_seen a.source) in
+    let decided = asks.decided decides in
+    All-weaker (λ s. IsListed s.definitions (source_seen a.source)) (IsDecidedIn search.target search.normal.now search.range.now)
+    (λ s there. record {
+      columns = columns;
+      there = is.target s.definitions there;
+      alone = ap (λ (normal : NormalForm). is_some normal.rest) is.normal ∙ decided.0;
+      decides = ap (λ (normal : NormalForm). decides_of normal.atoms columns) is.normal ∙ decided.1;
+      bounds = is.range ∙ asks.range ∙ ap (λ (normal : NormalForm). range_of normal.atoms columns) (sym is.normal);
+    }) shards listed
 
 -- the first hits, of which the page passes over some
 pub first_passed : (q : Query) (a : Asked) (shards : List ShardView) (hits : List Hit) → AreFirst q a shards hits → AreOfPage q a shards q.skip hits
 first_passed q a shards hits first = record { rows = sym (drop-map hit_row q.skip hits) ∙ ap (drop q.skip) first.rows; hits = first.hits }
-
--- the row that is lent
-pub rows_lent : (o : Option (Bor Row)) (p : Option Row) → option_map (λ r. r.now) o ≡ p → option_map (λ r. row_view r.now) o ≡ option_map row_view p
-rows_lent None p e = ap (option_map row_view) e
-rows_lent (Some r) p e = ap (option_map row_view) e
 
 -- the rows of hits, list by list
 contents : (lists : List (Vec Hit Global)) → map (map hit_row) (contents_of lists) ≡ map (λ v. hit_rows v.items) lists

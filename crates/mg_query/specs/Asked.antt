@@ -1,18 +1,21 @@
 -- For private clauses: what a query asks of each shard, and what is first of all that they have.
-use Rattle.std.specs.Prelude.{◌≡◌, ℕ, ◌+◌, true, false, List, drop, is_some, map, option_map}
-use Rattle.mg_collate.specs.Row.{RowValue, row_view}
+use Rattle.std.specs.Prelude.{◌≡◌, ℕ, ◌+◌, true, false, List, Some, drop, is_some, map, option_map}
+use Rattle.mg_collate.specs.Row.{RowValue}
 use Rattle.mg_merge.specs.Merged.{merged}
-use Rattle.mg_index.specs.Definition.{Steps}
+use Rattle.mg_index.specs.Definition.{IndexDefinition, Steps}
 use Rattle.mg_normal.specs.Normal.{IsNormalOf, NormalForm}
 use Rattle.mg_range.specs.Decided.{decides_of}
 use Rattle.mg_range.specs.Range.{range_of}
+use Rattle.mg_scan.specs.Found.{columns_of as columns_at}
 use Rattle.mg_scan.specs.Hit.{AreHitsIn, hit_rows}
+use Rattle.mg_scan.specs.Search.{after_of}
 use Rattle.mg_scan.specs.declared.hit.Hit.{Hit}
+use Rattle.mg_scan.specs.declared.search.Search.{Search}
 use Rattle.mg_shard.specs.Shard.{ShardView}
 use Rattle.mg_query.specs.Lent.{row_at, shard_rows}
 use Rattle.mg_query.specs.Page.{columns_of}
 use Rattle.mg_query.specs.Query.{Query}
-use Rattle.mg_query.specs.Served.{source_seen}
+use Rattle.mg_query.specs.Served.{IsListed, source_seen}
 use Rattle.mg_query.specs.declared.found.Asked.{Asked}
 
 -- the normal form asks nothing besides atoms, and their range at the columns decides each of them
@@ -23,8 +26,17 @@ IsDecidedBy columns normal = (is_some normal.rest ≡ false) × (decides_of norm
 pub record IsAskedBy (q : Query) (a : Asked) : Type 0 where
   pub normal : IsNormalOf q.selector a.normal
   pub range : a.range ≡ range_of a.normal.atoms (columns_of (source_seen a.source))
-  pub after : option_map row_view a.after ≡ option_map row_at q.bookmark
+  pub after : a.after ≡ option_map row_at q.bookmark
   pub decided : a.is_decided ≡ true → IsDecidedBy (columns_of (source_seen a.source)) a.normal
+
+-- the search is for it in each shard, and for as many rows as the page passes over and has
+pub record IsSearchOf (q : Query) (a : Asked) (s : Search) : Type 0 where
+  pub target : (ds : List IndexDefinition) → IsListed ds (source_seen a.source) → columns_at s.target ds ≡ Some (columns_of (source_seen a.source))
+  pub normal : s.normal.now ≡ a.normal
+  pub range : s.range.now ≡ a.range
+  pub after : after_of s ≡ a.after
+  pub take : s.take ≡ q.skip + q.limit
+  pub direction : s.direction ≡ q.direction
 
 -- what a shard lists of it
 abbrev pub rows_asked_of : Query → Asked → ShardView → List RowValue

@@ -1,12 +1,11 @@
 // What a query finds for its page: the first hits of all shards together.
 ghost use Rattle.std.specs.Prelude.{◌≡◌, ◌+◌, ◌<◌, ◌≤◌, true, All, IfOk, drop, length, map, option_map};
 ghost use Rattle.std.specs.List.{AllZip};
-ghost use Rattle.mg_collate.specs.Row.{row_view};
 ghost use Rattle.mg_shard.specs.Shard.{HaveIndexes, shards_seen};
 ghost use Rattle.mg_scan.specs.Hit.{AreHitsOf, hit_rows};
 ghost use Rattle.mg_shard.specs.Dealt.{Placing, ShardsStandFor};
 ghost use Rattle.mg_shard.specs.Histories.{Histories};
-ghost use Rattle.mg_query.specs.Asked.{AreFirst, AreOfPage, IsAskedBy, rows_asked_of};
+ghost use Rattle.mg_query.specs.Asked.{AreFirst, AreOfPage, IsAskedBy, IsSearchOf, rows_asked_of};
 ghost use Rattle.mg_query.specs.Page.{candidates_of, columns_of, page_rows, served_by as served_of};
 ghost use Rattle.mg_query.specs.Paged.{IsWithin, counts_handed};
 ghost use Rattle.mg_query.specs.Lent.{LendEach, row_at};
@@ -16,16 +15,17 @@ ghost use Rattle.mg_query.specs.Served.{PageAnswers, AreWhole, IsListed, source_
 use crate::error::PageError;
 use crate::query::Query;
 use crate::source::{Source, served_by};
-use mg_collate::{Direction, Row};
+use mg_collate::Direction;
 use mg_index::Catalog;
 use mg_merge::{Work, merge_all};
 use mg_normal::Normal;
-use mg_range::KeyRange;
 use mg_range::laws::ranges_are_complete;
-use mg_scan::{Gate, Hit, Workers, pull_lent, pull_rows, reads_at_most, scan_lent};
+use mg_range::{KeyRange, RowRange};
+use mg_rows::RowBytes;
+use mg_scan::{Gate, Hit, Search, Workers, pull_lent, pull_rows, reads_at_most, scan_lent};
 use mg_shard::Shard;
 use mg_shard::laws::definitions_are_catalogs;
-use mg_value::{NoMemory, copy_items};
+use mg_value::NoMemory;
 use std::alloc::Global;
 use std::sync::Arc;
 use std::thread::Threads;
@@ -48,13 +48,13 @@ pub(crate) struct FirstHits<'a> {
 }
 
 // What a query asks of each shard: the index that serves it, its selector in normal form, the range of keys in which it
-// looks, the row after which its page begins, and whether the range decides the whole selector.
+// looks, the row after which its page begins, as bytes, and whether the range decides the whole selector.
 #[derive(Drop)]
 pub(crate) struct Asked<'a> {
     pub(crate) source: Source<'a>,
     pub(crate) normal: Normal,
     pub(crate) range: KeyRange,
-    pub(crate) after: Option<Row>,
+    pub(crate) after: Option<RowBytes>,
     pub(crate) is_decided: bool,
 }
 
@@ -87,7 +87,8 @@ pub(crate) fn find<'a, R: Threads + Sync, G: Gate + Sync>(
     ranges_are_complete();
     definitions_are_catalogs(shards);
     let asked = asked_of(alloc, query, catalog)?;
-    let (hits, work) = gathered(rt, alloc, query, &asked, shards, workers, gate)?;
+    let range = asked.range.in_rows(alloc)?;
+    let (hits, work) = gathered(rt, alloc, query, &asked, &range, shards, workers, gate)?;
     Ok(Found {
         source: asked.source,
         hits,
@@ -117,7 +118,8 @@ pub(crate) fn find_first<'a, R: Threads + Sync, G: Gate + Sync>(
     ranges_are_complete();
     definitions_are_catalogs(shards);
     let asked = asked_of(alloc, query, catalog)?;
-    let (hits, skip) = first_of(rt, alloc, query, &asked, shards, workers, gate)?;
+    let range = asked.range.in_rows(alloc)?;
+    let (hits, skip) = first_of(rt, alloc, query, &asked, &range, shards, workers, gate)?;
     Ok(FirstHits {
         source: asked.source,
         hits,
@@ -157,27 +159,44 @@ fn row_count(query: &Query<'_>) -> usize
     query.skip as usize + query.limit as usize
 }
 
+// What is searched in each shard: what the query asks there, in its range, which is given as bytes, and as many rows as a page looks at.
+fn search_of<'a>(query: &Query<'_>, asked: &'a Asked<'_>, range: &'a RowRange<'_>) -> Search<'a>
+    requires range { range.now ≡ asked.now.range }
+    ensures { IsSearchOf (query_seen query.now) asked.now result }
+{
+    Search {
+        target: asked.source.target(),
+        normal: &asked.normal,
+        range,
+        after: asked.after.as_ref(),
+        take: row_count(query),
+        direction: query.sort.direction,
+    }
+}
+
 // The hits of the page, behind so many others that it passes over.
 fn first_of<'a, R: Threads + Sync, G: Gate + Sync>(
     rt: &R,
     alloc: Global,
     query: &Query<'_>,
     asked: &Asked<'_>,
+    range: &RowRange<'_>,
     shards: &'a [Arc<Shard>],
     workers: Workers,
     gate: &G,
 ) -> Result<(Vec<Hit<'a>>, u32), NoMemory>
     requires asked { IsAskedBy (query_seen query.now) asked.now }
+    requires range { range.now ≡ asked.now.range }
     requires indexes { All (λ s. IsListed s.definitions (source_seen asked.now.source)) (shards_seen shards.now) }
     ensures { IfOk result
         (λ made. AreOfPage (query_seen query.now) asked.now (shards_seen shards.now) made.1 made.0.items) }
 {
     let is_one = workers.count() < 2 || shards.len() < 2;
-    let is_small = is_one || is_small(alloc, query, asked, shards)?;
+    let is_small = is_one || is_small(query, asked, range, shards);
     if workers.is_alone(is_small) {
-        return found_alone(alloc, query, asked, shards);
+        return found_alone(alloc, query, asked, range, shards);
     }
-    let (hits, _) = gathered(rt, alloc, query, asked, shards, workers.count(), gate)?;
+    let (hits, _) = gathered(rt, alloc, query, asked, range, shards, workers.count(), gate)?;
     Ok((hits, query.skip))
 }
 
@@ -187,18 +206,20 @@ fn found_alone<'a>(
     alloc: Global,
     query: &Query<'_>,
     asked: &Asked<'_>,
+    range: &RowRange<'_>,
     shards: &'a [Arc<Shard>],
 ) -> Result<(Vec<Hit<'a>>, u32), NoMemory>
     requires asked { IsAskedBy (query_seen query.now) asked.now }
+    requires range { range.now ≡ asked.now.range }
     requires indexes { All (λ s. IsListed s.definitions (source_seen asked.now.source)) (shards_seen shards.now) }
     ensures { IfOk result
         (λ made. AreOfPage (query_seen query.now) asked.now (shards_seen shards.now) made.1 made.0.items) }
 {
     if asked.is_decided {
-        let hits = pulled_rows(alloc, query, asked, shards)?;
+        let hits = pulled_rows(alloc, query, asked, range, shards)?;
         return Ok((hits, 0));
     }
-    let hits = pulled(alloc, query, asked, shards)?;
+    let hits = pulled(alloc, query, asked, range, shards)?;
     Ok((hits, query.skip))
 }
 
@@ -207,25 +228,18 @@ fn pulled_rows<'a>(
     alloc: Global,
     query: &Query<'_>,
     asked: &Asked<'_>,
+    range: &RowRange<'_>,
     shards: &'a [Arc<Shard>],
 ) -> Result<Vec<Hit<'a>>, NoMemory>
     requires decided { asked.now.is_decided ≡ true }
     requires asked { IsAskedBy (query_seen query.now) asked.now }
+    requires range { range.now ≡ asked.now.range }
     requires indexes { All (λ s. IsListed s.definitions (source_seen asked.now.source)) (shards_seen shards.now) }
     ensures { IfOk result
         (λ hits. AreOfPage (query_seen query.now) asked.now (shards_seen shards.now) 0 hits.items) }
 {
-    let (hits, _) = pull_rows(
-        alloc,
-        shards,
-        asked.source.target(),
-        &asked.normal,
-        &asked.range,
-        asked.after.as_ref(),
-        query.skip as usize,
-        row_count(query),
-        query.sort.direction,
-    )?;
+    let search = search_of(query, asked, range);
+    let (hits, _) = pull_rows(alloc, shards, search, query.skip as usize)?;
     Ok(hits)
 }
 
@@ -234,23 +248,16 @@ fn pulled<'a>(
     alloc: Global,
     query: &Query<'_>,
     asked: &Asked<'_>,
+    range: &RowRange<'_>,
     shards: &'a [Arc<Shard>],
 ) -> Result<Vec<Hit<'a>>, NoMemory>
     requires asked { IsAskedBy (query_seen query.now) asked.now }
+    requires range { range.now ≡ asked.now.range }
     requires indexes { All (λ s. IsListed s.definitions (source_seen asked.now.source)) (shards_seen shards.now) }
     ensures { IfOk result
         (λ hits. AreFirst (query_seen query.now) asked.now (shards_seen shards.now) hits.items) }
 {
-    let (hits, _) = pull_lent(
-        alloc,
-        shards,
-        asked.source.target(),
-        &asked.normal,
-        &asked.range,
-        asked.after.as_ref(),
-        row_count(query),
-        query.sort.direction,
-    )?;
+    let (hits, _) = pull_lent(alloc, shards, search_of(query, asked, range))?;
     Ok(hits)
 }
 
@@ -260,12 +267,14 @@ fn gathered<'a, R: Threads + Sync, G: Gate + Sync>(
     alloc: Global,
     query: &Query<'_>,
     asked: &Asked<'_>,
+    range: &RowRange<'_>,
     shards: &'a [Arc<Shard>],
     workers: usize,
     gate: &G,
 ) -> Result<(Vec<Hit<'a>>, Work), NoMemory>
     requires workers { (0 < workers) × (workers ≤ 32) }
     requires asked { IsAskedBy (query_seen query.now) asked.now }
+    requires range { range.now ≡ asked.now.range }
     requires indexes { All (λ s. IsListed s.definitions (source_seen asked.now.source)) (shards_seen shards.now) }
     ensures hits { IfOk result
         (λ made. AreFirst (query_seen query.now) asked.now (shards_seen shards.now) made.0.items) }
@@ -274,7 +283,7 @@ fn gathered<'a, R: Threads + Sync, G: Gate + Sync>(
     ensures handed { IfOk result (λ made. made.1.handed
         ≡ map (λ s. length (rows_asked_of (query_seen query.now) asked.now s)) (shards_seen shards.now)) }
 {
-    let lists = lists_of(rt, alloc, query, asked, shards, workers, gate)?;
+    let lists = lists_of(rt, alloc, query, asked, range, shards, workers, gate)?;
     let (hits, work) = merge_all(alloc, &lists, query.sort.direction, row_count(query))?;
     Ok((hits, work))
 }
@@ -285,31 +294,22 @@ fn lists_of<'a, R: Threads + Sync, G: Gate + Sync>(
     alloc: Global,
     query: &Query<'_>,
     asked: &Asked<'_>,
+    range: &RowRange<'_>,
     shards: &'a [Arc<Shard>],
     workers: usize,
     gate: &G,
 ) -> Result<Vec<Vec<Hit<'a>>>, NoMemory>
     requires workers { (0 < workers) × (workers ≤ 32) }
     requires asked { IsAskedBy (query_seen query.now) asked.now }
+    requires range { range.now ≡ asked.now.range }
     requires indexes { All (λ s. IsListed s.definitions (source_seen asked.now.source)) (shards_seen shards.now) }
     ensures rows { IfOk result (λ lists. map (λ hits. hit_rows hits.items) lists.items
         ≡ map (rows_asked_of (query_seen query.now) asked.now) (shards_seen shards.now)) }
     ensures hits { IfOk result
         (λ lists. AllZip (λ s hits. AreHitsOf s.documents hits.items) (shards_seen shards.now) lists.items) }
 {
-    scan_lent(
-        rt,
-        alloc,
-        shards,
-        asked.source.target(),
-        &asked.normal,
-        &asked.range,
-        asked.after.as_ref(),
-        row_count(query),
-        query.sort.direction,
-        workers,
-        gate,
-    )
+    let search = search_of(query, asked, range);
+    scan_lent(rt, alloc, shards, search, workers, gate)
 }
 
 // A page of at most so many rows is small where its range has a bound. Threads cost some 100 µs each, a row at most 1 µs.
@@ -323,24 +323,14 @@ const SMALL_SCAN: usize = 1000;
 
 // Whether a query is not worth a second thread: by its text, or since there is not much to read.
 fn is_small(
-    alloc: Global,
     query: &Query<'_>,
     asked: &Asked<'_>,
+    range: &RowRange<'_>,
     shards: &[Arc<Shard>],
-) -> Result<bool, NoMemory> {
-    if is_small_page(query, asked) {
-        return Ok(true);
-    }
-    reads_at_most(
-        alloc,
-        shards,
-        asked.source.target(),
-        &asked.normal,
-        &asked.range,
-        asked.after.as_ref(),
-        query.sort.direction,
-        SMALL_SCAN,
-    )
+) -> bool
+    requires range { range.now ≡ asked.now.range }
+{
+    is_small_page(query, asked) || reads_at_most(shards, search_of(query, asked, range), SMALL_SCAN)
 }
 
 // Whether its page is, by its text alone.
@@ -351,16 +341,12 @@ fn is_small_page(query: &Query<'_>, asked: &Asked<'_>) -> bool {
     has_bound && count <= SMALL_PAGE || asked.is_decided && count <= SMALL_ROWS
 }
 
-// The row after which the page begins, if there is a bookmark.
-fn after_row(alloc: Global, query: &Query<'_>) -> Result<Option<Row>, NoMemory>
-    ensures { IfOk result
-        (λ after. option_map row_view after ≡ option_map row_at (query_seen query.now).bookmark) }
+// The row after which the page begins, as bytes, if there is a bookmark.
+fn after_row(alloc: Global, query: &Query<'_>) -> Result<Option<RowBytes>, NoMemory>
+    ensures { IfOk result (λ after. after ≡ option_map row_at (query_seen query.now).bookmark) }
 {
     match &query.bookmark {
-        Some(bookmark) => Ok(Some(Row {
-            key: copy_items(alloc, &bookmark.key)?,
-            id: bookmark.id.clone()?,
-        })),
+        Some(bookmark) => Ok(Some(RowBytes::of(alloc, &bookmark.key, &bookmark.id)?)),
         None => Ok(None),
     }
 }

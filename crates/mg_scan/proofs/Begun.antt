@@ -9,7 +9,8 @@ use Rattle.mg_scan.specs.Begun.{IsBegunIn}
 use Rattle.mg_scan.specs.Hit.{IsHitOf}
 use Rattle.mg_scan.specs.Lead.{AreServed, IsLeadLeft, IsLeadOf, lead_rows, rows_on_way, unasked}
 use Rattle.mg_scan.specs.Scan.{all_scanned}
-use Rattle.mg_scan.specs.Search.{asked_by, begin_at, walked_all_by}
+use Rattle.mg_scan.specs.Search.{asked_by}
+use Rattle.mg_scan.specs.Way.{begin_at, walked_all_by}
 use Rattle.mg_scan.specs.Sourced.{IsLeft, left_rows}
 use Rattle.mg_scan.specs.Walked.{id_row, is_late_row}
 use Rattle.mg_scan.specs.declared.hit.Hit.{Hit}

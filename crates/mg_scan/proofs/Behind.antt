@@ -19,7 +19,8 @@ use Rattle.mg_merge.specs.Pulled.{IsGivenBy}
 use Rattle.mg_scan.specs.Begun.{IsBegunIn, IsBehind}
 use Rattle.mg_scan.specs.Decided.{IsDecidedIn}
 use Rattle.mg_scan.specs.Lead.{AreLeadsIn, IsLeadIn, IsLeadLeft, IsLeadOf, IsLeadSourceBehind, lead_rows, unasked}
-use Rattle.mg_scan.specs.Search.{all_found_by, asked_by, found_by}
+use Rattle.mg_scan.specs.Search.{asked_by, found_by}
+use Rattle.mg_scan.specs.Way.{all_found_by}
 use Rattle.mg_scan.specs.Walked.{is_late_row, walked_all}
 use Rattle.mg_scan.specs.declared.lead.Lead.{Lead}
 use Rattle.mg_scan.specs.declared.lead_source.LeadSource.{LeadSource}

@@ -14,7 +14,7 @@ use Rattle.mg_collate.specs.declared.direction.Direction.{Direction}
 use Rattle.mg_collate.specs.declared.direction.Direction.TheVariants.{Asc, Desc}
 use Rattle.mg_collate.proofs.Sorting.{NoneBelow, Rises, all_append}
 use Rattle.mg_path.specs.Part.{part_of}
-use Rattle.mg_scan.specs.Search.{entry_rows}
+use Rattle.mg_scan.specs.Way.{entry_rows}
 use Rattle.mg_scan.specs.Walked.{id_row}
 use Rattle.mg_scan.specs.Begins.{id_rows}
 use Rattle.mg_shard.specs.Documents.{Kept, KeptDocuments, doc_entry, docs_of, form_at}

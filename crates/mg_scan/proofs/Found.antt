@@ -11,7 +11,8 @@ use Rattle.mg_index.specs.Definition.{IndexDefinition, Steps}
 use Rattle.mg_scan.specs.Found.{found_in}
 use Rattle.mg_scan.specs.Hit.{AreHitsOf, hit_rows}
 use Rattle.mg_scan.specs.Scan.{scanned}
-use Rattle.mg_scan.specs.Search.{asked_by, begin_at, entry_rows, walked_by}
+use Rattle.mg_scan.specs.Search.{asked_by}
+use Rattle.mg_scan.specs.Way.{begin_at, entry_rows, walked_by}
 use Rattle.mg_scan.specs.Walked.{id_row}
 use Rattle.mg_scan.specs.Worked.{Gives}
 use Rattle.mg_scan.specs.declared.hit.Hit.{Hit}

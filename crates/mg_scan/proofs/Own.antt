@@ -2,7 +2,7 @@
 use Rattle.std.proofs.Common.{◌≡◌, ℕ, List, ◌∷◌, Option, Some, None, option_map, map, ap, sym, subst, refl, ◌∙◌}
 use Rattle.std.specs.Option.{option_and_then}
 use Rattle.mg_collate.specs.Row.{RowValue}
-use Rattle.mg_scan.specs.Search.{entry_rows}
+use Rattle.mg_scan.specs.Way.{entry_rows}
 use Rattle.mg_scan.specs.Sourced.{holds_for, walked_documents, walked_on}
 use Rattle.mg_scan.specs.Walked.{id_row, is_late_row}
 use Rattle.mg_scan.specs.declared.search.Search.{Search}

@@ -19,7 +19,8 @@ use Rattle.mg_merge.specs.Pulled.{IsGivenBy}
 use Rattle.mg_scan.specs.Found.{columns_of}
 use Rattle.mg_scan.specs.Hit.{AreHitsIn, IsHitIn, IsHitOf, hit_row}
 use Rattle.mg_scan.specs.Scan.{all_scanned, asked_documents, is_wanted}
-use Rattle.mg_scan.specs.Search.{all_found_by, asked_by, begin_at, entry_rows, found_by, walked_all_by}
+use Rattle.mg_scan.specs.Search.{asked_by, found_by}
+use Rattle.mg_scan.specs.Way.{all_found_by, begin_at, entry_rows, walked_all_by}
 use Rattle.mg_scan.specs.Sourced.{AreKept, IsLeft, IsSourceOf, holds_for, left_rows, row_among, walked_documents, walked_on}
 use Rattle.mg_scan.specs.Walked.{holds_at, id_row, is_late_row}
 use Rattle.mg_scan.specs.declared.hit.Hit.{Hit}

@@ -4,7 +4,7 @@ use Rattle.std.proofs.lemmas.Bool.{leb-false, leb-true}
 use Rattle.std.specs.List.{cons_option}
 use Rattle.mg_collate.specs.Row.{RowValue}
 use Rattle.mg_scan.specs.Hit.{AreHitsOf, IsHitOf, hit_row, hit_rows}
-use Rattle.mg_scan.specs.Search.{entry_rows}
+use Rattle.mg_scan.specs.Way.{entry_rows}
 use Rattle.mg_scan.specs.Walked.{holds_at, listed, walked}
 use Rattle.mg_scan.proofs.Entries.{entry_row}
 use Rattle.mg_normal.specs.Normal.{NormalForm, normal_holds}

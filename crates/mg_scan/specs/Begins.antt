@@ -20,7 +20,8 @@ use Rattle.mg_range.specs.Range.{Range}
 use Rattle.mg_range.specs.declared.place.RangeSide.{RangeSide}
 use Rattle.mg_range.specs.declared.place.RangeSide.TheVariants.{Before, Within, Past}
 use Rattle.mg_range.proofs.Together.{rows_together}
-use Rattle.mg_scan.specs.Search.{after_of, begin_at}
+use Rattle.mg_scan.specs.Search.{after_of}
+use Rattle.mg_scan.specs.Way.{begin_at}
 use Rattle.mg_scan.specs.Walked.{begin_order, id_row, is_beyond, reaches}
 use Rattle.mg_scan.specs.declared.search.Search.{Search}
 use Rattle.mg_value.specs.Value.{Items, no_items, item, item_list, text}

@@ -3,7 +3,7 @@ use Rattle.std.specs.Prelude.{◌≡◌, ℕ, List, Option, Some, None, drop, ma
 use Rattle.std.specs.FinMap.{entries}
 use Rattle.mg_index.specs.Definition.{Steps}
 use Rattle.mg_scan.specs.Found.{columns_of}
-use Rattle.mg_scan.specs.Search.{begin_at}
+use Rattle.mg_scan.specs.Way.{begin_at}
 use Rattle.mg_scan.specs.Walked.{id_row}
 use Rattle.mg_scan.specs.declared.left.Left.{Left}
 use Rattle.mg_scan.specs.declared.left.Left.TheVariants as left

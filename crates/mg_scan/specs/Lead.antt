@@ -4,7 +4,7 @@ use Rattle.std.specs.List.{AllByRecursion}
 use Rattle.mg_collate.specs.Row.{RowValue}
 use Rattle.mg_scan.specs.Decided.{everything}
 use Rattle.mg_scan.specs.HitRow.{lent_row}
-use Rattle.mg_scan.specs.Search.{all_found_by}
+use Rattle.mg_scan.specs.Way.{all_found_by}
 use Rattle.mg_scan.specs.Sourced.{AreKept, walked_documents}
 use Rattle.mg_scan.specs.Walked.{is_late_row, walked_all}
 use Rattle.mg_scan.specs.declared.lead.Lead.{Lead}

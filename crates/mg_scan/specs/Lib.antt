@@ -6,6 +6,7 @@ pub mod Built
 pub mod Building
 pub mod Walked
 pub mod Search
+pub mod Way
 pub mod Worked
 pub mod Begins
 pub mod Sourced

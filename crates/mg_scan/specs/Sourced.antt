@@ -6,7 +6,7 @@ use Rattle.std.specs.Option.{option_and_then, option_map_or}
 use Rattle.mg_collate.specs.Row.{RowValue}
 use Rattle.mg_normal.specs.Normal.{NormalForm, normal_holds}
 use Rattle.mg_scan.specs.Hit.{IsHitOf}
-use Rattle.mg_scan.specs.Search.{all_found_by, walked_all_by}
+use Rattle.mg_scan.specs.Way.{all_found_by, walked_all_by}
 use Rattle.mg_scan.specs.Walked.{is_late_row}
 use Rattle.mg_scan.specs.declared.hit.Hit.{Hit}
 use Rattle.mg_scan.specs.declared.search.Search.{Search}

@@ -15,7 +15,7 @@ pub(crate) struct Begin<'a> {
 
 impl<'a> Probe<RowBytes> for Begin<'a> {
     ghost use Rattle.mg_scan.specs.Begins.{begin_probes_rows};
-    ghost use Rattle.mg_scan.specs.Search.{begin_at};
+    ghost use Rattle.mg_scan.specs.Way.{begin_at};
 
     ghost against = { λ b row. begin_at b.search row };
 
@@ -35,7 +35,7 @@ impl<'a> Probe<RowBytes> for Begin<'a> {
 
 impl<'a, X: Identified> Probe<Shared<X>> for Begin<'a> {
     ghost use Rattle.mg_scan.specs.Begins.{begin_probes_ids};
-    ghost use Rattle.mg_scan.specs.Search.{begin_at};
+    ghost use Rattle.mg_scan.specs.Way.{begin_at};
     ghost use Rattle.mg_scan.specs.Walked.{id_row};
 
     ghost against = { λ b x. begin_at b.search (id_row (X.id x)) };

@@ -1,56 +1,24 @@
 //! How much a scan can read, by counts.
-ghost use Rattle.std.specs.Prelude.{◌≡◌, length, nat_le, option_map, IfOk};
+ghost use Rattle.std.specs.Prelude.{◌≡◌, length, nat_le};
 ghost use Rattle.std.specs.List.{sum_by};
-ghost use Rattle.mg_collate.specs.Row.{row_view};
 ghost use Rattle.std.specs.Option.{option_map_or};
 ghost use Rattle.mg_shard.specs.Shard.{rows_at, shards_seen};
 ghost use Rattle.mg_shard.specs.Walk.{beyond};
 ghost use Rattle.mg_scan.specs.Ahead.{count_ahead as count_ahead_in};
-ghost use Rattle.mg_scan.specs.Search.{after_of, begin_at};
+ghost use Rattle.mg_scan.specs.Search.{after_of};
+ghost use Rattle.mg_scan.specs.Way.{begin_at};
 
 use crate::begin::Begin;
-use crate::search::{Search, bytes_of};
+use crate::search::Search;
 use crate::target::Target;
-use mg_collate::{Direction, Row};
-use mg_normal::Normal;
-use mg_range::KeyRange;
 use mg_shard::Shard;
-use mg_value::NoMemory;
-use std::alloc::Global;
 use std::sync::Arc;
 
-/// Whether a scan of all shards reads at most `most` documents or rows, wherever its range ends: so many come after where it begins.
-/// Nothing is read for it.
+/// Whether a search of all shards reads at most `most` documents or rows, wherever its range ends: so many come after where it begins,
+/// however many it takes. Nothing is read for it. Takes no memory.
 ///
-/// Errors: `NoMemory` if an allocation fails. Cost: in each shard one look-up of where to begin, with the counts on the way there.
-pub fn reads_at_most(
-    alloc: Global,
-    shards: &[Arc<Shard>],
-    target: Target<'_>,
-    normal: &Normal,
-    range: &KeyRange,
-    after: Option<&Row>,
-    direction: Direction,
-    most: usize,
-) -> Result<bool, NoMemory>
-    ensures { IfOk result (λ is. is ≡ nat_le (sum_by (count_ahead_in target.entry range.now (option_map (λ r. row_view r.now) after.entry) direction)
-        (shards_seen shards.now)) most) }
-{
-    let row_range = range.in_rows(alloc)?;
-    let after_row = bytes_of(alloc, after)?;
-    let search = Search {
-        target,
-        normal,
-        range: &row_range,
-        after: after_row.as_ref(),
-        take: most,
-        direction,
-    };
-    Ok(is_at_most(shards, search, most))
-}
-
-// Whether as many come after where the search begins in all shards together, or fewer.
-fn is_at_most(shards: &[Arc<Shard>], search: Search<'_>, most: usize) -> bool
+/// Cost: in each shard one look-up of where to begin, with the counts on the way there.
+pub fn reads_at_most(shards: &[Arc<Shard>], search: Search<'_>, most: usize) -> bool
     ensures { result ≡ nat_le (sum_by (count_ahead_in search.entry.target search.entry.range.now (after_of search.entry) search.entry.direction)
         (shards_seen shards.now)) most }
 {

@@ -25,5 +25,6 @@ pub use gate::{Gate, NoGate, Place};
 pub use hit::Hit;
 pub use pulling::{pull_lent, pull_rows};
 pub use scanning::{scan, scan_lent};
+pub use search::Search;
 pub use target::Target;
 pub use worker_count::Workers;

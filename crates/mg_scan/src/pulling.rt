@@ -1,11 +1,9 @@
 //! The first hits of all shards together, found as the merge asks for them.
-ghost use Rattle.std.specs.Prelude.{◌≡◌, ◌+◌, ◌≤◌, drop, length, map, option_map, All, IfOk};
+ghost use Rattle.std.specs.Prelude.{◌≡◌, ◌+◌, ◌≤◌, drop, length, map, All, IfOk};
 ghost use Rattle.std.specs.List.{AllZip};
-ghost use Rattle.mg_collate.specs.Row.{row_view};
 ghost use Rattle.mg_merge.specs.Merged.{merged};
 ghost use Rattle.mg_shard.specs.Shard.{shards_seen};
 ghost use Rattle.mg_scan.specs.Decided.{IsDecidedIn};
-ghost use Rattle.mg_scan.specs.Found.{asked, found_in};
 ghost use Rattle.mg_scan.specs.Hit.{AreHitsIn, hit_rows};
 ghost use Rattle.mg_scan.specs.Lead.{IsLeadSourceOf};
 ghost use Rattle.mg_scan.specs.Search.{found_by};
@@ -14,55 +12,22 @@ ghost use Rattle.mg_scan.specs.Sourced.{IsSourceOf};
 use crate::hit::Hit;
 use crate::lead::hits_after;
 use crate::lead_source::{LeadSource, lead_source_behind, lead_source_of};
-use crate::search::{Search, bytes_of};
+use crate::search::Search;
 use crate::source::{HitSource, source_of};
-use crate::target::Target;
-use mg_collate::{Direction, Row};
 use mg_merge::merge_pulled;
-use mg_normal::Normal;
-use mg_range::KeyRange;
 use mg_shard::Shard;
 use mg_value::NoMemory;
 use std::alloc::Global;
 use std::sync::Arc;
 
-/// The first `take` hits of all shards together, in the direction's order of their rows: in the target's rows that the direction lists
-/// strictly after the row, if one is named, those whose key is in the range and of whose document the selector holds. Beside them
-/// stands how many hits were looked for and found: at most `take`, and one more for each shard. All is done on the caller's thread.
+/// The first `take` hits of a search in all shards together, in the direction's order of their rows: in the target's rows that the
+/// direction lists strictly after the row, if one is named, those whose key is in the range and of whose document the selector holds.
+/// Beside them stands how many hits were looked for and found: at most `take`, and one more for each shard. All is done on the caller's
+/// thread.
 ///
 /// Errors: `NoMemory` if an allocation fails. Cost: in each shard one look-up of where to begin; then for each row that is
 /// read, until those hits are found, a look-up of its document and the selector on it; the merge.
 pub fn pull_lent<'a>(
-    alloc: Global,
-    shards: &'a [Arc<Shard>],
-    target: Target<'_>,
-    normal: &Normal,
-    range: &KeyRange,
-    after: Option<&Row>,
-    take: usize,
-    direction: Direction,
-) -> Result<(Vec<Hit<'a>>, u64), NoMemory>
-    ensures rows { IfOk result (λ made. hit_rows made.0.items ≡ merged direction take
-        (map (found_in target.entry (asked normal.now range.now (option_map (λ r. row_view r.now) after.entry) take direction)) (shards_seen shards.now))) }
-    ensures hits { IfOk result (λ made. AreHitsIn (shards_seen shards.now) made.0.items) }
-    ensures pulled { IfOk result (λ made. made.1 ≤ take + length shards.now) }
-{
-    let row_range = range.in_rows(alloc)?;
-    let after_row = bytes_of(alloc, after)?;
-    let search = Search {
-        target,
-        normal,
-        range: &row_range,
-        after: after_row.as_ref(),
-        take,
-        direction,
-    };
-    let (hits, pulled) = pull_by(alloc, shards, search)?;
-    Ok((hits, pulled))
-}
-
-// The first hits of a search.
-fn pull_by<'a>(
     alloc: Global,
     shards: &'a [Arc<Shard>],
     search: Search<'_>,
@@ -85,38 +50,6 @@ fn pull_by<'a>(
 /// read, until `take` are found, and the merge; a look-up of a document for each hit that is given. Of one shard the first `skip` rows
 /// of an index are passed over at once, by their count.
 pub fn pull_rows<'a>(
-    alloc: Global,
-    shards: &'a [Arc<Shard>],
-    target: Target<'_>,
-    normal: &Normal,
-    range: &KeyRange,
-    after: Option<&Row>,
-    skip: usize,
-    take: usize,
-    direction: Direction,
-) -> Result<(Vec<Hit<'a>>, u64), NoMemory>
-    requires decided { All (IsDecidedIn target normal.now range.now) (shards_seen shards.now) }
-    ensures rows { IfOk result (λ made. hit_rows made.0.items ≡ drop skip (merged direction take
-        (map (found_in target.entry (asked normal.now range.now (option_map (λ r. row_view r.now) after.entry) take direction)) (shards_seen shards.now)))) }
-    ensures hits { IfOk result (λ made. AreHitsIn (shards_seen shards.now) made.0.items) }
-    ensures pulled { IfOk result (λ made. made.1 ≤ take + length shards.now) }
-{
-    let row_range = range.in_rows(alloc)?;
-    let after_row = bytes_of(alloc, after)?;
-    let search = Search {
-        target,
-        normal,
-        range: &row_range,
-        after: after_row.as_ref(),
-        take,
-        direction,
-    };
-    let (hits, pulled) = pull_rows_by(alloc, shards, search, skip)?;
-    Ok((hits, pulled))
-}
-
-// The first hits of a search without the first so many of them, where the range decides.
-fn pull_rows_by<'a>(
     alloc: Global,
     shards: &'a [Arc<Shard>],
     search: Search<'_>,

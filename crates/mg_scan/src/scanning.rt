@@ -28,42 +28,9 @@ use std::thread::Threads;
 /// They do not depend on the number of workers, which is from 1 to 32, nor on the gate. One worker, or one shard, starts no thread.
 ///
 /// The gate is passed before a shard's first row is read and after its last.
-/// Errors: `NoMemory` if an allocation fails. Cost: in each shard one look-up of where to begin, then for each row that is
+/// Errors: `NoMemory` where a growth was refused. Cost: in each shard one look-up of where to begin, then for each row that is
 /// read a look-up of its document and the selector on it; the hits, which are lent.
 pub fn scan_lent<'a, R: Threads + Sync, G: Gate + Sync>(
-    rt: &R,
-    alloc: Global,
-    shards: &'a [Arc<Shard>],
-    target: Target<'_>,
-    normal: &Normal,
-    range: &KeyRange,
-    after: Option<&Row>,
-    take: usize,
-    direction: Direction,
-    workers: usize,
-    gate: &G,
-) -> Result<Vec<Vec<Hit<'a>>>, NoMemory>
-    requires { (0 < workers) × (workers ≤ 32) }
-    ensures rows { IfOk result (λ lists. map (λ hits. hit_rows hits.items) lists.items
-        ≡ map (found_in target.entry (asked normal.now range.now (option_map (λ r. row_view r.now) after.entry) take direction)) (shards_seen shards.now)) }
-    ensures hits { IfOk result (λ lists. AllZip (λ s hits. AreHitsOf s.documents hits.items) (shards_seen shards.now) lists.items) }
-{
-    let row_range = range.in_rows(alloc)?;
-    let after_row = bytes_of(alloc, after)?;
-    let search = Search {
-        target,
-        normal,
-        range: &row_range,
-        after: after_row.as_ref(),
-        take,
-        direction,
-    };
-    let lists = scan_by(rt, alloc, shards, search, workers, gate)?;
-    Ok(lists)
-}
-
-// What the search finds in each shard.
-fn scan_by<'a, R: Threads + Sync, G: Gate + Sync>(
     rt: &R,
     alloc: Global,
     shards: &'a [Arc<Shard>],
@@ -88,9 +55,9 @@ fn scan_by<'a, R: Threads + Sync, G: Gate + Sync>(
     Ok(lists)
 }
 
-/// The same rows, copied.
+/// The same rows, copied, of a search that is given by its parts.
 ///
-/// Errors: `NoMemory` if an allocation fails. Cost: as of `scan_lent`, and the size of the rows.
+/// Errors: `NoMemory` where a growth was refused. Cost: as of `scan_lent`, and the size of the range, of `after` and of the rows.
 pub fn scan<R: Threads + Sync, G: Gate + Sync>(
     rt: &R,
     alloc: Global,
@@ -108,11 +75,28 @@ pub fn scan<R: Threads + Sync, G: Gate + Sync>(
     ensures { IfOk result (λ lists. map (λ rows. rows_view rows.items) lists.items
         ≡ map (found_in target.entry (asked normal.now range.now (option_map (λ r. row_view r.now) after.entry) take direction)) (shards_seen shards.now)) }
 {
-    let found = scan_lent(
-        rt, alloc, shards, target, normal, range, after, take, direction, workers, gate,
-    )?;
+    let row_range = range.in_rows(alloc)?;
+    let after_row = bytes_of(alloc, after)?;
+    let search = Search {
+        target,
+        normal,
+        range: &row_range,
+        after: after_row.as_ref(),
+        take,
+        direction,
+    };
+    let found = scan_lent(rt, alloc, shards, search, workers, gate)?;
+    let lists = rows_of_each(alloc, &found)?;
+    Ok(lists)
+}
+
+// Copies of the rows of hits, list by list.
+fn rows_of_each(alloc: Global, found: &[Vec<Hit<'_>>]) -> Result<Vec<Vec<Row>>, NoMemory>
+    ensures { IfOk result (λ lists. map (λ rows. rows_view rows.items) lists.items
+        ≡ map (λ hits. hit_rows hits.items) found.now) }
+{
     let mut lists = Vec::with_capacity(alloc, found.len())?;
-    for hits in &found {
+    for hits in found {
         let rows = rows_of(alloc, hits)?;
         lists.push(rows)?;
     }

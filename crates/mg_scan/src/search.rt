@@ -4,7 +4,7 @@ ghost use Rattle.std.specs.declared.cmp.Ordering.TheVariants.{Less, Greater};
 ghost use Rattle.mg_collate.specs.Direction.{directed};
 ghost use Rattle.mg_collate.specs.Row.{row_value_order, row_view};
 ghost use Rattle.mg_range.specs.RangeSide.{is_early as stands_early, is_late as stands_late};
-ghost use Rattle.mg_scan.specs.Search.{begin_at};
+ghost use Rattle.mg_scan.specs.Way.{begin_at};
 ghost use Rattle.mg_scan.specs.Walked.{id_row, is_beyond as stands_beyond, is_late_row};
 
 use crate::target::Target;
@@ -16,15 +16,21 @@ use mg_value::NoMemory;
 use std::alloc::Global;
 use std::cmp::Ordering;
 
-/// What is searched in each shard.
+/// What is searched in each shard. Its range and the row after which it begins stand as bytes, so that these are made once a query.
 #[derive(Clone, Copy)]
-pub(crate) struct Search<'a> {
-    pub(crate) target: Target<'a>,
-    pub(crate) normal: &'a Normal,
-    pub(crate) range: &'a RowRange<'a>,
-    pub(crate) after: Option<&'a RowBytes>,
-    pub(crate) take: usize,
-    pub(crate) direction: Direction,
+pub struct Search<'a> {
+    /// What is read.
+    pub target: Target<'a>,
+    /// The selector that has to hold of a document, in normal form.
+    pub normal: &'a Normal,
+    /// The range in which a key has to be.
+    pub range: &'a RowRange<'a>,
+    /// The row after which the search begins, if one is named.
+    pub after: Option<&'a RowBytes>,
+    /// How many rows are taken at most.
+    pub take: usize,
+    /// The direction in which rows are listed.
+    pub direction: Direction,
 }
 
 // The row after which a search begins, if there is one, as bytes.

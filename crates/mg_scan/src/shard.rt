@@ -10,8 +10,9 @@ ghost use Rattle.mg_shard.specs.Own.{all_columns};
 ghost use Rattle.mg_scan.specs.Hit.{AreHitsOf, IsHitOf, hit_row, hit_rows};
 ghost use Rattle.mg_scan.specs.HitRow.{lent_row};
 ghost use Rattle.mg_scan.specs.Scan.{scanned};
-ghost use Rattle.mg_scan.specs.Search.{asked_by, entry_rows, walked_by};
+ghost use Rattle.mg_scan.specs.Search.{asked_by};
 ghost use Rattle.mg_scan.specs.Walked.{holds_at, id_row, is_late_row, listed};
+ghost use Rattle.mg_scan.specs.Way.{entry_rows, walked_by};
 ghost use Rattle.mg_scan.specs.Worked.{Gives};
 
 use crate::begin::Begin;

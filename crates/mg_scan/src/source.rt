@@ -2,7 +2,7 @@
 ghost use Rattle.std.specs.Prelude.{◌≡◌, ◌∷◌, [], IfNone, IfSome};
 ghost use Rattle.mg_shard.specs.Documents.{KeptDocuments};
 ghost use Rattle.mg_scan.specs.Hit.{IsHitOf, hit_row};
-ghost use Rattle.mg_scan.specs.Search.{walked_all_by};
+ghost use Rattle.mg_scan.specs.Way.{walked_all_by};
 ghost use Rattle.mg_scan.specs.Sourced.{AreKept, IsLeft, IsSourceOf, left_rows, walked_documents};
 
 use crate::hit::Hit;

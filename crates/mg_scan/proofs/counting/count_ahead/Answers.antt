@@ -1,5 +1,5 @@
 use Rattle.std.proofs.Common.{refl}
-use Rattle.mg_scan.specs.Search.{begin_at}
+use Rattle.mg_scan.specs.Way.{begin_at}
 use Rattle.mg_scan.specs.Walked.{id_row}
 use Rattle.mg_scan.proofs.counting.count_ahead.Goals as goal
 

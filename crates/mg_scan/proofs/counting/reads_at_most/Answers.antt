@@ -1,14 +1,33 @@
-use Rattle.std.proofs.Common.{Option, ap₂, nat_le, ◌∙◌}
+use Rattle.std.proofs.Common.{nat_le, arith}
 use Rattle.std.specs.List.{sum_by}
-use Rattle.mg_collate.specs.Row.{RowValue}
-use Rattle.mg_range.specs.Range.{Range}
 use Rattle.mg_shard.specs.Shard.{shards_seen}
 use Rattle.mg_scan.specs.Ahead.{count_ahead}
+use Rattle.mg_scan.specs.Search.{after_of}
+use Rattle.mg_scan.proofs.AddedUp.{ended, on, over}
 use Rattle.mg_scan.proofs.counting.reads_at_most.Goals as goal
 
 pub returns : goal.returns
 returns c =
-    let a = c.args in
-    c.is_at_most.ensures
-    ∙ ap₂ (λ (range : Range) (after : Option RowValue). nat_le (sum_by (count_ahead a.target range after a.direction) (shards_seen a.shards.now)) a.most)
-    c.in_ok-row_range.ensures (c.as_ref.ensures.value ∙ c.in_ok-after_row.ensures)
+    let s = c.args.search in
+    let f = count_ahead s.target s.range.now (after_of s) s.direction in
+    let shards = c.args.shards.now in
+    let l = c.loop-i in
+    ended f shards l.i (nat_le (sum_by f (shards_seen shards)) c.args.most) l.left l.invariant (omega arith)
+
+pub loop-i-preserved : goal.loop-i-preserved
+loop-i-preserved c =
+    let s = c.args.search in
+    let f = count_ahead s.target s.range.now (after_of s) s.direction in
+    let shards = c.args.shards.now in
+    let l = c.loop-i in
+    on f shards l.i (nat_le (sum_by f (shards_seen shards)) c.args.most) l.left l.invariant c.index-shards-i.result c.deref-shard.result.now c.count_ahead-count.result
+    (omega arith) c.index-shards-i.is c.deref-shard.ensures c.count_ahead-count.ensures (omega arith)
+
+pub returns-then-count-left : goal.returns-then-count-left
+returns-then-count-left c =
+    let s = c.args.search in
+    let f = count_ahead s.target s.range.now (after_of s) s.direction in
+    let shards = c.args.shards.now in
+    let l = c.loop-i in
+    over f shards l.i (nat_le (sum_by f (shards_seen shards)) c.args.most) l.left l.invariant c.index-shards-i.result c.deref-shard.result.now c.count_ahead-count.result
+    (omega arith) c.index-shards-i.is c.deref-shard.ensures c.count_ahead-count.ensures (omega arith)

@@ -1,13 +1,23 @@
-use Rattle.std.proofs.Common.{List, map, ap, option_map, ◌∙◌}
-use Rattle.mg_collate.specs.Row.{RowValue, row_view}
-use Rattle.mg_shard.specs.Shard.{ShardView, shards_seen}
-use Rattle.mg_scan.proofs.Made.{same_found}
+use denote.Param.Send.{sendable}
+use Rattle.std.proofs.Crossing.{crosses}
+use Rattle.std.proofs.MapsCrossing.{crosses as maps}
+use Rattle.mg_packed.proofs.packed.Packed.TheSendSync as packed
+use Rattle.mg_rows.proofs.row.RowBytes.TheSendSync as rows
+use Rattle.mg_shard.specs.Shard.{shards_seen}
+use Rattle.mg_scan.proofs.Crossing.{document_sync}
+use Rattle.mg_scan.proofs.Lent.{scan_sync}
+use Rattle.mg_scan.proofs.Maps.{zip_documents, zip_rows}
 use Rattle.mg_scan.proofs.scanning.scan_lent.Goals as goal
 
+-- what the workers hand over, and what they look at, may cross threads
+pub map_indices-requires-send-X : goal.map_indices-requires-send-X
+map_indices-requires-send-X g c κs within = search (sendable, crosses, maps, packed.the_sync, document_sync, rows.the_sync) depth 40
+
+pub map_indices-requires-sync-F : goal.map_indices-requires-sync-F
+map_indices-requires-sync-F g c κs within = record { shared = (scan_sync _ _ _ _ _ _ c.type_bounds.sync-G).shared }
+
 pub returns-clause-rows : goal.returns-clause-rows
-returns-clause-rows g c =
-    let a = c.args in
-    c.in_ok-lists.ensures.rows
-    ∙ ap (λ (f : ShardView → List RowValue). map f (shards_seen a.shards.now))
-    (same_found a.target a.normal.now c.in_ok-row_range.row_range a.range.now (option_map (λ r. r.now) c.as_ref.result) (option_map (λ r. row_view r.now) a.after) a.take a.direction
-    c.in_ok-row_range.ensures (c.as_ref.ensures.value ∙ c.in_ok-after_row.ensures))
+returns-clause-rows g c = zip_rows _ (shards_seen c.args.shards.now) c.in_ok-lists.lists.items c.in_ok-lists.ensures
+
+pub returns-clause-hits : goal.returns-clause-hits
+returns-clause-hits g c = zip_documents _ (shards_seen c.args.shards.now) c.in_ok-lists.lists.items c.in_ok-lists.ensures

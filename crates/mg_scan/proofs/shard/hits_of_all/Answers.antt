@@ -1,5 +1,5 @@
 use Rattle.std.proofs.Common.{refl, ◌∙◌}
-use Rattle.mg_scan.specs.Search.{begin_at}
+use Rattle.mg_scan.specs.Way.{begin_at}
 use Rattle.mg_scan.specs.Walked.{id_row}
 use Rattle.mg_scan.proofs.Found.{all_found, all_owned}
 use Rattle.mg_scan.proofs.shard.hits_of_all.Goals as goal

@@ -2,7 +2,7 @@ use Rattle.std.proofs.Common.{◌≡◌, ◌||◌, ◌-◌, ◌++◌, ◌<◌, �
 use Rattle.std.specs.FinMap.{get}
 use Rattle.std.specs.List.{AllByRecursion}
 use Rattle.mg_scan.specs.Hit.{hit_rows}
-use Rattle.mg_scan.specs.Search.{entry_rows, walked_by}
+use Rattle.mg_scan.specs.Way.{entry_rows, walked_by}
 use Rattle.mg_scan.specs.Walked.{holds_at, id_row, is_late_row}
 use Rattle.mg_scan.proofs.Own.{rows_own}
 use Rattle.mg_scan.proofs.Steps.{held, hits_one, neither, one_left, room, walk_end, walk_one, walk_over}

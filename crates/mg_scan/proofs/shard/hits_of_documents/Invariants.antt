@@ -3,7 +3,7 @@ use Rattle.std.specs.FinMap.{get}
 use Rattle.std.specs.List.{AllByRecursion}
 use Rattle.mg_shard.specs.Documents.{kept_entry, id_of, kept_of}
 use Rattle.mg_scan.specs.Hit.{AreHitsOf, hit_rows}
-use Rattle.mg_scan.specs.Search.{entry_rows, walked_by}
+use Rattle.mg_scan.specs.Way.{entry_rows, walked_by}
 use Rattle.mg_scan.proofs.shard.hits_of_documents.Given as goal
 
 -- what is left decides

@@ -1,6 +1,6 @@
 use Rattle.std.proofs.Common.{◌≡◌, ◌||◌, ◌-◌, ◌++◌, ◌<◌, ◌∷◌, length, nat_le, true, ap, sym, ◌∙◌, arith}
 use Rattle.mg_scan.specs.Hit.{hit_rows}
-use Rattle.mg_scan.specs.Search.{walked_by}
+use Rattle.mg_scan.specs.Way.{walked_by}
 use Rattle.mg_scan.specs.Walked.{holds_at, is_late_row}
 use Rattle.mg_scan.proofs.Steps.{hits_one, neither, one_left, room, walk_end, walk_one, walk_over}
 use Rattle.mg_scan.proofs.shard.hits_of_rows.Goals as goal

@@ -1,6 +1,6 @@
 use Rattle.std.proofs.Common.{◌≡◌, ◌++◌, ◌-◌, ◌≤◌, length}
 use Rattle.mg_scan.specs.Hit.{AreHitsOf, hit_rows}
-use Rattle.mg_scan.specs.Search.{walked_by}
+use Rattle.mg_scan.specs.Way.{walked_by}
 use Rattle.mg_scan.proofs.shard.hits_of_rows.Given as goal
 
 -- what is left decides

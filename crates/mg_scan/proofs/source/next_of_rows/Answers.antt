@@ -1,5 +1,5 @@
 use Rattle.std.proofs.Common.{ap, sym, ◌∙◌}
-use Rattle.mg_scan.specs.Search.{walked_all_by}
+use Rattle.mg_scan.specs.Way.{walked_all_by}
 use Rattle.mg_scan.specs.Walked.{holds_at, is_late_row}
 use Rattle.mg_scan.proofs.Sources.{on_hit, on_late, on_miss}
 use Rattle.mg_scan.proofs.source.next_of_rows.Goals as goal

@@ -1,5 +1,5 @@
 use Rattle.std.proofs.Common.{◌≡◌, length}
-use Rattle.mg_scan.specs.Search.{walked_all_by}
+use Rattle.mg_scan.specs.Way.{walked_all_by}
 use Rattle.mg_scan.proofs.source.next_of_rows.Given as goal
 
 -- nothing was found so far

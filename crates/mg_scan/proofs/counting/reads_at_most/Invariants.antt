@@ -3,7 +3,7 @@ use Rattle.std.specs.List.{sum_by}
 use Rattle.mg_shard.specs.Shard.{shards_seen}
 use Rattle.mg_scan.specs.Ahead.{count_ahead}
 use Rattle.mg_scan.specs.Search.{after_of}
-use Rattle.mg_scan.proofs.counting.is_at_most.Given as goal
+use Rattle.mg_scan.proofs.counting.reads_at_most.Given as goal
 
 -- what is left decides
 abbrev pub invariant-loop-i : goal.invariant-loop-i

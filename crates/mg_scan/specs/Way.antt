@@ -1,0 +1,36 @@
+-- For private clauses: where a search begins, and what it finds on its way through a shard.
+use Rattle.std.specs.Prelude.{ℕ, List, option_map}
+use Rattle.std.specs.Option.{option_and_then}
+use Rattle.std.specs.List.{filter_map}
+use Rattle.std.specs.declared.cmp.Ordering.{Ordering}
+use Rattle.mg_collate.specs.Row.{RowValue, row_value_order}
+use Rattle.mg_range.specs.RangeSide.{place_of}
+use Rattle.mg_scan.specs.Found.{all_found_in}
+use Rattle.mg_scan.specs.Search.{after_of, asked_by}
+use Rattle.mg_scan.specs.Walked.{begin_order, holds_at, is_late_row, walked, walked_all}
+use Rattle.mg_scan.specs.declared.search.Search.{Search}
+use Rattle.mg_shard.specs.Documents.{Kept, KeptDocuments, doc_entry}
+use Rattle.mg_shard.specs.Own.{all_columns}
+use Rattle.mg_shard.specs.Rows.{row_of}
+use Rattle.mg_shard.specs.Shard.{ShardView}
+use Rattle.mg_value.specs.Value.{item_list}
+
+-- all that there is of a search in a shard, however much
+abbrev pub all_found_by : Search → ShardView → List RowValue
+all_found_by s = all_found_in s.target (asked_by s)
+
+-- where a search begins, against a row
+abbrev pub begin_at : Search → RowValue → Ordering
+begin_at s r = begin_order s.direction (place_of s.range.now (item_list r.0)) (option_map (row_value_order r) (after_of s))
+
+-- what a search finds on the way through rows of a shard with these documents, so many at most
+abbrev pub walked_by : Search → KeptDocuments → ℕ → List RowValue → List RowValue
+walked_by s ds = walked (is_late_row s.direction s.range.now) (λ r. holds_at s.normal.now ds r.1)
+
+-- all that it finds on the way
+abbrev pub walked_all_by : Search → KeptDocuments → List RowValue → List RowValue
+walked_all_by s ds = walked_all (is_late_row s.direction s.range.now) (λ r. holds_at s.normal.now ds r.1)
+
+-- the rows of documents among all, by their ids
+abbrev pub entry_rows : List (List ℕ × Kept) → List RowValue
+entry_rows es = filter_map (λ e. option_and_then (row_of all_columns) (doc_entry e)) es
