@@ -28,7 +28,7 @@ use std::thread::Threads;
 /// They do not depend on the number of workers, which is from 1 to 32, nor on the gate. One worker, or one shard, starts no thread.
 ///
 /// The gate is passed before a shard's first row is read and after its last.
-/// Errors: `NoMemory` where a growth was refused. Cost: in each shard one look-up of where to begin, then for each row that is
+/// Errors: `NoMemory` if an allocation fails. Cost: in each shard one look-up of where to begin, then for each row that is
 /// read a look-up of its document and the selector on it; the hits, which are lent.
 pub fn scan_lent<'a, R: Threads + Sync, G: Gate + Sync>(
     rt: &R,
@@ -57,7 +57,7 @@ pub fn scan_lent<'a, R: Threads + Sync, G: Gate + Sync>(
 
 /// The same rows, copied, of a search that is given by its parts.
 ///
-/// Errors: `NoMemory` where a growth was refused. Cost: as of `scan_lent`, and the size of the range, of `after` and of the rows.
+/// Errors: `NoMemory` if an allocation fails. Cost: as of `scan_lent`, and the size of the range, of `after` and of the rows.
 pub fn scan<R: Threads + Sync, G: Gate + Sync>(
     rt: &R,
     alloc: Global,
