@@ -15,6 +15,8 @@ mod packed_tests;
 #[cfg(test)]
 mod packed_text_tests;
 #[cfg(test)]
+mod packed_with_text_tests;
+#[cfg(test)]
 mod pages_tests;
 #[cfg(test)]
 mod placement_tests;

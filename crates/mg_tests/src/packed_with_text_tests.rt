@@ -1,0 +1,58 @@
+//! A text at a name of an object in one block: before, between and behind its members, and in the place of the first, of one between
+//! and of the last of them. Other values stay as they are.
+use crate::given::{check, json};
+use mg_packed::Packed;
+use std::alloc::Global;
+use std::process::Abort;
+
+// A value, a name, and the compact text of the value with the text "t" at this name.
+const TEXTS: &[(&str, &str, &str)] = &[
+    ("{}", "", r#"{"":"t"}"#),
+    (
+        r#"{"b":[1,{"x":2}],"d":4}"#,
+        "a",
+        r#"{"a":"t","b":[1,{"x":2}],"d":4}"#,
+    ),
+    (
+        r#"{"b":[1,{"x":2}],"d":4}"#,
+        "c",
+        r#"{"b":[1,{"x":2}],"c":"t","d":4}"#,
+    ),
+    (
+        r#"{"b":[1,{"x":2}],"d":4}"#,
+        "da",
+        r#"{"b":[1,{"x":2}],"d":4,"da":"t"}"#,
+    ),
+    (
+        r#"{"b":[1,{"x":2}],"d":4,"e":null}"#,
+        "b",
+        r#"{"b":"t","d":4,"e":null}"#,
+    ),
+    (
+        r#"{"b":[1,{"x":2}],"d":4,"e":null}"#,
+        "d",
+        r#"{"b":[1,{"x":2}],"d":"t","e":null}"#,
+    ),
+    (
+        r#"{"b":[1,{"x":2}],"d":4,"e":[{}]}"#,
+        "e",
+        r#"{"b":[1,{"x":2}],"d":4,"e":"t"}"#,
+    ),
+    ("null", "a", "null"),
+    (r#""a""#, "a", r#""a""#),
+    ("[{}]", "a", "[{}]"),
+];
+
+fn has_text<R: Abort>(rt: &R, alloc: Global, value: &str, name: &str, text: &str) -> bool {
+    let packed = Packed::of(alloc, &json(rt, alloc, value)).expect(rt, "memory");
+    let with_text = packed.with_text(alloc, name, "t").expect(rt, "memory");
+    let found = with_text.part().text(alloc).expect(rt, "memory");
+    found.as_slice() == text.as_bytes()
+}
+
+#[test]
+fn a_text_stands_at_its_name(rt: HostRuntime) {
+    for (value, name, text) in TEXTS {
+        check(&rt, has_text(&rt, rt.alloc(), value, name, text), text);
+    }
+}
