@@ -196,7 +196,16 @@ fn first_of<'a, R: Threads + Sync, G: Gate + Sync>(
     if workers.is_alone(is_small) {
         return found_alone(alloc, query, asked, range, shards);
     }
-    let (hits, _) = gathered(rt, alloc, query, asked, range, shards, workers.count(), gate)?;
+    let (hits, _) = gathered(
+        rt,
+        alloc,
+        query,
+        asked,
+        range,
+        shards,
+        workers.count(),
+        gate,
+    )?;
     Ok((hits, query.skip))
 }
 
