@@ -60,7 +60,7 @@ class Ask:
 
 # ---- the requests
 
-NUMBERS = "numbers are floating"
+NUMBERS = "numbers are floating-point"
 OPERATORS = "`$regex`, `$keyMapMatch`, `$text`, `$beginsWith`"
 SINGLE = "`PUT`, `POST` and `DELETE` of one document, 409 for a conflict"
 ENDPOINTS = "views, `_all_docs`, `_changes`, `_revs_diff`, `_purge`, `_local`, attachments, the replicator, bulk deletion of indexes"
@@ -71,8 +71,8 @@ DESIGN = "design documents are documents"
 NEGATION = "negation"
 EDGES = "`$all: []`, `$all` of one array, `$allMatch` of an empty array"
 PARTIAL = "`partial_filter_selector`, text and nouveau indexes, partitions"
-HINT = '`use_index` that cannot serve warns or is refused; `"ddoc/name"`'
-FRONT = '`bookmark: ""` begins at the front'
+HINT = 'a `use_index` that cannot serve warns or is refused; `"ddoc/name"`'
+FRONT = '`bookmark: ""` starts at the beginning'
 
 FRUIT = [
     {"_id": "apple", "kind": "fruit", "price": 3, "tags": ["red", "sweet"], "size": {"w": 1}},
