@@ -12,7 +12,7 @@ TEAS = {"assam": 420, "bancha": 380, "ceylon": 380, "darjeeling": 690, "earl gre
 
 
 class Database:
-    """A database at one connection, which stays open."""
+    """A database, with one connection that stays open."""
 
     def __init__(self, url):
         place = urllib.parse.urlsplit(url)
@@ -20,7 +20,7 @@ class Database:
         self.path = place.path.rstrip("/")
 
     def ask(self, method, target, body=None):
-        """The body of the reply. A refusal is an error."""
+        """Sends a request, and returns the value of the reply. A refusal is an error."""
         self.connection.request(method, f"{self.path}/{target}", None if body is None else json.dumps(body))
         reply = self.connection.getresponse()
         found = json.loads(reply.read())
@@ -35,11 +35,11 @@ class Database:
         return self.ask("GET", urllib.parse.quote(name, safe=""))
 
     def pages(self, query, size):
-        """Each page of a query, until one is not full."""
-        bookmark, full = None, True
-        while full:
+        """Each page of a query. The last one has fewer documents than `size`."""
+        bookmark, is_full = None, True
+        while is_full:
             found = self.ask("POST", "_find", {**query, "limit": size, "bookmark": bookmark})
-            bookmark, full = found["bookmark"], len(found["docs"]) == size
+            bookmark, is_full = found["bookmark"], len(found["docs"]) == size
             if found["docs"]:
                 yield found["docs"]
 
@@ -51,8 +51,8 @@ def main():
     index = {"index": {"fields": ["price"]}, "ddoc": "shop", "name": "price"}
     print("index:", database.ask("POST", "_index", index)["result"])
     print("index again:", database.ask("POST", "_index", index)["result"])
-    dear = {"selector": {"price": {"$gt": 0}}, "sort": [{"price": "desc"}], "fields": ["_id", "price"]}
-    for number, page in enumerate(database.pages(dear, 3), start=1):
+    by_price = {"selector": {"price": {"$gt": 0}}, "sort": [{"price": "desc"}], "fields": ["_id", "price"]}
+    for number, page in enumerate(database.pages(by_price, 3), start=1):
         print(f"page {number}:", ", ".join(f"{tea['_id']} {tea['price']}" for tea in page))
     tea = database.document("earl grey")
     print("update:", database.write([{**tea, "price": 470}])[0]["rev"])

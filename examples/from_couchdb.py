@@ -1,5 +1,5 @@
 #!/usr/bin/env python3
-"""Brings a CouchDB database over into this one, with all its leaves and their revisions, and keeps following it if asked.
+"""Copies a CouchDB database into this one, with all leaves of its documents and their revisions, and can go on to follow it.
 
 usage: from_couchdb.py SOURCE TARGET [--checkpoint FILE] [--follow] [--skip] [--without-attachments] [--page N]
        from_couchdb.py SOURCE --dry-run [--without-attachments] [--page N]
@@ -10,15 +10,15 @@ usage: from_couchdb.py SOURCE TARGET [--checkpoint FILE] [--follow] [--skip] [--
 It has been tested against an imitation of CouchDB that was written from the API reference, and never against a CouchDB.
 
 It reads `_changes?style=all_docs` and `_bulk_get?revs=true` of the source, and writes `_bulk_docs` with `"new_edits":false`, so both
-sides agree on winners and conflicts. Writing the same revisions again changes nothing: a run that was cut off is simply repeated.
+sides agree on winners and conflicts. Writing the same revisions again changes nothing, so an interrupted run can be repeated.
 
 The checkpoint says how far the source was read, and names a first and a last document that were written. If the target no longer
-has one of these, as it was started anew without a journal, everything is brought again from the start. --follow waits for changes
-and goes on when a server was away for a while.
+has one of these (it was restarted without a journal), everything is copied again from the start. --follow waits for changes, and
+continues when a server comes back.
 
-Some documents cannot be brought over. --dry-run reads everything, writes nothing, and lists each with its remedy. Otherwise the run
-ends at the first such document; --skip leaves it out, with all its revisions, and says so. Design documents are always left out.
-Exit status: 0 where all is brought over or would be (design documents aside), 1 otherwise, 2 for wrong arguments.
+Some documents cannot be copied. --dry-run reads everything, writes nothing, and lists each of them with its remedy. Otherwise the
+run ends at the first one; --skip leaves it out, with all its revisions, and reports it. Design documents are always left out. Exit
+status: 0 if everything is copied or could be (design documents aside), 1 otherwise, 2 for wrong arguments.
 """
 import argparse
 import base64
@@ -53,11 +53,11 @@ REMEDIES = {
 
 
 class Trouble(Exception):
-    """Why the run cannot go on."""
+    """Why the run cannot continue."""
 
 
 class Away(Exception):
-    """A server cannot be reached at the moment."""
+    """A server that cannot be reached at the moment."""
 
 
 class Unfit(str):
@@ -140,7 +140,7 @@ def leaves(source: Server, rows: list[dict]) -> dict[str, list[dict]]:
     asked = [{"id": row["id"], "rev": change["rev"]} for row in rows for change in row["changes"]]
     try:
         found = source.read("POST", "_bulk_get?revs=true", json.dumps({"docs": asked}).encode())
-    except RecursionError:  # some document nests too deep for Python's reader; it is looked for by halves
+    except RecursionError:  # a document nests too deep for Python's reader; it is searched for in halves
         if len(rows) == 1:
             return {rows[0]["id"]: [{"_id": rows[0]["id"], "too deep": json.loads("[" * DEEPEST + "]" * DEEPEST)}]}
         half = len(rows) // 2
@@ -150,7 +150,7 @@ def leaves(source: Server, rows: list[dict]) -> dict[str, list[dict]]:
         for entry in result["docs"]:
             if "ok" in entry:
                 documents[result["id"]].append(entry["ok"])
-            else:  # a later row brings what has replaced it
+            else:  # a later row has what replaced it
                 say(f"{result['id']}: the source no longer has {entry['error'].get('rev')}")
     return documents
 
@@ -158,7 +158,7 @@ def leaves(source: Server, rows: list[dict]) -> dict[str, list[dict]]:
 # ---- what does not pass
 
 
-def parts(document: dict) -> Iterator[tuple[str, int, Any]]:
+def walk(document: dict) -> Iterator[tuple[str, int, Any]]:
     """Each value in a document with its path and its depth."""
     left: list[tuple[str, int, Any]] = [("", 0, document)]
     while left:
@@ -181,7 +181,7 @@ def findings(document: dict) -> Iterator[Finding]:
     for member in sorted(document.keys() - SPECIAL - {"_attachments"}):
         if member.startswith("_"):
             yield Finding("member", name, f"its member {member} begins with an underscore")
-    values = list(parts(document))
+    values = list(walk(document))
     yield from (Finding("number", name, f"{path} is {value}") for path, _, value in values if isinstance(value, Unfit))
     deepest = max(depth + 1 for _, depth, value in values if isinstance(value, (dict, list)))
     if deepest > DEEPEST:
@@ -219,12 +219,12 @@ def text_of(document: dict) -> bytes:
     return json.dumps(document, ensure_ascii=False, separators=(",", ":")).encode()
 
 
-# ---- bringing documents over
+# ---- copying documents
 
 
 @dataclass
 class Checkpoint:
-    """How far the source was read, and two documents that the target has since then."""
+    """How far the source was read, and two documents that were written to the target."""
 
     file: str | None
     source: str
@@ -254,14 +254,14 @@ class Checkpoint:
         os.replace(f"{self.file}.new", self.file)
 
 
-class Carrier:
-    """Brings documents from a source to a target."""
+class Copier:
+    """Copies documents from a source to a target."""
 
     def __init__(self, source: Server, target: Server, args: argparse.Namespace):
         self.source, self.target, self.args = source, target, args
         self.checkpoint = Checkpoint(args.checkpoint, source.name, target.name)
         self.checkpoint.load()
-        self.brought = self.left_out = 0
+        self.copied = self.left_out = 0
 
     def run(self) -> None:
         wait = False
@@ -269,10 +269,9 @@ class Carrier:
             rows, since = changes(self.source, self.checkpoint.since, self.args.page, wait)
             if not self.target_has_witnesses():
                 say("the target does not have what was brought before; everything is brought again")
-                self.checkpoint.since, self.checkpoint.first, self.checkpoint.last = "0", None, None
-                wait = False
+                self.checkpoint.since, self.checkpoint.first, self.checkpoint.last, wait = "0", None, None, False
                 continue
-            self.bring(leaves(self.source, rows) if rows else {})
+            self.copy(leaves(self.source, rows) if rows else {})
             self.checkpoint.since = since
             self.checkpoint.save()
             if not rows and not self.args.follow:
@@ -280,25 +279,25 @@ class Carrier:
             wait = self.args.follow and not rows
 
     def target_has_witnesses(self) -> bool:
-        """Whether the target ever had the first and the last document that were brought. A deleted one counts."""
+        """Whether the target ever had the first and the last document that were copied. A deleted one counts."""
         for name in {self.checkpoint.first, self.checkpoint.last} - {None}:
             status, text = self.target.ask("GET", urllib.parse.quote(name, safe=""))
             if status == 404 and json.loads(text)["reason"] == "missing":
                 return False
         return True
 
-    def bring(self, documents: dict[str, list[dict]]) -> None:
+    def copy(self, documents: dict[str, list[dict]]) -> None:
         if self.args.without_attachments:
             documents = {name: list(map(without_attachments, group)) for name, group in documents.items()}
         passing = {name: list(map(text_of, group)) for name, group in documents.items() if self.passes(group)}
         for bulk in bulks(passing.values()):
             self.write(bulk)
-        self.brought += len(passing)
+        self.copied += len(passing)
         for name in passing:
             self.checkpoint.first, self.checkpoint.last = self.checkpoint.first or name, name
 
     def passes(self, group: list[dict]) -> bool:
-        """Whether a document is brought over: all its leaves, or none."""
+        """Whether a document is copied: all its leaves, or none."""
         found = [finding for document in group for finding in findings(document)]
         for finding in found:
             if finding.kind != "design" and not self.args.skip:
@@ -320,37 +319,37 @@ def without_attachments(document: dict) -> dict:
 
 def bulks(groups: Iterable[list[bytes]]) -> Iterator[bytes]:
     """The bodies of bulks of documents. The leaves of a document stay together, unless they are too large for one bulk."""
-    held: list[bytes] = []
+    documents: list[bytes] = []
     for group in groups:
         pieces = [group] if sum(map(len, group)) <= LARGEST_BULK else [[text] for text in group]
         for piece in pieces:
-            if held and sum(map(len, held)) + sum(map(len, piece)) + len(held) + len(piece) > LARGEST_BULK:
-                yield FRONT + b",".join(held) + BACK
-                held = []
-            held.extend(piece)
-    if held:
-        yield FRONT + b",".join(held) + BACK
+            if documents and sum(map(len, documents)) + sum(map(len, piece)) + len(documents) + len(piece) > LARGEST_BULK:
+                yield FRONT + b",".join(documents) + BACK
+                documents = []
+            documents.extend(piece)
+    if documents:
+        yield FRONT + b",".join(documents) + BACK
 
 
-def follow(carrier: Carrier) -> None:
-    """Runs on when a server was away: after a second, and then after twice the time of the last wait."""
+def follow(copier: Copier) -> None:
+    """Runs again when a server was away: after a second, and then after twice the time of the last wait."""
     pause = 1
     while True:
-        since = carrier.checkpoint.since
+        since = copier.checkpoint.since
         try:
-            return carrier.run()
+            return copier.run()
         except Away as away:
-            if not carrier.args.follow:
+            if not copier.args.follow:
                 raise Trouble(str(away)) from away
-            pause = 1 if carrier.checkpoint.since != since else min(2 * pause, 60)
+            pause = 1 if copier.checkpoint.since != since else min(2 * pause, 60)
             say(f"{away}; tried again in {pause} seconds")
             time.sleep(pause)
 
 
 def dry_run(source: Server, args: argparse.Namespace) -> bool:
-    """Lists what will not pass. Whether all but design documents passes."""
-    since, documents, kinds = "0", 0, []
-    rows, since = changes(source, since, args.page, False)
+    """Lists what will not pass. Returns whether everything but design documents passes."""
+    documents, kinds = 0, []
+    rows, since = changes(source, "0", args.page, False)
     while rows:
         for group in leaves(source, rows).values():
             documents += 1
@@ -370,10 +369,10 @@ def arguments() -> argparse.Namespace:
     parser.add_argument("target", type=Server, nargs="?", help="the URL of the database here")
     parser.add_argument("--checkpoint", metavar="FILE", help="where to keep how far the source was read")
     parser.add_argument("--follow", action="store_true", help="wait for further changes")
-    parser.add_argument("--skip", action="store_true", help="leave out documents that cannot be brought over")
-    parser.add_argument("--without-attachments", action="store_true", help="bring documents without their attachments")
+    parser.add_argument("--skip", action="store_true", help="leave out documents that cannot be copied")
+    parser.add_argument("--without-attachments", action="store_true", help="copy documents without their attachments")
     parser.add_argument("--page", type=int, default=200, help="rows of the changes feed that are read at once (200)")
-    parser.add_argument("--dry-run", action="store_true", help="write nothing, and list what cannot be brought over")
+    parser.add_argument("--dry-run", action="store_true", help="write nothing, and list what cannot be copied")
     args = parser.parse_args()
     if not args.dry_run and args.target is None:
         parser.error("a TARGET is needed, or --dry-run")
@@ -385,14 +384,14 @@ def main() -> int:
     try:
         if args.dry_run:
             return 0 if dry_run(args.source, args) else 1
-        carrier = Carrier(args.source, args.target, args)
-        follow(carrier)
+        copier = Copier(args.source, args.target, args)
+        follow(copier)
     except (Trouble, Away, OSError) as trouble:
         say(trouble)
         return 1
     except KeyboardInterrupt:
         return 0
-    print(f"{carrier.brought} documents brought over, {carrier.left_out} left out")
+    print(f"{copier.copied} documents brought over, {copier.left_out} left out")
     return 0
 
 

@@ -5,26 +5,26 @@ usage: journal.py FILE LISTEN -- PROGRAM DB SHARDS WORKERS SESSIONS ADDR
 
     journal.py /var/lib/mangod/db.journal 127.0.0.1:5984 -- mangod db 4 2 8 127.0.0.1:5985
 
-FILE is the journal, which is made where there is none. Clients connect to LISTEN; port 0 takes a free port. The rest is the
+FILE is the journal, which is created if it does not exist. Clients connect to LISTEN; port 0 takes a free port. The rest is the
 command that runs the database. ADDR has to be a loopback address, and nobody else may write there: such a write would be lost.
 
-The proxy starts the program, sends it the writes of the journal, and then serves as many clients at a time as SESSIONS says. It
-sends writes on one at a time, in the order of the journal. It appends each write that the program accepts (status 200 or 201),
-with its length and a checksum, and answers only once the record is on the disk; writers that wait at the same time share one
-`fsync`. A refused write, `out_of_memory` among them, has changed nothing and is not in the journal. Reads go straight through.
+The proxy starts the program, sends it the writes of the journal, and then serves up to SESSIONS clients at a time. It passes on one
+write at a time, in the order of the journal. It appends each write that the program accepts (status 200 or 201), with its length and
+a checksum, and replies only once the record is on the disk; writers that wait at the same time share one `fsync`. A refused write,
+also one refused by `out_of_memory`, has changed nothing and is not in the journal. Reads are passed on without a wait.
 
 Replies are a function of the list of accepted writes, so a replay gives the same database and the same bytes for every request
-afterwards, with any SHARDS, WORKERS and SESSIONS. Each replayed write has to get the reply that it got at first; where it does
-not (another program, another DB, less memory), the proxy ends before it serves anybody.
+afterwards, with any SHARDS, WORKERS and SESSIONS. Each replayed write has to get the reply that it got at first; if it does not
+(another program, another DB, less memory), the proxy ends before it serves anybody.
 
-The end of a journal that was being written when the machine stopped may be torn. It holds no write that was acknowledged, and is
-cut off at the start. Damage before an acknowledged write is reported, and then the file is left as it is. If the program ends, or
-the journal cannot be written, the proxy ends with status 1: start it again, by a service manager for example. The program ends
-with the proxy, however that ends (this needs Linux).
+If the machine stops during a write, the end of the journal may be torn. It holds no acknowledged write, and is cut off at the next
+start. Damage before an acknowledged write is reported, and the file is left as it is. If the program ends, or the journal cannot be
+written, the proxy ends with status 1: start it again, by a service manager for example. The program ends with the proxy, however
+the proxy ends (this needs Linux).
 
-Not done: a journal is never compacted, so it grows by each write, and a start takes the time of all writes. A read may show a
-write that is not on the disk yet. Heads have to be as RFC 9112 has them; a head that is refused is refused by the proxy, with the
-program's texts, before its path is looked at.
+Limits: a journal is never compacted, so it grows with each write, and a start takes the time of all writes. A read may show a write
+that is not on the disk yet. Heads have to follow RFC 9112; the proxy itself refuses a bad head, with the program's texts, before it
+looks at the path.
 """
 import argparse
 import contextlib
@@ -61,14 +61,14 @@ REFUSALS = {
 ACCEPTED = (200, 201)
 READS = (b"_find", b"_explain")
 SILENCE = 60  # seconds that a client may say nothing
-STALE = 1  # second after which a connection to the program is not used again: the program closes a silent one after 5
+STALE = 1  # seconds after which a connection to the program is not used again: the program closes a silent one after 5
 PATIENCE = 60  # seconds to wait for ADDR, which an earlier program may still hold
-SESSION_GOES_ON = (200, 201, 404, 405)  # after another reply the program may close the connection
-SIGNAL_AT_PARENTS_DEATH = 1  # PR_SET_PDEATHSIG of prctl(2)
+STAYS_OPEN = (200, 201, 404, 405)  # after a reply of another status the program may close the connection
+PARENT_DEATH_SIGNAL = 1  # PR_SET_PDEATHSIG of prctl(2)
 
 
 class Refused(Exception):
-    """A message that cannot be sent on, and the status that says why."""
+    """A message that cannot be passed on, and the status of its reply."""
 
     def __init__(self, status: int, method: bytes = b""):
         super().__init__(status)
@@ -77,7 +77,7 @@ class Refused(Exception):
 
 @dataclass(frozen=True)
 class Request:
-    """A message: what the program looks at, and nothing else."""
+    """A message, without the fields that the program ignores."""
 
     method: bytes
     target: bytes
@@ -88,7 +88,7 @@ class Request:
         return b"%s %s HTTP/1.1\r\nContent-Length: %d\r\n\r\n%s" % (self.method, self.target, len(self.body), self.body)
 
     def is_write(self) -> bool:
-        """Whether the program may change something for it: each POST and DELETE is a write unless it is known to be a read."""
+        """Whether the program may change something: each POST and DELETE is a write unless it is known to be a read."""
         steps = self.target.partition(b"?")[0].split(b"/")
         reads = steps[0] == b"" and len(steps) == 3 and steps[2] in READS
         return self.method in (b"POST", b"DELETE") and not reads
@@ -107,7 +107,7 @@ class Reply:
 
 
 def next_request(file: BinaryIO) -> Request | None:
-    """The next whole message of a client, None at the end of what it sends."""
+    """The next whole message of a client; None at the end of its input."""
     head = b""
     while not head.endswith(b"\r\n\r\n"):
         if len(head) == LONGEST_HEAD:
@@ -116,15 +116,15 @@ def next_request(file: BinaryIO) -> Request | None:
         if not line:
             return None
         head += line
-    method, target, version, fields = parsed(head)
+    method, target, version, fields = parse_head(head)
     length = body_length(method, fields)
     body = file.read(length)
-    words = [word.strip().lower() for value in fields.get(b"connection", []) for word in value.split(b",")]
-    closes = version == b"0" or b"close" in words
+    options = [option.strip().lower() for value in fields.get(b"connection", []) for option in value.split(b",")]
+    closes = version == b"0" or b"close" in options
     return Request(method, target, body, closes) if len(body) == length else None
 
 
-def parsed(head: bytes) -> tuple[bytes, bytes, bytes, dict[bytes, list[bytes]]]:
+def parse_head(head: bytes) -> tuple[bytes, bytes, bytes, dict[bytes, list[bytes]]]:
     """The method, the target and the version of a head, and the values of its fields by their names in lower case."""
     first, *lines = head[:-2].splitlines(keepends=True)
     request = REQUEST_LINE.fullmatch(first)
@@ -163,7 +163,7 @@ def refusal(status: int, method: bytes) -> bytes:
 
 
 class Connection:
-    """A connection to the program. It is made anew when it was not used for a while."""
+    """A connection to the program. After a pause it is replaced by a new one."""
 
     def __init__(self, address: tuple[str, int]):
         self.address, self.socket, self.used = address, None, 0.0
@@ -210,19 +210,19 @@ class Connection:
             left -= len(piece)
             yield piece
         self.used = time.monotonic()
-        if reply.status not in SESSION_GOES_ON:
+        if reply.status not in STAYS_OPEN:
             self.close()
 
 
 def end_with_parent(parent: int) -> None:
-    """Runs in the new process before the program: the kernel is to kill it when the proxy ends."""
-    ctypes.CDLL(None).prctl(SIGNAL_AT_PARENTS_DEATH, signal.SIGKILL)
+    """Runs in the new process before the program. Asks the kernel to kill the program when the proxy ends."""
+    ctypes.CDLL(None).prctl(PARENT_DEATH_SIGNAL, signal.SIGKILL)
     if os.getppid() != parent:
         os._exit(1)
 
 
-def started(command: list[str]) -> subprocess.Popen:
-    """The program, once it listens."""
+def start(command: list[str]) -> subprocess.Popen:
+    """Starts the program, and returns once it listens."""
     parent, last = os.getpid(), time.monotonic() + PATIENCE
     while True:
         program = subprocess.Popen(
@@ -248,7 +248,7 @@ def end(line: str) -> NoReturn:
 
 @contextlib.contextmanager
 def or_end(trouble: str) -> Iterator[None]:
-    """Ends the proxy if what stands inside fails, before any lock around it is given back."""
+    """Ends the proxy if the block fails, before any lock around it is released."""
     try:
         yield
     except (Failure, OSError) as error:
@@ -263,10 +263,10 @@ class Proxy:
 
     def __init__(self, journal: Journal, address: tuple[str, int]):
         self.journal, self.address = journal, address
-        self.turn = threading.Lock()  # held by the one write that is at the program, until it is in the journal
+        self.turn = threading.Lock()  # of the one write that was sent to the program, until it is in the journal
 
     def replay(self) -> int:
-        """Sends the program the writes of the journal. Gives their number."""
+        """Sends the program the writes of the journal. Returns their number."""
         count, program = 0, Connection(self.address)
         for count, record in enumerate(self.journal.records(), start=1):
             reply = program.ask(Request(record.method, record.target, record.body))
@@ -291,7 +291,7 @@ class Proxy:
                     client.setsockopt(socket.IPPROTO_TCP, socket.TCP_NODELAY, 1)
                     self.converse(client, program)
                 except OSError:
-                    program.close()  # the client went, perhaps in the middle of a reply
+                    program.close()  # the client left, perhaps in the middle of a reply
 
     def converse(self, client: socket.socket, program: Connection) -> None:
         """Answers a client until it ends."""
@@ -318,31 +318,26 @@ class Proxy:
         with self.turn, or_end("a write may be done that is not in the journal"):
             reply = program.ask(request)
             body = b"".join(program.pieces(reply))
-            length = self.kept(request, reply.status, body)
+            length = self.append(request, reply.status, body)
         with or_end("a write is done that is not durable"):
             self.journal.make_durable(length)
         return reply.head + body
 
-
-    def kept(self, request: Request, status: int, reply: bytes) -> int:
-        """Appends an accepted write to the journal. Gives the length that is to be durable, 0 for a write that was refused."""
+    def append(self, request: Request, status: int, reply: bytes) -> int:
+        """Appends an accepted write to the journal. Returns the length that has to become durable; 0 for a refused write."""
         if status not in ACCEPTED:
             return 0
         return self.journal.append(request.method, request.target, request.body, status, reply)
 
 
 def serve_all(proxy: Proxy, listener: socket.socket, sessions: int) -> None:
-    """Starts as many threads as the program has sessions. What fails in one, but for its clients, ends the proxy."""
-
-    def run() -> None:
-        with or_end("clients cannot be served any more"):
-            proxy.serve(listener)
-
+    """Starts as many threads as the program has sessions. A failure in one of them ends the proxy, unless only a client failed."""
+    serve = or_end("clients cannot be served any more")(proxy.serve)
     for _ in range(sessions):
-        threading.Thread(target=run, daemon=True).start()
+        threading.Thread(target=serve, args=[listener], daemon=True).start()
 
 
-def place(text: str) -> tuple[str, int]:
+def address_of(text: str) -> tuple[str, int]:
     """The host and the port of HOST:PORT."""
     host, colon, port = text.rpartition(":")
     if not colon or not port.isascii() or not port.isdigit():
@@ -354,13 +349,13 @@ def arguments() -> argparse.Namespace:
     parser = argparse.ArgumentParser(
         description=__doc__.split("\n")[0], usage="journal.py FILE LISTEN -- PROGRAM DB SHARDS WORKERS SESSIONS ADDR")
     parser.add_argument("file")
-    parser.add_argument("listen", type=place)
+    parser.add_argument("listen", type=address_of)
     parser.add_argument("command", nargs="+")
     args = parser.parse_args()
     if len(args.command) < 6 or not args.command[-2].isdigit():
         parser.error("the command that runs the database ends in DB SHARDS WORKERS SESSIONS ADDR")
     try:
-        args.program, args.sessions = place(args.command[-1]), int(args.command[-2])
+        args.program, args.sessions = address_of(args.command[-1]), int(args.command[-2])
         if not ipaddress.ip_address(args.program[0]).is_loopback:
             parser.error("ADDR has to be a loopback address, so that no write goes past the journal")
     except (argparse.ArgumentTypeError, ValueError) as error:
@@ -374,14 +369,16 @@ def run(args: argparse.Namespace) -> NoReturn:
     listener = socket.socket(family)
     listener.setsockopt(socket.SOL_SOCKET, socket.SO_REUSEADDR, 1)
     listener.bind(args.listen)
-    program = started(args.command)
+    program = start(args.command)
     proxy = Proxy(journal, args.program)
     say(f"{proxy.replay()} writes replayed")
     listener.listen()
     serve_all(proxy, listener, args.sessions)
     say(f"listening on {args.listen[0]}:{listener.getsockname()[1]}")
-    for line in program.stderr:
-        sys.stderr.buffer.write(line)
+    errors = threading.Thread(target=sys.stderr.buffer.writelines, args=[program.stderr], daemon=True)
+    errors.start()
+    while errors.is_alive():
+        errors.join(1)  # with a limit: a signal that comes just before a wait does not interrupt it
     raise Failure(f"the program ended with status {program.wait()}")
 
 

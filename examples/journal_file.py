@@ -4,9 +4,9 @@ The file begins with the line `mangod journal 1`. A record is a line, the body o
 
     write AT DURABLE LENGTH STATUS METHOD TARGET REPLY CHECK
 
-AT is the record's place in the file, and LENGTH is that of the body. DURABLE is how many bytes of the file were on the disk when
-the record was written. REPLY is the digest of the body of the reply, and CHECK that of the line without it and of the body; both
-are BLAKE2b of 16 bytes.
+AT is the offset of the record in the file, and LENGTH the length of the body. DURABLE is how many bytes of the file were on the disk
+when the record was written. REPLY is the digest of the body of the reply. CHECK is the digest of the line without CHECK, and of the
+body. Both digests are BLAKE2b of 16 bytes.
 """
 import fcntl
 import hashlib
@@ -25,7 +25,7 @@ LONGEST_BODY = 8_388_608
 
 
 class Failure(Exception):
-    """Why the journal cannot go on."""
+    """Why the journal cannot be used any more."""
 
 
 def say(line: str) -> None:
@@ -39,7 +39,7 @@ def digest(data: bytes) -> bytes:
 
 @dataclass(frozen=True)
 class Record:
-    """An accepted write, as it stands in the file."""
+    """An accepted write, as it is in the file."""
 
     at: int
     durable: int
@@ -56,7 +56,7 @@ class Record:
 
 
 def record_at(file: BinaryIO, at: int) -> Record | None:
-    """The record at a place of the file, None if there is no whole one."""
+    """The record at an offset of the file; None if there is no whole one."""
     file.seek(at)
     line = file.readline(LONGEST_LINE)
     found = RECORD.fullmatch(line)
@@ -68,13 +68,13 @@ def record_at(file: BinaryIO, at: int) -> Record | None:
 
 
 class Journal:
-    """A journal that is open for one process. Its whole records are on the disk once it is open."""
+    """A journal that one process has open. Once it is open, its whole records are on the disk."""
 
     def __init__(self, path: str):
         self.path = path
         self.file = open(os.open(path, os.O_RDWR | os.O_CREAT | os.O_CLOEXEC, 0o600), "r+b")
         self.disk = threading.Lock()  # held during an fsync
-        self.fault: OSError | None = None  # of the fsync that failed
+        self.fault: OSError | None = None  # the error of the fsync that failed
         try:
             fcntl.flock(self.file, fcntl.LOCK_EX | fcntl.LOCK_NB)
         except BlockingIOError:
@@ -104,7 +104,7 @@ class Journal:
         return end
 
     def cut_the_rest(self) -> None:
-        """Cuts off what follows the whole records, unless a record there says that this place was on the disk before."""
+        """Cuts off what follows the whole records, unless a later record says that this offset was already on the disk."""
         rest = os.fstat(self.file.fileno()).st_size - self.written
         if rest == 0:
             return
@@ -113,12 +113,12 @@ class Journal:
         say(f"{self.path}: the last {rest} bytes are no whole record, and are cut off")
         os.ftruncate(self.file.fileno(), self.written)
 
-    def was_durable(self, place: int) -> bool:
-        """Whether a record that stands further on was written when the byte at this place was on the disk."""
+    def was_durable(self, offset: int) -> bool:
+        """Whether a later record was written when the byte at this offset was on the disk."""
         with mmap.mmap(self.file.fileno(), 0, access=mmap.ACCESS_READ) as view:
-            places = [found.start() for found in RECORD.finditer(view, place)]
-        records = (record_at(self.file, at) for at in places)
-        return any(record and record.durable > place for record in records)
+            offsets = [found.start() for found in RECORD.finditer(view, offset)]
+        records = (record_at(self.file, at) for at in offsets)
+        return any(record and record.durable > offset for record in records)
 
     def records(self) -> Iterator[Record]:
         at = len(MAGIC)
@@ -130,7 +130,7 @@ class Journal:
             yield record
 
     def append(self, method: bytes, target: bytes, body: bytes, status: int, reply: bytes) -> int:
-        """Writes a record at the end; one caller at a time. Gives the length of the file, up to which it is to be made durable."""
+        """Writes a record at the end; one caller at a time. Returns the length of the file, up to which it has to be made durable."""
         text = Record(self.written, self.durable, method, target, body, status, digest(reply)).text()
         self.file.seek(self.written)
         self.file.write(text)
@@ -139,8 +139,8 @@ class Journal:
         return self.written
 
     def make_durable(self, length: int) -> None:
-        """Returns once so many bytes are on the disk. Callers who wait here share the next fsync. After an fsync that failed the
-        file cannot be trusted, so no other one is tried."""
+        """Returns once so many bytes are on the disk. Callers who wait here share the next fsync. After a failed fsync the file cannot be
+        trusted, so there is no other attempt."""
         with self.disk:
             if self.durable >= length:
                 return

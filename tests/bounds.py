@@ -1,17 +1,19 @@
 #!/usr/bin/env python3
-"""Runs hostile input of two sizes through the program and compares the processor time and the memory that each takes.
+"""Runs hostile input of two sizes through the program, and compares the processor time and the memory that each takes.
 
 usage: bounds.py --program PATH [--only NAME ..] [--full]
 
-The shapes are in the folder shapes/. In the gate the larger input is four times the smaller one; with --full it is twice as large, at
-greater sizes. A shape passes if its larger input takes at most one and a half times its share of the memory and, with --full, of the
-processor time. In the gate it may take twice its share of the time, since other work runs beside it and more of the input is outside the
-caches. The share is `times` the cost of the smaller input, or `times` squared where the documents name a product of two parts that both
-grow. From both times, that of a sixteenth of the smaller input is subtracted, so that costs that do not depend on the size are not
-counted; nor are 2 MiB of memory. The sizes grow until the smaller input takes a tenth of a second of processor time after that; if a body
-cannot be so large, the inputs are sent to as many processes as take that together. The replies must be right: they end in the bytes that
-the shape gives, and the next message is answered. A time that is too long is measured up to three times. Last, values and selectors of
-the greatest depth of a body run through the program with a stack of 1 MiB. The last line is 'N passed, M failed'.
+The inputs are made by the shapes of the folder shapes/. The larger input is four times as large as the smaller one; with --full it is
+twice as large, at greater sizes. Its share is `times` the cost of the smaller input, or `times` squared where the documents name a product
+of two parts that both grow. A shape passes if its larger input takes at most 1.5 times its share of the memory, and at most twice its
+share of the processor time (with --full 1.5 times: without it, other work runs at the same time, and more of the input is outside the
+caches). The ratios are printed.
+
+What does not depend on the size is not counted: 2 MiB of memory, and the time of a sixteenth of the smaller input. The sizes grow until the
+smaller input takes a tenth of a second after that; if a body cannot be so large, the inputs are sent to as many processes as take that
+together. A time that is too long is measured up to three times. The replies must end in the bytes that the shape writes out, and the next
+message must be answered. Last, values and selectors of the greatest depth of a body run through the program with a stack of 1 MiB. The
+last line is 'N passed, M failed'.
 """
 import math
 import os
@@ -22,8 +24,9 @@ import tempfile
 import time
 
 from common.arguments import arguments
+from common.messages import get, post, reply
+from common.session import ENDS, run_session, session_command
 from common.tally import Tally
-from model.talk import reply
 from shapes import queries, values, writes
 
 SECONDS = 300
@@ -32,8 +35,8 @@ MOST_ROUNDS = 100
 TINY = 16
 ROOM = 2 << 20
 STACK = 1 << 20
-LAST = b"GET /db/%00 HTTP/1.1\r\n\r\n"
-LAST_REPLY = reply(404, {"error": "not_found", "reason": "missing"})
+LAST = get("%00")
+LAST_REPLY = reply(404, '{"error":"not_found","reason":"missing"}')
 
 
 def memory_of(process):
@@ -59,10 +62,10 @@ def wait_for(process, output, text):
 
 def measure(program, shape, given, text):
     """The processor time and the memory of an input; None if a reply is wrong."""
-    words = [program, "db", shape.shards, shape.workers, "1", "-"]
+    command = session_command(program, shape.shards, shape.workers)
     before = resource.getrusage(resource.RUSAGE_CHILDREN)
     with tempfile.TemporaryFile() as output:
-        process = subprocess.Popen(words, stdin=subprocess.PIPE, stdout=output)
+        process = subprocess.Popen(command, stdin=subprocess.PIPE, stdout=output)
         try:
             process.stdin.write(given + LAST)
             process.stdin.flush()
@@ -77,10 +80,10 @@ def measure(program, shape, given, text):
     return after.ru_utime + after.ru_stime - before.ru_utime - before.ru_stime, memory
 
 
-def grown(program, shape, small, times):
+def find_size(program, shape, small, times):
     """A size at which the smaller input takes a tenth of a second, or its greatest size; and how many processes take that time together."""
     while True:
-        found = in_all(program, shape, [shape.make(small // TINY), shape.make(small)], 1)
+        found = costs_of(program, shape, [shape.make(small // TINY), shape.make(small)], 1)
         used = found[0][0] if found else LEAST
         if used >= LEAST:
             return small, 1
@@ -89,7 +92,7 @@ def grown(program, shape, small, times):
         small *= 2
 
 
-def in_all(program, shape, inputs, rounds):
+def costs_of(program, shape, inputs, rounds):
     """For each input but the first: the processor time of all processes less that of the first input, and the most memory of a process; None
     if a reply is wrong."""
     found = [[measure(program, shape, *one) for one in inputs] for _ in range(rounds)]
@@ -101,56 +104,67 @@ def in_all(program, shape, inputs, rounds):
 
 def compare(program, shape, small, times, slack, tally):
     """Compares one shape at two sizes. The larger one may take `slack` times its share of the processor time."""
-    small, rounds = grown(program, shape, small, times)
+    small, rounds = find_size(program, shape, small, times)
     inputs = [shape.make(size) for size in (small // TINY, small, small * times)]
     tiny = TINY**-shape.power
     share = (times**shape.power - tiny) / (1 - tiny)
     for _ in range(3):
-        found = in_all(program, shape, inputs, rounds)
+        found = costs_of(program, shape, inputs, rounds)
         if found is None or found[1][0] <= slack * share * found[0][0]:
             break
     tally.expect(f"{shape.name}: right replies", found is not None, True)
     if found:
         (one, little), (other, much) = found
         print(f"{shape.name}: {small} in {one:.2f} s and {little / 2**20:.0f} MiB, {small * times} in {other:.2f} s and {much / 2**20:.0f} MiB:"
-              f" {other / one:.1f} times the time, {much / little:.1f} times the memory{f', {rounds} processes' if rounds > 1 else ''}", flush=True)
+              f" {other / one:.1f} times the time (at most {slack * share:.1f}), {much / little:.1f} times the memory (at most {1.5 * share:.1f})"
+              f"{f', {rounds} processes' if rounds > 1 else ''}", flush=True)
         tally.expect(f"{shape.name}: time", other <= slack * share * one, True)
         tally.expect(f"{shape.name}: memory", much - ROOM <= 1.5 * share * (little + ROOM), True)
 
 
-def deepest(program, tally):
-    """Values 127 deep, and selectors of the greatest depth of a body, are written, compared, listed and dropped with a small stack."""
+def set_small_stack():
+    resource.setrlimit(resource.RLIMIT_STACK, (STACK, STACK))
+
+
+def run_with_small_stack(program, given):
+    return run_session(program, given, 7, 4, SECONDS, preexec_fn=set_small_stack)
+
+
+def check_deep_values(program, name, value, tally):
+    """Values 127 deep are written, compared, listed and dropped with a small stack."""
+    documents = values.replicas([values.document(b"%02d" % i, b'"v":%s' % value) for i in range(50)])
+    index = post("_index", b'{"index":{"fields":["v"]},"ddoc":"x","name":"i"}')
+    finds = b"".join(values.find(b'{"v":{"%s":%s}}' % (operator, value), b'"fields":["_id"]') for operator in (b"$lt", b"$gt", b"$ne"))
+    page = values.find(b'{"_id":{"$gt":"48"},"v":{"$eq":%s}}' % value, b'"fields":["_id"]', b'"use_index":"_design/none"')
+    output, end = run_with_small_stack(program, documents + index + finds + documents + page)
+    tally.expect(f"{name} 127 deep: the end", end, ENDS["Eof"])
+    tally.expect(f"{name} 127 deep: found", output.count(values.NOTHING), 3)
+    tally.expect(f"{name} 127 deep: the page", output.endswith(b'"docs":[{"_id":"49"}]}\n'), True)
+
+
+def check_depth(program, tally):
+    """Values 127 deep, and selectors of the greatest depth of a body, run through the program with a small stack."""
     array = b"[" * 124 + b"]" * 124
-    objects = b'{"a":' * 123 + b"{}" + b"}" * 123
-    small = lambda: resource.setrlimit(resource.RLIMIT_STACK, (STACK, STACK))
-    for name, value in [("arrays", array), ("objects", objects)]:
-        documents = values.replicas([values.document(b"%02d" % i, b'"v":%s' % value) for i in range(50)])
-        index = values.post(b"_index", b'{"index":{"fields":["v"]},"ddoc":"x","name":"i"}')
-        queries_for = b"".join(values.find(b'{"v":{"%s":%s}}' % (operator, value), b'"fields":["_id"]') for operator in (b"$lt", b"$gt", b"$ne"))
-        page = values.find(b'{"_id":{"$gt":"48"},"v":{"$eq":%s}}' % value, b'"fields":["_id"]', b'"use_index":"_design/none"')
-        given = documents + index + queries_for + documents + page
-        done = subprocess.run([program, "db", "7", "4", "1", "-"], input=given, capture_output=True, timeout=SECONDS, preexec_fn=small)
-        tally.expect(f"{name} 127 deep: the end", (done.returncode, done.stderr), (0, b""))
-        tally.expect(f"{name} 127 deep: found", done.stdout.count(values.NOTHING), 3)
-        tally.expect(f"{name} 127 deep: the page", done.stdout.endswith(b'"docs":[{"_id":"49"}]}\n'), True)
+    check_deep_values(program, "arrays", array, tally)
+    check_deep_values(program, "objects", b'{"a":' * 123 + b"{}" + b"}" * 123, tally)
     for name, front, back in [("negations", b'{"$not":', b"}"), ("elements", b'{"$elemMatch":', b"}"), ("conjunctions", b'{"$and":[', b"]}"),
                               ("choices", b'{"$nor":[', b"]}"), ("paths", b'{"a":', b"}")]:
         depth = 124 if back == b"}" else 62
         selector = front * depth + b'{"a":1}' + back * depth
         given = values.replicas([values.document(b"a", b'"a":%s' % array)]) + values.find(selector) * 20
-        done = subprocess.run([program, "db", "7", "4", "1", "-"], input=given, capture_output=True, timeout=SECONDS, preexec_fn=small)
-        tally.expect(f"{depth} {name}", (done.returncode, done.stderr, done.stdout.count(b"HTTP/1.1 200 OK")), (0, b"", 20))
+        output, end = run_with_small_stack(program, given)
+        tally.expect(f"{depth} {name}", (end, output.count(b"HTTP/1.1 200 OK")), (ENDS["Eof"], 20))
 
 
 def main():
-    words, tally = arguments(__doc__, only=[]), Tally()
+    args, tally = arguments(__doc__, only=[]), Tally()
     shapes = values.SHAPES + queries.SHAPES + writes.SHAPES
-    tally.expect("shapes that are none", sorted(set(words.only) - {shape.name for shape in shapes}), [])
+    tally.expect("names without a shape", sorted(set(args.only) - {shape.name for shape in shapes}), [])
     for shape in shapes:
-        if not words.only or shape.name in words.only:
-            size, times, slack = (shape.full, 2, 1.5) if words.full else (shape.gate, 4, 2)
-            compare(words.program, shape, size // times, times, slack, tally)
-    deepest(words.program, tally)
+        if not args.only or shape.name in args.only:
+            size, times, slack = (shape.full, 2, 1.5) if args.full else (shape.gate, 4, 2)
+            compare(args.program, shape, size // times, times, slack, tally)
+    check_depth(args.program, tally)
     return tally.end()
 
 

@@ -4,8 +4,8 @@
 usage: clients.py --program PATH [--shards N]
 
 The program reads and writes its standard input and output. A socket of 127.0.0.1 accepts connections, and for each a process
-`PATH db SHARDS 1 1 -` is started whose standard input and output are that connection. How each process ends is compared, too. Needs
-`curl`. Prints each fault; the last line is 'N passed, M failed'.
+`PATH db SHARDS 1 1 -` is started whose standard input and output are that connection. How each process ends is compared, too. The
+expected replies are written out here. Needs `curl`. Prints each fault; the last line is 'N passed, M failed'.
 """
 import http.client
 import json
@@ -16,20 +16,21 @@ import threading
 import time
 
 from common.arguments import arguments
+from common.messages import get, post, reply
+from common.session import ENDS, session_command
 from common.tally import Tally
+from common.wire import connect, read
 
 SECONDS = 30
-ENDED = (0, b"")
-HEAD = "HTTP/1.1 {}\r\nContent-Type: application/json\r\nContent-Length: {}\r\n\r\n"
-NO_DOCUMENT = (HEAD.format("404 Not Found", 41) + '{"error":"not_found","reason":"missing"}\n').encode()
-EMPTY = (HEAD.format("200 OK", 29) + '{"bookmark":"nil","docs":[]}\n').encode()
+NO_DOCUMENT = reply(404, '{"error":"not_found","reason":"missing"}')
+EMPTY = reply(200, '{"bookmark":"nil","docs":[]}')
 
 
 class Bridge:
     """Accepts connections, and starts a process for each."""
 
     def __init__(self, program, shards):
-        self.command = [program, "db", str(shards), "1", "1", "-"]
+        self.command = session_command(program, shards)
         self.listener = socket.create_server(("127.0.0.1", 0))
         self.port = self.listener.getsockname()[1]
         self.served = []
@@ -51,13 +52,13 @@ class Bridge:
         return [(process.returncode, line) for process, line in zip(served, lines)]
 
 
-def python_client(bridge, tally):
+def check_http_client(bridge, tally):
     connection = http.client.HTTPConnection("127.0.0.1", bridge.port, timeout=SECONDS)
 
     def ask(method, target, body=None, headers=None):
         connection.request(method, target, body, headers or {})
-        reply = connection.getresponse()
-        return reply.status, reply.read(), reply.getheader("Content-Length")
+        found = connection.getresponse()
+        return found.status, found.read(), found.getheader("Content-Length")
 
     bulk = json.dumps({"docs": [{"_id": "a b", "_rev": "1-a", "v": 1}], "new_edits": False})
     tally.expect("a bulk", ask("POST", "/db/_bulk_docs", bulk), (201, b"[]\n", "3"))
@@ -84,70 +85,66 @@ def python_client(bridge, tally):
     status, _, _ = ask("GET", "/db/none", headers={"Connection": "close"})
     tally.expect("a last message that closes", status, 404)
     connection.close()
-    tally.expect("the end", bridge.ends(), [ENDED])
+    tally.expect("the end", bridge.ends(), [ENDS["Eof"]])
 
 
-def answered_before_more_is_sent(bridge, tally):
-    with socket.create_connection(("127.0.0.1", bridge.port), timeout=SECONDS) as client:
+def check_replies_come_at_once(bridge, tally):
+    with connect(bridge.port) as client:
         for _ in range(3):
-            client.sendall(b"GET /db/x HTTP/1.1\r\n\r\n")
-            text = b""
-            while not text.endswith(b'"missing"}\n'):
-                piece = client.recv(65536)
-                if not piece:
-                    break
-                text += piece
-            tally.expect("a reply before more is sent", text, NO_DOCUMENT)
-    tally.expect("its end", bridge.ends(), [ENDED])
+            client.sendall(get("x"))
+            tally.expect("a reply before more is sent", read(client, len(NO_DOCUMENT)), NO_DOCUMENT)
+        client.shutdown(socket.SHUT_WR)
+        rest = read(client, 1)
+    tally.expect("its end", (rest, bridge.ends()), (b"", [ENDS["Eof"]]))
 
 
-def byte_by_byte(bridge, tally):
-    message = b'POST /db/_find HTTP/1.1\r\nContent-Length: 15\r\n\r\n{"selector":{}}'
-    with socket.create_connection(("127.0.0.1", bridge.port), timeout=SECONDS) as client:
+def check_byte_by_byte(bridge, tally):
+    message = post("_find", b'{"selector":{}}')
+    with connect(bridge.port) as client:
         client.setsockopt(socket.IPPROTO_TCP, socket.TCP_NODELAY, 1)
         for at in range(len(message)):
             client.sendall(message[at : at + 1])
         client.shutdown(socket.SHUT_WR)
-        text = b""
-        while piece := client.recv(65536):
-            text += piece
-    tally.expect("a message byte by byte", (text, bridge.ends()), (EMPTY, [ENDED]))
+        transcript = read(client, 1 << 20)
+    tally.expect("a message byte by byte", (transcript, bridge.ends()), (EMPTY, [ENDS["Eof"]]))
 
 
-def curl_client(bridge, tally):
-    at = f"http://127.0.0.1:{bridge.port}"
+def check_curl(bridge, tally):
+    """curl holds five sessions. The last one is refused, since curl sends its body in chunks."""
+    url = f"http://127.0.0.1:{bridge.port}/db"
 
-    def curl(*words):
-        done = subprocess.run(["curl", "-sS", "--max-time", str(SECONDS), *words], capture_output=True)
+    def curl(*args):
+        done = subprocess.run(["curl", "-sS", "--max-time", str(SECONDS), *args], capture_output=True)
         return done.returncode, done.stdout
 
     written = ["-w", "%{http_code} %{num_connects}\n"]
-    code, out = curl("-d", '{"docs":[{"_id":"x","_rev":"1-a"}],"new_edits":false}', at + "/db/_bulk_docs", *written,
-                     "--next", "-sS", at + "/db/x", *written, "--next", "-sS", at + "/db/none", *written)
-    tally.expect("curl: one connection", (code, out), (0, b'[]\n201 1\n{"_id":"x","_rev":"1-a"}\n200 0\n{"error":"not_found","reason":"missing"}\n404 0\n'))
-    code, out = curl("-d", '{"index":{"fields":["v"]},"ddoc":"x","name":"i"}', at + "/db/_index",
-                     "--next", "-sS", "-X", "DELETE", at + "/db/_index/x/json/i", "--next", "-sS", at + "/db/_index/x/json/i")
+    code, out = curl("-d", '{"docs":[{"_id":"x","_rev":"1-a"}],"new_edits":false}', url + "/_bulk_docs", *written,
+                     "--next", "-sS", url + "/x", *written, "--next", "-sS", url + "/none", *written)
+    tally.expect("curl: one connection", (code, out), (
+        0, b'[]\n201 1\n{"_id":"x","_rev":"1-a"}\n200 0\n{"error":"not_found","reason":"missing"}\n404 0\n'))
+    code, out = curl("-d", '{"index":{"fields":["v"]},"ddoc":"x","name":"i"}', url + "/_index",
+                     "--next", "-sS", "-X", "DELETE", url + "/_index/x/json/i", "--next", "-sS", url + "/_index/x/json/i")
     tally.expect("curl: an index", (code, out), (0, b'{"id":"_design/x","name":"i","result":"created"}\n{"ok":true}\n'
                                                  b'{"error":"method_not_allowed","reason":"Method not allowed."}\n'))
-    code, out = curl("-I", at + "/db/x")
+    code, out = curl("-I", url + "/x")
     tally.expect("curl: HEAD", (code, out.split(b"\r\n")[0], out[-4:]), (0, b"HTTP/1.1 405 Method Not Allowed", b"\r\n\r\n"))
-    code, out = curl("--http1.0", at + "/db/none")
+    code, out = curl("--http1.0", url + "/none")
     tally.expect("curl: version 1.0", (code, out), (0, b'{"error":"not_found","reason":"missing"}\n'))
-    code, out = curl("-H", "Transfer-Encoding: chunked", "-d", "{}", at + "/db/_find", "-o", "/dev/null", "-w", "%{http_code}")
+    code, out = curl("-H", "Transfer-Encoding: chunked", "-d", "{}", url + "/_find", "-o", "/dev/null", "-w", "%{http_code}")
     tally.expect("curl: a chunked body", (code, out), (0, b"411"))
-    tally.expect("curl: the ends", bridge.ends(5), [ENDED] * 4 + [(1, b"mangod: refused\n")])
+    tally.expect("curl: the ends", bridge.ends(5), [ENDS["Eof"]] * 4 + [ENDS["Refused"]])
 
 
 def main():
-    words = arguments(__doc__, shards="2")
-    bridge, tally = Bridge(words.program, words.shards), Tally()
-    python_client(bridge, tally)
-    answered_before_more_is_sent(bridge, tally)
-    byte_by_byte(bridge, tally)
+    args, tally = arguments(__doc__, shards="2"), Tally()
+    bridge = Bridge(args.program, args.shards)
+    check_http_client(bridge, tally)
+    check_replies_come_at_once(bridge, tally)
+    check_byte_by_byte(bridge, tally)
     if tally.needs("curl"):
-        curl_client(bridge, tally)
-    sys.exit(tally.end())
+        check_curl(bridge, tally)
+    return tally.end()
 
 
 if __name__ == "__main__":
-    main()
+    sys.exit(main())

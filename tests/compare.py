@@ -3,66 +3,51 @@
 
 usage: compare.py --program PATH
 
-The imitation, tests/imitation/front.py, is a proxy in front of a second program. It differs from the first program only as the reference
-says. Each further run plants one more difference, which must be found. The names of differences are those of the reference. The last
-line is 'N passed, M failed'.
+The imitation, tests/imitation/front.py, is a proxy in front of a second program. It differs from the first program only in what
+docs/REFERENCE.md names as a difference. Each further run plants one more difference, which must be found. The names of differences must be
+those of the reference. The last line is 'N passed, M failed'.
 """
 import contextlib
-import http.client
-import importlib.util
 import json
-import subprocess
 import sys
 import tempfile
 from pathlib import Path
 
 from common.arguments import arguments
+from common.example import EXAMPLES, database_url, run_example
+from common.reference import REFERENCE
 from common.server import Setting, listening
 from common.tally import Tally
-from imitation.front import Front, serving
+from common.wire import ask_once
+from imitation.front import Front, serving_front
 
-TOP = Path(__file__).resolve().parent.parent
-EXAMPLE = TOP / "examples" / "compare_couchdb.py"
-REFERENCE = next(file for file in (TOP / "docs" / "REFERENCE.md", TOP / "docs" / "API.md") if file.exists())
-SECONDS = 60
-
-
-def example():
-    """Imports the example as a module."""
-    described = importlib.util.spec_from_file_location("compare_couchdb", EXAMPLE)
-    module = sys.modules["compare_couchdb"] = importlib.util.module_from_spec(described)
-    described.loader.exec_module(module)
-    return module
+sys.path.insert(0, str(EXAMPLES))
+import compare_couchdb as example  # noqa: E402
 
 
 @contextlib.contextmanager
-def two(program):
-    """Starts two programs, and gives their ports."""
+def two_programs(program):
+    """Starts two programs, and yields their ports."""
     with contextlib.ExitStack() as stack:
         yield [stack.enter_context(listening(Setting(program, shards, 1), 4)) for shards in (1, 5)]
 
 
-def ran(*args):
-    done = subprocess.run([sys.executable, EXAMPLE, *map(str, args)], capture_output=True, text=True, timeout=SECONDS)
-    return done.returncode, done.stdout, done.stderr
+def run(*args):
+    return run_example("compare_couchdb.py", *args)
 
 
-def url(port):
-    return f"http://127.0.0.1:{port}/db"
+def run_against_imitation(program, planted=None):
+    """Runs the example against the imitation, with a planted difference."""
+    with two_programs(program) as (here, behind), serving_front(Front(behind, planted)) as there:
+        return run(database_url(here), there)
 
 
-def differing(program, planted=None):
-    """A run against the imitation, with a planted difference."""
-    with two(program) as (here, behind), serving(Front(behind, planted)) as there:
-        return ran(url(here), there)
-
-
-def on(target, change, method="POST"):
+def plant(target, change, method="POST"):
     """A planted difference: changes the first reply to this target that has a value to change."""
     done = []
 
-    def planted(asked, asked_target, reply):
-        if not done and (asked, asked_target) == (method, target):
+    def planted(request_method, request_target, reply):
+        if not done and (request_method, request_target) == (method, target):
             try:
                 found = change(reply[0], json.loads(json.dumps(reply[1])))
             except (KeyError, IndexError, TypeError):
@@ -79,7 +64,7 @@ def without_last(status, value):
     return status, value
 
 
-def swapped(status, value):
+def with_two_swapped(status, value):
     value["docs"][0], value["docs"][1] = value["docs"][1], value["docs"][0]
     return status, value
 
@@ -99,41 +84,43 @@ def with_value(*path):
 
 
 PLANTED = {
-    "a page that lacks a document": on("_find", without_last),
-    "two documents that changed places": on("_find", swapped),
-    "a number with a fraction": on("apple", with_value("price", 3.0), "GET"),
-    "true for a number": on("apple", with_value("price", True), "GET"),
-    "another position": on("_bulk_docs", with_value(0, "rev", "2-00112233445566778899aabbccddeeff")),
-    "another error": on("none", with_value("error", "no_db_file"), "GET"),
-    "another status": on("_bulk_docs", lambda status, value: (202, value)),
-    "no conflicts": on("r?conflicts=true", lambda status, value: (status, {"_id": value["_id"], "_rev": value["_rev"], "v": 2}), "GET"),
-    "a loser": on("r", with_value("_rev", "2-b"), "GET"),
-    "exists for created": on("_index", with_value("result", "exists")),
-    "another direction": on("_index", with_value("indexes", 1, "def", "fields", 0, "price", "desc"), "GET"),
-    "another index": on("_explain", with_value("index", "name", "word")),
-    "no bookmark": on("_find", lambda status, value: (status, {**value, "bookmark": "nil"} if value["docs"] else value["none"])),
-    "a named difference that is another": on("_all_docs", lambda status, value: (500, {"error": "internal", "reason": ""}), "GET"),
-    "a conflict that is written": on("_bulk_docs", lambda status, value: (status, [{"id": "apple", "ok": True, "rev": value[0]["reason"]}, *value[1:]])),
+    "a page that lacks a document": plant("_find", without_last),
+    "two documents that changed places": plant("_find", with_two_swapped),
+    "a number with a fraction": plant("apple", with_value("price", 3.0), "GET"),
+    "true for a number": plant("apple", with_value("price", True), "GET"),
+    "another position": plant("_bulk_docs", with_value(0, "rev", "2-00112233445566778899aabbccddeeff")),
+    "another error": plant("none", with_value("error", "no_db_file"), "GET"),
+    "another status": plant("_bulk_docs", lambda status, value: (202, value)),
+    "no conflicts": plant("r?conflicts=true", lambda status, value: (status, {"_id": value["_id"], "_rev": value["_rev"], "v": 2}), "GET"),
+    "a loser": plant("r", with_value("_rev", "2-b"), "GET"),
+    "exists for created": plant("_index", with_value("result", "exists")),
+    "another direction": plant("_index", with_value("indexes", 1, "def", "fields", 0, "price", "desc"), "GET"),
+    "another index": plant("_explain", with_value("index", "name", "word")),
+    "no bookmark": plant("_find", lambda status, value: (status, {**value, "bookmark": "nil"} if value["docs"] else value["none"])),
+    "a named difference that is another": plant("_all_docs", lambda status, value: (500, {"error": "internal", "reason": ""}), "GET"),
+    "a conflict that is written": plant(
+        "_bulk_docs", lambda status, value: (status, [{"id": "apple", "ok": True, "rev": value[0]["reason"]}, *value[1:]])),
 }
 
 
-def check_runs(tally, program, module):
+def check_runs(tally, program):
     """Runs without a planted difference, and with each one."""
-    asked = module.requests()
-    named = [request.named for request in asked if request.named]
-    with two(program) as (here, there):
-        tally.expect("the program on both sides", ran(url(here), url(there), "--as-they-are"),
-                     (0, f"{len(asked)} alike, 0 differ as the reference says, 0 differ\n", ""))
-        status, _, said = ran(url(here), url(there))
-        tally.expect("a database that is not empty", (status, "is not empty" in said), (2, True))
-    status, output, said = differing(program)
-    seen = {one.name for one in named if f"named: {one.name}: " in output}
-    tally.expect("the imitation", (status, output.splitlines()[-1].endswith(" 0 differ"), said), (0, True, ""))
-    alike = {module.NEGATION, module.EDGES, module.HINT}  # here the imitation does not differ from the program
-    tally.expect("named differences", seen, {one.name for one in named} - alike)
+    requests = example.requests()
+    named = {request.named.name for request in requests if request.named}
+    with two_programs(program) as (here, there):
+        urls = database_url(here), database_url(there)
+        tally.expect("the program on both sides", run(*urls, "--as-they-are"),
+                     (0, f"{len(requests)} alike, 0 differ as the reference says, 0 differ\n", ""))
+        status, _, error = run(*urls)
+        tally.expect("a database that is not empty", (status, "is not empty" in error), (2, True))
+    status, output, error = run_against_imitation(program)
+    seen = {name for name in named if f"named: {name}: " in output}
+    tally.expect("the imitation", (status, output.splitlines()[-1].endswith(" 0 differ"), error), (0, True, ""))
+    alike = {example.NEGATION, example.EDGES, example.HINT}  # here the imitation does not differ from the program
+    tally.expect("named differences", seen, named - alike)
     for name, planted in PLANTED.items():
-        status, output, said = differing(program, planted)
-        tally.expect(f"{name}", (status, output.count("RED: ") > 0, said), (1, True, ""))
+        status, output, error = run_against_imitation(program, planted)
+        tally.expect(f"{name}", (status, output.count("RED: ") > 0, error), (1, True, ""))
         if status == 1:
             print(f"planted {name}: " + output[output.index("RED: "):].split("\n")[0][:100])
 
@@ -147,39 +134,37 @@ def check_own_requests(tally, program, folder):
              {"method": "POST", "target": "_find", "body": {"selector": {}, "limit": 1, "bookmark": "BOOKMARK"}},
              {"method": "GET", "target": "a"}]
     file.write_text("".join(json.dumps(line) + "\n" for line in lines))
-    with two(program) as (here, behind), serving(Front(behind)) as there:
-        tally.expect("requests of a file", ran(url(here), there, "--requests", file), (0, "5 alike, 0 differ as the reference says, 0 differ\n", ""))
-        connection = http.client.HTTPConnection("127.0.0.1", here)
-        connection.request("GET", "/db/a")
-        tally.expect("what they wrote", json.loads(connection.getresponse().read())["n"], 3)
-        connection.close()
+    with two_programs(program) as (here, behind), serving_front(Front(behind)) as there:
+        tally.expect("requests of a file", run(database_url(here), there, "--requests", file),
+                     (0, "5 alike, 0 differ as the reference says, 0 differ\n", ""))
+        tally.expect("what they wrote", ask_once(here, "GET", "/db/a")[1]["n"], 3)
 
 
 def check_databases(tally, program):
     """The database in CouchDB is created and deleted; an existing one is not touched."""
-    with two(program) as (here, behind):
+    with two_programs(program) as (here, behind):
         front = Front(behind)
-        with serving(front) as there:
-            ran(url(here), there)
-        tally.expect("the first and the last request", (front.asked[0], front.asked[-1]), (("PUT", ""), ("DELETE", "")))
-    with two(program) as (here, behind):
+        with serving_front(front) as there:
+            run(database_url(here), there)
+        tally.expect("the first and the last request", (front.requests[0], front.requests[-1]), (("PUT", ""), ("DELETE", "")))
+    with two_programs(program) as (here, behind):
         front = Front(behind, lambda method, target, reply: (412, {"error": "file_exists"}) if (method, target) == ("PUT", "") else reply)
-        with serving(front) as there:
-            status, _, said = ran(url(here), there)
-        tally.expect("a database that is there", (status, "cannot be made" in said, front.asked), (2, True, [("PUT", "")]))
+        with serving_front(front) as there:
+            status, _, error = run(database_url(here), there)
+        tally.expect("a database that exists", (status, "cannot be made" in error, front.requests), (2, True, [("PUT", "")]))
 
 
 def main():
-    program, tally, module = arguments(__doc__).program, Tally(), example()
+    program, tally = arguments(__doc__).program, Tally()
     rows = REFERENCE.read_text(encoding="utf-8")
-    for name in sorted({request.named.name for request in module.requests() if request.named}):
+    for name in sorted({request.named.name for request in example.requests() if request.named}):
         tally.expect(f"the row of the reference: {name}", f"| {name} |" in rows, True)
-    check_runs(tally, program, module)
+    check_runs(tally, program)
     check_databases(tally, program)
     with tempfile.TemporaryDirectory() as folder:
         check_own_requests(tally, program, Path(folder))
-    sys.exit(tally.end())
+    return tally.end()
 
 
 if __name__ == "__main__":
-    main()
+    sys.exit(main())

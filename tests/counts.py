@@ -4,9 +4,10 @@
 usage: counts.py --program PATH [--counts FILE]
 
 A kind fails if a request takes a tenth more instructions than the file says, so that no loss of speed goes unseen. If it takes a tenth
-less, that is printed. Then, or after a change that is worth its cost, `bench/misses --program PATH --write bench/counts.json` writes the
-file anew. The counts come from valgrind and hardly depend on the machine; the file names the documents, requests and numbers of shards.
-Each reply is compared with the right answer. The last line is 'N passed, M failed'.
+less, that is printed. Then, or after a change that is worth its cost, write a new file by
+`bench/misses --program PATH --write bench/counts.json`. The counts come from `valgrind`, which must be installed, and hardly depend on
+the machine; the file names the documents, requests and numbers of shards. Each reply must be right. The last line is
+'N passed, M failed'.
 """
 import json
 import sys
@@ -27,16 +28,16 @@ def compare(tally, name, counted, kept):
     change = f"{counted:,} instructions a request, {counted / kept:.2f} times the {kept:,} of the file"
     tally.count(name, [change] if counted > kept * MORE else [])
     if counted < kept / MORE:
-        print(f"{name}: {change}, which can be made anew", flush=True)
+        print(f"{name}: {change}, so the file can be replaced", flush=True)
 
 
 def main():
-    words = arguments(__doc__, counts=TOP / "bench" / "counts.json")
+    args = arguments(__doc__, counts=TOP / "bench" / "counts.json")
     tally = Tally()
-    with open(words.counts) as file:
+    with open(args.counts) as file:
         kept = json.load(file)
     if tally.needs("valgrind") and tally.needs("callgrind_control"):
-        for setting, kinds in of_sizes(words.program, kept["sizes"]).items():
+        for setting, kinds in of_sizes(args.program, kept["sizes"]).items():
             for kind, (instructions, _) in kinds.items():
                 compare(tally, f"{kind}, {setting} shards and workers", instructions, kept["counts"][setting][kind][0])
     return tally.end()

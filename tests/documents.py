@@ -5,7 +5,7 @@ usage: documents.py --program PATH [--top FOLDER]
 
 - A path that begins with a file or folder at the top of the repository (docs/MODEL.md, tests/*.py) exists. Paths in out/, which a check
   makes, are ignored. A path that begins with a folder of crates (src/leaf.rt, specs/Lib.antt) exists in some crate, and a file name
-  alone (talk.py) somewhere.
+  alone (tally.py) somewhere.
 - A link [text](target) leads to an existing file, and to an existing heading of it if it names one, or to another host.
 - A word mg_NAME is a crate of crates.txt. docs/INTERNALS.md names each crate, and README.md names each document.
 - The table of crates in docs/INTERNALS.md has the crates of crates.txt in the same order, each with the same libraries.
@@ -51,7 +51,7 @@ def missing_paths(top, text):
         first, slash, _ = path.rstrip(".").partition("/")
         pattern = pattern_of(top, path.rstrip("."), first, slash)
         if pattern and not list(top.glob(pattern)):
-            yield f"{path} is not there"
+            yield f"{path} does not exist"
 
 
 def headings_of(text):
@@ -65,10 +65,10 @@ def broken_links(folder, file, text):
         target, _, heading = link.partition("#")
         if re.match(r"[a-z]+:", link):
             continue
-        there = folder / target if target else file
-        if not there.exists():
+        linked = folder / target if target else file
+        if not linked.exists():
             yield f"the link to {link} leads nowhere"
-        elif heading and heading not in headings_of(there.read_text(encoding="utf-8")):
+        elif heading and heading not in headings_of(linked.read_text(encoding="utf-8")):
             yield f"the link to {link} names no heading"
 
 
@@ -77,7 +77,7 @@ def faults_of(top, file, crates):
     text = CODE.sub("", file.read_text(encoding="utf-8"))
     yield from missing_paths(top, text)
     yield from broken_links(file.parent, file, text)
-    yield from (f"{name} is no crate" for name in sorted(set(CRATE.findall(text)) - set(crates)))
+    yield from (f"{name} is not a crate" for name in sorted(set(CRATE.findall(text)) - set(crates)))
 
 
 def table_of(text):
@@ -97,8 +97,8 @@ def table_faults(crates, table):
 
 
 def main():
-    words, tally = arguments(__doc__, top=TOP), Tally()
-    top, readme, internals = words.top, words.top / "README.md", words.top / "docs" / "INTERNALS.md"
+    args, tally = arguments(__doc__, top=TOP), Tally()
+    top, readme, internals = args.top, args.top / "README.md", args.top / "docs" / "INTERNALS.md"
     crates = crates_of((top / "crates.txt").read_text(encoding="utf-8"))
     documents = sorted((top / "docs").glob("*.md"))
     for file in [readme, *documents]:
@@ -107,8 +107,8 @@ def main():
         text = file.read_text(encoding="utf-8")
         tally.expect(f"what {file.name} does not name", [name for name in names if not re.search(rf"\b{re.escape(name)}\b", text)], [])
     tally.count("the table of crates", list(table_faults(crates, table_of(internals.read_text(encoding="utf-8")))))
-    sys.exit(tally.end())
+    return tally.end()
 
 
 if __name__ == "__main__":
-    main()
+    sys.exit(main())

@@ -13,39 +13,40 @@ import sys
 from pathlib import Path
 
 from common.arguments import arguments
+from common.example import EXAMPLES, database_url
 from common.server import Setting, listening
 from common.tally import Tally
 
 SECONDS = 60
-TOP = Path(__file__).resolve().parent.parent
+EXPECTED = Path(__file__).resolve().parent / "examples"
 # each example, and how many servers it needs
-EXAMPLES = {"client.py": 1, "replicas.py": 2, "report.sh": 1}
-# examples that other scripts test: journal*.py, from_couchdb.py, compare.py
+SERVERS = {"client.py": 1, "replicas.py": 2, "report.sh": 1}
+# examples that other scripts test: compare.py, from_couchdb.py, journal.py, journal_disk.py, journal_messages.py
 ELSEWHERE = ["compare_couchdb.py", "from_couchdb.py", "journal.py", "journal_file.py"]
 SHARDS = (1, 4, 64)
 
 
-def printed(program, example, servers, shards):
-    """Runs an example on new servers with this number of shards; gives its exit status and its output."""
+def run_on_servers(program, example, servers, shards):
+    """Runs an example on new servers with this number of shards. Returns its exit status, its output and what it wrote to standard error."""
     with contextlib.ExitStack() as stack:
         ports = [stack.enter_context(listening(Setting(program, shards, 2), 4)) for _ in range(servers)]
-        urls = [f"http://127.0.0.1:{port}/db" for port in ports]
-        done = subprocess.run([TOP / "examples" / example, *urls], capture_output=True, text=True, timeout=SECONDS)
+        urls = list(map(database_url, ports))
+        done = subprocess.run([EXAMPLES / example, *urls], capture_output=True, text=True, timeout=SECONDS)
     return done.returncode, done.stdout, done.stderr
 
 
 def main():
-    words, tally = arguments(__doc__), Tally()
-    tally.expect("the examples", sorted(file.name for file in (TOP / "examples").iterdir() if file.is_file()), sorted([*EXAMPLES, *ELSEWHERE]))
-    for example, servers in EXAMPLES.items():
+    args, tally = arguments(__doc__), Tally()
+    tally.expect("the examples", sorted(file.name for file in EXAMPLES.iterdir() if file.is_file()), sorted([*SERVERS, *ELSEWHERE]))
+    for example, servers in SERVERS.items():
         if example == "report.sh" and not tally.needs("curl"):
             continue
-        wanted = (TOP / "tests" / "examples" / example).with_suffix(".txt").read_text(encoding="utf-8")
-        found = {shards: printed(words.program, example, servers, shards) for shards in SHARDS}
-        tally.expect(example, found, dict.fromkeys(SHARDS, (0, wanted, "")))
+        expected = (EXPECTED / example).with_suffix(".txt").read_text(encoding="utf-8")
+        found = {shards: run_on_servers(args.program, example, servers, shards) for shards in SHARDS}
+        tally.expect(example, found, dict.fromkeys(SHARDS, (0, expected, "")))
     print(f"each example on {len(SHARDS)} numbers of shards:")
-    sys.exit(tally.end())
+    return tally.end()
 
 
 if __name__ == "__main__":
-    main()
+    sys.exit(main())

@@ -3,12 +3,11 @@
 
 usage: from_couchdb.py --program PATH [--seed N]
 
-No CouchDB is available here: tests/imitation/couchdb.py was written from CouchDB's API reference. The copied documents must be what the
-imitation would serve, winners and conflicts included. For each document, listed by the dry run or not, the program itself decides
-whether it can be written. The last line is 'N passed, M failed'.
+There is no CouchDB in these tests: tests/imitation/couchdb.py was written from CouchDB's API reference. The copied documents must be what
+the imitation would serve, winners and conflicts included. The dry run must list exactly the documents that the program refuses. The last
+line is 'N passed, M failed'.
 """
 import contextlib
-import http.client
 import json
 import random
 import subprocess
@@ -19,12 +18,13 @@ import urllib.parse
 from pathlib import Path
 
 from common.arguments import arguments
+from common.example import EXAMPLES, database_url, run_example
 from common.server import Setting, listening
 from common.tally import Tally
-from imitation.couchdb import Source, serving
+from common.wait import wait_until
+from common.wire import ask_once
+from imitation.couchdb import Source, serving_source
 
-EXAMPLE = Path(__file__).resolve().parent.parent / "examples" / "from_couchdb.py"
-SECONDS = 60
 LIMIT = 8_388_608
 ODD_IDS = ["green pear", "dry/red", "a+b", "50%", "%41", "ключ", "\U0001f34e", "quote\"s", "?x=1#y", " "]
 MANGO = ('"language":"query","views":{"by_price":{"map":{"fields":{"price":"asc"},"partial_filter_selector":{}},"reduce":"_count",'
@@ -35,18 +35,13 @@ class Target:
     """A database of the program."""
 
     def __init__(self, port):
-        self.port, self.url = port, f"http://127.0.0.1:{port}/db"
+        self.port, self.url = port, database_url(port)
 
     def ask(self, method, target, body=None):
-        connection = http.client.HTTPConnection("127.0.0.1", self.port, timeout=SECONDS)
-        connection.request(method, f"/db/{target}", body)
-        reply = connection.getresponse()
-        found = reply.status, json.loads(reply.read())
-        connection.close()
-        return found
+        return ask_once(self.port, method, f"/db/{target}", body)
 
     def served(self, name):
-        """A document with its conflicts; None for a deleted one."""
+        """A document with its conflicts; None for a deleted one, the status for a missing one."""
         status, found = self.ask("GET", f"{urllib.parse.quote(name, safe='')}?conflicts=true")
         return found if status == 200 else None if found["reason"] == "deleted" else status
 
@@ -55,15 +50,13 @@ class Target:
 
 
 @contextlib.contextmanager
-def fresh(program, sessions=4):
-    with listening(Setting(program, 3, 2), sessions) as port:
+def new_target(program):
+    with listening(Setting(program, 3, 2), 4) as port:
         yield Target(port)
 
 
-def ran(*args):
-    """The status of a run, its output and its lines on standard error."""
-    done = subprocess.run([sys.executable, EXAMPLE, *map(str, args)], capture_output=True, text=True, timeout=SECONDS)
-    return done.returncode, done.stdout, done.stderr
+def run(*args):
+    return run_example("from_couchdb.py", *args)
 
 
 def fill(source, choice, count):
@@ -75,62 +68,55 @@ def fill(source, choice, count):
             source.put(name, path, f'"n":{choice.randrange(100)},"t":"{branch}ü"', choice.random() < 0.2)
 
 
-def compare(tally, name, source, target):
+def check_target(tally, name, source, target):
     """Compares what the target serves with what the imitation serves."""
-    wrong = {key: (found, wanted) for key in source.documents
-             if not key.startswith("_") and (found := target.served(key)) != (wanted := source.served(key))}
+    wrong = {key: (found, expected) for key in source.documents
+             if not key.startswith("_") and (found := target.served(key)) != (expected := source.served(key))}
     tally.expect(f"{name}: documents", dict(list(wrong.items())[:3]), {})
     tally.expect(f"{name}: ids", target.ids(), sorted(key for key in source.documents if not key.startswith("_") and source.best(key)))
 
 
-def brought(tally, program, folder, choice):
+def check_copies(tally, program, folder, choice):
     """Copies all documents in pages; once more; from the checkpoint; and from the beginning to a new target."""
     source, file = Source(), folder / "checkpoint"
     fill(source, choice, 120)
     source.put("_design/shop", ["1-x"], MANGO)
-    with serving(source) as url:
-        with fresh(program) as target:
+    with serving_source(source) as url:
+        with new_target(program) as target:
             count = len(source.documents) - 1
-            tally.expect("the first run", ran(url, target.url, "--checkpoint", file, "--page", 7)[:2],
+            tally.expect("the first run", run(url, target.url, "--checkpoint", file, "--page", 7)[:2],
                          (0, f"{count} documents brought over, 1 left out\n"))
-            compare(tally, "the first run", source, target)
-            tally.expect("again, without a checkpoint", ran(url, target.url)[:2], (0, f"{count} documents brought over, 1 left out\n"))
-            compare(tally, "again", source, target)
+            check_target(tally, "the first run", source, target)
+            tally.expect("again, without a checkpoint", run(url, target.url)[:2], (0, f"{count} documents brought over, 1 left out\n"))
+            check_target(tally, "again", source, target)
             source.put("d0003", ["9-z", "8-y"], '"n":-1')
             source.put("new", ["1-a"], '"n":9223372036854775807,"m":-9223372036854775808')
-            source.asked.clear()
-            tally.expect("from the checkpoint", ran(url, target.url, "--checkpoint", file), (0, "2 documents brought over, 0 left out\n", ""))
-            tally.expect("requests from the checkpoint", [method for method, _ in source.asked], ["GET", "POST", "GET"])
-            compare(tally, "from the checkpoint", source, target)
-            status, _, line = ran(url + "2", target.url, "--checkpoint", file)
+            source.requests.clear()
+            tally.expect("from the checkpoint", run(url, target.url, "--checkpoint", file), (0, "2 documents brought over, 0 left out\n", ""))
+            tally.expect("requests from the checkpoint", [method for method, _ in source.requests], ["GET", "POST", "GET"])
+            check_target(tally, "from the checkpoint", source, target)
+            status, _, line = run(url + "2", target.url, "--checkpoint", file)
             tally.expect("the checkpoint of another source", (status, "is the checkpoint of" in line), (1, True))
             tally.expect("no password in the checkpoint", "cret" in file.read_text(), False)
-            status, _, line = ran(url.replace("cret", "x"), target.url)
+            status, _, line = run(url.replace("cret", "x"), target.url)
             tally.expect("a wrong password", (status, "status 401" in line), (1, True))
             checkpoint = json.loads(file.read_text())
-        with fresh(program) as target:
+        with new_target(program) as target:
             file.write_text(json.dumps({**checkpoint, "target": target.url}))
-            status, line, said = ran(url, target.url, "--checkpoint", file)
-            tally.expect("a target that was started anew", (status, line, "everything is brought again" in said),
+            status, line, error = run(url, target.url, "--checkpoint", file)
+            tally.expect("a target that was restarted", (status, line, "everything is brought again" in error),
                          (0, f"{count + 1} documents brought over, 1 left out\n", True))
-            compare(tally, "a target that was started anew", source, target)
+            check_target(tally, "a target that was restarted", source, target)
 
 
-def wait_until(holds):
-    last = time.monotonic() + SECONDS
-    while not holds() and time.monotonic() < last:
-        time.sleep(0.02)
-    return holds()
-
-
-def followed(tally, program, folder, choice):
+def check_following(tally, program, folder, choice):
     """A run that follows the changes is killed and started again, and the source and the target are unreachable for a while."""
     source, file = Source(), folder / "followed"
     fill(source, choice, 40)
-    with serving(source) as url, fresh(program) as target:
+    with serving_source(source) as url, new_target(program) as target:
+        command = [sys.executable, EXAMPLES / "from_couchdb.py", url, target.url, "--checkpoint", file, "--follow", "--page", "5"]
         for turn in range(3):
-            follower = subprocess.Popen([sys.executable, EXAMPLE, url, target.url, "--checkpoint", file, "--follow", "--page", "5"],
-                                        stderr=subprocess.DEVNULL)
+            follower = subprocess.Popen(command, stderr=subprocess.DEVNULL)
             source.put(f"turn{turn}", ["1-a"], '"n":1')
             tally.expect(f"turn {turn}", wait_until(lambda: target.served(f"turn{turn}") == source.served(f"turn{turn}")), True)
             source.faults = turn
@@ -141,8 +127,8 @@ def followed(tally, program, folder, choice):
             time.sleep(choice.uniform(0, 0.1))
             follower.kill()
             follower.wait()
-        ran(url, target.url, "--checkpoint", file)
-        compare(tally, "after the followers", source, target)
+        run(url, target.url, "--checkpoint", file)
+        check_target(tally, "after the followers", source, target)
 
 
 def nested(depth):
@@ -186,7 +172,7 @@ def with_sizes():
             [(name, members or members_of_size(name, LIMIT)) for name, members in SOUND])
 
 
-def written_directly(target, name, members):
+def write_directly(target, name, members):
     """The status of a bulk with only this document."""
     head = '{"_id":"%s","_rev":"1-a","_revisions":{"start":1,"ids":["a"]}' % name
     try:
@@ -195,30 +181,30 @@ def written_directly(target, name, members):
         return 413  # the program closes the connection while the body is sent
 
 
-def listed(tally, program):
+def check_dry_run(tally, program):
     """The dry run lists exactly the documents that the program refuses."""
     source, (faulty, sound) = Source(), with_sizes()
     source.put("_design/shop", ["1-x"], MANGO)
     source.put("_design/views", ["1-x"], '"views":{"a":{"map":"function (doc) {}"}}')
     for name, members, *_ in faulty + sound:
         source.put(name, ["1-a"], members)
-    with serving(source) as url:
-        status, output, said = ran(url, "--dry-run", "--page", 4)
+    with serving_source(source) as url:
+        status, output, error = run(url, "--dry-run", "--page", 4)
     lines = {line.split(" 1-a: ")[0].split(": ")[0]: line for line in output.splitlines()[:-1]}
-    tally.expect("the dry run", (status, said), (1, ""))
+    tally.expect("the dry run", (status, error), (1, ""))
     tally.expect("what is listed", sorted(lines), sorted([name for name, *_ in faulty] + ["_design/shop", "_design/views"]))
     for name, _, line in faulty:
         tally.expect(f"the line of {name}", line in lines.get(name, ""), True)
     remedy = 'POST _index with {"ddoc": "_design/shop", "name": "by_price", "index": {"fields": ["price"]}}'
     tally.expect("the remedy of an index", lines["_design/shop"].endswith(remedy), True)
     tally.expect("the last line", output.splitlines()[-1].startswith(f"{len(source.documents)} documents; will not pass: design 2, number 7, "), True)
-    with fresh(program) as target:
-        written = {name: written_directly(target, name, members) for name, members, *_ in faulty + sound}
+    with new_target(program) as target:
+        written = {name: write_directly(target, name, members) for name, members, *_ in faulty + sound}
     tally.expect("listed, and written by the program", [name for name, *_ in faulty if written[name] not in (400, 413)], [])
     tally.expect("not listed, and refused by the program", [name for name, _ in sound if written[name] != 201], [])
 
 
-def left_out(tally, program):
+def check_skipping(tally, program):
     """A run ends at a document that cannot be copied, or skips it with all its leaves."""
     source, (faulty, sound) = Source(), with_sizes()
     for name, members in sound:
@@ -226,42 +212,42 @@ def left_out(tally, program):
     source.put("files", ["1-a"], '"n":1,"_attachments":{"a.txt":{"stub":true}}')
     source.put("two leaves", ["2-b", "1-a"], '"n":1')
     source.put("two leaves", ["2-c", "1-a"], '"n":1.5')
-    with serving(source) as url, fresh(program) as target:
-        status, _, said = ran(url, target.url)
-        tally.expect("a run that ends", (status, "files 1-a: it has 1 attachments" in said, target.ids()), (1, True, []))
-        tally.expect("with --skip", ran(url, target.url, "--skip")[:2], (0, f"{len(sound)} documents brought over, 2 left out\n"))
+    with serving_source(source) as url, new_target(program) as target:
+        status, _, error = run(url, target.url)
+        tally.expect("a run that ends", (status, "files 1-a: it has 1 attachments" in error, target.ids()), (1, True, []))
+        tally.expect("with --skip", run(url, target.url, "--skip")[:2], (0, f"{len(sound)} documents brought over, 2 left out\n"))
         tally.expect("what is there", target.ids(), sorted(name for name, _ in sound))
-        tally.expect("without attachments", ran(url, target.url, "--skip", "--without-attachments")[:2],
+        tally.expect("without attachments", run(url, target.url, "--skip", "--without-attachments")[:2],
                      (0, f"{len(sound) + 1} documents brought over, 1 left out\n"))
         tally.expect("the document", target.served("files"), {"_id": "files", "_rev": "1-a", "n": 1})
         source.put("two leaves", ["3-d", "2-c", "1-a"], '"n":15')
-        tally.expect("mended", ran(url, target.url, "--without-attachments")[:2], (0, f"{len(sound) + 2} documents brought over, 0 left out\n"))
+        tally.expect("mended", run(url, target.url, "--without-attachments")[:2], (0, f"{len(sound) + 2} documents brought over, 0 left out\n"))
         tally.expect("both leaves", target.served("two leaves"), {"_id": "two leaves", "_rev": "3-d", "_conflicts": ["2-b"], "n": 15})
 
 
-def large_bulks(tally, program):
+def check_large_documents(tally, program):
     """Documents of some megabytes, too many for one bulk."""
     source = Source()
     for number in range(7):
         source.put(f"d{number}", ["1-a"], f'"a":"{"x" * 3_000_000}"')
     source.put("conflicts", ["1-a"], f'"a":"{"x" * 5_000_000}"')
     source.put("conflicts", ["1-b"], f'"a":"{"y" * 5_000_000}"')
-    with serving(source) as url, fresh(program) as target:
-        tally.expect("large documents", ran(url, target.url), (0, "8 documents brought over, 0 left out\n", ""))
-        compare(tally, "large documents", source, target)
+    with serving_source(source) as url, new_target(program) as target:
+        tally.expect("large documents", run(url, target.url), (0, "8 documents brought over, 0 left out\n", ""))
+        check_target(tally, "large documents", source, target)
 
 
 def main():
-    words = arguments(__doc__, seed=1)
-    program, tally, choice = words.program, Tally(), random.Random(words.seed)
+    args, tally = arguments(__doc__, seed=1), Tally()
+    program, choice = args.program, random.Random(args.seed)
     with tempfile.TemporaryDirectory() as folder:
-        brought(tally, program, Path(folder), choice)
-        followed(tally, program, Path(folder), choice)
-    listed(tally, program)
-    left_out(tally, program)
-    large_bulks(tally, program)
-    sys.exit(tally.end())
+        check_copies(tally, program, Path(folder), choice)
+        check_following(tally, program, Path(folder), choice)
+    check_dry_run(tally, program)
+    check_skipping(tally, program)
+    check_large_documents(tally, program)
+    return tally.end()
 
 
 if __name__ == "__main__":
-    main()
+    sys.exit(main())

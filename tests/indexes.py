@@ -6,35 +6,36 @@ usage: indexes.py --program PATH [--shards 1,2,7,64] [--workers 1,2] [--seeds 1,
 A seed makes one conversation: new edits, replicated edits, deletions and conflicts of a few documents (of some hundred for every
 fourth seed, so that an index has several pages of rows); indexes that are created, change their columns and are dropped; and queries by
 them. The model (the folder model/) keeps the revisions of each document and no rows: it finds the winner by CouchDB's rule, and a
-page by sorting all documents in CouchDB's collation order. There is one process `PATH db SHARDS WORKERS 1 -` for each seed, number of
+page by sorting all documents in the order of values of docs/REFERENCE.md. There is one process `PATH db SHARDS WORKERS 1 -` for each seed, number of
 shards and number of workers; a seed passes or fails as one. Prints the first reply that differs; the last line is 'N passed, M failed'.
 """
 import itertools
+import json
 import random
-import subprocess
 import sys
 from urllib.parse import quote
 
 from common.arguments import arguments
+from common.messages import body_of, status_of
+from common.session import ENDS, run_session
 from common.tally import Tally
-from conversations import PHRASES
+from model.bodies import DESIGN, MOST
+from model.database import Database, reply_of
 from model.documents import Document, text_of
 from model.values import compact
-from model.world import BOUNDING, FRONT, World
 
-SECONDS = 120
-MOST = 2**31 - 1
+BOUNDING = ["$eq", "$gt", "$gte", "$lt", "$lte"]
 VALUES = [None, False, True, 0, 1, -1, 2, 10, 2**63 - 1, -(2**63), "", "a", "B", "aa", "b", "\u00e9", "\uffff", "\U0001f600", [], [0],
           [0, 1], [1], [[]], ["a"], {}, {"b": 1}, {"b": "a"}, {"b": None, "c": 2}, {"c": 0}, {"b": [0]}]
 PATHS = ["a", "b", "c", "a.b", "c.0"]
 
 
-class Talk:
-    """A random conversation: its messages, and the expected replies."""
+class RandomConversation:
+    """A random conversation: its messages, each with the reply of the model."""
 
     def __init__(self, seed, edits):
         self.random = random.Random(seed)
-        self.world = World()
+        self.database = Database()
         self.exchanges = []
         self.last = None
         many = seed % 4 == 0
@@ -42,25 +43,30 @@ class Talk:
         self.most = 16 if many else 4
         left = edits
         while left > 0:
-            left -= self.deletions() if self.chance(0.15) else self.bulk()
-            if self.chance(0.08) or not self.world.indexes:
+            left -= self.delete_leaves() if self.chance(0.15) else self.bulk()
+            if self.chance(0.08) or not self.database.indexes:
                 self.change_indexes()
             for _ in range(self.random.choice([0, 1, 1, 2])):
-                self.query(self.next_page() if self.last and self.chance(0.3) else self.new_query())
+                self.find(self.next_page() if self.last and self.chance(0.3) else self.new_query())
             if self.chance(0.2):
-                self.get()
+                self.get_document()
             if self.chance(0.1):
-                self.say("POST", "_placement", {"shards": self.random.choice([1, 2, 3, 16, 64])}, 200, {"ok": True})
+                self.ask("POST", "_placement", {"shards": self.random.choice([1, 2, 3, 16, 64])})
 
     def chance(self, share):
         return self.random.random() < share
 
-    def say(self, method, target, body, status, value):
+    def message(self, method, target, body):
         data = b"" if body is None else compact(body).encode()
         length = f"Content-Length: {len(data)}\r\n" if data else ""
-        text = compact(value) + "\n"
-        reply = f"HTTP/1.1 {status} {PHRASES[status]}\r\nContent-Type: application/json\r\nContent-Length: {len(text.encode())}\r\n\r\n{text}"
-        self.exchanges.append((f"{method} /db/{target} HTTP/1.1\r\n{length}\r\n".encode() + data, reply.encode()))
+        return f"{method} /db/{target} HTTP/1.1\r\n{length}\r\n".encode() + data
+
+    def ask(self, method, target, body=None):
+        """Adds a message, and returns the reply of the model."""
+        message = self.message(method, target, body)
+        reply = self.database.answer(message)
+        self.exchanges.append((message, reply))
+        return reply
 
     def body(self):
         return {name: self.random.choice(VALUES) for name in "abc" if self.chance(0.9)}
@@ -88,11 +94,12 @@ class Talk:
 
     def edit(self, new_edits):
         name = self.random.choice(self.ids)
-        document = self.world.documents.get(name, Document())
+        document = self.database.documents.get(name, Document())
         path = self.new_path(document) if new_edits else self.replica_path(document)
         return name, path, self.chance(0.2), self.body()
 
-    def spelled(self, edit):
+    def document_of(self, edit):
+        """The document of a bulk that asks for an edit."""
         name, path, deleted, body = edit
         document = {**body, "_id": name}
         if deleted or self.chance(0.1):
@@ -103,9 +110,11 @@ class Talk:
             document["_rev"] = text_of(path[0])
         return document
 
-    def send(self, documents, new_edits, entries):
+    def add_bulk(self, documents, new_edits, entries):
+        """Adds a bulk whose edits were applied one by one. Returns how many edits count for it."""
         body = {"docs": documents} if new_edits and self.chance(0.5) else {"docs": documents, "new_edits": new_edits}
-        self.say("POST", "_bulk_docs", body, 201, [entry for entry in entries if entry])
+        reply = reply_of(201, [entry for entry in entries if entry])
+        self.exchanges.append((self.message("POST", "_bulk_docs", body), reply))
         return max(1, len(documents))
 
     def bulk(self):
@@ -113,54 +122,49 @@ class Talk:
         documents, entries = [], []
         for _ in range(self.random.randint(1, self.most)):
             edit = self.edit(new_edits)
-            documents.append(self.spelled(edit))
-            entries.append(self.world.entry(edit, new_edits))
-        return self.send(documents, new_edits, entries)
+            documents.append(self.document_of(edit))
+            entries.append(self.database.apply(edit, new_edits))
+        return self.add_bulk(documents, new_edits, entries)
 
-    def deletions(self):
+    def delete_leaves(self):
         """Deletes the leaves of a document that are not deleted; now and then all but the last."""
         name = self.random.choice(self.ids)
-        document = self.world.documents.get(name, Document())
-        leaves = [leaf for leaf in document.leaves() if not document.held[leaf][0]]
+        document = self.database.documents.get(name, Document())
+        leaves = [leaf for leaf in document.leaves() if not document.bodies[leaf][0]]
         edits = [(name, [leaf], True, self.body()) for leaf in leaves[self.chance(0.2) :]]
-        return self.send([self.spelled(edit) for edit in edits], True, [self.world.entry(edit, True) for edit in edits])
+        return self.add_bulk([self.document_of(edit) for edit in edits], True, [self.database.apply(edit, True) for edit in edits])
 
     def change_indexes(self):
         ddoc, name = self.random.choice(["x", "y"]), self.random.choice(["i", "j"])
-        index = (FRONT + ddoc, name)
         if self.chance(0.25):
-            there = self.world.indexes.pop(index, None)
-            target = self.random.choice([ddoc, FRONT + ddoc, quote(FRONT + ddoc, safe="")])
-            reply = (200, {"ok": True}) if there else (404, {"error": "not_found", "reason": "missing"})
-            self.say("DELETE", f"_index/{target}/json/{name}", None, *reply)
+            target = self.random.choice([ddoc, DESIGN + ddoc, quote(DESIGN + ddoc, safe="")])
+            self.ask("DELETE", f"_index/{target}/json/{name}")
         else:
             columns = self.random.choices(PATHS + ["_id"], [4, 4, 4, 2, 2, 1], k=self.random.choice([1, 1, 2, 2, 3]))
             direction = self.random.choice(["asc", "asc", "desc"])
             fields = columns if direction == "asc" and self.chance(0.5) else [{column: direction} for column in columns]
-            word = "exists" if self.world.indexes.get(index) == (columns, direction) else "created"
-            self.world.indexes[index] = (columns, direction)
-            body = {"index": {"fields": fields}, "ddoc": self.random.choice([ddoc, FRONT + ddoc]), "name": name}
-            self.say("POST", "_index", body, 200, {"id": index[0], "name": name, "result": word})
+            self.ask("POST", "_index", {"index": {"fields": fields}, "ddoc": self.random.choice([ddoc, DESIGN + ddoc]), "name": name})
         if self.chance(0.2):
-            self.say("GET", "_index", None, 200, self.world.listed())
+            self.ask("GET", "_index")
 
     def test(self):
+        """The test of one column by a selector."""
         kind = self.random.random()
         if kind < 0.6:
             return {"$gt": None}
         if kind < 0.7:
             return self.random.choice([{"$gte": None}, {"$exists": True}])
-        operators = self.random.sample(sorted(BOUNDING), self.random.choice([1, 1, 2]))
+        operators = self.random.sample(BOUNDING, self.random.choice([1, 1, 2]))
         return {operator: self.random.choice(VALUES) for operator in operators}
 
     def new_query(self):
         choose, chance = self.random.choice, self.chance
-        index = choose(sorted(self.world.indexes) or [(FRONT + "x", "i")])
-        columns = self.world.indexes.get(index, (["a"],))[0]
+        index = choose(sorted(self.database.indexes) or [(DESIGN + "x", "i")])
+        columns = self.database.indexes.get(index, (["a"],))[0]
         sort = columns[: self.random.randint(1, len(columns))] if chance(0.4) else []
         sort = [choose(PATHS)] if chance(0.05) else sort
         return {
-            "selector": {c: self.test() for c in columns if c != "_id" and (c not in sort or chance(0.5))},
+            "selector": {column: self.test() for column in columns if column != "_id" and (column not in sort or chance(0.5))},
             "sort": sort,
             "direction": "desc" if sort and chance(0.6) else "asc",
             "hint": choose([index, index, index, index[:1], ()]),
@@ -176,12 +180,11 @@ class Talk:
         query, bookmark = self.last
         return {**(self.new_query() if self.chance(0.1) else query), "bookmark": bookmark}
 
-    def query(self, query):
-        status, value = self.world.page(query)
-        self.last = (query, value["bookmark"]) if status == 200 else None
-        self.say("POST", "_find", self.asked(query), status, value)
+    def find(self, query):
+        reply = self.ask("POST", "_find", self.query_body(query))
+        self.last = (query, json.loads(body_of(reply))["bookmark"]) if status_of(reply) == 200 else None
 
-    def asked(self, query):
+    def query_body(self, query):
         """The body of a query. Members with their default value are left out at random."""
         plain = query["direction"] == "asc" and self.chance(0.5)
         body = {
@@ -194,43 +197,39 @@ class Talk:
             if body[name] == value and self.chance(0.8):
                 del body[name]
         if query["hint"]:
-            ddoc = query["hint"][0] if self.chance(0.5) else query["hint"][0].removeprefix(FRONT)
+            ddoc = query["hint"][0] if self.chance(0.5) else query["hint"][0].removeprefix(DESIGN)
             body["use_index"] = ddoc if len(query["hint"]) == 1 and self.chance(0.5) else [ddoc, *query["hint"][1:]]
         return body
 
-    def get(self):
+    def get_document(self):
         name, conflicts = self.random.choice(self.ids), self.chance(0.5)
-        document = self.world.documents.get(name)
-        served = document and document.served(name, conflicts)
-        missing = {"error": "not_found", "reason": "deleted" if document else "missing"}
-        self.say("GET", quote(name, safe="") + ("?conflicts=true" if conflicts else ""), None, 200 if served else 404, served or missing)
+        self.ask("GET", quote(name, safe="") + ("?conflicts=true" if conflicts else ""))
 
 
-def fault(program, talk, shards, workers):
-    given = b"".join(message for message, _ in talk.exchanges)
-    done = subprocess.run([program, "db", shards, workers, "1", "-"], input=given, capture_output=True, timeout=SECONDS)
+def fault_of(program, exchanges, shards, workers):
+    """The first fault of a run; None if there is none."""
+    output, ending = run_session(program, b"".join(message for message, _ in exchanges), shards, workers)
     at = 0
-    for number, (message, reply) in enumerate(talk.exchanges):
-        if done.stdout[at : at + len(reply)] != reply:
-            got = done.stdout[at : at + len(reply) + 300]
-            return f"message {number} of {len(talk.exchanges)}: {message!r}\n  got    {got!r}\n  wanted {reply!r}"
+    for number, (message, reply) in enumerate(exchanges):
+        if not output.startswith(reply, at):
+            found = output[at : at + len(reply) + 300]
+            return f"message {number} of {len(exchanges)}: {message!r}\n  replied  {found!r}\n  expected {reply!r}"
         at += len(reply)
-    if done.stdout[at:]:
-        return f"more was written: {done.stdout[at : at + 300]!r}"
-    ending = (done.returncode, done.stderr)
-    return None if ending == (0, b"") else f"ended with {ending}"
+    if output[at:]:
+        return f"more was written: {output[at : at + 300]!r}"
+    return None if ending == ENDS["Eof"] else f"ended with {ending}"
 
 
 def main():
-    words = arguments(__doc__, shards="1,2,7,64", workers="1,2", seeds="1,2,3,4", edits=1500)
+    args = arguments(__doc__, shards="1,2,7,64", workers="1,2", seeds="1,2,3,4", edits=1500)
     tally = Tally()
-    settings = list(itertools.product(words.shards.split(","), words.workers.split(",")))
-    for seed in words.seeds.split(","):
-        talk, faults = Talk(int(seed), words.edits), []
+    settings = list(itertools.product(args.shards.split(","), args.workers.split(",")))
+    for seed in args.seeds.split(","):
+        exchanges, faults = RandomConversation(int(seed), args.edits).exchanges, []
         for shards, workers in settings:
-            found = fault(words.program, talk, shards, workers)
-            faults += [f"\n  {shards} shards, {workers} workers, {found}"] if found else []
-        tally.count(f"seed {seed}, {len(talk.exchanges)} messages", faults)
+            fault = fault_of(args.program, exchanges, shards, workers)
+            faults += [f"\n  {shards} shards, {workers} workers, {fault}"] if fault else []
+        tally.count(f"seed {seed}, {len(exchanges)} messages", faults)
     print(f"each conversation on {len(settings)} pairs of shards and workers:")
     return tally.end()
 

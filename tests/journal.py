@@ -5,9 +5,9 @@ usage: journal.py --program PATH [--seed N] [--rounds N]
 
 In each round several clients write through the proxy: edits of all kinds, indexes, reshards, and messages that are refused. At a random
 moment the proxy, the program or both are killed, and the proxy is started again on the same file. Then:
-- the file has each write whose acceptance was replied, once, in the order of its client, and no write that was refused;
-- another server, which is never killed, gets the writes of the file: its replies to them are the same, and it gives the same replies as
-  the proxy to the same reads.
+- the file has each write that was acknowledged, once, in the order of its client, and no write that was refused;
+- another server, which is never killed, receives the writes of the file: its replies to them are the same, and its replies to reads are
+  those of the proxy.
 A write that was sent but not answered may be in the file or not. The last line is 'N passed, M failed'.
 """
 import json
@@ -22,9 +22,11 @@ import time
 from pathlib import Path
 
 from common.arguments import arguments
-from common.proxy import Proxy, message, status_of
+from common.messages import body_of, message, post_json, status_of
+from common.proxy import Proxy
 from common.server import Setting, listening
 from common.tally import Tally
+from common.wait import wait_until
 from common.wire import Wire
 
 CLIENTS = 5
@@ -35,8 +37,8 @@ ENDS = {"proxy": [-signal.SIGKILL], "program": [1], "both": [1, -signal.SIGKILL]
 MARK = re.compile(rb"[?]mark=([0-9-]+)")
 
 
-class Client(threading.Thread):
-    """Writes until its connection ends, and keeps each message that it sent and each reply that it got."""
+class Writer(threading.Thread):
+    """Writes until its connection ends, and keeps the mark of each message that it sent, and each reply."""
 
     def __init__(self, port, number, seed):
         super().__init__()
@@ -76,21 +78,22 @@ class Client(threading.Thread):
         return "POST", "_bulk_docs", self.choice.choice([{"docs": [{"a": 1.5}]}, {"docs": [{"_x": 1}]}, {"docs": 1}])
 
     def run(self):
-        goes_on = True
-        while goes_on:
+        is_open = True
+        while is_open:
             method, target, body = self.request()
             mark = f"{self.number}-{len(self.sent)}"
             self.sent.append(mark)
             reply = self.wire.ask(message(method, f"/db/{target}?mark={mark}", b"" if body is None else json.dumps(body).encode()))
-            goes_on = status_of(reply) is not None
-            if goes_on:
+            is_open = status_of(reply) is not None
+            if is_open:
                 self.replies[mark] = reply
                 self.learn(reply)
         self.wire.close()
 
     def learn(self, reply):
+        """Keeps the revisions that a bulk made."""
         if status_of(reply) == 201:
-            entries = json.loads(reply.partition(b"\r\n\r\n")[2])
+            entries = json.loads(body_of(reply))
             self.known.update({entry["id"]: entry["rev"] for entry in entries if "rev" in entry})
 
 
@@ -115,32 +118,26 @@ def probes(ask):
     queries = [{"selector": {}}, {"selector": {"a": {"$gte": 2}}, "sort": ["a"]}, {"selector": {}, "sort": [{"b": "desc"}]},
                {"selector": {"a": 3, "b": {"$lt": 50}}, "sort": ["a", "b"]}]
     for query in queries:
-        yield ask(message("POST", "/db/_explain", json.dumps(query).encode()))
+        yield ask(post_json("_explain", query))
         bookmark, docs = "nil", True
         while docs:
-            reply = ask(message("POST", "/db/_find", json.dumps({**query, "limit": 7, "bookmark": bookmark, "conflicts": True}).encode()))
+            reply = ask(post_json("_find", {**query, "limit": 7, "bookmark": bookmark, "conflicts": True}))
             yield reply
-            page = json.loads(reply.partition(b"\r\n\r\n")[2])
+            page = json.loads(body_of(reply))
             bookmark, docs = page.get("bookmark"), page.get("docs")
 
 
 def has_ended(process):
-    """Whether a process ends within some seconds."""
-    last = time.monotonic() + 20
-    while time.monotonic() < last:
-        try:
-            if Path(f"/proc/{process}/stat").read_text().rpartition(")")[2].split()[0] == "Z":
-                return True
-        except FileNotFoundError:
-            return True
-        time.sleep(0.01)
-    return False
+    try:
+        return Path(f"/proc/{process}/stat").read_text().rpartition(")")[2].split()[0] == "Z"
+    except FileNotFoundError:
+        return True
 
 
-def killed(proxy, victim, seed, first):
-    """Lets clients write until the proxy, the program or both are killed. Gives the clients, how the proxy ended, and whether the
+def write_until_killed(proxy, victim, seed, first):
+    """Lets clients write until the proxy, the program or both are killed. Returns the clients, how the proxy ended, and whether the
     program has ended, too."""
-    clients = [Client(proxy.port, first + number, f"{seed}-{number}") for number in range(CLIENTS)]
+    clients = [Writer(proxy.port, first + number, f"{seed}-{number}") for number in range(CLIENTS)]
     for client in clients:
         client.start()
     time.sleep(random.Random(seed).uniform(0.1, 0.5))
@@ -150,7 +147,7 @@ def killed(proxy, victim, seed, first):
     ending = proxy.status()[0]
     for client in clients:
         client.join()
-    return clients, ending, has_ended(program)
+    return clients, ending, wait_until(lambda: has_ended(program), 20)
 
 
 def check_file(tally, name, clients, writes):
@@ -170,39 +167,46 @@ def check_file(tally, name, clients, writes):
 def check_replies(tally, name, clients, writes, wire):
     """Sends the writes of a round to another server. Its replies must be those of the proxy."""
     replies = {mark: reply for client in clients for mark, reply in client.replies.items()}
-    other = []
+    different = []
     for mark, text, status in writes:
         reply = wire.ask(text)
         if status_of(reply) != status or replies.get(mark, reply) != reply:
-            other.append((text, replies.get(mark), reply))
-    tally.expect(f"{name}: other replies than of a server that was never killed", other[:1], [])
+            different.append((text, replies.get(mark), reply))
+    tally.expect(f"{name}: replies that differ from those of a server that was never killed", different[:1], [])
+
+
+def check_recovery(tally, name, proxy, file, port, done, clients):
+    """Compares a proxy that was started again with the server that was never killed. Returns how many writes are in the file, and how many
+    were accepted in this round."""
+    writes, wire, through = writes_in(file.read_bytes()), Wire(port), Wire(proxy.port)
+    accepted = check_file(tally, name, clients, writes[done:])
+    check_replies(tally, name, clients, writes[done:], wire)
+    tally.expect(f"{name}: all reads", list(probes(through.ask)), list(probes(wire.ask)))
+    through.close()
+    wire.close()
+    return len(writes), accepted
 
 
 def main():
-    words = arguments(__doc__, seed=1, rounds=6)
-    program, tally, done, accepted = words.program, Tally(), 0, 0
-    with tempfile.TemporaryDirectory() as folder, listening(Setting(program, 1, 1), 1) as port:
+    args, tally = arguments(__doc__, seed=1, rounds=6), Tally()
+    done, accepted = 0, 0
+    with tempfile.TemporaryDirectory() as folder, listening(Setting(args.program, 1, 1), 1) as port:
         file = Path(folder) / "journal"
-        for turn in range(words.rounds):
+        for turn in range(args.rounds):
             victim = list(ENDS)[turn % 3]
-            name = f"seed {words.seed}, round {turn}, {victim} killed"
-            with Proxy(program, file) as proxy:
-                clients, ending, ended = killed(proxy, victim, f"{words.seed}-{turn}", turn * CLIENTS)
+            name = f"seed {args.seed}, round {turn}, {victim} killed"
+            with Proxy(args.program, file) as proxy:
+                clients, ending, has_program_ended = write_until_killed(proxy, victim, f"{args.seed}-{turn}", turn * CLIENTS)
             tally.expect(f"{name}: the proxy's end {ending}", ending in ENDS[victim], True)
-            tally.expect(f"{name}: the program ended with the proxy", ended, True)
-            with Proxy(program, file) as proxy:
-                writes, wire = writes_in(file.read_bytes()), Wire(port)
-                accepted += check_file(tally, name, clients, writes[done:])
-                check_replies(tally, name, clients, writes[done:], wire)
-                done, through = len(writes), Wire(proxy.port)
-                tally.expect(f"{name}: all reads", list(probes(through.ask)), list(probes(wire.ask)))
-                through.close()
-                wire.close()
+            tally.expect(f"{name}: the program ended with the proxy", has_program_ended, True)
+            with Proxy(args.program, file) as proxy:
+                done, more = check_recovery(tally, name, proxy, file, port, done, clients)
+                accepted += more
                 tally.expect(f"{name}: the proxy is stopped", proxy.stop(), 0)
-    tally.expect("there were writes", accepted > words.rounds, True)
+    tally.expect("there were writes", accepted > args.rounds, True)
     print(f"{accepted} writes were accepted, {done} are in the journal")
-    sys.exit(tally.end())
+    return tally.end()
 
 
 if __name__ == "__main__":
-    main()
+    sys.exit(main())

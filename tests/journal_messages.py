@@ -4,23 +4,24 @@
 usage: journal_messages.py --program PATH
 
 Both get the same messages in the same order, each on a connection of its own, so both databases stay the same. The last messages are
-those that only the proxy refuses, or that it refuses differently, as the docstring of journal.py says; their replies are written out
-here. The last line is 'N passed, M failed'.
+those that only the proxy refuses, or that it refuses differently, as the document of journal.py says; their statuses and errors are written
+out here. The last line is 'N passed, M failed'.
 """
 import sys
 import tempfile
 from pathlib import Path
 
 from common.arguments import arguments
-from common.proxy import Proxy, message, status_of
+from common.messages import message, status_of
+from common.proxy import Proxy
 from common.server import Setting, listening
 from common.tally import Tally
-from common.wire import Wire
+from common.wire import bytes_back
 
 FIND = message("POST", "/db/_find", b'{"selector":{}}')
 GET = b"GET /db/apple HTTP/1.1\r\n"
 LIMIT = 16_384
-# the bytes that are sent on one connection, by name
+# what gets the same replies: the bytes that are sent on one connection, by name
 SAME = {
     "documents": message("POST", "/db/_bulk_docs", '{"docs":[{"_id":"apple","n":1},{"_id":"é/x","n":2},{"n":3}]}'.encode()),
     "an index": message("POST", "/db/_index", b'{"ddoc":"x","name":"\xc3\xa9","index":{"fields":["n"]}}'),
@@ -69,33 +70,23 @@ OTHER = {
 }
 
 
-def replies(port, data):
-    """Sends bytes, and gives everything that comes back."""
-    wire = Wire(port)
-    wire.send(data)
-    wire.finish()
-    found = wire.rest()
-    wire.close()
-    return found
-
-
 def main():
     program, tally = arguments(__doc__).program, Tally()
     with tempfile.TemporaryDirectory() as folder, listening(Setting(program, 2, 2), 2) as port:
         file = Path(folder) / "journal"
         with Proxy(program, file) as proxy:
             for name, data in SAME.items():
-                tally.expect(name, replies(proxy.port, data), replies(port, data))
+                tally.expect(name, bytes_back(proxy.port, data), bytes_back(port, data))
             for name, (data, status, error) in OTHER.items():
-                found = replies(proxy.port, data)
+                found = bytes_back(proxy.port, data)
                 tally.expect(name, (status_of(found), error in found), (status, True))
             proxy.process.kill()
         with Proxy(program, file) as proxy:
             for name in ("several at once", "an escaped name of the database", "a page of the whole"):
-                tally.expect(f"{name}, after a start", replies(proxy.port, SAME[name]), replies(port, SAME[name]))
+                tally.expect(f"{name}, after a start", bytes_back(proxy.port, SAME[name]), bytes_back(port, SAME[name]))
             tally.expect("the proxy is stopped", proxy.stop(), 0)
-    sys.exit(tally.end())
+    return tally.end()
 
 
 if __name__ == "__main__":
-    main()
+    sys.exit(main())

@@ -13,15 +13,13 @@ tests/common/schema.py. The last line is 'N passed, M failed'.
 import json
 import re
 import sys
-from pathlib import Path
 
-from api_examples import sections_of
 from common.arguments import arguments
+from common.messages import body_of
+from common.reference import REFERENCE, TOP, sections_of
 from common.schema import Schemas
 from common.tally import Tally
 
-TOP = Path(__file__).resolve().parent.parent
-REFERENCE = next(file for file in (TOP / "docs" / "REFERENCE.md", TOP / "docs" / "API.md") if file.exists())
 ROW = re.compile(r"^\| `?([A-Z]+|[0-9]{3})`? \| `([^`]+)`[^|]*\|(?: `([^`]*)` \|)?", re.MULTILINE)
 # refusals of bodies that the document must not allow
 BY_BODY = {"InvalidJson", "WrongShape", "UnknownOperator", "BadArgument", "MixedSort", "BadSpecialMember", "BadDocumentId", "BadRevision"}
@@ -35,7 +33,7 @@ class Surface:
         self.document, self.schemas = document, Schemas(document)
         self.paths = {tuple(path.split("/")[1:]): item for path, item in document["paths"].items()}
 
-    def resolved(self, value):
+    def resolve(self, value):
         return self.schemas.at(value["$ref"]) if "$ref" in value else value
 
     def path_of(self, target):
@@ -60,14 +58,14 @@ class Surface:
         if operation is None and status == 405 and path is None:
             return None
         response = responses.get(str(status))
-        return response and self.resolved(response)["content"]["application/json"]["schema"]
+        return response and self.resolve(response)["content"]["application/json"]["schema"]
 
     def body_schema(self, method, target):
         body = (self.operation(method, target) or {}).get("requestBody")
         return body and body["content"]["application/json"]["schema"]
 
 
-def parsed(text):
+def parse(text):
     """The value of a text. None, which no schema of a body allows, if the text is not JSON or nests more than 127 deep; a schema cannot
     express the latter."""
     try:
@@ -82,11 +80,11 @@ def depth(value):
     return 0 if inner is None else 1 + max(map(depth, inner), default=0)
 
 
-def bent(value):
+def altered(value):
     """Values of another shape: in an object, or in one of the items of an array, a member is left out, added, or of another type."""
     if isinstance(value, list):
         for place, item in enumerate(value[:3]):
-            yield from ([*value[:place], other, *value[place + 1:]] for other in bent(item))
+            yield from ([*value[:place], other, *value[place + 1:]] for other in altered(item))
     if isinstance(value, dict):
         yield {**value, "_other": 1}
         for name in value:
@@ -99,7 +97,7 @@ def reference_examples(text):
     for _, examples in sections_of(text):
         for example in examples:
             method, _, target = example.request.partition(" ")
-            yield method, target, example.message.partition(b"\r\n\r\n")[2].decode(), example.reply.status, example.reply.body.decode()
+            yield method, target, body_of(example.message).decode(), example.reply.status, example.reply.body.decode()
 
 
 def session_examples():
@@ -129,18 +127,18 @@ def check_example(tally, surface, where, example):
     if schema is None:
         tally.expect(f"{name}: status {status} of the document", schema, "a schema")
         return
-    value = parsed(reply)
+    value = parse(reply)
     tally.expect(f"{name}: the reply", surface.schemas.allows(schema, value), True)
-    tally.expect(f"{name}: bent replies", [other for other in bent(value) if allowed_when_bent(surface, schema, value, other)], [])
-    asked = surface.body_schema(method, target)
-    if asked and status < 300:
-        tally.expect(f"{name}: the body of a request that was done", surface.schemas.allows(asked, parsed(body)), True)
-    elif asked and any(surface.schemas.allows({"$ref": f"#/components/schemas/{refusal}"}, value) for refusal in BY_BODY):
-        tally.expect(f"{name}: the body of a request that was refused", surface.schemas.allows(asked, parsed(body)), False)
+    tally.expect(f"{name}: altered replies", [other for other in altered(value) if allows_altered(surface, schema, value, other)], [])
+    body_schema = surface.body_schema(method, target)
+    if body_schema and status < 300:
+        tally.expect(f"{name}: the body of a request that was done", surface.schemas.allows(body_schema, parse(body)), True)
+    elif body_schema and any(surface.schemas.allows({"$ref": f"#/components/schemas/{refusal}"}, value) for refusal in BY_BODY):
+        tally.expect(f"{name}: the body of a request that was refused", surface.schemas.allows(body_schema, parse(body)), False)
 
 
-def allowed_when_bent(surface, schema, value, other):
-    """Whether the schema allows a bent reply. A document may have any body, and may lack conflicts, so such changes are not checked."""
+def allows_altered(surface, schema, value, other):
+    """Whether the schema allows an altered reply. A document may have any body, and may lack conflicts, so such changes are not checked."""
     if schema == {"$ref": "#/components/schemas/Document"}:
         changed = {name for name in value.keys() | other.keys() if value.get(name) != other.get(name)}
         if not changed & {"_id", "_rev", "_other"}:
@@ -180,7 +178,7 @@ def check_document(tally, surface, text):
     refusals = {(int(found[1]), found[2], found[3]) for found in ROW.finditer(text) if found[1].isdigit()}
     tally.expect("refusals", set(refusals_of(surface)), refusals)
     for path, item in document["paths"].items():
-        named = {surface.resolved(entry)["name"] for entry in item["parameters"]}
+        named = {surface.resolve(entry)["name"] for entry in item["parameters"]}
         tally.expect(f"parameters of {path}", named, set(re.findall(r"{(\w+)}", path)))
 
 
@@ -189,17 +187,17 @@ def refusals_of(surface):
     operations = [item[method] for item in surface.document["paths"].values() for method in METHODS if method in item]
     for responses in [*(operation["responses"] for operation in operations), surface.document["x-otherwise"]]:
         for status, response in responses.items():
-            schema = surface.resolved(response)["content"]["application/json"]["schema"]
+            schema = surface.resolve(response)["content"]["application/json"]["schema"]
             for one in schema.get("oneOf", [schema]) if int(status) >= 400 else []:
-                members = surface.resolved(one)["properties"]
+                members = surface.resolve(one)["properties"]
                 yield int(status), members["error"]["const"], members["reason"]["const"]
 
 
 def main():
-    words = arguments(__doc__, document=TOP / "docs" / "openapi.json")
+    args = arguments(__doc__, document=TOP / "docs" / "openapi.json")
     sys.setrecursionlimit(20_000)  # texts nest 127 deep, and a schema takes several calls a level
     tally, text = Tally(), REFERENCE.read_text(encoding="utf-8")
-    surface = Surface(json.loads(words.document.read_text(encoding="utf-8")))
+    surface = Surface(json.loads(args.document.read_text(encoding="utf-8")))
     check_document(tally, surface, text)
     counts = []
     for where, examples in ((REFERENCE.name, reference_examples(text)), ("sessions", session_examples()), ("conversations", conversation_examples())):
@@ -208,8 +206,8 @@ def main():
             check_example(tally, surface, where, example)
         counts.append(tally.passed + tally.failed - before)
     tally.expect("checks of the reference, the sessions and the conversations", [count > 50 for count in counts], [True] * 3)
-    sys.exit(tally.end())
+    return tally.end()
 
 
 if __name__ == "__main__":
-    main()
+    sys.exit(main())

@@ -4,12 +4,14 @@
 usage: program.py --program PATH
 
 The arguments are `DB SHARDS WORKERS SESSIONS ADDR`. With right ones the program holds one session over its input, here one query of an
-empty database. The last line is 'N passed, M failed', and the exit status is 0 if M is 0.
+empty database. What is expected is written out here. The last line is 'N passed, M failed', and the exit status is 0 if M is 0.
 """
 import subprocess
 import sys
 
 from common.arguments import arguments
+from common.messages import reply
+from common.session import run_command, run_session, session_command
 from common.tally import Tally
 
 SECONDS = 60
@@ -17,9 +19,8 @@ QUERY = b'POST /%s/_find HTTP/1.1\r\nContent-Length: 15\r\n\r\n{"selector":{}}'
 CLOSING_QUERY = b'POST /db/_find HTTP/1.1\r\nConnection: close\r\nContent-Length: 15\r\n\r\n{"selector":{}}'
 OLD_QUERY = b'POST /db/_find HTTP/1.0\r\nContent-Length: 15\r\n\r\n{"selector":{}}'
 STAYING_QUERY = b'POST /db/_find HTTP/1.1\r\nConnection: keep-alive\r\nContent-Length: 15\r\n\r\n{"selector":{}}'
-BAD_HEAD = (b'HTTP/1.1 400 Bad Request\r\nContent-Type: application/json\r\nContent-Length: 50\r\n\r\n'
-            b'{"error":"bad_head","reason":"Bad request head."}\n')
-PAGE = b'HTTP/1.1 200 OK\r\nContent-Type: application/json\r\nContent-Length: 29\r\n\r\n{"bookmark":"nil","docs":[]}\n'
+BAD_HEAD = reply(400, '{"error":"bad_head","reason":"Bad request head."}')
+PAGE = reply(200, '{"bookmark":"nil","docs":[]}')
 USAGE = b"mangod: usage: mangod DB SHARDS WORKERS SESSIONS ADDR\n"
 
 RIGHT = ["db 1 1 1 -", "a 1 1 1 -", "z9_$()+-a 1 1 1 -", "db 01 1 001 -", "db 2 1 1 -", "db 64 1 1 -", "db 064 1 1 -",
@@ -37,7 +38,7 @@ WRONG = [
 # the name, the input, the output, the exit status and the line
 SESSIONS = [
     ("an input that ends", b"", b"", 0, b""),
-    ("a head that is none", b"X\r\n", BAD_HEAD, 1, b"mangod: refused\n"),
+    ("bytes that are not a head", b"X\r\n", BAD_HEAD, 1, b"mangod: refused\n"),
     ("a message that asks to close, and another", CLOSING_QUERY + QUERY % b"db", PAGE, 0, b""),
     ("a message of version 1.0, and another", OLD_QUERY + QUERY % b"db", PAGE, 0, b""),
     ("a message that asks to stay, and another", STAYING_QUERY + QUERY % b"db", PAGE + PAGE, 0, b""),
@@ -45,31 +46,27 @@ SESSIONS = [
 ]
 
 
-def run(program, words, given):
-    done = subprocess.run([program, *words], input=given, capture_output=True, timeout=SECONDS)
-    return done.returncode, done.stdout, done.stderr
-
-
 def checks(program):
-    """Each check: its name, what was found, and what was expected."""
+    """Each check: its name, what was found, and what was expected: the output, the exit status and the line on standard error."""
     for line in RIGHT:
-        words = line.split(" ")
-        yield line, run(program, words, QUERY % words[0].encode()), (0, PAGE, b"")
+        args = line.split(" ")
+        yield line, run_command([program, *args], QUERY % args[0].encode(), SECONDS), (PAGE, (0, b""))
     for line in WRONG:
-        words = line.split("|") if line else []
-        yield line, run(program, words, QUERY % b"db"), (2, b"", USAGE)
+        args = line.split("|") if line else []
+        yield line, run_command([program, *args], QUERY % b"db", SECONDS), (b"", (2, USAGE))
     for name, given, output, status, line in SESSIONS:
-        yield name, run(program, ["db", "1", "1", "1", "-"], given), (status, output, line)
-    closed = subprocess.run(f"exec 0<&-; {program} db 1 1 1 -", shell=True, capture_output=True, timeout=SECONDS)
+        yield name, run_session(program, given, seconds=SECONDS), (output, (status, line))
+    command = " ".join(session_command(program))
+    closed = subprocess.run(f"exec 0<&-; {command}", shell=True, capture_output=True, timeout=SECONDS)
     yield "an input that is closed", (closed.returncode, closed.stdout, closed.stderr), (1, b"", b"mangod: read fault\n")
-    full = subprocess.run(f"{program} db 1 1 1 - > /dev/full", shell=True, input=QUERY % b"db", capture_output=True, timeout=SECONDS)
+    full = subprocess.run(f"{command} > /dev/full", shell=True, input=QUERY % b"db", capture_output=True, timeout=SECONDS)
     yield "an output that takes nothing", (full.returncode, full.stderr), (1, b"mangod: write fault\n")
 
 
 def main():
-    words, tally = arguments(__doc__), Tally()
-    for name, found, wanted in checks(words.program):
-        tally.expect(repr(name), found, wanted)
+    args, tally = arguments(__doc__), Tally()
+    for name, found, expected in checks(args.program):
+        tally.expect(repr(name), found, expected)
     return tally.end()
 
 

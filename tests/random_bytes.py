@@ -12,20 +12,20 @@ a time: both connections are open, and pieces of their messages, of random sizes
 last byte, so the model knows the order of the commands; a client that comes after a tail is answered as the model says. A million bytes
 go each way, with --full ten million. The last line is 'N passed, M failed'.
 """
+import contextlib
 import copy
 import json
 import random
-import subprocess
 import sys
 
 from common.arguments import arguments
-from common.refusal import ENDS, SECONDS
-from common.server import listening
+from common.conversation import all_conversations
+from common.messages import post, replies_in
+from common.server import Setting, listening
+from common.session import ENDS, run_session
 from common.tally import Tally
 from common.wire import Wire
-from conversations import conversations_in, post, replies_in
-from model.talk import Database
-from refused_memory import FOLDER
+from model.database import Database
 
 NAMES = [
     "$lt", "$lte", "$eq", "$ne", "$gte", "$gt", "$exists", "$type", "$in", "$nin", "$size", "$mod", "$all", "$elemMatch", "$allMatch", "$and",
@@ -42,23 +42,17 @@ MESSAGES = 40
 
 
 class Source:
-    """A source of random messages."""
+    """A source of random messages. `whole` has the complete messages of the conversations, `targets` each target with a body for it."""
 
     def __init__(self, seed):
         self.random = random.Random(seed)
         self.targets, self.whole = [], []
-        for file in sorted(FOLDER.glob("*.txt")):
-            for exchange in (exchange for talk in conversations_in(file) for exchange in talk.exchanges):
-                head, _, body = exchange.message.partition(b"\r\n\r\n")
-                if head.startswith((b"POST /db/_", b"GET /db/", b"DELETE /db/")) and exchange.is_whole and len(body) < 4000:
-                    self.whole.append(exchange.message)
-                    self.note(head.split(b" ")[1][4:].decode(), body)
-
-    def note(self, target, body):
-        try:
-            self.targets.append((target, json.loads(body)))
-        except ValueError:
-            pass
+        for exchange in (exchange for conversation in all_conversations().values() for exchange in conversation.exchanges):
+            head, _, body = exchange.message.partition(b"\r\n\r\n")
+            if head.startswith((b"POST /db/_", b"GET /db/", b"DELETE /db/")) and exchange.is_whole and len(body) < 4000:
+                self.whole.append(exchange.message)
+                with contextlib.suppress(ValueError):
+                    self.targets.append((head.split(b" ")[1][4:].decode(), json.loads(body)))
 
     def value(self):
         """A random value: one of `NO_VALUES` or `VALUES`, or a part of some body."""
@@ -92,7 +86,7 @@ class Source:
             return {(self.random.choice(NAMES) if other == name else other): value[other] for other in value}
         return {**value, name: self.change(value[name])}
 
-    def turned(self, data, most):
+    def mutate(self, data, most):
         """The bytes with 1 to `most` random changes."""
         data = bytearray(data)
         for _ in range(self.random.randint(1, most)):
@@ -117,7 +111,7 @@ class Source:
         for _ in range(self.random.choice([0, 1, 1, 2, 4])):
             value = self.change(value)
         body = json.dumps(value, ensure_ascii=self.random.random() < 0.3, allow_nan=True).encode("utf-8", "surrogatepass")
-        return post(target, self.turned(body, 3) if self.random.random() < 0.15 and body else body)
+        return post(target, self.mutate(body, 3) if self.random.random() < 0.15 and body else body)
 
     def tail(self, harmless):
         """Bytes that may end the session. Harmless ones write nothing to the database."""
@@ -127,19 +121,19 @@ class Source:
         front = [message for message in self.whole if not harmless or message.startswith((b"GET", b"POST /db/_find"))]
         head, gap, body = self.random.choice(front).partition(b"\r\n\r\n")
         if kind == 1:
-            return self.turned(head, 6) + gap + body
+            return self.mutate(head, 6) + gap + body
         if kind == 2:
             return (head + gap + body)[: self.random.randrange(len(head + gap + body))]
-        return self.turned(head + gap, 2) * self.random.randint(1, 400)
+        return self.mutate(head + gap, 2) * self.random.randint(1, 400)
 
 
-def tail_fault(output, end, over_tcp):
-    """The fault in what came back for a tail; None if it is right."""
+def tail_fault(output, end, is_tcp):
+    """The fault in what came back for a tail; None if it is right. Over TCP it is unknown how the session ended."""
     replies, left = replies_in(output)
     silent = bytes(left).startswith(b"HTTP/1.1 ") and bytes(left).endswith(b"\r\n\r\n")
     if left and not silent:
         return f"no whole reply: {left[:200]!r}"
-    if over_tcp:
+    if is_tcp:
         return None
     if end not in (ENDS["Eof"], ENDS["Refused"]):
         return f"ended {end}"
@@ -150,33 +144,37 @@ def tail_fault(output, end, over_tcp):
     return None
 
 
-def session(program, source, database, shards, workers):
-    """Holds one session over standard input. Gives the number of its bytes, and its fault; None if it is right."""
+def run_one(program, source, database, shards, workers):
+    """Runs one session over standard input. Returns the number of its bytes, and its fault; None if it is right."""
     messages = [source.message() for _ in range(MESSAGES)]
     tail = source.tail(False)
     given = b"".join(messages) + tail
-    done = subprocess.run([program, "db", shards, workers, "1", "-"], input=given, capture_output=True, timeout=SECONDS)
+    output, end = run_session(program, given, shards, workers)
     at = 0
     for message in messages:
-        wanted = database.answer(message)
-        if not done.stdout.startswith(wanted, at):
-            return len(given), f"{message!r}\n  got    {done.stdout[at : at + 400]!r}\n  wanted {wanted[:400]!r}"
-        at += len(wanted)
-    fault = tail_fault(done.stdout[at:], (done.returncode, done.stderr), False)
+        expected = database.answer(message)
+        if not output.startswith(expected, at):
+            return len(given), difference(message, output[at : at + 400], expected)
+        at += len(expected)
+    fault = tail_fault(output[at:], end, False)
     return len(given), fault and f"tail {tail[:300]!r}: {fault}"
+
+
+def difference(message, found, expected):
+    return f"{message!r}\n  replied  {found[:400]!r}\n  expected {expected[:400]!r}"
 
 
 def over_input(program, seed, count, tally):
     sent, number = 0, 0
     while sent < count:
         source = Source(f"{seed}/{number}")
-        length, fault = session(program, source, Database(), *[("1", "1"), ("7", "2")][number % 2])
+        length, fault = run_one(program, source, Database(), *[(1, 1), (7, 2)][number % 2])
         tally.expect(f"session {number} of seed {seed}", fault, None)
         sent += length
         number += 1
 
 
-class Client:
+class Pieces:
     """A connection that sends its messages in pieces, and its fault; None while its replies are right."""
 
     def __init__(self, port, source, database):
@@ -185,7 +183,7 @@ class Client:
         self.messages = [source.message() for _ in range(10)]
 
     def step(self):
-        """Sends a piece of a message, and reads the reply after its last piece; or sends the tail. Gives whether there is more to send."""
+        """Sends a piece of a message, and reads the reply after its last piece; or sends the tail. Returns whether there is more to send."""
         if not self.messages:
             self.fault = self.end()
             return False
@@ -195,13 +193,13 @@ class Client:
         if self.at < len(message):
             return True
         self.sent, self.at, self.messages = self.sent + len(message), 0, self.messages[1:]
-        wanted, got = self.database.answer(message), self.wire.reply()
-        if got != wanted:
-            self.fault = f"{message!r}\n  got    {got[:400]!r}\n  wanted {wanted[:400]!r}"
-        return got == wanted
+        expected, found = self.database.answer(message), self.wire.reply()
+        if found != expected:
+            self.fault = difference(message, found, expected)
+        return found == expected
 
     def end(self):
-        """Sends a tail that writes nothing, and mostly waits for what comes back. Gives the fault in that."""
+        """Sends a tail that writes nothing, and mostly waits for what comes back. Returns the fault in that."""
         tail = self.source.tail(True)
         self.sent += len(tail)
         self.wire.send(tail)
@@ -212,19 +210,19 @@ class Client:
         return fault and f"tail {tail[:300]!r}: {fault}"
 
 
-def over_tcp(words, seed, count, tally):
+def over_tcp(setting, seed, count, tally):
     sent, number = 0, 0
     while sent < count:
         database, source = Database(), Source(f"tcp {seed}/{number}")
-        with listening(words, 2) as port:
+        with listening(setting, 2) as port:
             sent += two_at_a_time(port, source, database, f"run {number}, seed {seed}", tally)
         number += 1
 
 
 def two_at_a_time(port, source, database, label, tally):
-    """Runs twenty clients, at most two at a time; gives how many bytes they sent."""
-    sent, turn = 0, 2
-    clients = [Client(port, source, database) for _ in range(turn)]
+    """Runs twenty clients, at most two at a time. Returns how many bytes they sent."""
+    sent, clients_so_far = 0, 2
+    clients = [Pieces(port, source, database) for _ in range(clients_so_far)]
     while clients:
         one = source.random.choice(clients)
         if one.step():
@@ -233,19 +231,17 @@ def two_at_a_time(port, source, database, label, tally):
         clients.remove(one)
         tally.expect(f"a client of {label}", one.fault, None)
         sent += one.sent
-        if turn < 20:
-            clients.append(Client(port, source, database))
-            turn += 1
+        if clients_so_far < 20:
+            clients.append(Pieces(port, source, database))
+            clients_so_far += 1
     return sent
 
 
 def main():
-    words = arguments(__doc__, seed=1, bytes=0)
-    words.shards, words.workers = "7", "2"
-    count = words.bytes or (10_000_000 if words.full else 1_000_000)
-    tally = Tally()
-    over_input(words.program, words.seed, count, tally)
-    over_tcp(words, words.seed, count, tally)
+    args, tally = arguments(__doc__, seed=1, bytes=0), Tally()
+    count = args.bytes or (10_000_000 if args.full else 1_000_000)
+    over_input(args.program, args.seed, count, tally)
+    over_tcp(Setting(args.program, 7, 2), args.seed, count, tally)
     return tally.end()
 
 

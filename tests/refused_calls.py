@@ -23,7 +23,7 @@ from common.tally import Tally
 CRATES = Path(__file__).resolve().parent.parent / "crates"
 RUN, COMMAND, CALL = "the run was refused memory", "a command was refused memory", "a call was refused memory"
 # the crate of each test, its name, and its messages about a refused call
-SAYS = [
+TESTS = [
     ("mg_tests", "run_tests::a_refused_run_has_run_nothing", {RUN, COMMAND}),
     ("mg_thread_tests", "commit_tests::two_seats_tell_each_other_and_close", {CALL}),
     ("mg_thread_tests", "commit_tests::a_reshard_is_one_commit_and_changes_no_page", {CALL}),
@@ -32,15 +32,15 @@ PASSED, OWN = "ok", "memory"
 
 
 def outcome(refusal, tests, name, request):
-    """Runs a test while a request is refused. Gives its last message, `ok` if it passed, or all its output if it did not end by a panic."""
+    """Runs a test while a request is refused. Returns its last message, `ok` if it passed, or all its output if it did not end by a panic."""
     refusal.reset()
     refusal.refuse("memory", request, request)
-    _, (status, said) = refusal.run([str(tests), name], b"")
-    line = said.decode("utf-8", "replace").split("\n")[0]
+    _, (status, error) = refusal.run([str(tests), name], b"")
+    line = error.decode("utf-8", "replace").split("\n")[0]
     if status == 0:
         return PASSED
     if status != -signal.SIGABRT:
-        return f"{status} {said!r}"
+        return f"{status} {error!r}"
     return OWN if line.startswith(f"{OWN}: ") else line
 
 
@@ -49,32 +49,32 @@ def outcomes(refusal, tests, name):
     found = {outcome(refusal, tests, name, 0): [0]}
     count = refusal.calls("memory")
     for request in itertools.count(1):
-        said = outcome(refusal, tests, name, request)
+        message = outcome(refusal, tests, name, request)
         if not refusal.refused("memory"):
             return found, count
-        found.setdefault(said, []).append(request)
+        found.setdefault(message, []).append(request)
 
 
-def check(refusal, tests, name, says, tally):
-    """Checks one test. Each of its outcomes must occur."""
+def check(refusal, tests, name, messages, tally):
+    """Checks one test. Each of its messages about a refused call must occur."""
     found, count = outcomes(refusal, tests, name)
-    print(f"{name}, {count} requests: {', '.join(f'{len(found[said])} {said}' for said in sorted(found))}")
+    print(f"{name}, {count} requests: {', '.join(f'{len(found[message])} {message}' for message in sorted(found))}")
     tally.expect(f"{name} with nothing refused", 0 in found.get(PASSED, ()), True)
-    strange = {said: requests[:3] for said, requests in found.items() if said not in says | {PASSED, OWN}}
-    tally.expect(f"{name}: other ends, with the requests that were refused", strange, {})
-    tally.expect(f"{name}: what was refused", {said for said in says if found.get(said)}, says)
+    others = {message: requests[:3] for message, requests in found.items() if message not in messages | {PASSED, OWN}}
+    tally.expect(f"{name}: other ends, with the requests that were refused", others, {})
+    tally.expect(f"{name}: what was refused", {message for message in messages if found.get(message)}, messages)
 
 
 def main():
-    words, tally = arguments(__doc__, tests=CRATES), Tally()
+    args, tally = arguments(__doc__, tests=CRATES), Tally()
     resource.setrlimit(resource.RLIMIT_CORE, (0, 0))
     if tally.needs("cc"):
         with refusals() as refusal:
-            for crate, name, says in SAYS:
-                tests = words.tests / crate / "out" / f"{crate}_tests"
+            for crate, name, messages in TESTS:
+                tests = args.tests / crate / "out" / f"{crate}_tests"
                 tally.expect(f"the tests {tests} were built", tests.exists(), True)
                 if tests.exists():
-                    check(refusal, tests, name, says, tally)
+                    check(refusal, tests, name, messages, tally)
     return tally.end()
 
 

@@ -4,7 +4,7 @@
 usage: refused_memory.py --program PATH [--full] [--only NAME ..]
 
 The messages are those of the conversations of tests/conversations named below, followed by some that read everything: the indexes, each
-document with its conflicts, and the rows of each index that was created. Each conversation is held with 1 and 7 shards and 1 and 2
+document with its conflicts, and the rows of each index that was created. Each conversation is run with 1 and 7 shards and 1 and 2
 workers. The shim refuse/refuse.c refuses its nth request for memory, or that and all later ones, for each n until a run meets no refusal
 (without --full for a dozen n, spread over all; and for two conversations, with 7 shards and 2 workers, for each n alone). A run is right if
 - nothing was written and the program ended with `mangod: out of memory` (the session never began), and the refused request is one that a
@@ -19,18 +19,17 @@ was ever refused. The shim needs a C compiler, `cc`. The last line is 'N passed,
 """
 import json
 import resource
-import subprocess
 import sys
-from pathlib import Path
 
 from common.arguments import arguments
-from common.refusal import ENDS, ONWARD, SECONDS, refusals
+from common.conversation import all_conversations, model_faults
+from common.messages import body_of, get, post, post_json
+from common.refusal import ONWARD, refusals
+from common.session import ENDS, run_session, session_command
 from common.tally import Tally
-from conversations import conversations_in, post, replies_in
-from model.talk import OUT_OF_MEMORY, Database
+from model.database import OUT_OF_MEMORY, Database
 from shapes import queries, values, writes
 
-FOLDER = Path(__file__).resolve().parent / "conversations"
 NAMES = ["first-write-and-query", "type-order", "comparison-across-types", "missing-fields", "winner", "replication", "new-edits",
          "ties-across-shards", "descending-pages", "in-on-arrays", "in-on-arrays-2", "sort-needs-an-index", "ranges", "mod",
          "limit-and-skip", "choice-of-index", "bad-documents", "bad-queries", "refused-queries", "arrays", "bookmark-spelling",
@@ -39,37 +38,28 @@ NAMES = ["first-write-and-query", "type-order", "comparison-across-types", "miss
 TOO_LARGE = [(queries.atoms_under_a_path, 3_000, 1), (writes.tiny_documents, 60_000, 1), (values.deep_arrays, 8_000, 3),
              (writes.documents_without_an_id, 50_000, 1)]
 GRANTED = 60 << 20
-SETTINGS = [("1", "1"), ("7", "1"), ("1", "2"), ("7", "2")]
+SETTINGS = [(1, 1), (7, 1), (1, 2), (7, 2)]
 EACH = ["first-write-and-query", "new-edits"]
 RUNS = 10
 
 
 def audit(messages):
     """Messages that read everything, and the rows of each index that was created."""
-    asked = [b"GET /db/_index HTTP/1.1\r\n\r\n", post("_find", b'{"selector":{},"conflicts":true,"limit":1000}')]
+    reads = [get("_index"), post("_find", b'{"selector":{},"conflicts":true,"limit":1000}')]
     for message in messages:
         if message.startswith(b"POST /db/_index "):
-            fields = json.loads(message.partition(b"\r\n\r\n")[2])["index"]["fields"]
+            fields = json.loads(body_of(message))["index"]["fields"]
             query = {"selector": {}, "sort": fields, "fields": ["_id"], "limit": 1000}
-            asked.append(post("_find", json.dumps(query).encode()))
-    return list(dict.fromkeys(asked))
+            reads.append(post_json("_find", query))
+    return list(dict.fromkeys(reads))
 
 
-class Talk:
+class Audited:
     """The messages of a conversation and of its audit, and a check of what was written for them."""
 
     def __init__(self, conversation):
-        self.name = conversation.name
-        self.exchanges = conversation.exchanges
-        said = [exchange.message for exchange in self.exchanges]
-        self.messages = said + audit(said)
-
-    def model_faults(self):
-        """The replies in the file that the model does not give."""
-        database = Database()
-        for exchange in self.exchanges:
-            (found,), _ = replies_in(database.answer(exchange.message))
-            yield from (wanted.text for wanted in exchange.wanted_at(1) if not wanted.is_met_by(found))
+        self.name, self.conversation = conversation.name, conversation
+        self.messages = conversation.messages() + audit(conversation.messages())
 
     def fault(self, output, end):
         """The fault of a run (None if it is right), and the numbers of the messages that were refused."""
@@ -84,10 +74,10 @@ class Talk:
                 refused.append(number)
                 at += len(OUT_OF_MEMORY)
                 continue
-            wanted = database.answer(self.messages[number])
-            if not output.startswith(wanted, at):
-                return f"reply {number}: {output[at : at + 300]!r}\n    wanted {wanted[:300]!r}", refused
-            at += len(wanted)
+            expected = database.answer(self.messages[number])
+            if not output.startswith(expected, at):
+                return f"reply {number}: {output[at : at + 300]!r}\n    expected {expected[:300]!r}", refused
+            at += len(expected)
         ends = [ENDS["Eof"]] if count == len(self.messages) else []
         if refused and refused[-1] == count - 1:
             ends.append(ENDS["Refused"])
@@ -96,45 +86,45 @@ class Talk:
         return None, refused
 
 
-def refuse_each(refusal, words, talk, onward, step, begin):
-    """Refuses request after request until a run meets no refusal. Gives the faults, and the messages that were refused in some run."""
-    given = b"".join(talk.messages)
-    start = requests(refusal, words, b"")
+def refuse_each(refusal, command, audited, onward, step, begin):
+    """Refuses request after request until a run meets no refusal. Returns the faults, and the messages that were refused in some run."""
+    given = b"".join(audited.messages)
+    start = count_requests(refusal, command, b"")
     faults, seen, first = [], set(), begin
     while True:
         refusal.reset()
         refusal.refuse("memory", first, ONWARD if onward else first)
-        found, refused = talk.fault(*refusal.run(words, given))
+        fault, refused = audited.fault(*refusal.run(command, given))
         seen.update(refused)
-        met = refusal.refused("memory")
+        count = refusal.refused("memory")
         if refused == ["start"] and first > start:
-            found = "the session never began"
-        if len(refused) > (len(talk.messages) if onward else 1) * met:
-            found = f"{len(refused)} times out of memory, {met} requests were refused"
-        if found:
-            faults.append(f"from request {first}: {found}" if onward else f"request {first}: {found}")
-        if not met:
+            fault = "the session never began"
+        if len(refused) > (len(audited.messages) if onward else 1) * count:
+            fault = f"{len(refused)} times out of memory, {count} requests were refused"
+        if fault:
+            faults.append(f"from request {first}: {fault}" if onward else f"request {first}: {fault}")
+        if not count:
             return faults, seen
         first += step
 
 
-def requests(refusal, words, given):
+def count_requests(refusal, command, given):
     """How many requests for memory a run makes if none is refused."""
     refusal.reset()
-    refusal.run(words, given)
+    refusal.run(command, given)
     return refusal.calls("memory")
 
 
-def faults_of(refusal, program, talk, place, full):
+def faults_of(refusal, program, audited, place, full):
     """The faults of a conversation with one number of shards and of workers."""
     shards, workers = SETTINGS[place]
-    words = [program, "db", shards, workers, "1", "-"]
-    step = 1 if full else max(1, requests(refusal, words, b"".join(talk.messages)) // RUNS)
+    command = session_command(program, shards, workers)
+    step = 1 if full else max(1, count_requests(refusal, command, b"".join(audited.messages)) // RUNS)
     faults, seen = [], set()
     for onward in (False, True):
-        is_each = full or (talk.name in EACH and not onward and place == len(SETTINGS) - 1)
+        is_each = full or (audited.name in EACH and not onward and place == len(SETTINGS) - 1)
         begin = 1 if is_each else 1 + (2 * place + onward) * step // 8
-        found, refused = refuse_each(refusal, words, talk, onward, 1 if is_each else step, begin)
+        found, refused = refuse_each(refusal, command, audited, onward, 1 if is_each else step, begin)
         faults += found
         seen |= set(refused)
     if full and not seen >= {"start", 0}:
@@ -144,34 +134,34 @@ def faults_of(refusal, program, talk, place, full):
     return [f"{shards} shards, {workers} workers: {fault}" for fault in faults]
 
 
-def check(refusal, program, talk, full, tally):
-    tally.expect(f"{talk.name}: the model", list(talk.model_faults()), [])
-    faults = [fault for place in range(len(SETTINGS)) for fault in faults_of(refusal, program, talk, place, full)]
-    tally.count(talk.name, faults[:3])
+def check(refusal, program, audited, full, tally):
+    tally.expect(f"{audited.name}: the model", list(model_faults(audited.conversation)), [])
+    faults = [fault for place in range(len(SETTINGS)) for fault in faults_of(refusal, program, audited, place, full)]
+    tally.count(audited.name, faults[:3])
 
 
-def limited(program, first, tally):
+def set_limit():
+    resource.setrlimit(resource.RLIMIT_AS, (GRANTED, GRANTED))
+
+
+def check_little_memory(program, first, tally):
     """Messages that need more memory than the system grants are refused, and the memory that they took is freed."""
-    few = lambda: resource.setrlimit(resource.RLIMIT_AS, (GRANTED, GRANTED))
     database = Database()
-    wanted = b"".join(database.answer(message) for message in first.messages)
+    expected = b"".join(database.answer(message) for message in first.messages)
     for make, size, count in TOO_LARGE:
         given = make(size)[0] * 3 + b"".join(first.messages)
-        done = subprocess.run([program, "db", "1", "1", "1", "-"], input=given, capture_output=True, timeout=SECONDS, preexec_fn=few)
-        found = done.stdout == OUT_OF_MEMORY * 3 * count + wanted
-        tally.expect(f"{make.__name__} in little memory", (found, done.returncode, done.stderr), (True, 0, b""))
+        output, end = run_session(program, given, preexec_fn=set_limit)
+        tally.expect(f"{make.__name__} in little memory", (output == OUT_OF_MEMORY * 3 * count + expected, end), (True, ENDS["Eof"]))
 
 
 def main():
-    args = arguments(__doc__, only=[])
-    found = {talk.name: talk for file in sorted(FOLDER.glob("*.txt")) for talk in conversations_in(file)}
-    names = args.only or NAMES
-    tally = Tally()
-    limited(args.program, Talk(found[NAMES[0]]), tally)
+    args, tally = arguments(__doc__, only=[]), Tally()
+    conversations = all_conversations()
+    check_little_memory(args.program, Audited(conversations[NAMES[0]]), tally)
     if tally.needs("cc"):
         with refusals() as refusal:
-            for name in names:
-                check(refusal, args.program, Talk(found[name]), args.full, tally)
+            for name in args.only or NAMES:
+                check(refusal, args.program, Audited(conversations[name]), args.full, tally)
         print(f"each conversation on {len(SETTINGS)} pairs of shards and workers:")
     return tally.end()
 

@@ -13,7 +13,6 @@ while requests are refused at random (seeded), and afterwards exactly what was a
 ends with `mangod: out of memory`, or clients are served. Last, one of two sessions is refused its thread, and the other one serves. The
 shim needs a C compiler, `cc`. The last line is 'N passed, M failed'.
 """
-import json
 import random
 import subprocess
 import sys
@@ -21,12 +20,13 @@ import threading
 import time
 
 from common.arguments import arguments
+from common.messages import bulk, get, post, post_json
 from common.refusal import ONWARD, refusals
-from common.server import free_port, listening
+from common.server import Setting, free_port, listening
 from common.tally import Tally
 from common.wire import Wire
-from conversations import post
-from model.talk import OUT_OF_MEMORY, Database
+from model.database import OUT_OF_MEMORY, Database
+from model.documents import text_of
 
 WRITES = 60
 # the seconds within which a write must be answered
@@ -34,39 +34,35 @@ ANSWERED = 10
 NUMBERS = [3, 64, 1, 16]
 
 
-def bulk(documents, **more):
-    return post("_bulk_docs", json.dumps({"docs": documents, **more}).encode())
-
-
 def find(**query):
-    return post("_find", json.dumps(query).encode())
+    return post_json("_find", query)
 
 
 def index(column, name):
-    return post("_index", json.dumps({"index": {"fields": [column]}, "ddoc": "x", "name": name}).encode())
+    return post_json("_index", {"index": {"fields": [column]}, "ddoc": "x", "name": name})
 
 
 def reshard(turn):
     return post("_placement", b'{"shards":%d}' % NUMBERS[turn % len(NUMBERS)])
 
 
-LIST = b"GET /db/_index HTTP/1.1\r\n\r\n"
+LIST = get("_index")
 CLOSING_LIST = b"GET /db/_index HTTP/1.1\r\nConnection: close\r\n\r\n"
 ALL = find(selector={}, limit=100_000, conflicts=True)
 BY_INDEX = find(selector={"n": {"$gt": None}}, fields=["_id", "n"], limit=100_000)
 BY_NUMBER = find(selector={"n": {"$gte": 30}}, fields=["_id", "n"], limit=100_000)
 
 
-def edited(database, turn):
+def three_edits(database, turn):
     """A bulk of an edit of one document, an edit of another that conflicts, and a document without an id."""
     leaf = database.documents["e"].leaves()[0]
-    return bulk([{"_id": "e", "_rev": f"{leaf[0]}-{leaf[1]}", "n": turn}, {"_id": "f", "n": 0}, {"n": turn}])
+    return bulk([{"_id": "e", "_rev": text_of(leaf), "n": turn}, {"_id": "f", "n": 0}, {"n": turn}])
 
 
 # the name of each command, and its message, from the current database and the turn
 COMMANDS = {
     "a new document": lambda database, turn: bulk([{"_id": f"k{turn}", "n": turn, "x": ["y" * 50] * 3}]),
-    "an edit, a conflict and a document without an id": edited,
+    "an edit, a conflict and a document without an id": three_edits,
     "three replicas": lambda database, turn: bulk(
         [{"_id": name, "_rev": f"2-{turn}", "_revisions": {"start": 2, "ids": [f"{turn}", f"p{turn}"]}, "n": turn} for name in "gh"]
         + [{"_id": "f", "_rev": "2-z", "_deleted": True}], new_edits=False),
@@ -75,7 +71,7 @@ COMMANDS = {
     "a page": lambda database, turn: BY_INDEX,
     "an explanation": lambda database, turn: post("_explain", b'{"selector":{"n":{"$gte":3,"$lt":9}},"sort":["n"]}'),
     "the indexes": lambda database, turn: LIST,
-    "a document": lambda database, turn: b"GET /db/e?conflicts=true HTTP/1.1\r\n\r\n",
+    "a document": lambda database, turn: get("e?conflicts=true"),
     "a reshard": lambda database, turn: reshard(turn),
 }
 
@@ -95,103 +91,106 @@ class Seats:
         self.port, self.refusal, self.database = port, refusal, Database()
         self.one, self.other = both_seats(port)
         for message in (index("n", "by"), bulk([{"_id": "e", "n": 1}, {"_id": "f", "n": 2}])):
-            self.plain(message)
+            self.ask_other(message)
 
-    def plain(self, message):
-        """The fault in the reply to the other client; None if it is right."""
-        wanted = self.database.answer(message)
-        got = self.other.ask(message)
-        return None if got == wanted else f"{message[:80]!r}: {got[-300:]!r}\n    wanted {wanted[-300:]!r}"
+    def fault(self, message, found):
+        """The fault in a reply, which must be that of the model; None if it is right."""
+        expected = self.database.answer(message)
+        return None if found == expected else f"{message[:80]!r}: {found[-300:]!r}\n    expected {expected[-300:]!r}"
 
-    def refused(self, message, first, onward):
-        """Whether the command of the first client was answered `out_of_memory`, the fault, and whether a request was refused."""
+    def ask_other(self, message):
+        """Sends a message of the other client. Returns the fault in its reply."""
+        return self.fault(message, self.other.ask(message))
+
+    def ask_refused(self, message, first, onward):
+        """Sends a message of the first client while memory is refused. Returns whether it was answered `out_of_memory`, the fault in its
+        reply, and whether a request was refused."""
         self.refusal.reset()
         self.refusal.refuse("memory", first, ONWARD if onward else first)
-        got = self.one.ask(message)
-        met = self.refusal.refused("memory") > 0
-        self.refusal.relent("memory")
-        if got == OUT_OF_MEMORY and met:
+        found = self.one.ask(message)
+        was_refused = self.refusal.refused("memory") > 0
+        self.refusal.stop_refusing("memory")
+        if found == OUT_OF_MEMORY and was_refused:
             if self.one.ask(LIST) == b"":
                 self.one.close()
                 self.one = Wire(self.port)
-            return True, None, met
-        wanted = self.database.answer(message)
-        return False, None if got == wanted else f"{message[:80]!r}: {got[-300:]!r}\n    wanted {wanted[-300:]!r}", met
+            return True, None, was_refused
+        return False, self.fault(message, found), was_refused
 
-    def every_request(self, make, onward, step):
-        """Refuses each request in turn; gives how many commands were answered `out_of_memory`, and the faults."""
-        count, faults, first, met = 0, [], 1, True
-        while met:
+    def refuse_each(self, make, onward, step):
+        """Refuses each request in turn. Returns how many commands were answered `out_of_memory`, and the faults."""
+        count, faults, first, was_refused = 0, [], 1, True
+        while was_refused:
             message = make(self.database, first)
-            was_refused, fault, met = self.refused(message, first, onward)
-            count += was_refused
-            faults += [f"request {first}: {found}" for found in (fault, *map(self.plain, (ALL, LIST, BY_INDEX))) if found]
+            is_out_of_memory, fault, was_refused = self.ask_refused(message, first, onward)
+            count += is_out_of_memory
+            faults += [f"request {first}: {found}" for found in (fault, *map(self.ask_other, (ALL, LIST, BY_INDEX))) if found]
             first += step
         return count, faults
 
 
-def two_seats(port, refusal, full, label, tally):
+def check_two_seats(port, refusal, full, label, tally):
     seats = Seats(port, refusal)
     for name, make in COMMANDS.items():
         for onward in (False, True):
-            seats.plain(index("m", "other"))
-            count, faults = seats.every_request(make, onward, 1 if full else 5 if onward else 2)
+            seats.ask_other(index("m", "other"))
+            count, faults = seats.refuse_each(make, onward, 1 if full else 5 if onward else 2)
             tally.expect(f"{label}: {name}{', from one on' if onward else ''}", faults[:3], [])
             tally.expect(f"{label}: {name} was refused memory", count > 0, True)
 
 
-def first_writes(refusal, words, tally):
+def check_first_writes(refusal, setting, tally):
     """The first write of a program, which makes room that later writes reuse. While all requests for memory from one on stay refused, it is
     answered or its session ends, and the other client sees it exactly if it was accepted."""
-    message, first, refused, met = bulk([{"_id": "a", "n": 1}]), 0, 0, True
-    while met:
+    message, first, count, was_refused = bulk([{"_id": "a", "n": 1}]), 0, 0, True
+    while was_refused:
         first += 1
         database = Database()
-        with listening(words, 2, refusal.environment) as port:
+        with listening(setting, 2, refusal.environment) as port:
             one, other = both_seats(port)
             refusal.reset()
             refusal.refuse("memory", first, ONWARD)
             one.socket.settimeout(ANSWERED)
             try:
-                got = one.ask(message)
+                found = one.ask(message)
             except TimeoutError:
-                got = b"no reply"
-            met = refusal.refused("memory") > 0
-            refusal.relent("memory")
-            is_refused = met and got in (b"", OUT_OF_MEMORY)
-            refused += is_refused
-            if not is_refused:
-                tally.expect(f"the first write, all requests from {first} on refused", got, database.answer(message))
-            if got != b"no reply":
+                found = b"no reply"
+            was_refused = refusal.refused("memory") > 0
+            refusal.stop_refusing("memory")
+            is_out_of_memory = was_refused and found in (b"", OUT_OF_MEMORY)
+            count += is_out_of_memory
+            if not is_out_of_memory:
+                tally.expect(f"the first write, all requests from {first} on refused", found, database.answer(message))
+            if found != b"no reply":
                 tally.expect(f"what is seen after it, from {first} on", other.ask(ALL), database.answer(ALL))
             one.close()
             other.close()
-    tally.expect("some first writes were refused", refused > 20, True)
+    tally.expect("some first writes were refused", count > 20, True)
 
 
-def connections(port, refusal, label, tally):
+def check_connections(port, refusal, label, tally):
     """Memory is refused from the moment a client connects. It gets its reply, `out_of_memory` or none, and the next client is served."""
-    faults, met = [], 0
-    wanted = Database().answer(LIST)
+    faults, count = [], 0
+    expected = Database().answer(LIST)
     for client in both_seats(port):
         client.close()
     for first in range(1, 60):
         refusal.reset()
         refusal.refuse("memory", first, ONWARD)
         client = Wire(port)
-        got = client.ask(CLOSING_LIST)
+        found = client.ask(CLOSING_LIST)
         client.close()
-        met += refusal.refused("memory") > 0
-        allowed = (b"", OUT_OF_MEMORY, wanted) if refusal.refused("memory") else (wanted,)
-        refusal.relent("memory")
-        if got not in allowed:
-            faults.append(got)
+        count += refusal.refused("memory") > 0
+        allowed = (b"", OUT_OF_MEMORY, expected) if refusal.refused("memory") else (expected,)
+        refusal.stop_refusing("memory")
+        if found not in allowed:
+            faults.append(found)
         client = Wire(port)
-        if (got := client.ask(LIST)) != wanted:
-            faults.append(got)
+        if (found := client.ask(LIST)) != expected:
+            faults.append(found)
         client.close()
     tally.expect(f"{label}: clients that come while memory is refused", faults, [])
-    tally.expect(f"{label}: a client's session was refused memory", met > 0, True)
+    tally.expect(f"{label}: a client's session was refused memory", count > 0, True)
 
 
 class Writer:
@@ -201,7 +200,7 @@ class Writer:
 
     def __init__(self, port, number):
         self.port, self.number = port, number
-        self.database, self.refused, self.strange = Database(), 0, []
+        self.database, self.refused, self.wrong = Database(), 0, []
 
     def messages(self):
         for turn in range(WRITES):
@@ -216,24 +215,20 @@ class Writer:
     def run(self):
         client, before = Wire(self.port), None
         for message in self.messages():
-            got = client.ask(message)
-            if got == OUT_OF_MEMORY or (got == b"" and before is None):
+            found = client.ask(message)
+            if found == OUT_OF_MEMORY or (found == b"" and before is None):
                 self.refused += 1
-            elif not (got == b"" and before == OUT_OF_MEMORY) and (wanted := self.database.answer(message)) != got:
-                self.strange.append((got[-300:], wanted[-300:]))
-            before = got
-            if got == b"":
+            elif not (found == b"" and before == OUT_OF_MEMORY) and (expected := self.database.answer(message)) != found:
+                self.wrong.append((found[-300:], expected[-300:]))
+            before = found
+            if found == b"":
                 client.close()
                 client, before = Wire(self.port), None
         client.close()
 
 
-def at_once(port, refusal, label, seed, tally):
-    """Two writers run while requests are refused at random."""
-    chance = random.Random(seed)
-    for client in both_seats(port):
-        client.close()
-    writers = [Writer(port, number) for number in range(2)]
+def run_while_refused(writers, refusal, chance):
+    """Runs writers at the same time, while requests for memory are refused at random."""
     threads = [threading.Thread(target=writer.run) for writer in writers]
     refusal.reset()
     for thread in threads:
@@ -243,10 +238,18 @@ def at_once(port, refusal, label, seed, tally):
         refusal.refuse("memory", first, first + chance.choice([0, 0, 1, 5]))
         for thread in threads:
             thread.join(0.001)
-    refusal.relent("memory")
-    tally.expect(f"{label}: replies to two writers", [writer.strange[:3] for writer in writers], [[], []])
-    count, met = sum(writer.refused for writer in writers), refusal.refused("memory")
-    tally.expect(f"{label}: {count} commands out of memory, {met} requests refused", 0 < count <= met, True)
+    refusal.stop_refusing("memory")
+
+
+def check_two_writers(port, refusal, label, seed, tally):
+    """Two writers run while requests are refused at random. Afterwards exactly what was accepted is found."""
+    for client in both_seats(port):
+        client.close()
+    writers = [Writer(port, number) for number in range(2)]
+    run_while_refused(writers, refusal, random.Random(seed))
+    tally.expect(f"{label}: replies to two writers", [writer.wrong[:3] for writer in writers], [[], []])
+    count, refused = sum(writer.refused for writer in writers), refusal.refused("memory")
+    tally.expect(f"{label}: {count} commands out of memory, {refused} requests refused", 0 < count <= refused, True)
     accepted = Database()
     for writer in writers:
         accepted.documents.update(writer.database.documents)
@@ -258,52 +261,52 @@ def at_once(port, refusal, label, seed, tally):
     tally.expect(f"{label}: some documents were accepted", 0 < len(accepted.documents) <= 2 * WRITES, True)
 
 
-def starts(refusal, words, tally):
+def check_starts(refusal, program, tally):
     """Each request for memory of the start is refused, alone or with all later ones: the program reports that and ends, or it serves."""
-    wanted, ended, served = Database().answer(LIST), 0, 0
+    expected, ended, served = Database().answer(LIST), 0, 0
     for first in range(1, 80):
         for last in (first, ONWARD):
             refusal.reset()
             refusal.refuse("memory", first, last)
             port = free_port()
-            command = [words.program, "db", "7", "2", "2", f"127.0.0.1:{port}"]
-            program = subprocess.Popen(command, stdin=subprocess.DEVNULL, stderr=subprocess.PIPE, env=refusal.environment)
-            if got := first_reply(program, port, refusal):
-                tally.expect(f"served, request {first} of the start refused", got, wanted)
+            command = [program, "db", "7", "2", "2", f"127.0.0.1:{port}"]
+            process = subprocess.Popen(command, stdin=subprocess.DEVNULL, stderr=subprocess.PIPE, env=refusal.environment)
+            if found := first_reply(process, port, refusal):
+                tally.expect(f"served, request {first} of the start refused", found, expected)
                 served += 1
-                program.kill()
-                program.wait()
+                process.kill()
+                process.wait()
             else:
-                line, met = program.stderr.read().removeprefix(b"mangod: listening\n"), refusal.refused("memory") > 0
-                tally.expect(f"request {first} of the start refused", (program.wait(), line, met), (1, b"mangod: out of memory\n", True))
+                line, was_refused = process.stderr.read().removeprefix(b"mangod: listening\n"), refusal.refused("memory") > 0
+                tally.expect(f"request {first} of the start refused", (process.wait(), line, was_refused), (1, b"mangod: out of memory\n", True))
                 ended += 1
-            program.stderr.close()
+            process.stderr.close()
     tally.expect("some starts ended and some served", ended > 20 and served > 20, True)
 
 
-def first_reply(program, port, refusal):
+def first_reply(process, port, refusal):
     """The first right reply of a starting program; empty if it ended first. The first client to connect ends the refusals; it may have been
     refused memory itself."""
-    while program.poll() is None:
+    while process.poll() is None:
         try:
             client = Wire(port)
         except ConnectionError:
             time.sleep(0.002)
             continue
-        refusal.relent("memory")
-        got = client.ask(LIST)
+        refusal.stop_refusing("memory")
+        found = client.ask(LIST)
         client.close()
-        if got not in (b"", OUT_OF_MEMORY):
-            return got
+        if found not in (b"", OUT_OF_MEMORY):
+            return found
     return b""
 
 
-def no_second_seat(refusal, words, tally):
+def check_one_seat(refusal, setting, tally):
     """One of two sessions gets no thread: the other one serves one client after another."""
     refusal.reset()
     refusal.refuse("threads", 1, ONWARD)
     database = Database()
-    with listening(words, 2, refusal.environment) as port:
+    with listening(setting, 2, refusal.environment) as port:
         for turn in range(3):
             client = Wire(port)
             message = bulk([{"_id": f"s{turn}"}])
@@ -312,26 +315,27 @@ def no_second_seat(refusal, words, tally):
         tally.expect("a thread was asked for", refusal.calls("threads") > 0, True)
 
 
-def refused(refusal, words, tally):
-    for words.shards, words.workers in [("7", "2"), ("1", "1")]:
-        label = f"{words.shards} shards, {words.workers} workers"
-        with listening(words, 2, refusal.environment) as port:
-            two_seats(port, refusal, words.full, label, tally)
-        with listening(words, 2, refusal.environment) as port:
-            connections(port, refusal, label, tally)
-        for seed in range(12 if words.full else 3):
-            with listening(words, 2, refusal.environment) as port:
-                at_once(port, refusal, f"{label}, seed {seed}", seed, tally)
-    first_writes(refusal, words, tally)
-    starts(refusal, words, tally)
-    no_second_seat(refusal, words, tally)
+def check_all(refusal, program, full, tally):
+    small = Setting(program, 1, 1)
+    for setting in (Setting(program, 7, 2), small):
+        label = f"{setting.shards} shards, {setting.workers} workers"
+        with listening(setting, 2, refusal.environment) as port:
+            check_two_seats(port, refusal, full, label, tally)
+        with listening(setting, 2, refusal.environment) as port:
+            check_connections(port, refusal, label, tally)
+        for seed in range(12 if full else 3):
+            with listening(setting, 2, refusal.environment) as port:
+                check_two_writers(port, refusal, f"{label}, seed {seed}", seed, tally)
+    check_first_writes(refusal, small, tally)
+    check_starts(refusal, program, tally)
+    check_one_seat(refusal, small, tally)
 
 
 def main():
-    words, tally = arguments(__doc__), Tally()
+    args, tally = arguments(__doc__), Tally()
     if tally.needs("cc"):
         with refusals() as refusal:
-            refused(refusal, words, tally)
+            check_all(refusal, args.program, args.full, tally)
     return tally.end()
 
 

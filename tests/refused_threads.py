@@ -10,15 +10,15 @@ index; the replies must be those of the model (the folder model/). With at least
 be refused them. A conversation passes or fails as one. The shim needs a C compiler, `cc`. The last line is 'N passed, M failed'.
 """
 import itertools
-import json
 import sys
 
 from common.arguments import arguments
-from common.refusal import ENDS, ONWARD, refusals
+from common.conversation import faults_of_run, select
+from common.messages import post_json
+from common.refusal import ONWARD, refusals
+from common.session import ENDS, session_command
 from common.tally import Tally
-from conversations import chosen, post, run
-from model.talk import Database
-from refused_memory import FOLDER
+from model.database import Database
 
 WORKERS = (2, 32)
 REFUSED = [(1, ONWARD), (1, 1), (2, 2), (3, ONWARD)]
@@ -30,40 +30,40 @@ def faults_of(refusal, program, conversation, shards):
     for workers, (first, last) in itertools.product(WORKERS, REFUSED):
         refusal.reset()
         refusal.refuse("threads", first, last)
-        for place, fault in run(program, conversation, shards, workers, environment=refusal.environment):
-            yield f"\n  line {place}, {shards} shards, {workers} workers, threads refused from {first} to {last}: {fault}"
+        for line, fault in faults_of_run(program, conversation, shards, workers, environment=refusal.environment):
+            yield f"\n  line {line}, {shards} shards, {workers} workers, threads refused from {first} to {last}: {fault}"
 
 
 def many_documents():
-    """The messages of a conversation of many documents, and the replies."""
+    """The input of a conversation of many documents, and its transcript."""
     documents = [{"_id": f"d{i:05}", "_rev": "1-a", "k": i % 7, "n": i * 7919 % 100_003} for i in range(DOCUMENTS)]
-    asked = [("_bulk_docs", {"docs": documents, "new_edits": False}), ("_find", {"selector": {"k": 3}, "fields": ["_id"], "limit": 5000}),
-             ("_index", {"index": {"fields": ["n"]}, "ddoc": "x", "name": "n"}), ("_find", {"selector": {"k": {"$gt": 6}}}),
-             ("_find", {"selector": {"n": {"$lt": 500}}, "sort": [{"n": "desc"}]}), ("_find", {"selector": {"k": 5}, "skip": 2850})]
-    messages = [post(target, json.dumps(body).encode()) for target, body in asked]
+    commands = [("_bulk_docs", {"docs": documents, "new_edits": False}), ("_find", {"selector": {"k": 3}, "fields": ["_id"], "limit": 5000}),
+                ("_index", {"index": {"fields": ["n"]}, "ddoc": "x", "name": "n"}), ("_find", {"selector": {"k": {"$gt": 6}}}),
+                ("_find", {"selector": {"n": {"$lt": 500}}, "sort": [{"n": "desc"}]}), ("_find", {"selector": {"k": 5}, "skip": 2850})]
+    messages = [post_json(target, body) for target, body in commands]
     database = Database()
     return b"".join(messages), b"".join(map(database.answer, messages))
 
 
-def many(refusal, program, given, wanted, tally):
+def check_many(refusal, program, given, transcript, tally):
     """With many documents, threads are asked for and refused, and the replies stay the same."""
-    for shards, workers, (first, last) in itertools.product(("7", "64"), map(str, WORKERS), REFUSED[:2]):
+    for shards, workers, (first, last) in itertools.product((7, 64), WORKERS, REFUSED[:2]):
         refusal.reset()
         refusal.refuse("threads", first, last)
-        output, end = refusal.run([program, "db", shards, workers, "1", "-"], given)
+        output, end = refusal.run(session_command(program, shards, workers), given)
         label = f"{DOCUMENTS} documents, {shards} shards, {workers} workers, threads refused from {first} to {last}"
-        tally.expect(label, (output == wanted, end, refusal.refused("threads") > 0), (True, ENDS["Eof"], True))
+        tally.expect(label, (output == transcript, end, refusal.refused("threads") > 0), (True, ENDS["Eof"], True))
 
 
 def main():
-    words, tally = arguments(__doc__, only=[]), Tally()
+    args, tally = arguments(__doc__, only=[]), Tally()
     if tally.needs("cc"):
-        numbers = (7, 64) if words.full else (7,)
+        numbers = (7, 64) if args.full else (7,)
         with refusals() as refusal:
-            for conversation in chosen(FOLDER, words.only):
-                faults = [fault for shards in numbers for fault in faults_of(refusal, words.program, conversation, shards)]
+            for conversation in select(args.only):
+                faults = [fault for shards in numbers for fault in faults_of(refusal, args.program, conversation, shards)]
                 tally.count(f"{conversation.file.name}: {conversation.name}", faults)
-            many(refusal, words.program, *many_documents(), tally)
+            check_many(refusal, args.program, *many_documents(), tally)
         print(f"each conversation on {len(numbers) * len(WORKERS) * len(REFUSED)} settings:")
     return tally.end()
 

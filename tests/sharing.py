@@ -10,52 +10,50 @@ take at most 4 times its processor time (the least of three rounds). A copy of a
 shim refuse/refuse.c counts the requests, and needs a C compiler, `cc`. The last line is 'N passed, M failed'.
 """
 import contextlib
-import json
 import sys
 from pathlib import Path
 
 from common.arguments import arguments
+from common.messages import bulk, post_json, reply
 from common.refusal import refusals
-from common.server import started
+from common.server import Setting, start
 from common.tally import Tally
 from common.wire import Wire
-from conversations import post
-from sessions import reply_of
 
 SMALL, LARGE, LARGEST = 1_000, 50_000, 200_000
 COMMITS, ROUNDS, AT_ONCE = 1_000, 3, 50
 REQUESTS, TIME = 1.3, 4
 PIECE = 50_000
-ACCEPTED = reply_of(201, "[]")
+ACCEPTED = reply(201, "[]")
 
 
-def bulk(documents):
-    return post("_bulk_docs", json.dumps({"docs": documents, "new_edits": False}).encode())
+def replicated(documents):
+    return bulk(documents, new_edits=False)
 
 
 def edit(name, turn):
     """A replicated edit of a document, on top of that of the turn before; the first turn is 1."""
     path = {"start": turn, "ids": [f"r{turn}", f"r{turn - 1}"][: min(turn, 2)]}
-    return {"_id": name, "_rev": f"{turn}-r{turn}", "_revisions": path, "n": hash_of(name) * 7 + turn}
+    return {"_id": name, "_rev": f"{turn}-r{turn}", "_revisions": path, "n": number_of(name) * 7 + turn}
 
 
-def hash_of(name):
+def number_of(name):
     """A number by which an index orders the documents otherwise than by their ids."""
     return int(name[1:]) * 7919 % 1_000_003
 
 
-class Database:
+class Server:
     """A program with `size` documents and an index, and its one client."""
 
-    def __init__(self, words, refusal, size):
+    def __init__(self, setting, refusal, size):
         self.refusal, self.size = refusal, size
-        self.program, port = started(words, 1, refusal.environment)
+        self.program, port = start(setting, 1, refusal.environment)
         self.client = Wire(port)
         index = {"index": {"fields": ["n"]}, "ddoc": "x", "name": "by"}
-        self.is_made = b'"result":"created"' in self.client.ask(post("_index", json.dumps(index).encode()))
+        self.is_made = b'"result":"created"' in self.client.ask(post_json("_index", index))
         for first in range(0, size, PIECE):
             documents = [edit(f"d{number:07}", 1) for number in range(first, min(first + PIECE, size))]
-            self.is_made &= self.client.ask(bulk(documents)) == ACCEPTED
+            self.is_made &= self.client.ask(replicated(documents)) == ACCEPTED
 
     def seconds(self):
         """The processor time of all threads of the program so far."""
@@ -70,16 +68,16 @@ class Database:
             part = messages[first : first + AT_ONCE]
             self.client.send(b"".join(part))
             accepted += sum(self.client.reply() == ACCEPTED for _ in part)
-        took = self.seconds() - before
-        return self.refusal.calls("memory") / len(messages), took / len(messages), accepted == len(messages)
+        used = self.seconds() - before
+        return self.refusal.calls("memory") / len(messages), used / len(messages), accepted == len(messages)
 
     def edits(self, turn):
         step = self.size // COMMITS
-        return [bulk([edit(f"d{number * step:07}", turn)]) for number in range(COMMITS)]
+        return [replicated([edit(f"d{number * step:07}", turn)]) for number in range(COMMITS)]
 
     def additions(self, turn):
         step = self.size // COMMITS
-        return [bulk([edit(f"d{number * step:07}{turn}", 1)]) for number in range(COMMITS)]
+        return [replicated([edit(f"d{number * step:07}{turn}", 1)]) for number in range(COMMITS)]
 
     def close(self):
         self.client.close()
@@ -87,30 +85,31 @@ class Database:
         self.program.communicate()
 
 
-def costs(words, refusal, size):
+def costs(setting, refusal, size):
     """The least requests and the least time of a commit in a database of `size` documents, for edits and for additions; and whether all
     commits were accepted."""
-    with contextlib.closing(Database(words, refusal, size)) as database:
-        rounds = {kind: [getattr(database, kind)(turn) for turn in range(2, 2 + ROUNDS)] for kind in ("edits", "additions")}
-        found = {kind: [database.commits(messages) for messages in turns] for kind, turns in rounds.items()}
-        is_fine = database.is_made and all(accepted for turns in found.values() for _, _, accepted in turns)
-    return {kind: (min(turn[0] for turn in turns), min(turn[1] for turn in turns)) for kind, turns in found.items()}, is_fine
+    with contextlib.closing(Server(setting, refusal, size)) as server:
+        rounds = {kind: [getattr(server, kind)(turn) for turn in range(2, 2 + ROUNDS)] for kind in ("edits", "additions")}
+        found = {kind: [server.commits(messages) for messages in turns] for kind, turns in rounds.items()}
+        all_accepted = server.is_made and all(accepted for turns in found.values() for _, _, accepted in turns)
+    return {kind: (min(turn[0] for turn in turns), min(turn[1] for turn in turns)) for kind, turns in found.items()}, all_accepted
 
 
 def main():
-    words, tally = arguments(__doc__), Tally()
-    words.shards, words.workers = "1", "1"
+    args, tally = arguments(__doc__), Tally()
+    setting = Setting(args.program, 1, 1)
     if not tally.needs("cc"):
         return tally.end()
     with refusals() as refusal:
-        small, is_fine = costs(words, refusal, SMALL)
-        tally.expect(f"{SMALL} documents, and each commit, were accepted", is_fine, True)
-        for size in (LARGE, LARGEST) if words.full else (LARGE,):
-            large, is_fine = costs(words, refusal, size)
-            tally.expect(f"{size} documents, and each commit, were accepted", is_fine, True)
-            for kind, (requests, time) in large.items():
-                more, longer = requests / small[kind][0], time / small[kind][1]
-                print(f"{kind} in {size} documents: {requests:.1f} requests, {time * 1e6:.0f} us, {more:.2f} and {longer:.2f} times those in {SMALL}")
+        small, all_accepted = costs(setting, refusal, SMALL)
+        tally.expect(f"{SMALL} documents, and each commit, were accepted", all_accepted, True)
+        for size in (LARGE, LARGEST) if args.full else (LARGE,):
+            large, all_accepted = costs(setting, refusal, size)
+            tally.expect(f"{size} documents, and each commit, were accepted", all_accepted, True)
+            for kind, (requests, seconds) in large.items():
+                more, longer = requests / small[kind][0], seconds / small[kind][1]
+                print(f"{kind} in {size} documents: {requests:.1f} requests, {seconds * 1e6:.0f} us, "
+                      f"{more:.2f} and {longer:.2f} times those in {SMALL}")
                 tally.expect(f"{kind} in {size} documents, requests for memory ({more:.2f} times as many)", more <= REQUESTS, True)
                 tally.expect(f"{kind} in {size} documents, processor time ({longer:.2f} times as much)", longer <= TIME, True)
     return tally.end()

@@ -16,32 +16,32 @@ import threading
 import time
 
 from common.arguments import arguments
-from common.server import listening, started
+from common.messages import post, reply
+from common.server import Setting, listening, start
 from common.tally import Tally
-from common.wire import Client, asks, connect, is_closed, read, reset
+from common.wire import Client, connect, is_closed, read, replies_to, reset
 
 SECONDS = 30
-HEAD = "HTTP/1.1 {}\r\nContent-Type: application/json\r\nContent-Length: {}\r\n\r\n"
 
 BODY = '{"docs":[{"_id":"d1","_rev":"1-a","v":1}],"new_edits":false}'
-BULK = f"POST /db/_bulk_docs HTTP/1.1\r\nContent-Length: 60\r\n\r\n{BODY}".encode()
-FIND = b'POST /db/_find HTTP/1.1\r\nContent-Length: 20\r\n\r\n{"selector":{"v":1}}'
-DONE = (HEAD.format("201 Created", 3) + "[]\n").encode()
-PAGE = (HEAD.format("200 OK", 105) + '{"bookmark":"W251bGwsIl9hbGxfZG9jcyIsImFzYyIsWyJkMSJdLCJkMSJd",'
-        '"docs":[{"_id":"d1","_rev":"1-a","v":1}]}\n').encode()
-EMPTY = (HEAD.format("200 OK", 29) + '{"bookmark":"nil","docs":[]}\n').encode()
-NO_HEAD = b"X\r\n\r\n"
-BAD_HEAD = (HEAD.format("400 Bad Request", 50) + '{"error":"bad_head","reason":"Bad request head."}\n').encode()
+BULK = post("_bulk_docs", BODY.encode())
+FIND = post("_find", b'{"selector":{"v":1}}')
+DONE = reply(201, "[]")
+DOCUMENT = reply(200, '{"_id":"d1","_rev":"1-a","v":1}')
+PAGE = reply(200, '{"bookmark":"W251bGwsIl9hbGxfZG9jcyIsImFzYyIsWyJkMSJdLCJkMSJd","docs":[{"_id":"d1","_rev":"1-a","v":1}]}')
+EMPTY = reply(200, '{"bookmark":"nil","docs":[]}')
+NOT_A_HEAD = b"X\r\n\r\n"
+BAD_HEAD = reply(400, '{"error":"bad_head","reason":"Bad request head."}')
 
 NINE_MEGABYTES = 9_000_000
-TOO_LARGE = (HEAD.format("413 Payload Too Large", 52) + '{"error":"too_large","reason":"Request too large."}\n').encode()
+TOO_LARGE = reply(413, '{"error":"too_large","reason":"Request too large."}')
 NO_LENGTH = b"HTTP/1.1 411 Length Required"
 
 
 def one_after_another(port, tally):
-    tally.expect("the first client", asks(port, BULK), DONE)
-    tally.expect("the second client", asks(port, FIND), PAGE)
-    tally.expect("messages at once", asks(port, FIND + BULK + FIND), PAGE + DONE + PAGE)
+    tally.expect("the first client", replies_to(port, BULK), DONE)
+    tally.expect("the second client", replies_to(port, FIND), PAGE)
+    tally.expect("messages at once", replies_to(port, FIND + BULK + FIND), PAGE + DONE + PAGE)
     with connect(port) as connection:
         for turn in range(3):
             connection.sendall(FIND)
@@ -64,30 +64,27 @@ def cut_messages(port, tally):
     tally.expect("cut at each byte", wrong, [])
 
 
-def clients_that_go(port, tally):
+def clients_that_leave(port, tally):
     """Clients end or reset their connection in the middle of a head or a body: nothing is done, and the next client is served."""
     for name, part in [("no byte", b""), ("half a head", BULK[:30]), ("half a body", BULK[:-20])]:
-        for way in ["close", "reset"]:
+        for way, leave in [("close", socket.socket.close), ("reset", reset)]:
             connection = connect(port)
             connection.sendall(part)
             time.sleep(0.01)
-            if way == "reset":
-                reset(connection)
-            else:
-                connection.close()
-            tally.expect(f"{way} after {name}", asks(port, FIND), EMPTY)
+            leave(connection)
+            tally.expect(f"{way} after {name}", replies_to(port, FIND), EMPTY)
     with connect(port) as connection:
         connection.sendall(BULK[:-20])
         connection.shutdown(socket.SHUT_WR)
         tally.expect("no reply to an unfinished message", read(connection, 1), b"")
     with connect(port) as connection:
-        connection.sendall(NO_HEAD)
-        tally.expect("a head that is none", read(connection, 1 << 16), BAD_HEAD)
+        connection.sendall(NOT_A_HEAD)
+        tally.expect("bytes that are not a head", read(connection, 1 << 16), BAD_HEAD)
     connection = connect(port)
     connection.sendall(FIND * 2000)
     time.sleep(0.05)
     reset(connection)
-    tally.expect("reset while replies are written", asks(port, FIND), EMPTY)
+    tally.expect("reset while replies are written", replies_to(port, FIND), EMPTY)
 
 
 def a_client_that_pauses(port, tally):
@@ -118,15 +115,15 @@ def pauses_within_a_message(port, tally):
 def a_hundred_idle(port, tally):
     """With 100 idle connections, half of which got a reply, a new client is served within 2 seconds. Those that got a reply are served
     again, and after 5 seconds of silence all are closed."""
-    asks(port, BULK)
+    replies_to(port, BULK)
     connections = [connect(port) for _ in range(100)]
     try:
         for connection in connections[:50]:
             connection.sendall(FIND)
             tally.expect("one of fifty", read(connection, len(PAGE)), PAGE)
-        begun = time.monotonic()
-        tally.expect("behind 100", asks(port, FIND), PAGE)
-        tally.expect("within 2 seconds", time.monotonic() - begun < 2, True)
+        begin = time.monotonic()
+        tally.expect("behind 100", replies_to(port, FIND), PAGE)
+        tally.expect("within 2 seconds", time.monotonic() - begin < 2, True)
         for connection in connections[:50]:
             connection.sendall(FIND)
         again = [read(connection, len(PAGE)) for connection in connections[:50]]
@@ -143,45 +140,45 @@ def a_hundred_idle(port, tally):
 
 def busy_clients(port, tally):
     """Clients that keep all sessions busy without a pause do not keep another client from being served."""
-    ends = time.monotonic() + 2
+    last = time.monotonic() + 2
 
-    def chat():
+    def ask_again_and_again():
         with connect(port) as connection:
             served = 0
-            while time.monotonic() < ends:
+            while time.monotonic() < last:
                 connection.sendall(FIND)
                 served += read(connection, len(PAGE)) == PAGE
             return served
 
-    def one_more():
+    def ask_once_more():
         time.sleep(0.3)
-        begun = time.monotonic()
-        got = asks(port, FIND)
-        return got, time.monotonic() - begun < 1
+        begin = time.monotonic()
+        return replies_to(port, FIND), time.monotonic() - begin < 1
 
-    *chats, other = side_by_side([chat] * 6 + [one_more])
+    *counts, other = side_by_side([ask_again_and_again] * 6 + [ask_once_more])
     tally.expect("one more client", other, (PAGE, True))
-    tally.expect("all of them", [served > 0 for served in chats], [True] * 6)
+    tally.expect("all of them", [served > 0 for served in counts], [True] * 6)
 
 
 def refusals_arrive(port, tally):
     """A client sends a body of 9 MB, which is refused. It reads the whole refusal, and then the end."""
     head = f"POST /db/_bulk_docs HTTP/1.1\r\nContent-Length: {NINE_MEGABYTES}\r\n\r\n".encode()
-    for message, wanted in [(head, TOO_LARGE), (b"POST /db/_bulk_docs HTTP/1.1\r\n\r\n", None)] * 4:
-        with connect(port) as connection:
-            connection.sendall(message + bytes(NINE_MEGABYTES))
-            got = read(connection, 1 << 16)
-        if wanted is None:
-            tally.expect("no length", got.split(b"\r\n")[0], NO_LENGTH)
-        else:
-            tally.expect("too large", got, wanted)
+    for _ in range(4):
+        for message in (head, b"POST /db/_bulk_docs HTTP/1.1\r\n\r\n"):
+            with connect(port) as connection:
+                connection.sendall(message + bytes(NINE_MEGABYTES))
+                found = read(connection, 1 << 16)
+            if message is head:
+                tally.expect("too large", found, TOO_LARGE)
+            else:
+                tally.expect("no length", found.split(b"\r\n")[0], NO_LENGTH)
     for status, more in [(413, {}), (411, {"encode_chunked": True})] * 4:
         connection = http.client.HTTPConnection("127.0.0.1", port, timeout=SECONDS)
         body = iter([bytes(1 << 16)] * 140) if more else bytes(NINE_MEGABYTES)
         connection.request("POST", "/db/_bulk_docs", body, **more)
         tally.expect("http.client", connection.getresponse().status, status)
         connection.close()
-    tally.expect("after the refusals", asks(port, FIND), EMPTY)
+    tally.expect("after the refusals", replies_to(port, FIND), EMPTY)
 
 
 def python_client(port, tally):
@@ -202,19 +199,18 @@ def curl(port, tally):
         return
     url = f"http://127.0.0.1:{port}/db"
     large = ["curl", "-s", "-m", str(SECONDS), "-o", "/dev/null", "-w", "%{http_code}", f"{url}/_bulk_docs", "--data-binary", "@-"]
-    for turn in range(4):
+    for _ in range(4):
         done = subprocess.run(large, input=bytes(NINE_MEGABYTES), capture_output=True, timeout=SECONDS)
         tally.expect("curl with 9 MB", (done.returncode, done.stdout), (0, b"413"))
     command = ["curl", "-s", "-m", str(SECONDS), f"{url}/_bulk_docs", "-d", BODY, "--next", "-s", "-i", f"{url}/d1"]
     done = subprocess.run(command, capture_output=True, timeout=SECONDS)
-    wanted = "[]\n" + HEAD.format("200 OK", 32) + '{"_id":"d1","_rev":"1-a","v":1}\n'
-    tally.expect("curl", (done.returncode, done.stdout.decode()), (0, wanted))
+    tally.expect("curl", (done.returncode, done.stdout), (0, b"[]\n" + DOCUMENT))
 
 
-def side_by_side(works):
-    """Runs functions without arguments, each in a thread of its own, and gives their results."""
-    with concurrent.futures.ThreadPoolExecutor(len(works)) as threads:
-        return [running.result() for running in [threads.submit(work) for work in works]]
+def side_by_side(functions):
+    """Runs functions without arguments, each in a thread of its own, and returns their results."""
+    with concurrent.futures.ThreadPoolExecutor(len(functions)) as threads:
+        return [running.result() for running in [threads.submit(function) for function in functions]]
 
 
 def sixteen_writers(port, tally):
@@ -264,15 +260,14 @@ def whole_bulks(port, tally):
             client.close()
         return status
 
-    def deal():
+    def reshard():
         client = Client(port)
         for turn in range(8):
             replies.append(client.ask("POST", "/db/_placement", {"shards": [3, 64, 1, 16][turn % 4]}))
             time.sleep(0.1)
         client.close()
 
-    look = lambda: pages_until(port, written)
-    status, _, *seen = side_by_side([write, deal, look, look, look])
+    status, _, *seen = side_by_side([write, reshard, *[lambda: pages_until(port, written)] * 3])
     tally.expect("the last bulk", status, 201)
     tally.expect("reshards", replies, [(200, {"ok": True})] * 8)
     halves = [page for pages in seen for page in pages if len(page) not in (0, 10) or len(set(page)) > 1]
@@ -286,43 +281,43 @@ def whole_bulks(port, tally):
 def more_clients_than_seats(port, tally):
     """Twelve clients share two seats: each is served in its turn."""
 
-    def talk(number):
+    def write_and_read(number):
         client = Client(port)
         first = client.ask("POST", "/db/_bulk_docs", {"docs": [{"_id": f"m{number:02}"}]})[0]
         second = client.ask("GET", f"/db/m{number:02}")[0]
         client.close()
         return first, second
 
-    tally.expect("twelve clients", side_by_side([lambda number=number: talk(number) for number in range(12)]), [(201, 200)] * 12)
+    tally.expect("twelve clients", side_by_side([lambda number=number: write_and_read(number) for number in range(12)]), [(201, 200)] * 12)
 
 
-def faults(words, tally):
+def bad_addresses(setting, tally):
     """Addresses at which the program cannot listen."""
     with socket.create_server(("127.0.0.1", 0)) as taken:
         for address in [f"127.0.0.1:{taken.getsockname()[1]}", "127.0.0.1", "127.0.0.1:x", "256.0.0.1:1", ""]:
-            command = [words.program, "db", "1", "1", "1", address]
+            command = [setting.program, "db", "1", "1", "1", address]
             done = subprocess.run(command, stdin=subprocess.DEVNULL, capture_output=True, timeout=SECONDS)
             tally.expect(f"at {address!r}", (done.returncode, done.stdout, done.stderr), (1, b"", b"mangod: cannot listen\n"))
 
 
-def few_descriptors(words, tally):
+def few_descriptors(setting, tally):
     """With 16 descriptors and 40 connections a new client is served, since the connections that were idle longest are closed. A client is
     also served after all of them are gone."""
-    with listening(words, 2, descriptors=16) as port:
+    with listening(setting, 2, descriptors=16) as port:
         connections = [connect(port) for _ in range(40)]
-        tally.expect("behind 40", asks(port, BULK), DONE)
+        tally.expect("behind 40", replies_to(port, BULK), DONE)
         for connection in connections:
             connection.close()
-        tally.expect("after 40", asks(port, FIND), PAGE)
+        tally.expect("after 40", replies_to(port, FIND), PAGE)
 
 
-def names(words, tally):
+def host_names(setting, tally):
     """The program listens at host names and at IPv6 addresses, and SIGTERM ends it at once."""
     for host in ["localhost", "[::1]"]:
         if host == "[::1]" and not socket.has_dualstack_ipv6():
-            print("there is no version 6 here: its part was left out")
+            print("this machine has no IPv6: its part is left out")
             continue
-        program, port = started(words, 1, host=host)
+        program, port = start(setting, 1, host=host)
         with socket.create_connection((host.strip("[]"), port), timeout=SECONDS) as connection:
             connection.sendall(BULK)
             tally.expect(f"at {host}", read(connection, len(DONE)), DONE)
@@ -331,7 +326,7 @@ def names(words, tally):
         program.communicate()
 
 
-def deadlines(words, tally):
+def deadlines(setting, tally):
     """A client that sends its message byte by byte, or reads its reply slowly, holds a session for 60 seconds and no longer."""
 
     def slow_message(connection, turn):
@@ -342,14 +337,14 @@ def deadlines(words, tally):
             connection.sendall(b'POST /db/_find HTTP/1.1\r\nContent-Length: 31\r\n\r\n{"selector":{},"limit":1000000}')
         connection.recv(10_000)
 
-    def served(port, begun):
+    def ask_other(port, begin):
         with socket.create_connection(("127.0.0.1", port), timeout=90) as connection:
             connection.sendall(FIND)
-            return read(connection, len(EMPTY)), time.monotonic() - begun
+            return read(connection, len(EMPTY)), time.monotonic() - begin
 
     def behind(act):
         """The reply to another client that waits for the only session, and whether it waited about 60 seconds."""
-        with listening(words, 1) as port, socket.socket() as connection:
+        with listening(setting, 1) as port, socket.socket() as connection:
             client = Client(port)
             for part in range(4):
                 client.ask("POST", "/db/_bulk_docs", {"docs": [{"_id": f"{part}-{number}", "text": "x" * 400_000} for number in range(6)]})
@@ -357,40 +352,40 @@ def deadlines(words, tally):
             connection.setsockopt(socket.SOL_SOCKET, socket.SO_RCVBUF, 8192)
             connection.connect(("127.0.0.1", port))
             act(connection, 0)
-            begun = time.monotonic()
+            begin = time.monotonic()
             with concurrent.futures.ThreadPoolExecutor(1) as threads:
-                other = threads.submit(served, port, begun)
+                other = threads.submit(ask_other, port, begin)
                 for turn in range(1, 75):
                     time.sleep(1)
                     if other.done():
                         break
                     act(connection, turn)
-                got, waited = other.result()
-        return got, 55 < waited < 70
+                found, waited = other.result()
+        return found, 55 < waited < 70
 
     tally.expect("behind slow clients", side_by_side([lambda: behind(slow_message), lambda: behind(slow_reader)]), [(EMPTY, True)] * 2)
 
 
 # the number of sessions of the program, and the checks made with it
-CONVERSATIONS = [(1, [one_after_another, cut_messages, a_client_that_pauses, pauses_within_a_message]), (1, [clients_that_go, refusals_arrive]),
-                 (1, [python_client]), (1, [curl]), (2, [one_after_another, busy_clients]), (4, [a_hundred_idle]), (16, [sixteen_writers]),
-                 (5, [whole_bulks]), (2, [more_clients_than_seats, clients_that_go])]
+CHECKS = [(1, [one_after_another, cut_messages, a_client_that_pauses, pauses_within_a_message]), (1, [clients_that_leave, refusals_arrive]),
+          (1, [python_client]), (1, [curl]), (2, [one_after_another, busy_clients]), (4, [a_hundred_idle]), (16, [sixteen_writers]),
+          (5, [whole_bulks]), (2, [more_clients_than_seats, clients_that_leave])]
 
 
 def main():
-    words = arguments(__doc__, shards=7, workers=2)
-    tally = Tally()
-    for sessions, parts in CONVERSATIONS:
-        with listening(words, sessions) as port:
-            for part in parts:
-                part(port, tally)
-    faults(words, tally)
-    few_descriptors(words, tally)
-    names(words, tally)
-    if words.full:
-        deadlines(words, tally)
-    sys.exit(tally.end())
+    args, tally = arguments(__doc__, shards=7, workers=2), Tally()
+    setting = Setting(args.program, args.shards, args.workers)
+    for sessions, checks in CHECKS:
+        with listening(setting, sessions) as port:
+            for check in checks:
+                check(port, tally)
+    bad_addresses(setting, tally)
+    few_descriptors(setting, tally)
+    host_names(setting, tally)
+    if args.full:
+        deadlines(setting, tally)
+    return tally.end()
 
 
 if __name__ == "__main__":
-    main()
+    sys.exit(main())

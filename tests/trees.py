@@ -11,15 +11,15 @@ each document; the last line is 'N passed, M failed'.
 """
 import hashlib
 import itertools
-import json
-import subprocess
 import sys
 
 from common.arguments import arguments
+from common.messages import get, post, replies_in
+from common.session import ENDS, run_session
 from common.tally import Tally
-from conversations import replies_in
+from model.documents import text_of
+from model.values import compact
 
-SECONDS = 120
 # paths: the newest position, the ids from the newest on, and whether the newest revision is deleted
 PATHS = [
     (1, ["a"], False),
@@ -30,14 +30,6 @@ PATHS = [
     (3, ["e", "b"], False),
     (2, ["f", "a"], False),
 ]
-
-
-def compact(value):
-    return json.dumps(value, separators=(",", ":"), sort_keys=True)
-
-
-def text_of(revision):
-    return f"{revision[0]}-{revision[1]}"
 
 
 def revisions_of(path):
@@ -80,15 +72,15 @@ def served(name, accepted):
     return 200, {"_id": name, "_rev": text_of(winner[1:]), **({"_conflicts": losers} if losers else {})}
 
 
-def brought(name, accepted, path):
-    """The body of the bulk that brings the path, and its reply."""
+def replication_of(name, accepted, path):
+    """The body of the bulk with the path, and its reply."""
     start, ids, deleted = path
     document = {"_id": name, "_revisions": {"start": start, "ids": ids}, **({"_deleted": True} if deleted else {})}
     refusal = {"error": "bad_history", "id": name, "reason": "Revision history does not fit the document."}
     return {"docs": [document], "new_edits": False}, (201, [] if fits(accepted, path) else [refusal])
 
 
-def edited(name, accepted, revision):
+def edit_of(name, accepted, revision):
     """The body of the bulk that edits the revision, and its reply."""
     text = text_of(revision)
     digest = hashlib.md5(compact([False, text, {}]).encode()).hexdigest()
@@ -99,51 +91,49 @@ def edited(name, accepted, revision):
 
 
 def bulk(body):
-    text = compact(body)
-    return f"POST /db/_bulk_docs HTTP/1.1\r\nContent-Length: {len(text)}\r\n\r\n{text}"
+    return post("_bulk_docs", compact(body).encode())
 
 
-def talk_of(name, paths):
+def exchanges_of(name, paths):
     """The messages about a document, each with its reply."""
     accepted = []
     for path in paths:
-        body, reply = brought(name, accepted, path)
+        body, reply = replication_of(name, accepted, path)
         yield bulk(body), reply
         if not reply[1]:
             accepted.append(path)
-        yield f"GET /db/{name}?conflicts=true HTTP/1.1\r\n\r\n", served(name, accepted)
+        yield get(f"{name}?conflicts=true"), served(name, accepted)
     for revision in known_in(accepted):
-        body, reply = edited(name, accepted, revision)
+        body, reply = edit_of(name, accepted, revision)
         yield bulk(body), reply
 
 
-def fault_of(talk, replies):
-    """The first message whose reply is wrong, if there is one."""
-    for (message, (status, value)), reply in itertools.zip_longest(talk, replies):
+def fault_of(exchanges, replies):
+    """The first message whose reply is wrong; None if there is none."""
+    for (message, (status, value)), reply in itertools.zip_longest(exchanges, replies):
         if not reply or (reply.status, reply.body.decode()) != (status, compact(value) + "\n"):
             return f"{message!r}\n    replied  {reply}\n    expected {status} {compact(value)}"
     return None
 
 
 def main():
-    words = arguments(__doc__, shards="1,7")
-    talks = [list(talk_of(f"d{place}", paths)) for place, paths in enumerate(itertools.product(PATHS, repeat=3))]
-    given = "".join(message for talk in talks for message, _ in talk).encode()
-    tally, faults, numbers = Tally(), [[] for _ in talks], words.shards.split(",")
+    args, tally = arguments(__doc__, shards="1,7"), Tally()
+    documents = [list(exchanges_of(f"d{place}", paths)) for place, paths in enumerate(itertools.product(PATHS, repeat=3))]
+    given = b"".join(message for exchanges in documents for message, _ in exchanges)
+    faults, numbers = [[] for _ in documents], args.shards.split(",")
     for shards in numbers:
-        call = [words.program, "db", shards, "1", "1", "-"]
-        done = subprocess.run(call, input=given, capture_output=True, timeout=SECONDS)
-        replies, left = replies_in(done.stdout)
-        tally.expect(f"{shards} shards: the end", (len(replies), left, done.returncode, done.stderr), (sum(map(len, talks)), b"", 0, b""))
-        for talk, found in zip(talks, faults):
-            fault = fault_of(talk, replies[: len(talk)])
-            replies = replies[len(talk) :]
+        output, end = run_session(args.program, given, shards)
+        replies, left = replies_in(output)
+        tally.expect(f"{shards} shards: the end", (len(replies), left, end), (sum(map(len, documents)), b"", ENDS["Eof"]))
+        for exchanges, found in zip(documents, faults):
+            fault = fault_of(exchanges, replies[: len(exchanges)])
+            replies = replies[len(exchanges) :]
             found += [f"{shards} shards: {fault}"] if fault else []
     for place, found in enumerate(faults):
         tally.count(f"document {place}", found)
     print(f"each document on {len(numbers)} numbers of shards:")
-    sys.exit(tally.end())
+    return tally.end()
 
 
 if __name__ == "__main__":
-    main()
+    sys.exit(main())

@@ -1,11 +1,11 @@
-"""The command line of most scripts."""
+"""The command line of the scripts."""
 import argparse
 from pathlib import Path
 
 
 def arguments(document, /, **more):
-    """Parses --program, --full, and further options, given with their defaults. An option whose default is a list takes any number of
-    arguments, of the type of its first default."""
+    """Parses --program, --full, and further options, given with their defaults. The description is the first line of the script's document.
+    An option whose default is a list takes any number of arguments, of the type of its first default."""
     parser = argparse.ArgumentParser(description=document.split("\n")[0])
     parser.add_argument("--program", required=True, type=lambda path: str(Path(path).resolve()))
     parser.add_argument("--full", action="store_true")

@@ -5,9 +5,9 @@ import sys
 import threading
 from pathlib import Path
 
+from common.example import EXAMPLES
 from common.server import free_port
 
-EXAMPLES = Path(__file__).resolve().parent.parent.parent / "examples"
 LISTENING = re.compile(r"journal: listening on 127\.0\.0\.1:([0-9]+)\n")
 SECONDS = 60
 # journal.py with another fsync: it counts its calls, waits while the file `hold` exists in a folder, and fails while `fail` exists
@@ -67,14 +67,3 @@ class Proxy:
         if self.process.poll() is None:
             self.process.kill()
         self.status()
-
-
-def message(method, target, body=b""):
-    return b"%s %s HTTP/1.1\r\nContent-Length: %d\r\n\r\n%s" % (method.encode(), target.encode(), len(body), body)
-
-
-def status_of(reply):
-    """The status of a reply; None if the reply is incomplete."""
-    head, end, body = reply.partition(b"\r\n\r\n")
-    found = re.search(rb"\r\nContent-Length: ([0-9]+)", head)
-    return int(head.split(b" ")[1]) if end and found and len(body) == int(found[1]) else None

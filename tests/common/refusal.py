@@ -8,14 +8,13 @@ import subprocess
 import tempfile
 from pathlib import Path
 
+from common.session import run_command
+
 SOURCE = Path(__file__).resolve().parent.parent / "refuse" / "refuse.c"
 KINDS = {"memory": 0, "threads": 4, "reads": 8, "writes": 12}
 CALLS, FIRST, LAST, REFUSED = range(4)
 PIECE, TAKES_NONE, WHOLE_WRITES, WORDS = 16, 17, 18, 19
-ONWARD = 2**62
-SECONDS = 120
-ENDS = {"Eof": (0, b""), "Refused": (1, b"mangod: refused\n"), "ReadFault": (1, b"mangod: read fault\n"),
-        "WriteFault": (1, b"mangod: write fault\n"), "Limit": (1, b"mangod: limit\n"), "start": (1, b"mangod: out of memory\n")}
+ONWARD = 2**62  # the last call of a refusal without an end
 
 
 class Refusal:
@@ -58,14 +57,13 @@ class Refusal:
         self.put(KINDS[kind] + LAST, last)
         self.put(KINDS[kind] + FIRST, first)
 
-    def relent(self, kind):
-        """Refuses no more calls of a kind, and keeps its counts."""
+    def stop_refusing(self, kind):
+        """Stops refusing calls of a kind, and keeps its counts."""
         self.put(KINDS[kind] + FIRST, 0)
 
-    def run(self, words, given):
-        """Runs a program with the shim; gives its output, and how it ended."""
-        done = subprocess.run(words, input=given, capture_output=True, timeout=SECONDS, env=self.environment)
-        return done.stdout, (done.returncode, done.stderr)
+    def run(self, command, given):
+        """Runs a command with the shim. Returns its output, and how it ended."""
+        return run_command(command, given, env=self.environment)
 
 
 @contextlib.contextmanager

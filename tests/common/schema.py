@@ -1,17 +1,14 @@
 """A validator for the part of JSON Schema 2020-12 that docs/openapi.json uses. A number with a fraction or exponent is not an integer."""
+import json
 import re
 
 IGNORED = {"description", "default", "title"}
 TYPES = {"null": type(None), "boolean": bool, "integer": int, "string": str, "array": list, "object": dict}
 
 
-def same(left, right):
-    """Whether two values are equal as JSON: true is not 1."""
-    if isinstance(left, list) and isinstance(right, list):
-        return len(left) == len(right) and all(map(same, left, right))
-    if isinstance(left, dict) and isinstance(right, dict):
-        return left.keys() == right.keys() and all(same(left[name], right[name]) for name in left)
-    return type(left) is type(right) and left == right
+def is_same(left, right):
+    """Whether two values are equal as JSON: true is not 1, and 1 is not 1.0."""
+    return json.dumps(left, sort_keys=True) == json.dumps(right, sort_keys=True)
 
 
 class Schemas:
@@ -33,7 +30,7 @@ class Schemas:
     def keyword(self, schema, keyword, value):
         check = getattr(self, "on_" + keyword.lstrip("$"), None)
         if check is None:
-            raise ValueError(f"the keyword {keyword} is not known to the validator")
+            raise ValueError(f"the keyword {keyword} is unknown to the validator")
         return check(schema, schema[keyword], value)
 
     def on_ref(self, _, reference, value):
@@ -43,10 +40,10 @@ class Schemas:
         return any(type(value) is TYPES[name] for name in ([types] if isinstance(types, str) else types))
 
     def on_const(self, _, const, value):
-        return same(const, value)
+        return is_same(const, value)
 
     def on_enum(self, _, values, value):
-        return any(same(const, value) for const in values)
+        return any(is_same(const, value) for const in values)
 
     def on_allOf(self, _, schemas, value):
         return all(self.allows(schema, value) for schema in schemas)

@@ -20,20 +20,20 @@ def free_port():
         return server.getsockname()[1]
 
 
-def limited(descriptors):
+def descriptor_limit(descriptors):
     """A function that limits the descriptors of a new program before it runs; None if no number is given."""
     if descriptors is None:
         return None
     return lambda: resource.setrlimit(resource.RLIMIT_NOFILE, (descriptors, descriptors))
 
 
-def started(words, sessions, environment=None, host="127.0.0.1", descriptors=None):
-    """Starts a program that listens; gives it and its port. Tries another port if the first was taken meanwhile."""
+def start(setting, sessions, environment=None, host="127.0.0.1", descriptors=None):
+    """Starts a program that listens. Returns it and its port. Tries another port if another program took the first one."""
     for _ in range(3):
         port = free_port()
-        command = [words.program, "db", str(words.shards), str(words.workers), str(sessions), f"{host}:{port}"]
+        command = [setting.program, "db", str(setting.shards), str(setting.workers), str(sessions), f"{host}:{port}"]
         program = subprocess.Popen(command, stdin=subprocess.DEVNULL, stdout=subprocess.PIPE, stderr=subprocess.PIPE, env=environment,
-                                   preexec_fn=limited(descriptors))
+                                   preexec_fn=descriptor_limit(descriptors))
         line = program.stderr.readline()
         if line == b"mangod: listening\n":
             return program, port
@@ -45,9 +45,9 @@ def started(words, sessions, environment=None, host="127.0.0.1", descriptors=Non
 
 
 @contextlib.contextmanager
-def listening(words, sessions, environment=None, **more):
-    """Starts a program that listens, gives its port, and ends the program afterwards."""
-    program, port = started(words, sessions, environment, **more)
+def listening(setting, sessions, environment=None, **more):
+    """Starts a program that listens, yields its port, and ends the program afterwards."""
+    program, port = start(setting, sessions, environment, **more)
     try:
         yield port
         if program.poll() is not None:

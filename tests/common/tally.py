@@ -8,12 +8,13 @@ class Tally:
     def __init__(self):
         self.passed = self.failed = 0
 
-    def expect(self, name, got, wanted):
-        if got == wanted:
+    def expect(self, name, found, expected):
+        """Counts a check, which passes if what was found is what was expected."""
+        if found == expected:
             self.passed += 1
         else:
             self.failed += 1
-            print(f"{name}: {got!r}\n  wanted {wanted!r}", flush=True)
+            print(f"{name}: {found!r}\n  expected {expected!r}", flush=True)
 
     def count(self, name, faults):
         """Counts a check, which passes if it has no faults."""
@@ -25,16 +26,16 @@ class Tally:
 
     def needs(self, command):
         """Whether a command is installed that the next checks need. If not, that counts as a failed check, since they are left out."""
-        is_here = shutil.which(command) is not None
-        if not is_here:
+        is_installed = shutil.which(command) is not None
+        if not is_installed:
             self.failed += 1
-            print(f"the command {command} is not here: what needs it was not tried", flush=True)
-        return is_here
+            print(f"the command {command} is not installed: the checks that need it are left out", flush=True)
+        return is_installed
 
     def end(self):
-        """Prints the last line, and gives the exit status. A script without a check has failed."""
+        """Prints the last line, and returns the exit status. A script without a check has failed."""
         if self.passed + self.failed == 0:
             self.failed = 1
-            print("nothing was tried")
+            print("there was no check")
         print(f"{self.passed} passed, {self.failed} failed")
         return 1 if self.failed else 0

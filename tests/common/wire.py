@@ -1,4 +1,5 @@
 """Connections that send bytes and read replies."""
+import contextlib
 import http.client
 import json
 import re
@@ -10,12 +11,12 @@ SECONDS = 60
 
 
 class Wire:
-    """A client that reads the bytes of replies."""
+    """A client that sends bytes and reads the bytes of replies. `unread` was received, but not returned yet."""
 
     def __init__(self, port):
         self.socket = socket.create_connection(("127.0.0.1", port), timeout=SECONDS)
         self.socket.setsockopt(socket.IPPROTO_TCP, socket.TCP_NODELAY, 1)
-        self.held = b""
+        self.unread = b""
 
     def more(self):
         """Reads more bytes. False if the connection has ended."""
@@ -23,17 +24,17 @@ class Wire:
             piece = self.socket.recv(1 << 20)
         except ConnectionError:
             piece = b""
-        self.held += piece
+        self.unread += piece
         return bool(piece)
 
     def reply(self):
         """The next whole reply, or as much of it as came before the connection ended."""
-        while not (found := LENGTH.search(self.held)) and self.more():
+        while not (found := LENGTH.search(self.unread)) and self.more():
             pass
-        end = found.end() + int(found[1]) if found else len(self.held)
-        while len(self.held) < end and self.more():
+        end = found.end() + int(found[1]) if found else len(self.unread)
+        while len(self.unread) < end and self.more():
             pass
-        taken, self.held = self.held[:end], self.held[end:]
+        taken, self.unread = self.unread[:end], self.unread[end:]
         return taken
 
     def send(self, message):
@@ -45,6 +46,7 @@ class Wire:
         return True
 
     def ask(self, message):
+        """Sends a message, and reads its reply."""
         self.send(message)
         return self.reply()
 
@@ -59,7 +61,7 @@ class Wire:
         """Everything that comes until the connection ends."""
         while self.more():
             pass
-        taken, self.held = self.held, b""
+        taken, self.unread = self.unread, b""
         return taken
 
     def close(self):
@@ -67,18 +69,25 @@ class Wire:
 
 
 class Client:
-    """A connection that sends requests with JSON and reads the replies."""
+    """A connection that sends requests with JSON and reads the replies. A body is a value, or its text."""
 
     def __init__(self, port):
         self.connection = http.client.HTTPConnection("127.0.0.1", port, timeout=SECONDS)
 
     def ask(self, method, target, body=None):
-        self.connection.request(method, target, None if body is None else json.dumps(body))
+        text = body if body is None or isinstance(body, str) else json.dumps(body)
+        self.connection.request(method, target, text and text.encode())
         reply = self.connection.getresponse()
         return reply.status, json.loads(reply.read())
 
     def close(self):
         self.connection.close()
+
+
+def ask_once(port, method, target, body=None):
+    """Sends one request on a connection of its own. Returns the status and the value of the reply."""
+    with contextlib.closing(Client(port)) as client:
+        return client.ask(method, target, body)
 
 
 def connect(port):
@@ -87,21 +96,29 @@ def connect(port):
 
 def read(connection, count):
     """Reads `count` bytes, or fewer if the connection ends."""
-    got = b""
-    while len(got) < count:
-        piece = connection.recv(count - len(got))
+    found = b""
+    while len(found) < count:
+        piece = connection.recv(count - len(found))
         if not piece:
             break
-        got += piece
-    return got
+        found += piece
+    return found
 
 
-def asks(port, messages):
-    """Sends messages at once and then the end, and gives everything that comes back."""
+def replies_to(port, messages):
+    """Sends messages at once and then the end, and returns everything that comes back. A reset is an error."""
     with connect(port) as connection:
         connection.sendall(messages)
         connection.shutdown(socket.SHUT_WR)
         return read(connection, 1 << 24)
+
+
+def bytes_back(port, data):
+    """Sends bytes and then the end, and returns everything that comes back. The connection may be reset."""
+    with contextlib.closing(Wire(port)) as wire:
+        wire.send(data)
+        wire.finish()
+        return wire.rest()
 
 
 def reset(connection):

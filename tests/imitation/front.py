@@ -5,30 +5,32 @@ It reverses revisions and ids that the server made, in both directions; gives bo
 and members that only CouchDB has. `planted` is a function of a method, a target and a reply that changes one more thing.
 """
 import contextlib
-import http.client
 import json
 import re
-import threading
-from http.server import BaseHTTPRequestHandler, ThreadingHTTPServer
+
+from common.example import database_url
+from common.wire import ask_once
+from imitation.serve import serving
 
 MADE = re.compile(r"\b[0-9a-f]{32}\b")
 FRONT = "g1AAAA"
 EMPTY = (200, {"docs": [], "bookmark": "nil"})
 
 
-def turned(text):
+def reverse_made(text):
+    """A text with each revision and id that the server made in reverse."""
     return MADE.sub(lambda found: found[0][::-1], text)
 
 
-def backwards(value):
+def reverse_members(value):
     """A value with the members of its objects in reverse order."""
     if isinstance(value, dict):
-        return {name: backwards(value[name]) for name in reversed(list(value))}
-    return [backwards(item) for item in value] if isinstance(value, list) else value
+        return {name: reverse_members(value[name]) for name in reversed(list(value))}
+    return [reverse_members(item) for item in value] if isinstance(value, list) else value
 
 
 def own_reply(method, target, body):
-    """The reply to a request that only CouchDB serves; None for others."""
+    """The reply to a request that only CouchDB serves; None for another request."""
     if target == "":
         return {"PUT": (201, {"ok": True}), "DELETE": (200, {"ok": True}), "GET": (200, {"db_name": "db"})}[method]
     if method == "GET" and target in ("_all_docs", "_changes", "_design/by"):
@@ -40,7 +42,7 @@ def own_reply(method, target, body):
     return EMPTY if "$regex" in body or "$beginsWith" in body or "0.5" in body or '"bookmark": ""' in body else None
 
 
-def dressed(method, target, status, value):
+def couchdb_reply(method, target, status, value):
     """A reply of the program in the form of CouchDB."""
     if isinstance(value, dict) and "reason" in value:
         return status, {**value, "reason": "another text"}
@@ -61,44 +63,23 @@ class Front:
     """Passes requests on to the program, and changes its replies."""
 
     def __init__(self, port, planted=None):
-        self.port, self.planted, self.asked = port, planted or (lambda method, target, reply: reply), []
+        self.port, self.planted, self.requests = port, planted or (lambda method, target, reply: reply), []
 
-    def answer(self, method, target, body):
-        self.asked.append((method, target))
-        reply = own_reply(method, target, body)
+    def answer(self, method, path, _, body):
+        """The status and the bytes of a reply."""
+        target, text = path.removeprefix("/db").removeprefix("/"), body.decode()
+        self.requests.append((method, target))
+        reply = own_reply(method, target, text)
         if reply is None:
-            connection = http.client.HTTPConnection("127.0.0.1", self.port, timeout=60)
-            connection.request(method, f"/db/{target}", turned(body).replace(FRONT, "").encode() if method == "POST" else None)
-            found = connection.getresponse()
-            reply = dressed(method, target, found.status, json.loads(turned(found.read().decode())))
-            connection.close()
+            given = reverse_made(text).replace(FRONT, "") if method == "POST" else None
+            status, value = ask_once(self.port, method, f"/db/{target}", given)
+            reply = couchdb_reply(method, target, status, json.loads(reverse_made(json.dumps(value, ensure_ascii=False))))
         status, value = self.planted(method, target, reply)
-        return status, json.dumps(backwards(value)).encode()
+        return status, json.dumps(reverse_members(value)).encode()
 
 
 @contextlib.contextmanager
-def serving(front):
-    """Serves the imitation over HTTP, and gives the URL of its database."""
-
-    class Handler(BaseHTTPRequestHandler):
-        def do_GET(self):
-            body = self.rfile.read(int(self.headers.get("Content-Length") or 0)).decode()
-            status, data = front.answer(self.command, self.path.removeprefix("/db").removeprefix("/"), body)
-            self.send_response(status)
-            self.send_header("Content-Length", str(len(data)))
-            self.end_headers()
-            self.wfile.write(data)
-
-        do_POST = do_PUT = do_DELETE = do_GET
-
-        def log_message(self, *_):
-            pass
-
-    server = ThreadingHTTPServer(("127.0.0.1", 0), Handler)
-    server.daemon_threads = True
-    threading.Thread(target=server.serve_forever, daemon=True).start()
-    try:
-        yield f"http://127.0.0.1:{server.server_address[1]}/db"
-    finally:
-        server.shutdown()
-        server.server_close()
+def serving_front(front):
+    """Serves the imitation over HTTP, and yields the URL of its database."""
+    with serving(front.answer) as port:
+        yield database_url(port)

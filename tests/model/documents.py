@@ -9,17 +9,18 @@ def text_of(revision):
 
 
 class Document:
-    """The revisions of a document: the parent of each known one (None for a root), and the mark and body of each that headed a path."""
+    """The revisions of a document: `parents` has the parent of each known one (None for a root), `bodies` has of each that was the newest of
+    a path whether it is deleted, and its body."""
 
     def __init__(self):
         self.parents = {}
-        self.held = {}
+        self.bodies = {}
 
     def leaves(self):
         """The leaves, best first: those that are not deleted, by position and id, and then the deleted ones, by position and id."""
         inner = set(self.parents.values())
         leaves = [revision for revision in self.parents if revision not in inner]
-        return sorted(leaves, key=lambda revision: (not self.held[revision][0], revision), reverse=True)
+        return sorted(leaves, key=lambda revision: (not self.bodies[revision][0], revision), reverse=True)
 
     def merge(self, path, deleted, body):
         """Merges a path, newest first. False, with no change, if it gives a known revision another parent."""
@@ -29,13 +30,13 @@ class Document:
         for revision in path:
             self.parents.setdefault(revision, None)
         self.parents.update(steps)
-        self.held.setdefault(path[0], (deleted, body))
+        self.bodies.setdefault(path[0], (deleted, body))
         return True
 
     def edit(self, given, deleted, body):
-        """Makes a new edit, and gives its revision; None if the edit conflicts."""
+        """Makes a new edit of a given revision. Returns the new revision; None if the edit conflicts."""
         leaves = self.leaves()
-        if given is None and leaves and not self.held[leaves[0]][0]:
+        if given is None and leaves and not self.bodies[leaves[0]][0]:
             return None
         parent = given or (leaves[0] if leaves else None)
         if parent and parent not in leaves:
@@ -48,6 +49,7 @@ class Document:
         return made
 
     def chain(self, revision):
+        """A revision and all older ones, newest first."""
         found = []
         while revision:
             found.append(revision)
@@ -57,8 +59,8 @@ class Document:
     def served(self, name, conflicts=False):
         """The document as it is served; None if it is deleted."""
         winner, *others = self.leaves()
-        deleted, body = self.held[winner]
+        deleted, body = self.bodies[winner]
         if deleted:
             return None
-        losers = [text_of(revision) for revision in others if not self.held[revision][0]]
+        losers = [text_of(revision) for revision in others if not self.bodies[revision][0]]
         return {**body, "_id": name, "_rev": text_of(winner), **({"_conflicts": losers} if conflicts and losers else {})}

@@ -1,5 +1,5 @@
 """Selectors: how they are read, which values they match, and the atoms that every match fulfils."""
-from model.values import MISSING, order
+from model.values import MISSING, order, part_at, steps_of
 
 COMPARISONS = {"$lt": lambda a, b: a < b, "$lte": lambda a, b: a <= b, "$eq": lambda a, b: a == b,
                "$ne": lambda a, b: a != b, "$gte": lambda a, b: a >= b, "$gt": lambda a, b: a > b}
@@ -21,23 +21,6 @@ def is_whole(value):
     return isinstance(value, int) and not isinstance(value, bool)
 
 
-def steps_of(path):
-    """The steps of a path; None if one of them is empty."""
-    steps = path.replace("\\.", "\0").split(".")
-    return None if "" in steps else [step.replace("\0", ".") for step in steps]
-
-
-def part_at(value, steps):
-    for step in steps:
-        if isinstance(value, dict) and step in value:
-            value = value[step]
-        elif isinstance(value, list) and step.isdecimal() and str(int(step)) == step and int(step) < len(value):
-            value = value[int(step)]
-        else:
-            return MISSING
-    return value
-
-
 def is_argument(name, argument):
     """Whether an operator that is not a combinator allows this argument."""
     if name in COMPARISONS:
@@ -54,11 +37,11 @@ def is_argument(name, argument):
 
 
 def read(value):
-    """Reads the selector of an object, as a tuple of its form and its parts."""
+    """Reads the selector of an object. Returns a tuple of its kind and its parts."""
     return ("members", [read_member(name, value[name]) for name in sorted(value)])
 
 
-def read_inner(value):
+def read_object(value):
     if not isinstance(value, dict):
         raise Fault(*BAD_ARGUMENT)
     return read(value)
@@ -69,19 +52,19 @@ def read_member(name, argument):
         steps = steps_of(name)
         if steps is None:
             raise Fault(*BAD_ARGUMENT)
-        return ("at", steps, read(argument) if isinstance(argument, dict) and argument else ("asks", "$eq", argument))
+        return ("at", steps, read(argument) if isinstance(argument, dict) and argument else ("test", "$eq", argument))
     if name == "$not":
-        return ("not", read_inner(argument))
+        return ("not", read_object(argument))
     if name in MATCHES:
-        return ("asks", name, read_inner(argument))
+        return ("test", name, read_object(argument))
     if name not in {*COMPARISONS, *ARMS, "$exists", "$type", "$in", "$nin", "$size", "$mod", "$all"}:
         raise Fault(*UNKNOWN)
     if not is_argument(name, argument):
         raise Fault(*BAD_ARGUMENT)
-    return (name, [read_inner(arm) for arm in argument]) if name in ARMS else ("asks", name, argument)
+    return (name, [read_object(arm) for arm in argument]) if name in ARMS else ("test", name, argument)
 
 
-def entry(name, argument, value):
+def matches(name, argument, value):
     """Whether an operator matches a part that is not missing."""
     if name in COMPARISONS:
         return COMPARISONS[name](order(value), order(argument))
@@ -90,9 +73,9 @@ def entry(name, argument, value):
     if name == "$type":
         return TYPES[order(value)[0]] == argument
     if name in ("$in", "$nin"):
-        asked = [order(item) for item in argument]
-        there = any(order(item) in asked for item in (value if isinstance(value, list) else [value]))
-        return there == (name == "$in")
+        choices = [order(item) for item in argument]
+        is_there = any(order(item) in choices for item in (value if isinstance(value, list) else [value]))
+        return is_there == (name == "$in")
     if name == "$mod":
         return is_whole(value) and (abs(value) % abs(argument[0])) * (-1 if value < 0 else 1) == argument[1]
     if not isinstance(value, list):
@@ -100,20 +83,21 @@ def entry(name, argument, value):
     if name == "$size":
         return len(value) == argument
     if name == "$all":
-        there = [order(item) for item in value]
-        whole = len(argument) == 1 and order(argument[0]) == order(value)
-        return bool(argument) and (whole or all(order(item) in there for item in argument))
-    matches = [holds(argument, item) for item in value]
-    return any(matches) if name == "$elemMatch" else bool(matches) and all(matches)
+        items = [order(item) for item in value]
+        is_whole_array = len(argument) == 1 and order(argument[0]) == order(value)
+        return bool(argument) and (is_whole_array or all(order(item) in items for item in argument))
+    found = [holds(argument, item) for item in value]
+    return any(found) if name == "$elemMatch" else bool(found) and all(found)
 
 
 def holds(selector, value, negated=False):
+    """Whether a value (MISSING: no value) matches a selector, or its negation."""
     kind, *parts = selector
-    if kind == "asks":
+    if kind == "test":
         name, argument = parts
         if value is MISSING:
             return name == "$exists" and argument == negated
-        return entry(name, argument, value) != negated
+        return matches(name, argument, value) != negated
     if kind == "at":
         return holds(parts[1], MISSING if value is MISSING else part_at(value, parts[0]), negated)
     if kind == "not":
@@ -121,14 +105,14 @@ def holds(selector, value, negated=False):
     if kind == "$nor":
         negated = not negated
     arms = [holds(arm, value, negated) for arm in parts[0]]
-    asks_all = (kind in ("members", "$and")) != negated
-    return not arms or (all(arms) if asks_all else any(arms))
+    needs_all = (kind in ("members", "$and")) != negated
+    return not arms or (all(arms) if needs_all else any(arms))
 
 
 def atoms(selector, negated=False, steps=()):
     """The operators that every match fulfils: the steps, the name, the argument, and whether the operator is negated."""
     kind, *parts = selector
-    if kind == "asks":
+    if kind == "test":
         return [(list(steps), *parts, negated)]
     if kind == "at":
         return atoms(parts[1], negated, (*steps, *parts[0]))
@@ -146,10 +130,10 @@ def needs_part(atom):
     return not (name == "$exists" and argument == negated)
 
 
-def bounds(found, steps):
+def bounds(atoms_found, steps):
     """The operators that bound the part at these steps, with their arguments."""
-    for place, name, argument, negated in found:
-        if place == steps and name in OPPOSITES:
+    for path, name, argument, negated in atoms_found:
+        if path == steps and name in OPPOSITES:
             name = OPPOSITES[name] if negated else name
             if name != "$ne":
                 yield name, argument

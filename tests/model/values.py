@@ -24,11 +24,18 @@ def order(value):
     return (6, [(name, order(value[name])) for name in sorted(value)])
 
 
-def part(value, path):
-    for step in path.split("."):
+def steps_of(path):
+    """The steps of a path; None if one of them is empty."""
+    steps = path.replace("\\.", "\0").split(".")
+    return None if "" in steps else [step.replace("\0", ".") for step in steps]
+
+
+def part_at(value, steps):
+    """The part of a value to which the steps lead, or MISSING."""
+    for step in steps:
         if isinstance(value, dict) and step in value:
             value = value[step]
-        elif isinstance(value, list) and step.isdigit() and str(int(step)) == step and int(step) < len(value):
+        elif isinstance(value, list) and step.isdecimal() and str(int(step)) == step and int(step) < len(value):
             value = value[int(step)]
         else:
             return MISSING
@@ -36,18 +43,12 @@ def part(value, path):
 
 
 def projection(value, paths):
+    """An object with the parts of a value that the paths name."""
     found = {}
-    for path in paths:
-        there = part(value, path)
-        *ways, last = path.split(".")
-        place = found
-        for step in ways if there is not MISSING else []:
+    for steps in map(steps_of, paths):
+        part, place = part_at(value, steps), found
+        for step in steps[:-1] if part is not MISSING else []:
             place = place.setdefault(step, {}) if isinstance(place, dict) else None
-        if there is not MISSING and isinstance(place, dict):
-            place[last] = copy.deepcopy(there)
+        if part is not MISSING and isinstance(place, dict):
+            place[steps[-1]] = copy.deepcopy(part)
     return found
-
-
-def holds(operator, argument, value):
-    a, b = order(value), order(argument)
-    return {"$exists": True, "$eq": a == b, "$lt": a < b, "$lte": a <= b, "$gt": a > b, "$gte": a >= b}[operator]

@@ -5,6 +5,8 @@ import json
 from dataclasses import dataclass
 from typing import Callable
 
+from common.messages import post
+
 NO_JSON = b'{"error":"bad_request","reason":"Invalid JSON."}\n'
 NOTHING = b'{"bookmark":"nil","docs":[]}\n'
 ADDED = b"[]\n"
@@ -28,16 +30,12 @@ class Shape:
         return self.make.__name__
 
 
-def post(target, body):
-    return b"POST /db/%s HTTP/1.1\r\nContent-Length: %d\r\n\r\n%s" % (target, len(body), body)
-
-
 def find(selector, *more):
-    return post(b"_find", b'{"selector":%s%s}' % (selector, b"".join(b"," + member for member in more)))
+    return post("_find", b'{"selector":%s%s}' % (selector, b"".join(b"," + member for member in more)))
 
 
 def replicas(documents):
-    return post(b"_bulk_docs", b'{"docs":[%s],"new_edits":false}' % b",".join(documents))
+    return post("_bulk_docs", b'{"docs":[%s],"new_edits":false}' % b",".join(documents))
 
 
 def document(name, *members):
@@ -46,7 +44,6 @@ def document(name, *members):
 
 def page(names):
     """The body of a page of ids alone, of the index of all documents."""
-
     last = json.dumps([None, "_all_docs", "asc", [names[-1]], names[-1]], separators=(",", ":")).encode()
     bookmark = base64.urlsafe_b64encode(last).rstrip(b"=")
     return b'{"bookmark":"%s","docs":[%s]}\n' % (bookmark, b",".join(b'{"_id":"%s"}' % name.encode() for name in names))

@@ -1,5 +1,6 @@
 """Selectors with many arguments, arms and steps, and many indexes."""
-from shapes import ADDED, NOTHING, Shape, document, find, page, post, replicas
+from common.messages import post
+from shapes import ADDED, NOTHING, Shape, document, find, page, replicas
 
 NO_INDEX = b'{"error":"no_usable_index","reason":"No index exists for this sort, try indexing by the sort fields."}\n'
 
@@ -85,7 +86,7 @@ def steps_of_a_sort(n):
 def steps_of_an_index(n):
     """An index on a path of n steps, and a query that it serves."""
     path = b".".join([b"s"] * n)
-    index = post(b"_index", b'{"index":{"fields":["%s"]},"ddoc":"x","name":"i"}' % path)
+    index = post("_index", b'{"index":{"fields":["%s"]},"ddoc":"x","name":"i"}' % path)
     return replicas([document(b"a")]) + index + find(b'{"%s":{"$gt":1}}' % path), NOTHING
 
 
@@ -113,13 +114,13 @@ def columns(n):
     """An index of n columns, an edit of each of which its row has one, and a query that bounds them all: a product of columns
     and atoms."""
     names = [b"c%d" % i for i in range(n)]
-    index = post(b"_index", b'{"index":{"fields":[%s]},"ddoc":"x","name":"i"}' % b",".join(b'"%s"' % name for name in names))
+    index = post("_index", b'{"index":{"fields":[%s]},"ddoc":"x","name":"i"}' % b",".join(b'"%s"' % name for name in names))
     edit = replicas([document(b"a", *(b'"%s":1' % name for name in names))])
     return index + edit + find(b"{%s}" % b",".join(b'"%s":2' % name for name in names)), NOTHING
 
 
 def created(n):
-    return b"".join(post(b"_index", b'{"index":{"fields":["f%d"]},"ddoc":"x","name":"i%04d"}' % (i, i)) for i in range(n))
+    return b"".join(post("_index", b'{"index":{"fields":["f%d"]},"ddoc":"x","name":"i%04d"}' % (i, i)) for i in range(n))
 
 
 def indexes(n):
@@ -128,7 +129,7 @@ def indexes(n):
 
 
 def indexes_on_64_shards(n):
-    """The same on 64 shards, each of which has them."""
+    """n indexes, one after another, each of them on 64 shards."""
     return indexes(n)
 
 

@@ -1,7 +1,8 @@
 """Bodies of many bytes: nesting, texts, names, members, bookmarks, and heads."""
 import itertools
 
-from shapes import MOST, NO_JSON, NOTHING, Shape, document, find, page, post, replicas
+from common.messages import post
+from shapes import MOST, NO_JSON, NOTHING, Shape, document, find, page, replicas
 
 LETTERS = bytes(letter for letter in range(0x20, 0x7F) if letter not in b'"\\_')
 DEEP = b"[" * 120 + b"]" * 120
@@ -10,12 +11,12 @@ NO_BOOKMARK = b'{"error":"invalid_bookmark","reason":"Invalid bookmark."}\n'
 
 def open_arrays(n):
     """Twenty bodies of n arrays that are opened."""
-    return post(b"_find", b"[" * n) * 20, NO_JSON
+    return post("_find", b"[" * n) * 20, NO_JSON
 
 
 def open_objects(n):
     """Twenty bodies of n bytes of objects that are opened, one in the other."""
-    return post(b"_bulk_docs", (b'{"docs":' * (n // 8))) * 20, NO_JSON
+    return post("_bulk_docs", (b'{"docs":' * (n // 8))) * 20, NO_JSON
 
 
 def deep_arrays(n):
@@ -51,8 +52,8 @@ def long_id(n):
 
 def repeated_name(n):
     """A document that gives one member n times; the last one counts."""
-    members = b",".join([b'"a":0'] * (n - 1) + [b'"a":7'])
-    return replicas([document(b"a", members)]) + find(b'{"a":7}', b'"fields":["_id"]'), page(["a"])
+    repeated = b",".join([b'"a":0'] * (n - 1) + [b'"a":7'])
+    return replicas([document(b"a", repeated)]) + find(b'{"a":7}', b'"fields":["_id"]'), page(["a"])
 
 
 def members(n):
@@ -66,7 +67,7 @@ def members(n):
 
 
 def no_bookmark(n):
-    """A bookmark of n bytes that is none."""
+    """A text of n bytes that is not a bookmark."""
     return find(b"{}", b'"bookmark":"%s"' % (b"A" * n)) * 4, NO_BOOKMARK
 
 

@@ -1,5 +1,6 @@
 """Bulks of many documents, and documents of many revisions."""
-from shapes import ADDED, Shape, document, post, replicas, revision
+from common.messages import post
+from shapes import ADDED, Shape, document, replicas, revision
 
 LETTERS = bytes.maketrans(b"0123456789abcdef", b"ghijklmnopqrstuv")
 CONFLICT = b'{"error":"conflict","id":"d","reason":"Document update conflict."}'
@@ -63,8 +64,8 @@ def conflicts(n):
     return bulk + b"GET /db/d?conflicts=true HTTP/1.1\r\n\r\n", served
 
 
-def line(n):
-    """n edits, each over the one before, and their replies."""
+def chain(n):
+    """n edits, each over the one before, and their entries in the reply."""
     parent, edits, entries = None, [], []
     for turn in range(1, n + 1):
         edits.append(b'{"_id":"d"%s}' % (b"" if parent is None else b',"_rev":"%s"' % parent))
@@ -74,21 +75,21 @@ def line(n):
 
 
 def line_in_a_bulk(n):
-    """A line of n edits of one document, in one bulk."""
-    edits, entries = line(n)
-    return post(b"_bulk_docs", b'{"docs":[%s]}' % b",".join(edits)), b"[%s]\n" % b",".join(entries)
+    """n edits of one document, each over the one before, in one bulk."""
+    edits, entries = chain(n)
+    return post("_bulk_docs", b'{"docs":[%s]}' % b",".join(edits)), b"[%s]\n" % b",".join(entries)
 
 
 def line_one_by_one(n):
-    """A line of n edits of one document, in a bulk each."""
-    edits, entries = line(n)
-    return b"".join(post(b"_bulk_docs", b'{"docs":[%s]}' % edit) for edit in edits), b"[%s]\n" % entries[-1]
+    """n edits of one document, each over the one before, in a bulk each."""
+    edits, entries = chain(n)
+    return b"".join(post("_bulk_docs", b'{"docs":[%s]}' % edit) for edit in edits), b"[%s]\n" % entries[-1]
 
 
 def refused_edits(n):
     """n edits of one document with 2,000 revisions, in one bulk, that are refused."""
     first = replicas([of_path([b"%x" % i for i in range(2000, 0, -1)])])
-    bulk = post(b"_bulk_docs", b'{"docs":[%s]}' % b",".join([b'{"_id":"d","_rev":"7-x"}'] * n))
+    bulk = post("_bulk_docs", b'{"docs":[%s]}' % b",".join([b'{"_id":"d","_rev":"7-x"}'] * n))
     return first + bulk, b"[%s]\n" % b",".join([CONFLICT] * n)
 
 
@@ -101,7 +102,7 @@ def tiny_documents(n):
 def documents_without_an_id(n):
     """n empty documents, which get an id and a revision each."""
     last = b'{"id":"%032x","ok":true,"rev":"1-%s"}]\n' % (n, revision(None))
-    return post(b"_bulk_docs", b'{"docs":[%s]}' % b",".join([b"{}"] * n)), last
+    return post("_bulk_docs", b'{"docs":[%s]}' % b",".join([b"{}"] * n)), last
 
 
 def refused_at_the_end(n):
