@@ -1,16 +1,22 @@
-"""Measures the program alone: workers, edits of one document, many clients, and a reader while another client loads."""
+"""Measures the program alone: workers, edits of one document, and many clients."""
 import contextlib
 import json
-import multiprocessing
 import re
 import shutil
 import subprocess
 import time
 
 from .documents import BULK, INDEXES
-from .processes import Use, run, side_by_side
+from .grids import grid
+from .processes import Use, for_a_time, run, side_by_side
 from .program import Program, message, titled
-from .rows import build, load, say
+from .rows import REQUESTS, build, load, say
+from .settings import PAIRS
+
+WORKERS = [(1, 1), (1, 4), (16, 1), (16, 4)]
+CROWDS = (1, 4, 16)
+CROWD_KINDS = ("get", "equality", "commit")
+CROWD_SECONDS = 5
 
 
 def placed_anew(program, shards):
@@ -22,22 +28,30 @@ def placed_anew(program, shards):
     return time.monotonic() - clock
 
 
+def short(setting):
+    """The name of a pair of shards and workers above a column."""
+    return "{} {}".format(*setting)
+
+
+def worked(path, corpus, setting):
+    """The wall-clock times of a scan, of an index build, and of a reshard from one shard to 16, in milliseconds."""
+    with contextlib.closing(Program(path, corpus, setting)) as program:
+        load(program, corpus)
+        client = program.client()
+        asked = [(client.prepare(request), request.answer) for request in corpus.requests("scan", 10, 1)]
+        times = [run(client, asked)[1] / len(asked), build(program, "kind").clock]
+        times.append(placed_anew(program, 16) if setting[0] == 1 else None)
+    say(titled(setting), times)
+    return [one and one * 1e3 for one in times]
+
+
 def workers(words):
-    """The wall-clock times of a scan, an index build and a reshard to 16 shards, with one shard and with 16, one worker and four."""
-    corpus, rows = words.corpus(max(BULK, int(100000 * words.share))), []
-    for setting in ((1, 1), (1, 4), (16, 1), (16, 4)):
-        with contextlib.closing(Program(words.program, corpus, setting)) as program:
-            load(program, corpus)
-            client = program.client()
-            asked = [(client.prepare(request), request.answer) for request in corpus.requests("scan", 10, 1)]
-            clock = run(client, asked)[1] / len(asked)
-            built = build(program, "kind")
-            dealt = placed_anew(program, 16)
-        title = f"{corpus.count:,} documents, {titled(setting)}"
-        rows.append((f"{title}: one document without an index, ms by the clock", f"{clock * 1e3:.1f}"))
-        rows.append((f"{title}: an index on two fields, ms by the clock", f"{built.clock * 1e3:.1f}"))
-        rows.append((f"{title}: a reshard to 16 shards, with that index, ms by the clock", f"{dealt * 1e3:.1f}"))
-    return rows
+    """The table of what several workers gain."""
+    corpus = words.corpus(words.usual)
+    made = [worked(words.program, corpus, setting) for setting in WORKERS]
+    titles = ["one document without an index", "an index on two fields", "a reshard to 16 shards, with that index"]
+    rows = {title: [one[place] for one in made] for place, title in enumerate(titles)}
+    return grid(f"ms by the clock, {corpus.count:,} documents; shards and workers", map(short, WORKERS), rows)
 
 
 def edit_often(program, count):
@@ -54,84 +68,53 @@ def edit_often(program, count):
 
 
 def edits(words):
-    """The processor time of edits of one document, by their number."""
-    rows = []
-    for count in (int(4000 * words.share), int(8000 * words.share), int(16000 * words.share)):
+    """The table of the processor time of edits of one document, by their number."""
+    numbers, used = [max(20, int(words.share * count)) for count in (4000, 8000, 16000)], []
+    for count in numbers:
         with contextlib.closing(Program(words.program, words.corpus(BULK))) as program:
-            used = edit_often(program, count).figures()["processor_us"]
-        rows.append((f"{count:,} edits of one document, us of processor each", f"{used:.0f}"))
-    return rows
+            used.append(edit_often(program, count).figures()["processor_us"])
+    return grid("edits of one document", [f"{count:,}" for count in numbers], {"µs of processor time each": used})
 
 
 def crowd(words):
-    """`GET`, queries and commits by 1, 4 and 16 clients, with each pair of shards and workers."""
-    corpus, rows = words.corpus(max(BULK, int(100000 * words.share))), []
-    for setting in words.shards:
-        with contextlib.closing(Program(words.program, corpus, setting, sessions=16)) as program:
-            load(program, corpus)
-            for which in INDEXES:
-                program.index(which)
-            program.share()
-            rows += crowded(program, words.share, titled(setting)) + by_wrk(program, titled(setting))
-    return rows
+    """The table of `GET`s, queries and commits by 1, 4 and 16 clients, with each pair of shards and workers."""
+    corpus = words.corpus(words.usual)
+    made = [crowded(words, corpus, setting) for setting in PAIRS]
+    rows = {name: [one[name] for one in made] for name in made[0]}
+    title = f"requests a second, clients: {' / '.join(map(str, CROWDS))}; {corpus.count:,} documents; shards and workers"
+    return grid(title, map(short, PAIRS), rows)
 
 
-def crowded(program, share, title):
-    """The rows of one database with many clients."""
-    rows = []
-    for kind, number in (("get", 20000), ("equality", 6000), ("commit", 4000)):
-        for clients in (1, 4, 16):
-            many = max(20, int(number * share))
-            lists = [program.corpus.requests(kind, many, f"{clients}-{one}") for one in range(clients)]
-            figures = side_by_side(program, lists).figures()
-            what = f"{title}: {kind} by {clients} clients, a second (us of processor)"
-            rows.append((what, f"{figures['a_second']:,.0f} ({figures['processor_us']:.0f})"))
-            say(*rows[-1])
-    return rows
-
-
-def by_wrk(program, title):
-    """The rows of `GET` measured with wrk, if it is installed."""
-    if shutil.which("wrk") is None:
-        return []
-    rows = []
-    for clients in (1, 4, 16):
-        words = ["wrk", "-t1", f"-c{clients}", "-d2s", f"http://127.0.0.1:{program.port}/db/{program.corpus.name(1)}"]
-        text = subprocess.run(words, capture_output=True, text=True, check=True).stdout
-        if "Non-2xx" in text or "Socket errors" in text:
-            raise SystemExit(f"wrk: {text}")
-        rows.append((f"{title}: get by {clients} clients of wrk, a second", re.search(r"Requests/sec:\s*([0-9.]+)", text)[1]))
-    return rows
-
-
-def load_on(program, first, stop):
-    """Loads bulks of new documents until `stop` is set."""
-    client, number = program.client(), first
-    while not stop.is_set():
-        docs = [{"_id": f"{program.corpus.name(i % 10**7)}-{i}", **program.corpus.body(i)} for i in range(number, number + BULK)]
-        client.exchange(message("POST", "_bulk_docs", {"docs": docs}))
-        number += BULK
-
-
-def beside(words):
-    """The wall-clock time of a `GET` while another client loads."""
-    corpus = words.corpus(max(BULK, int(100000 * words.share)))
-    stop, times = multiprocessing.Event(), []
-    with contextlib.closing(Program(words.program, corpus)) as program:
+def crowded(words, corpus, setting):
+    """The requests a second of one database: for each kind, a figure for each number of clients."""
+    with contextlib.closing(Program(words.program, corpus, setting, sessions=max(CROWDS))) as program:
         load(program, corpus)
-        writer = multiprocessing.Process(target=load_on, args=(program, 2 * 10**7, stop), daemon=True)
-        writer.start()
-        time.sleep(0.2)
-        client = program.client()
-        for request in corpus.requests("get", max(1000, int(40000 * words.share)), 1):
-            text, start = client.prepare(request), time.monotonic()
-            client.ask(text, request.answer)
-            times.append(time.monotonic() - start)
-        stop.set()
-        writer.join()
-    times.sort()
-    return [(f"`GET` while bulks of {BULK:,} are loaded, ms, {title}", f"{times[len(times) * part // 100] * 1e3:.3f}")
-            for title, part in (("median", 50), ("99th percentile", 99))]
+        for which in INDEXES:
+            program.index(which)
+        program.share()
+        rows = {REQUESTS[kind][0]: [many(program, kind, clients, words.share)["a_second"] for clients in CROWDS] for kind in CROWD_KINDS}
+        if shutil.which("wrk"):
+            rows["`GET` of one document by wrk"] = [by_wrk(program, clients) for clients in CROWDS]
+    say(titled(setting), rows)
+    return rows
 
 
-PARTS = {"workers": workers, "edits": edits, "crowd": crowd, "beside": beside}
+def many(program, kind, clients, share):
+    """The figures of clients that send requests of a kind for some time. A client of commits sends each of its documents once."""
+    number = max(20, int(4000 * share)) if kind == "commit" else 1000
+    lists = [program.corpus.requests(kind, number, f"{clients}-{one}") for one in range(clients)]
+    if kind == "commit":
+        return side_by_side(program, lists).figures()
+    return for_a_time(program, lists, CROWD_SECONDS * share).figures()
+
+
+def by_wrk(program, clients):
+    """The `GET`s a second of clients of wrk, which take less of the processors than those in Python."""
+    words = ["wrk", "-t1", f"-c{clients}", "-d2s", f"http://127.0.0.1:{program.port}/db/{program.corpus.name(1)}"]
+    text = subprocess.run(words, capture_output=True, text=True, check=True).stdout
+    if "Non-2xx" in text or "Socket errors" in text:
+        raise SystemExit(f"wrk: {text}")
+    return float(re.search(r"Requests/sec:\s*([0-9.]+)", text)[1])
+
+
+PARTS = {"workers": workers, "edits": edits, "crowd": crowd}

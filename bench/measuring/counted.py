@@ -4,12 +4,13 @@ import glob
 import os
 import subprocess
 import tempfile
+from concurrent import futures
 
 from .documents import INDEXES, Corpus
 from .piped import Piped
 from .processes import run
 from .program import pairs
-from .rows import REQUESTS, load, say
+from .rows import REQUESTS, load
 from .rust import PROGRAM, built
 
 KINDS = ["get", "equality", "falling", "two", "deep", "commit"]
@@ -19,16 +20,16 @@ GATE = {
     "kinds": ["get", "equality", "falling", "two", "deep", "scan", "commit"],
 }
 # what bench/run counts
-MANY = {"documents": 50000, "shape": "flat", "ids": "short", "cache": 1 << 20, "requests": 60}
+MANY = {"documents": 10000, "shape": "nested", "ids": "short", "shards": "1,4/4,16/4,16,64/32", "cache": 1 << 20, "requests": 60}
 
 
 class Counted(Piped):
-    """The program under callgrind, which counts only while it is switched on."""
+    """The program under callgrind, which counts only while it is switched on; without settings of the C library."""
 
     def __init__(self, path, corpus, setting, cache, folder):
         tool = ["valgrind", "--quiet", "--tool=callgrind", "--instr-atstart=no", "--cache-sim=yes"]
         tool += [f"--LL={cache},16,64", f"--callgrind-out-file={folder}/counts", f"--log-file={folder}/log"]
-        super().__init__(path, corpus, setting, tool)
+        super().__init__(path, corpus, setting, tool, tunables="")
         self.folder = folder
 
     def fill(self):
@@ -72,25 +73,26 @@ def counted(path, corpus, setting, kinds, requests, cache):
 
 
 def of_sizes(path, sizes):
-    """For each pair of shards and workers, such as `16/4`, and each kind: the instructions and the reads, rounded."""
-    corpus = Corpus(sizes["documents"], sizes["shape"], sizes["ids"])
+    """For each pair of shards and workers, such as `16/4`, and each kind: the instructions and the reads, rounded. The pairs are counted side
+    by side, since counts do not depend on what else the machine does."""
+    corpus, settings = Corpus(sizes["documents"], sizes["shape"], sizes["ids"]), pairs(sizes["shards"])
+    with futures.ThreadPoolExecutor(os.cpu_count()) as pool:
+        made = list(pool.map(lambda setting: counted(path, corpus, setting, sizes["kinds"], sizes["requests"], sizes["cache"]), settings))
     found = {}
-    for shards, workers in pairs(sizes["shards"]):
-        made = counted(path, corpus, (shards, workers), sizes["kinds"], sizes["requests"], sizes["cache"])
-        found[f"{shards}/{workers}"] = {kind: [round(instructions), round(reads)] for kind, (instructions, reads) in made.items()}
+    for (shards, workers), kinds in zip(settings, made):
+        found[f"{shards}/{workers}"] = {kind: [round(instructions), round(reads)] for kind, (instructions, reads) in kinds.items()}
     return found
 
 
 def counts(words):
     """The counts of the gate with more documents, for the program and for plain Rust: for each program and pair, and each kind."""
     sizes = {**GATE, **({"documents": 1000, "shards": "1", "requests": 4} if words.smallest else MANY)}
-    programs = {"mangod": words.program} if words.smallest or not built() else {"mangod": words.program, "plain Rust": PROGRAM}
-    found = {}
-    for name, path in programs.items():
-        say(f"counted: {name}")
-        for setting, kinds in of_sizes(path, sizes if name == "mangod" else {**sizes, "shards": "1"}).items():
-            found[f"{name} {setting}"] = kinds
-    return found
+    programs = {"mangod": (words.program, sizes)}
+    if not words.smallest and "rust" in words.systems and built():
+        programs["plain Rust"] = (PROGRAM, {**sizes, "shards": "1"})
+    with futures.ThreadPoolExecutor() as pool:
+        made = pool.map(lambda one: of_sizes(*one), programs.values())
+    return {f"{name} {setting}": kinds for name, found in zip(programs, made) for setting, kinds in found.items()}
 
 
 def counts_table(found):

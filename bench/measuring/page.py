@@ -1,229 +1,207 @@
-"""The tables of docs/PERFORMANCE.md, by name, from one measurement; and the targets with the results."""
+"""The tables of docs/PERFORMANCE.md, by name, from one measurement."""
+import operator
 import statistics
+import textwrap
 
-from .counted import counts_table
+from .alone import CROWDS
+from .grids import lines, shown
+from .plan import FEW
 from .rows import REQUESTS
-from .settings import ALONE, PAIRS, settings_tables
+from .settings import ALONE, PAIRS
 from .tables import Results, spelled
 
 QUERIES = ["get", "equality", "falling", "two", "deep", "scan"]
-INDEXED = QUERIES[1:5]
-OURS, RUST, SQLITE, POSTGRES = "mangod", "plain Rust", "SQLite by C", "PostgreSQL"
+SHORT = ["get", "equality", "falling", "scan", "commit"]
+OURS, RUST = "mangod", "plain Rust"
+OTHERS = ["nested", "flat, long ids"]
 
 
 class Measurement:
-    """The medians of a measurement, by number of documents, system, row and figure."""
+    """The medians of a measurement, by variant, number of documents, system, row and figure."""
 
     def __init__(self, found):
-        self.found, self.clients = found, found["clients"]
-        self.results = Results()
+        self.found, self.usual, self.results = found, found["usual"], Results()
         self.results.add_all(found["runs"])
-        self.sizes, self.systems = sorted(self.results.runs), self.results.systems()
+        self.sizes, self.systems = self.results.counts("flat"), self.results.systems()
 
-    def median(self, size, system, row, figure="processor_us"):
+    def median(self, size, system, row, figure="processor_us", variant="flat"):
         """The median of a figure; None if it was not measured."""
-        values = self.results.values(size, system, row, figure)
+        values = self.results.values(variant, size, system, row, figure)
         return statistics.median(values) if values else None
 
-    def usual(self):
-        """The number of documents of the tables with only one: 100,000, or the greatest if that was not measured."""
-        return 100000 if 100000 in self.sizes else self.sizes[-1]
+    def clients(self):
+        """The numbers of clients that were measured with the usual number of documents."""
+        return [one for one in self.found["clients"] if self.median(self.usual, OURS, f"get {one}")]
+
+    def settings(self):
+        """The rows of the pairs of shards and workers, at the greatest number of documents."""
+        found = self.found["settings"]
+        return found[max(found, key=int)] if found else {}
+
+    def grid(self, part):
+        return self.found["grids"].get(part, {"rows": {}})
 
 
 def table(first, systems, rows):
-    """A table with a column for each system. A row is a title, and a function from a system to a figure or None."""
+    """A table with a column for each system. A row is a title, and a function from a system to a cell."""
     yield f"| {first} | {' | '.join(systems)} |"
     yield "|---" * (len(systems) + 1) + "|"
-    for title, figure in rows:
-        cells = ["" if (value := figure(system)) is None else spelled(value) for system in systems]
-        yield f"| {title} | {' | '.join(cells)} |"
+    for title, cell in rows:
+        cells = [shown(cell(system)) for system in systems]
+        if any(cells):
+            yield f"| {title} | {' | '.join(cells)} |"
 
 
 def source(measured):
-    """The source of the tables: the date, the commit and the machine."""
+    """The source of the tables: the commit, the command, the machine, and the versions of the others."""
     found = measured.found
-    yield f"Measured on {found['date']} at commit `{found['commit']}`: {found['machine']}. All figures, with the least and the greatest of the"
-    yield f"runs, are in docs/measured/{found['date']}.md."
+    versions = ", ".join(f"{name} {number}" for name, number in found["versions"].items())
+    runs = f"{found['repeat']} run{'s' if found['repeat'] > 1 else ''}"
+    minutes = sum(found["took"].values()) / 60
+    words = f"Measured on {found['date']} at commit `{found['commit']}` by `{found['command']}` in {minutes:.0f} minutes, on "
+    failed = f"Failed: {', '.join(found['failed'])}. " if found["failed"] else ""
+    words += f"{found['machine']}, beside {versions}. {failed}A cell is the median of {runs}; a row of a run takes "
+    words += f"{2 * found['share']:g} s of processor time. [All figures](measured/{named(found)})."
+    return textwrap.wrap(words, 148, break_long_words=False, break_on_hyphens=False)
+
+
+def named(found):
+    """The name of the file with all tables of a measurement."""
+    return f"{found['date']}-{found['commit']}.md"
+
+
+# what is measured once or by one client: its title, its row, its figure, and the factor from the figure to the unit of the title
+ONE_EACH = [
+    *((f"{title}, µs", f"{kind} 1", "processor_us", 1) for kind, (title, _) in REQUESTS.items()),
+    ("load, µs a document", "load", "processor_us", 1),
+    ("an index on one field, ms", "build", "processor_us", 1e-3),
+    ("memory a document, bytes", "memory", "bytes", 1),
+    ("memory a document with three indexes, bytes", "indexed", "bytes", 1),
+]
+
+
+def behind(measured):
+    """The rows in which another system is better: it takes less, or makes more commits with several clients."""
+    def row(title, place, factor, better):
+        ours, *others = ((measured.median(measured.usual, system, *place), system) for system in measured.systems)
+        ahead = sorted((one for one in others if ours[0] and one[0] is not None and better(one[0], ours[0])), reverse=better is operator.gt)
+        if ahead:
+            yield f"| {title} | {spelled(ours[0] * factor)} | {', '.join(f'{system} {spelled(value * factor)}' for value, system in ahead)} |"
+
+    yield f"| {measured.usual:,} flat documents: processor time, memory, commits | mangod | better |\n|---|---|---|"
+    for title, kind, figure, factor in ONE_EACH:
+        if kind != "mixture 1":
+            yield from row(title, (kind, figure), factor, operator.lt)
+    yield from row("commits a second by four clients", ("commit 4", "a_second"), 1, operator.gt)
+
+
+def of_kind(measured, kind, variant="flat"):
+    return lambda system: measured.median(measured.usual, system, f"{kind} 1", variant=variant)
 
 
 def queries(measured):
-    size = measured.usual()
-    rows = [(REQUESTS[kind][0], lambda system, kind=kind: measured.median(size, system, f"{kind} 1")) for kind in QUERIES]
-    return table(f"µs of processor time, {size:,} documents, one client", measured.systems, rows)
+    rows = [(REQUESTS[kind][0], of_kind(measured, kind)) for kind in QUERIES]
+    rows += [(f"{REQUESTS[kind][0]}, {variant}", of_kind(measured, kind, variant)) for variant in OTHERS for kind in FEW[:2]]
+    return table(f"µs of processor time, {measured.usual:,} documents, one client", measured.systems, rows)
 
 
 def together(measured):
-    size, clients = measured.usual(), max(measured.clients)
-    rows = [(title, lambda system, kind=kind: measured.median(size, system, f"{kind} {clients}", "a_second")) for kind, (title, _) in REQUESTS.items()]
-    return table(f"requests a second by the clock, {size:,} documents, {clients} clients", measured.systems, rows)
+    clients = [one for one in measured.clients() if one > 1]
+
+    def cell(kind):
+        def of(system):
+            values = [measured.median(measured.usual, system, f"{kind} {one}", "a_second") for one in clients]
+            return values if all(values) else None
+        return of
+
+    title = f"requests a second by the clock, {measured.usual:,} documents, clients: {' / '.join(map(str, clients))}"
+    return table(title, measured.systems, [(REQUESTS[kind][0], cell(kind)) for kind in SHORT])
 
 
-def by_size(measured, title, row, figure):
-    """A row for each number of documents, which stands in its title in place of `{}`."""
-    return [(title.format(f"{size:,}"), lambda system, size=size: measured.median(size, system, row, figure)) for size in measured.sizes]
+def by_size(measured, row, figure):
+    """The figures of a row with each number of documents that was measured for each system."""
+    sizes = [size for size in measured.sizes if measured.median(size, OURS, row, figure)]
+
+    def cell(system):
+        values = [measured.median(size, system, row, figure) for size in sizes]
+        return " / ".join("-" if value is None else spelled(value) for value in values) if any(values) else None
+
+    return " / ".join(f"{size:,}" for size in sizes), cell
 
 
 def writes(measured):
     def build(system):
-        value = measured.median(size, system, "build")
+        value = measured.median(measured.usual, system, "build")
         return value and value / 1e3
 
-    size = measured.usual()
-    rows = by_size(measured, "a commit of one document among {}, µs", "commit 1", "processor_us")
-    rows.append((f"a load of {size:,}, µs a document", lambda system: measured.median(size, system, "load")))
-    return table("processor time", measured.systems, [*rows, (f"an index on one field of {size:,}, ms", build)])
+    def load(variant):
+        return lambda system: measured.median(measured.usual, system, "load", variant=variant)
+
+    sizes, cell = by_size(measured, "commit 1", "processor_us")
+    rows = [(f"a commit of one document among {sizes}, µs", cell)]
+    rows += [(f"a commit of one document, {variant}, µs", of_kind(measured, "commit", variant)) for variant in OTHERS]
+    rows += [(f"load, {variant}, µs a document", load(variant)) for variant in ("flat", "nested")]
+    rows.append(("an index on one field, ms", build))
+    return table(f"processor time, {measured.usual:,} documents where no number is said", measured.systems, rows)
 
 
 def memory(measured):
-    size = measured.usual()
-    rows = by_size(measured, "{} documents, without indexes", "memory", "bytes")
-    rows.append((f"{size:,}, with three indexes", lambda system: measured.median(size, system, "indexed", "bytes")))
-    rows.append((f"{size:,}, with three indexes, on pages", lambda system: measured.median(size, system, "pages", "bytes")))
+    def cell(row, variant):
+        return lambda system: measured.median(measured.usual, system, row, "bytes", variant)
+
+    sizes, by_sizes = by_size(measured, "memory", "bytes")
+    rows = [(f"{sizes} flat documents, without indexes", by_sizes)]
+    for row, variant, title in (("indexed", "flat", ""), ("pages", "flat", ", on pages"), ("indexed", "nested", "")):
+        rows.append((f"{measured.usual:,} {variant} documents, with three indexes{title}", cell(row, variant)))
     return table("bytes a document", measured.systems, rows)
 
 
 def proof(measured):
-    """The ratio of the program's processor time to that of plain Rust."""
-    def ratio(row, figure="processor_us"):
-        def of(size):
-            ours, theirs = measured.median(size, OURS, row, figure), measured.median(size, RUST, row, figure)
-            return f"{ours / theirs:.2f}" if ours and theirs else ""
-        return [of(size) for size in measured.sizes]
-
-    yield f"| mangod, times plain Rust | {' | '.join(f'{size:,}' for size in measured.sizes)} |"
-    yield "|---" * (len(measured.sizes) + 1) + "|"
-    for kind, (title, _) in REQUESTS.items():
-        yield f"| {title} | {' | '.join(ratio(f'{kind} 1'))} |"
-    for row, title, figure in (("load", "load, processor time", "processor_us"), ("build", "an index on one field", "processor_us"),
-                               ("indexed", "memory with three indexes", "bytes")):
-        yield f"| {title} | {' | '.join(ratio(row, figure))} |"
+    """The ratio of the program's figures to those of plain Rust."""
+    columns = [("flat", size) for size in measured.sizes] + [("nested", measured.usual)]
+    yield f"| figures of mangod divided by those of plain Rust, one client | {' | '.join(f'{size:,} {variant}' for variant, size in columns)} |"
+    yield "|---" * (len(columns) + 1) + "|"
+    for title, row, figure, _ in ONE_EACH:
+        if row.split()[0] in ("two", "deep", "mixture"):
+            continue
+        both = [[measured.median(size, system, row, figure, variant) for system in (OURS, RUST)] for variant, size in columns]
+        cells = [f"{ours / theirs:.2f}" if ours and theirs else "" for ours, theirs in both]
+        if any(cells):
+            yield f"| {title.rpartition(', ')[0]} | {' | '.join(cells)} |"
 
 
-def counts(measured):
-    return counts_table(measured.found["counts"])
+def pairs(measured):
+    """The pairs of shards and workers: processor time, requests by several clients, instructions and reads from memory."""
+    names = ["{}/{}".format(*one) for one in PAIRS]
+    rows = {title: [statistics.median(one) for one in cells] for title, cells in measured.settings().items() if title in ALONE.values()}
+    clients = " / ".join(map(str, CROWDS))
+    rows.update({f"{title}, clients: {clients}, a second": cells for title, cells in measured.grid("crowd")["rows"].items()})
+    counted = [measured.found["counts"].get(name) for name in [*(f"mangod {one}" for one in names), f"{RUST} 1/1"]]
+    for kind in SHORT if counted[0] else []:
+        rows[f"{REQUESTS[kind][0]}: instructions, reads"] = ["{:,}, {:,}".format(*one[kind]) if one else None for one in counted]
+    most = max(map(int, measured.found["settings"]), default=0)
+    yield f"| {most:,} nested documents, requests a second of {measured.usual:,} flat; shards/workers | {' | '.join(names)} | {RUST} |"
+    yield "|---" * (len(names) + 2) + "|"
+    for title, cells in rows.items():
+        yield f"| {title} | {' | '.join(map(shown, [*cells, None][: len(names) + 1]))} |"
 
 
-def shards(measured):
-    """The pairs of shards and workers, at the greatest number of documents."""
-    found = measured.found["settings"]
-    most = max(found, key=int, default=None)
-    return settings_tables({most: found[most]}) if found else []
+def start(measured):
+    """A sentence on the time of a start."""
+    found = measured.grid("starts")
+    if found["rows"]:
+        times = dict(zip(found["columns"], map(spelled, found["rows"]["ms by the clock"])))
+        rust = f"; plain Rust takes {times.pop(RUST)} ms" if RUST in times else ""
+        starts = ", ".join(f"{time} ms with {pair}" for pair, time in times.items())
+        yield from textwrap.wrap(f"From the start to the first reply, without documents, it takes {starts} shards/workers{rust}.", 148)
 
 
-def lines_of(part):
-    return lambda measured: measured.found["lines"].get(part, [])
+def of_grid(part):
+    def made(measured):
+        found = measured.grid(part)
+        return lines(found) if found["rows"] else []
+    return made
 
 
-TABLES = {
-    "source": source, "queries": queries, "together": together, "writes": writes, "memory": memory, "proof": proof, "counts": counts,
-    "shards": shards, "waits": lines_of("waits"), "starts": lines_of("starts"),
-}
-
-
-# Targets: each has a text, and a function that gives figures, each with the most that it may be.
-
-
-def against(kinds, other, most=1.0):
-    """The ratio of processor time to that of another system, for some rows, each size and each number of clients."""
-    def figures(measured):
-        for size in measured.sizes:
-            for kind in kinds:
-                for number in measured.clients:
-                    ours, theirs = (measured.median(size, system, f"{kind} {number}") for system in (OURS, other))
-                    if ours and theirs:
-                        yield ours / theirs, most
-    return figures
-
-
-def growth(kind, most):
-    """The ratio of a row at the greatest number of documents to the same row at the smallest."""
-    def figures(measured):
-        for number in measured.clients:
-            few, many = (measured.median(size, OURS, f"{kind} {number}") for size in (measured.sizes[0], measured.sizes[-1]))
-            if few and many:
-                yield many / few, most
-    return figures
-
-
-def once(row, figure, most):
-    """A figure that is measured once for each database, at each size."""
-    return lambda measured: [(value, most) for size in measured.sizes if (value := measured.median(size, OURS, row, figure))]
-
-
-def pairs_at_most(kinds, place, most):
-    """The ratio of a pair of shards and workers to one shard and one worker, at the greatest number of documents."""
-    def figures(measured):
-        found = measured.found["settings"]
-        rows = found[max(found, key=int)] if found else {}
-        for kind in kinds:
-            if kind in ALONE and ALONE[kind] in rows:
-                values = [statistics.median(one) for one in rows[ALONE[kind]]]
-                yield values[PAIRS.index(place)] / values[0], most
-    return figures
-
-
-def instructions(kind, most):
-    def figures(measured):
-        kinds = measured.found["counts"].get("mangod 1/1")
-        return [(kinds[kind][0], most)] if kinds else []
-    return figures
-
-
-TARGETS = [
-    ("`GET`, equality and pages take less than PostgreSQL", against(["get", *INDEXED], POSTGRES)),
-    ("a commit takes at most PostgreSQL's time", against(["commit"], POSTGRES)),
-    ("queries by an index take at most 1.3 times SQLite by C", against(INDEXED, SQLITE, 1.3)),
-    ("`GET` and a commit take at most 1.3 times SQLite by C", against(["get", "commit"], SQLITE, 1.3)),
-    ("no request takes more than plain Rust", against(list(REQUESTS), RUST)),
-    ("an equality query at the most documents, times the fewest: at most 1.5", growth("equality", 1.5)),
-    ("a commit, the same", growth("commit", 1.5)),
-    ("a load takes at most 16.7 µs a document (60,000 a second)", once("load", "processor_us", 16.7)),
-    ("at most 1,000 bytes for a flat document without indexes", once("memory", "bytes", 1000)),
-    ("queries by an index, 4 shards and 4 workers: at most 1.2 times 1 and 1", pairs_at_most(["equality", "falling"], (4, 4), 1.2)),
-    ("the same, 16 and 1: at most 1.4 times", pairs_at_most(["equality", "falling"], (16, 1), 1.4)),
-    ("the same, 64 and 32: at most 2 times", pairs_at_most(["equality", "falling"], (64, 32), 2)),
-    ("a commit, 64 and 32: at most 1.15 times", pairs_at_most(["commit"], (64, 32), 1.15)),
-    ("instructions of an equality query: at most 35,000", instructions("equality", 35000)),
-    ("instructions of 25 below a price: at most 45,000", instructions("falling", 45000)),
-    ("instructions of a commit: at most 60,000", instructions("commit", 60000)),
-]
-
-
-def targets(measured):
-    yield "| Target | Met | Found |\n|---|---|---|"
-    for title, figures in TARGETS:
-        found = list(figures(measured))
-        if found:
-            values = [value for value, _ in found]
-            met = sum(value <= most for value, most in found)
-            told = "yes" if met == len(found) else "no" if not met else f"no: {met} of {len(found)} cells"
-            span = sorted({f"{value:,.2f}" if value < 100 else f"{value:,.0f}" for value in (min(values), max(values))}, key=lambda one: float(one.replace(",", "")))
-            yield f"| {title} | {told} | {' to '.join(span)} |"
-
-
-TABLES["targets"] = targets
-
-
-def growing(rows, figure):
-    """The panels of a picture: a figure of each row by the number of documents, with a line for each system."""
-    def panels(measured):
-        drawn = {}
-        for row, title in rows.items():
-            lines = {}
-            for system in measured.systems:
-                points = [(size, value) for size in measured.sizes if (value := measured.median(size, system, row, figure)) and value > 0]
-                if points:
-                    lines[system] = points
-            drawn[title] = lines
-        return drawn if len(measured.sizes) > 1 else {}
-    return panels
-
-
-PICTURES = {
-    "queries": ("µs of processor time a request, by the number of documents, one client",
-                growing({f"{kind} 1": REQUESTS[kind][0] for kind in QUERIES}, "processor_us")),
-    "writes": ("µs of processor time, by the number of documents",
-               growing({"commit 1": REQUESTS["commit"][0], "mixture 1": REQUESTS["mixture"][0], "load": "load, a document"}, "processor_us")),
-    "memory": ("bytes a document, by the number of documents",
-               growing({"memory": "without indexes", "indexed": "with three indexes"}, "bytes")),
-}
+TABLES = {"source": source, "behind": behind, "queries": queries, "together": together, "writes": writes, "memory": memory, "proof": proof,
+          "pairs": pairs, "starts": start, **{part: of_grid(part) for part in ("workers", "waits", "limits", "allocation")}}

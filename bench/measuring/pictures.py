@@ -2,17 +2,18 @@
 import math
 from html import escape
 
-WIDTH, HEIGHT, LEFT, TOP, RIGHT, BOTTOM = 300, 190, 48, 26, 10, 24
+WIDTH, HEIGHT, LEFT, TOP, RIGHT, BOTTOM = 300, 190, 48, 26, 16, 24
 COLUMNS = 3
-LEGEND = 24
+# the width and height of a name in the legend
+NAME, LINE = 122, 18
 COLOURS = {
     "mangod": "#c0392b", "plain Rust": "#e67e22", "SQLite by C": "#2471a3", "SQLite by Python": "#85c1e9", "PostgreSQL": "#1e8449",
-    "Tarantool": "#7d3c98", "Redis": "#7f8c8d",
+    "MariaDB": "#b7950b", "Tarantool": "#7d3c98", "Redis": "#7f8c8d",
 }
 
 
 def text(x, y, words, anchor="middle", size=10):
-    return f'<text x="{x:.1f}" y="{y:.1f}" text-anchor="{anchor}" font-size="{size}">{escape(words)}</text>'
+    return f'<text x="{x:.1f}" y="{y:.1f}" text-anchor="{anchor}" font-size="{size}">{escape(words.replace("`", ""))}</text>'
 
 
 def short(number):
@@ -58,15 +59,16 @@ def picture(title, panels):
     panels = {name: lines for name, lines in panels.items() if lines}
     columns = min(COLUMNS, len(panels))
     rows = -(-len(panels) // columns)
-    width, height = columns * WIDTH, 24 + rows * HEIGHT + LEGEND
+    systems = list(dict.fromkeys(system for lines in panels.values() for system in lines))
+    width, top = columns * WIDTH, 24 + rows * HEIGHT
+    each = max(1, width // NAME)
+    height = top + 8 + LINE * -(-len(systems) // each)
     parts = [f'<svg xmlns="http://www.w3.org/2000/svg" width="{width}" height="{height}" font-family="sans-serif" fill="#222">']
     parts += [f'<rect width="{width}" height="{height}" fill="#fff"/>', text(width / 2, 17, title, size=13)]
     for number, (name, lines) in enumerate(panels.items()):
         parts += panel(name, lines, number % columns * WIDTH, 24 + number // columns * HEIGHT)
-    systems = list(dict.fromkeys(system for lines in panels.values() for system in lines))
     for number, system in enumerate(systems):
-        x = 12 + number * (width - 12) / len(systems)
-        parts.append(f'<line x1="{x:.0f}" y1="{height - 12}" x2="{x + 16:.0f}" y2="{height - 12}" stroke="{COLOURS.get(system, "#000")}" '
-                     'stroke-width="3"/>')
-        parts.append(text(x + 20, height - 8, system, "start"))
+        x, y = 12 + number % each * NAME, top + 14 + number // each * LINE
+        parts.append(f'<line x1="{x}" y1="{y - 4}" x2="{x + 16}" y2="{y - 4}" stroke="{COLOURS.get(system, "#000")}" stroke-width="3"/>')
+        parts.append(text(x + 20, y, system, "start"))
     return "\n".join([*parts, "</svg>\n"])

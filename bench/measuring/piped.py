@@ -5,7 +5,7 @@ import subprocess
 
 from .documents import INDEXES
 from .processes import run
-from .program import Connection, Program, titled
+from .program import TUNABLES, Connection, Program, titled, tuned
 from .rows import load, say
 
 REQUESTS = {"get": 2000, "equality": 2000, "commit": 2000}
@@ -36,10 +36,10 @@ class Session(Connection):
 class Piped(Program):
     """The program with one session over pipes, run under a tool if one is given."""
 
-    def __init__(self, path, corpus, setting, tool=()):
+    def __init__(self, path, corpus, setting, tool=(), tunables=TUNABLES):
         self.corpus = corpus
         words = [*tool, path, "db", *map(str, setting), "1", "-"]
-        self.process = subprocess.Popen(words, stdin=subprocess.PIPE, stdout=subprocess.PIPE)
+        self.process = subprocess.Popen(words, stdin=subprocess.PIPE, stdout=subprocess.PIPE, env=tuned(tunables))
         self.connection = Session(self.process, corpus)
 
     def client(self):
@@ -61,7 +61,7 @@ def figures(path, corpus, setting, share, turn):
     return found
 
 
-def told(values):
+def span(values):
     """The text of the least and the greatest of some figures."""
     return " to ".join(sorted({f"{value:,.1f}" for value in (min(values), max(values))}, key=lambda text: float(text.replace(",", ""))))
 
@@ -74,9 +74,9 @@ def piped(words):
             corpus = words.corpus(count)
             made = [figures(words.program, corpus, setting, words.share, turn) for turn in range(1 if count >= 10**6 else TIMES)]
             title = f"{titled(setting)}, {count:,} documents"
-            rows.append((f"{title}: load, documents a second", told([1e6 / one["load"] for one in made])))
-            rows.append((f"{title}: memory a document without indexes, bytes", told([one["memory"] for one in made])))
-            rows += [(f"{title}: {kind}, us of processor", told([one[kind] for one in made])) for kind in REQUESTS]
+            rows.append((f"{title}: load, documents a second", span([1e6 / one["load"] for one in made])))
+            rows.append((f"{title}: memory a document without indexes, bytes", span([one["memory"] for one in made])))
+            rows += [(f"{title}: {kind}, us of processor", span([one[kind] for one in made])) for kind in REQUESTS]
             for row in rows[-5:]:
                 say(*row)
     return rows

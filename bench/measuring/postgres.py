@@ -164,9 +164,10 @@ class PostgreSQL:
         if (b"C", f"COPY {count}\0".encode()) not in parts:
             raise SystemExit(f"PostgreSQL took not all of {count} documents: {parts}")
 
-    def index(self, which):
+    def index(self, which, name=None):
+        """Builds an index; `name` is that of a further one on the same members."""
         columns = ", ".join(f"({member(path)})" for path in self.corpus.columns(which))
-        self.connection.query(f"CREATE INDEX by_{which} ON docs ({columns}, id)")
+        self.connection.query(f"CREATE INDEX {name or f'by_{which}'} ON docs ({columns}, id)")
 
     def settle(self):
         self.connection.query("VACUUM ANALYZE docs")

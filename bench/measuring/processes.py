@@ -109,7 +109,7 @@ def one_client(system, requests, pipe, work):
         pipe.send(f"{system.name}: {type(fault).__name__}: {fault}")
 
 
-def told(pipe):
+def reported(pipe):
     """Receives a report of a client. A fault ends the run."""
     try:
         word = pipe.recv()
@@ -131,11 +131,11 @@ def at_once(system, lists, work):
         theirs.close()
         clients.append((process, ours))
     for _, pipe in clients:
-        told(pipe)
+        reported(pipe)
     before, clock = system.processor(), time.monotonic()
     for _, pipe in clients:
         pipe.send("start")
-    given = [told(pipe) for _, pipe in clients]
+    given = [reported(pipe) for _, pipe in clients]
     clock, used = time.monotonic() - clock, system.processor() - before
     for process, pipe in clients:
         pipe.send("end")

@@ -7,6 +7,9 @@ import subprocess
 from . import processes
 from .documents import PAGE, compact
 
+# the settings of the C library that suit large databases best: docs/PERFORMANCE.md says what each does
+TUNABLES = "glibc.malloc.hugetlb=1:glibc.malloc.arena_max=1"
+
 
 def free_port():
     with socket.create_server(("127.0.0.1", 0)) as server:
@@ -21,7 +24,8 @@ def pairs(text):
 
 def titled(setting):
     """The name of a pair of shards and workers in tables."""
-    return "{} shards, {} workers".format(*setting)
+    shards, workers = setting
+    return f"{shards} shard{'s' * (shards > 1)}, {workers} worker{'s' * (workers > 1)}"
 
 
 def message(method, target, body=None):
@@ -88,18 +92,23 @@ class Connection:
             raise ValueError(f"{text[:300]!r} was answered by {status!r} {body[:300]!r}, wanted {answer}")
 
 
+def tuned(tunables):
+    """The environment of a program with some settings of the C library."""
+    return {**os.environ, "GLIBC_TUNABLES": tunables}
+
+
 class Program:
     """The program with a database for the documents, and a pair of shards and workers."""
 
     in_process = False
     called = "mangod"
 
-    def __init__(self, path, corpus, setting=(1, 1), sessions=8):
+    def __init__(self, path, corpus, setting=(1, 1), sessions=8, tunables=TUNABLES):
         self.name = self.called if setting == (1, 1) else f"{self.called}, {titled(setting)}"
         self.corpus, self.port = corpus, free_port()
         words = [path, "db", *map(str, setting), str(sessions), f"127.0.0.1:{self.port}"]
-        self.process = subprocess.Popen(words, stdin=subprocess.DEVNULL, stderr=subprocess.PIPE)
-        if self.process.stderr.readline() != f"{os.path.basename(path)}: listening\n".encode():
+        self.process = subprocess.Popen(words, stdin=subprocess.DEVNULL, stderr=subprocess.PIPE, env=tuned(tunables))
+        if not self.process.stderr.readline().endswith(b": listening\n"):
             raise SystemExit(f"{path} does not listen")
         self.connection = self.client()
 
@@ -120,8 +129,9 @@ class Program:
         if status != b"201" or body.count(b'"ok":true') != count:
             raise SystemExit(f"a bulk was answered by {status} {body[:300]}")
 
-    def index(self, which):
-        asked = {"index": {"fields": self.corpus.columns(which)}, "ddoc": "m", "name": which}
+    def index(self, which, name=None):
+        """Builds an index; `name` is that of a further one on the same members."""
+        asked = {"index": {"fields": self.corpus.columns(which)}, "ddoc": "m" if name is None else "further", "name": name or which}
         status, body = self.connection.exchange(message("POST", "_index", asked))
         if status != b"200" or json.loads(body)["result"] != "created":
             raise SystemExit(f"an index was answered by {status} {body}")

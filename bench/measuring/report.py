@@ -1,5 +1,6 @@
 """A whole measurement as Markdown, and the part of it that is kept in a file."""
 from .counted import counts_table
+from .grids import lines as grid_lines
 from .settings import settings_tables
 from .tables import Results
 
@@ -14,15 +15,17 @@ def rounded(value):
 
 
 def report(found):
-    """All tables of a measurement as Markdown, after a line on the machine and the commit."""
+    """All tables of a measurement as Markdown, after a line on the machine, the commit and the command."""
     results = Results()
     results.add_all(found["runs"])
-    yield f"{found['machine']}, commit {found['commit']}"
+    yield f"{found['machine']}, commit {found['commit']}, `{found['command']}`"
+    if found["failed"]:
+        yield f"Failed: {', '.join(found['failed'])}"
     if results.runs:
         yield from results.tables(found["clients"])
     yield from settings_tables(found["settings"])
     if found["counts"]:
         yield "\n".join(counts_table(found["counts"]))
-    yield from ("\n".join(lines) for lines in found["lines"].values())
+    yield from ("\n".join(grid_lines(one)) for one in found["grids"].values() if one["rows"])
     for part, lines in found["parts"].items():
         yield "\n".join([f"| {part} | |\n|---|---|", *(f"| {what} | {figure} |" for what, figure in lines)])

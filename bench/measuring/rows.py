@@ -32,6 +32,8 @@ ONCE = {
 CHUNK = 50
 SECONDS = 2
 ROUND = 40000
+# no cell is made of fewer requests
+LEAST = 5
 
 
 @dataclass(frozen=True)
@@ -42,9 +44,9 @@ class Measure:
     rows: list
     share: float
 
-    def least(self, kind):
+    def least(self, kind, clients):
         """The least number of requests of a kind that each client sends."""
-        return max(2, int(REQUESTS[kind][1] * min(1, self.share)))
+        return max(-(-LEAST // clients), int(REQUESTS[kind][1] * min(1, self.share)))
 
 
 def say(*words):
@@ -119,7 +121,7 @@ def row(system, kind, clients, wanted, turn):
         seeds = [f"{turn}-{clients}-{client}-{kind}-{part}" for client in range(clients)]
         return processes.measured(system, [system.corpus.requests(kind, count, seed) for seed in seeds])
 
-    seconds, least = SECONDS * wanted.share, wanted.least(kind)
+    seconds, least = SECONDS * wanted.share, wanted.least(kind, clients)
     estimate = sent(max(2, least // 2), "warm-up").processor / max(2, least // 2) / clients
     most = max(least, WRITES[kind] * system.corpus.count // clients) if kind in WRITES else 10**9
     used, count = None, 0

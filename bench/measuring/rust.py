@@ -2,7 +2,7 @@
 import os
 import subprocess
 
-from .program import Program
+from .program import TUNABLES, Program
 
 FOLDER = os.path.join(os.path.dirname(os.path.dirname(os.path.abspath(__file__))), "peer")
 CARGO = "/usr/bin/cargo"
@@ -24,5 +24,5 @@ def built():
 class PlainRust(Program):
     called = "plain Rust"
 
-    def __init__(self, corpus):
-        super().__init__(PROGRAM, corpus)
+    def __init__(self, corpus, tunables=TUNABLES):
+        super().__init__(PROGRAM, corpus, tunables=tunables)

@@ -35,3 +35,10 @@ class Nested:
 
 SHAPES = {"flat": Flat, "nested": Nested}
 IDS = {"short": "d{:07d}", "fronted": "customer:{:07d}"}
+# the name in tables of each shape with each kind of id
+VARIANTS = {
+    "flat": ("flat", "short"),
+    "nested": ("nested", "short"),
+    "flat, long ids": ("flat", "fronted"),
+    "nested, long ids": ("nested", "fronted"),
+}

@@ -167,8 +167,8 @@ class SQLiteInC(SQLite):
         for client in clients:
             client.stdin.write("\n")
             client.stdin.flush()
-        told = [client.stdout.readline().split() for client in clients]
-        if any(client.wait() for client in clients) or not all(told):
+        reports = [client.stdout.readline().split() for client in clients]
+        if any(client.wait() for client in clients) or not all(reports):
             raise SystemExit("SQLite by C has failed")
-        counts, used, clocks = zip(*told)
+        counts, used, clocks = zip(*reports)
         return processes.Use(sum(map(int, counts)), sum(map(float, used)), max(map(float, clocks)), len(lists))

@@ -16,45 +16,56 @@ def cell(values):
 
 
 class Results:
-    """The figures of all runs, by number of documents and system."""
+    """The figures of all runs, by variant of the documents, their number, and system."""
 
     def __init__(self):
         self.runs = {}
 
-    def add(self, count, system, rows):
-        self.runs.setdefault(count, {}).setdefault(system, []).append(rows)
+    def add(self, variant, count, system, rows):
+        self.runs.setdefault(variant, {}).setdefault(count, {}).setdefault(system, []).append(rows)
 
     def add_all(self, runs):
         """Adds the runs of an earlier file."""
-        for count, systems in runs.items():
-            for system, turns in systems.items():
-                for rows in turns:
-                    self.add(int(count), system, rows)
+        for variant, counts in runs.items():
+            for count, systems in counts.items():
+                for system, turns in systems.items():
+                    for rows in turns:
+                        self.add(variant, int(count), system, rows)
+
+    def counts(self, variant):
+        """The numbers of documents of a variant that were measured."""
+        return sorted(self.runs.get(variant, {}))
 
     def systems(self):
-        return list(dict.fromkeys(system for systems in self.runs.values() for system in systems))
+        """The names of the systems that were measured."""
+        return list(dict.fromkeys(system for counts in self.runs.values() for systems in counts.values() for system in systems))
 
-    def values(self, count, system, row, figure):
-        return [rows[row][figure] for rows in self.runs[count].get(system, []) if row in rows]
+    def values(self, variant, count, system, row, figure):
+        return [rows[row][figure] for rows in self.runs.get(variant, {}).get(count, {}).get(system, []) if row in rows]
 
-    def table(self, title, rows):
-        """A table with a line for each row and system, and a column for each number of documents."""
-        counts = list(self.runs)
-        lines = [f"| {title} | | {' | '.join(f'{count:,}' for count in counts)} |", "|---|---|" + "---|" * len(counts)]
+    def table(self, variant, title, rows):
+        """A table with a line for each row and number of documents, and a column for each system; None if nothing was measured."""
+        systems = self.systems()
+        lines = [f"| {title} | documents | {' | '.join(systems)} |", "|---|---|" + "---|" * len(systems)]
         for what, row, figure, factor in rows:
-            for number, system in enumerate(self.systems()):
-                cells = [cell([factor(value) for value in self.values(count, system, row, figure)]) for count in counts]
+            for count in self.counts(variant):
+                cells = [cell([factor(value) for value in self.values(variant, count, system, row, figure)]) for system in systems]
                 if any(cells):
-                    lines.append(f"| {'' if number else what} | {system} | {' | '.join(cells)} |")
-        return "\n".join(lines)
+                    lines.append(f"| {what} | {count:,} | {' | '.join(cells)} |")
+                    what = ""
+        return "\n".join(lines) if len(lines) > 2 else None
 
     def tables(self, clients):
+        for variant in self.runs:
+            yield from filter(None, self.tables_of(variant, clients))
+
+    def tables_of(self, variant, clients):
         for number in clients:
             rows = [(what, f"{kind} {number}", "processor_us", float) for kind, (what, _) in REQUESTS.items()]
-            yield self.table(f"µs of processor time a request, clients: {number}", rows)
+            yield self.table(variant, f"{variant}: µs of processor time a request, clients: {number}", rows)
             rows = [(what, f"{kind} {number}", "a_second", float) for kind, (what, _) in REQUESTS.items()]
-            yield self.table(f"requests a second by the clock, clients: {number}", rows)
-        yield self.table("once a database", [
+            yield self.table(variant, f"{variant}: requests a second by the clock, clients: {number}", rows)
+        yield self.table(variant, f"{variant}: once a database", [
             (ONCE["load"] + " of processor time", "load", "processor_us", lambda value: 1e6 / value),
             (ONCE["load"] + " by the clock", "load", "a_second", float),
             (ONCE["build"] + " of processor time", "build", "processor_us", lambda value: value / 1e3),

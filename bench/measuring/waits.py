@@ -10,64 +10,72 @@ import multiprocessing
 import statistics
 import time
 
-from .documents import BULK, INDEXES
-from .program import Program, message, titled
+from .documents import BULK, INDEXES, Corpus
+from .grids import grid
+from .postgres import PostgreSQL, programs
+from .program import Program, message
 from .rows import load, say
 from .rust import PlainRust, built
+from .settings import PAIRS
 
-SECONDS = 4
-DOCUMENTS = 100000
+SECONDS = 20
 STARTS = 20
 BUILDS = 20
 LEAST = 50
-PARTS = {"median": 0.5, "99 %": 0.99, "99.9 %": 0.999, "longest": 1}
+PARTS = (0.5, 0.99, 0.999, 1)
 KINDS = {"get": "`GET`", "equality": "20 documents by an index"}
 
 
-def loads(program, client, until):
-    """Loads bulks of documents that no other client asks for."""
+class Further(Corpus):
+    """Documents that no request asks for: the members of others lie below one more member, and the ids are others."""
+
+    def __init__(self, corpus, mark):
+        self.__dict__.update(corpus.__dict__)
+        self.name = lambda i: f"{corpus.name(i)}-{mark}"
+
+    def body(self, i):
+        return {"below": super().body(i)}
+
+
+def loads(system, mark, until):
+    """Loads bulks of further documents."""
+    system.corpus = Further(system.corpus, mark)
     number = 10**6
     while time.monotonic() < until:
-        docs = [{"_id": f"{program.corpus.name(i)}-beside", "text": program.corpus.body(i)} for i in range(number, number + BULK)]
-        done(client, "_bulk_docs", {"docs": docs}, b"201")
+        system.send_bulk(system.prepare_bulk(range(number, number + BULK)), BULK)
         number += BULK
 
 
-def builds(program, client, until):
-    """Builds indexes, each with a name of its own."""
+def builds(system, mark, until):
+    """Builds further indexes on two fields."""
     for number in range(BUILDS):
         if time.monotonic() < until:
-            done(client, "_index", {"index": {"fields": program.corpus.columns("kind")}, "ddoc": "beside", "name": f"n{number}"}, b"200")
+            system.index("kind", f"{mark}{number}")
 
 
-def reshards(program, client, until):
+def reshards(system, mark, until):
     """Reshards from one shard to 16 and back."""
     while time.monotonic() < until:
         for shards in (16, 1):
-            done(client, "_placement", {"shards": shards}, b"200")
-
-
-def done(client, target, body, wanted):
-    status, reply = client.exchange(message("POST", target, body))
-    if status != wanted:
-        raise SystemExit(f"{target} beside a reader was answered by {status} {reply[:300]}")
+            status, reply = system.connection.exchange(message("POST", "_placement", {"shards": shards}))
+            if status != b"200":
+                raise SystemExit(f"a reshard beside a reader was answered by {status} {reply[:300]}")
 
 
 BESIDE = {"nothing": None, "bulks of 1,000 new documents": loads, "indexes that are built": builds, "reshards": reshards}
 
 
-def work(program, beside, seconds, begun):
-    client = program.client()
+def work(system, beside, mark, seconds, begun):
     begun.set()
-    beside(program, client, time.monotonic() + seconds)
+    beside(system, mark, time.monotonic() + seconds)
 
 
-def waited(program, kind, beside, seconds):
+def waited(system, kind, beside, seconds):
     """The time of each request of a reader, in seconds, while the other client works; sorted."""
-    client = program.client()
-    asked = [(client.prepare(one), one.answer) for one in program.corpus.requests(kind, 5000, "waits")]
+    client = system.client()
+    asked = [(client.prepare(one), one.answer) for one in system.corpus.requests(kind, 5000, "waits")]
     begun = multiprocessing.Event()
-    worker = multiprocessing.Process(target=work, args=(program, beside, seconds, begun), daemon=True) if beside else None
+    worker = multiprocessing.Process(target=work, args=(system, beside, kind, seconds, begun), daemon=True) if beside else None
     gc.collect()
     gc.disable()
     if worker:
@@ -80,6 +88,7 @@ def waited(program, kind, beside, seconds):
         client.ask(text, answer)
         times.append(time.monotonic() - start)
     gc.enable()
+    client.socket.close()
     if worker:
         worker.join()
     if worker and worker.exitcode:
@@ -87,49 +96,54 @@ def waited(program, kind, beside, seconds):
     return sorted(times)
 
 
-def cells(times):
-    """The percentiles of the waits, in milliseconds."""
-    return [f"{times[min(len(times) - 1, int(len(times) * part))] * 1e3:.3f}" for part in PARTS.values()]
+def percentiles(times):
+    """The median, 99 %, 99.9 % and the longest of the waits, in microseconds."""
+    return [times[min(len(times) - 1, int(len(times) * part))] * 1e6 for part in PARTS]
 
 
-def programs(words):
-    """The functions that start each measured program, with one shard and one worker."""
+def systems(words):
+    """The functions that start each measured system: the program with one shard and one worker, and what is installed of the others."""
     made = [lambda corpus: Program(words.program, corpus)]
-    return [*made, PlainRust] if built() else made
+    made += [PlainRust] if "rust" in words.systems and built() else []
+    return made + ([PostgreSQL] if "postgres" in words.systems and programs() else [])
 
 
 def waits(words):
-    """The table of a reader's waits, in milliseconds."""
-    corpus, seconds = words.corpus(max(BULK, int(DOCUMENTS * words.share))), SECONDS * words.share
-    yield f"| ms, {corpus.count:,} documents, one shard at first: a reader's request, beside | | {' | '.join(PARTS)} | requests |"
-    yield "|---" * (len(PARTS) + 3) + "|"
-    for kind, title in KINDS.items():
+    """The table of a reader's waits, with a column for each system."""
+    corpus, seconds, columns = words.corpus(words.usual), SECONDS * words.share, {}
+    for make in systems(words):
         for what, beside in BESIDE.items():
-            for make in programs(words):
-                with contextlib.closing(make(corpus)) as program:
-                    if beside == reshards and program.called != "mangod":
-                        continue
-                    load(program, corpus)
-                    for which in INDEXES:
-                        program.index(which)
-                    times = waited(program, kind, beside, seconds)
-                line = f"| {title}, beside {what} | {program.name} | {' | '.join(cells(times))} | {len(times):,} |"
-                say(line)
-                yield line
+            with contextlib.closing(make(corpus)) as system:
+                column = columns.setdefault(system.name, {})
+                if beside == reshards and system.name != "mangod":
+                    continue
+                load(system, corpus)
+                for which in INDEXES:
+                    system.index(which)
+                system.settle()
+                for kind in KINDS:
+                    column[kind, what] = percentiles(waited(system, kind, beside, seconds))
+                    say(f"{system.name}: {kind} beside {what}:", *(f"{one:,.0f}" for one in column[kind, what]))
+    rows = {f"{title}, beside {what}": [one.get((kind, what)) for one in columns.values()] for kind, title in KINDS.items() for what in BESIDE}
+    return grid(f"µs, {corpus.count:,} documents, a reader's request: median / 99 % / 99.9 % / longest", columns, rows)
+
+
+def started(make, corpus, count):
+    """The milliseconds from a start to the first reply, and the kB of memory then: the medians of some starts."""
+    times, sizes = [], []
+    for _ in range(count):
+        begin = time.monotonic()
+        with contextlib.closing(make(corpus)) as program:
+            program.connection.exchange(message("GET", "none"))
+            times.append(time.monotonic() - begin)
+            sizes.append(program.size())
+    return statistics.median(times) * 1e3, statistics.median(sizes) / 1e3
 
 
 def starts(words):
-    """The table of the times from the start to the first reply, in milliseconds: the median of some starts."""
-    corpus = words.corpus(BULK)
-    made = [lambda corpus, setting=setting: Program(words.program, corpus, setting) for setting in ((1, 1), (16, 4), (64, 32))]
-    yield "| from the start to the first reply | ms | bytes in memory |\n|---|---|---|"
-    for make in [*made, *programs(words)[1:]]:
-        times, sizes = [], []
-        for _ in range(max(2, int(STARTS * words.share))):
-            begin = time.monotonic()
-            with contextlib.closing(make(corpus)) as program:
-                program.connection.exchange(message("GET", "none"))
-                times.append(time.monotonic() - begin)
-                sizes.append(program.size())
-        name = program.name if program.name != "mangod" else f"mangod, {titled((1, 1))}"
-        yield f"| {name} | {statistics.median(times) * 1e3:.1f} | {statistics.median(sizes):,.0f} |"
+    """The table of the times from the start to the first reply."""
+    made = {"{}/{}".format(*setting): lambda corpus, setting=setting: Program(words.program, corpus, setting) for setting in PAIRS}
+    made.update({"plain Rust": PlainRust} if "rust" in words.systems and built() else {})
+    found = [started(make, words.corpus(BULK), max(2, int(STARTS * words.share))) for make in made.values()]
+    rows = dict(zip(("ms by the clock", "kB of memory"), map(list, zip(*found))))
+    return grid("from the start to the first reply, without documents", made, rows)

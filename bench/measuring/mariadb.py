@@ -1,0 +1,241 @@
+"""Measures MariaDB for comparison: a table of ids and its JSON type, with indexes on generated columns, and a small client of its wire
+protocol.
+
+A new server is made in a temporary folder, with only a Unix socket, and without waits for a disk. Each connection prepares its statements
+once. EXPLAIN must show that each statement but the scan reads an index.
+"""
+import os
+import shutil
+import socket
+import subprocess
+import tempfile
+import time
+
+from . import processes
+from .documents import INDEXES, PAGE, compact
+
+SETTINGS = [
+    "innodb-buffer-pool-size=2G", "innodb-log-file-size=2G", "innodb-flush-log-at-trx-commit=0", "innodb-flush-method=nosync",
+    "innodb-doublewrite=0", "skip-log-bin", "skip-networking", "skip-grant-tables", "performance-schema=off", "query-cache-type=0",
+    "max-allowed-packet=64M",
+]
+ROW = "SELECT id, body FROM docs WHERE "
+# without FORCE its optimizer reads all documents of a kind where the price is low
+FORCED = "SELECT id, body FROM docs FORCE INDEX (by_kind) WHERE "
+# the type of the generated column for each member
+TYPES = {"group": "BIGINT", "price": "BIGINT", "kind": "VARCHAR(16)"}
+# protocol 4.1, a database at the start, names of methods to log in, and no EOF packets
+ABLE = 0x200 | 0x8 | 0x8000 | 0x80000 | 0x1000000
+UTF8_BINARY = 46
+QUERY, PREPARE, EXECUTE = b"\x03", b"\x16", b"\x17"
+NUMBER, TEXT = b"\x08\0", b"\xfd\0"
+
+
+def program():
+    return shutil.which("mariadbd")
+
+
+def column(member):
+    """The generated column of a member: its name is not that of a word of SQL."""
+    return f"its_{member}"
+
+
+def asked_of(corpus):
+    """The statement for each kind of request."""
+    group, kind, price = map(column, ("group", "kind", "price"))
+    return {
+        "get": ROW + "id = ?",
+        "equality": ROW + f"{group} = ? ORDER BY id LIMIT {PAGE}",
+        "falling": ROW + f"{price} < ? ORDER BY {price} DESC, id DESC LIMIT {PAGE}",
+        "two": FORCED + f"{kind} = ? AND {price} >= ? ORDER BY {price}, id LIMIT {PAGE}",
+        "deep": ROW + f"{price} >= ? AND ({price} > ? OR id > ?) ORDER BY {price}, id LIMIT {PAGE}",
+        "scan": ROW + f"JSON_VALUE(body, '$.{corpus.path('text')}') = ? ORDER BY id LIMIT {PAGE}",
+        "commit": "INSERT INTO docs (id, body) VALUES (?, ?)",
+    }
+
+
+def values_of(request):
+    """The values of a statement: the deep page names its price twice."""
+    return (request.about[0], *request.about) if request.kind == "deep" else request.about
+
+
+def sized(data):
+    """Bytes after their length."""
+    size = len(data)
+    return (bytes([size]) if size < 251 else b"\xfc" + size.to_bytes(2, "little") if size < 1 << 16 else b"\xfd" + size.to_bytes(3, "little")) + data
+
+
+def bound(number, values):
+    """The body of a command that executes a prepared statement."""
+    types = b"".join(NUMBER if isinstance(value, int) else TEXT for value in values)
+    parts = (value.to_bytes(8, "little") if isinstance(value, int) else sized(value.encode()) for value in values)
+    return EXECUTE + number + b"\0\1\0\0\0" + bytes((len(values) + 7) // 8) + b"\1" + types + b"".join(parts)
+
+
+class Connection:
+    """A connection that sends each command after it has read the answer to the one before."""
+
+    def __init__(self, path, asked):
+        self.socket, self.rest = socket.socket(socket.AF_UNIX), b""
+        self.socket.connect(path)
+        self.packet()
+        words = ABLE.to_bytes(4, "little") + (1 << 24).to_bytes(4, "little") + bytes([UTF8_BINARY]) + bytes(23)
+        self.send(words + b"root\0" + b"\0" + b"mysql\0" + b"mysql_native_password\0", 1)
+        if self.packet()[:1] == b"\xfe":
+            self.send(b"", 3)
+            self.packet()
+        self.asked = {kind: self.prepared(statement) for kind, statement in asked.items()}
+
+    def send(self, body, number=0):
+        self.socket.sendall(len(body).to_bytes(3, "little") + bytes([number]) + body)
+
+    def packet(self):
+        """The body of the next packet."""
+        while len(self.rest) < 4 or len(self.rest) < (end := 4 + int.from_bytes(self.rest[:3], "little")):
+            self.rest += self.more()
+        body, self.rest = self.rest[4:end], self.rest[end:]
+        if body[:1] == b"\xff":
+            raise OSError(f"MariaDB: {body[3:]!r}")
+        return body
+
+    def more(self):
+        piece = self.socket.recv(1 << 18)
+        if not piece:
+            raise OSError("MariaDB has closed the connection")
+        return piece
+
+    def prepared(self, statement):
+        """The number of a prepared statement, as it is sent."""
+        self.send(PREPARE + statement.encode())
+        answer = self.packet()
+        for _ in range(int.from_bytes(answer[5:7], "little") + int.from_bytes(answer[7:9], "little")):
+            self.packet()
+        return answer[1:5]
+
+    def exchange(self, message):
+        """Sends a command; gives the packets of its answer: the rows, or the only packet if it has none."""
+        self.socket.sendall(message)
+        data, at, end, packets, last = self.rest, 0, 0, [], None
+        while last is None:
+            while len(data) < at + 4 or len(data) < (end := at + 4 + int.from_bytes(data[at : at + 3], "little")):
+                data += self.more()
+            code = data[at + 4]
+            if code == 0xFF:
+                raise OSError(f"MariaDB: {data[at + 7 : end]!r}")
+            packets.append(data[at + 4 : end])
+            at = end
+            # an answer without rows is one packet that begins with 0; the last packet after rows begins with 254 and is short
+            if len(packets) == 1 and code == 0:
+                last = packets
+            elif len(packets) > 1 and code == 0xFE and len(packets[-1]) < 1 << 10:
+                last = packets[1 + packets[0][0] : -1]
+        self.rest = data[at:]
+        return last
+
+    def query(self, text):
+        body = QUERY + text.encode()
+        return self.exchange(len(body).to_bytes(3, "little") + b"\0" + body)
+
+    def prepare(self, request):
+        body = bound(self.asked[request.kind], values_of(request))
+        return len(body).to_bytes(3, "little") + b"\0" + body
+
+    def ask(self, message, answer):
+        rows = self.exchange(message)
+        if answer is None:
+            right = rows[0][:2] == b"\0\1"
+        else:
+            # a row: a byte 0, a byte of flags, and the id after its length
+            ids = [row[3 : 3 + row[2]].decode() for row in rows]
+            right = len(ids) == answer.count and ids[0] == answer.first and ids[-1] == answer.last
+        if not right:
+            raise ValueError(f"{message[:300]!r} was answered by {str(rows)[:300]}, wanted {answer}")
+
+
+class MariaDB:
+    name = "MariaDB"
+    in_process = False
+
+    def __init__(self, corpus):
+        self.corpus, self.columns, self.bulks = corpus, set(), {}
+        self.folder = tempfile.mkdtemp(prefix="bench-mariadb-")
+        self.data, self.socket = os.path.join(self.folder, "data"), os.path.join(self.folder, "socket")
+        user = ["--user=root"] if os.getuid() == 0 else []
+        words = ["mariadb-install-db", "--no-defaults", *user, f"--datadir={self.data}", "--auth-root-authentication-method=normal", "--skip-test-db"]
+        subprocess.run(words, stdout=subprocess.DEVNULL, stderr=subprocess.DEVNULL, check=True)
+        words = [program(), "--no-defaults", *user, f"--datadir={self.data}", f"--socket={self.socket}", f"--pid-file={self.folder}/pid"]
+        self.log = open(os.path.join(self.folder, "log"), "w")
+        self.process = subprocess.Popen([*words, *(f"--{one}" for one in SETTINGS)], stdin=subprocess.DEVNULL, stdout=self.log, stderr=self.log)
+        self.connection = self.connected()
+        self.connection.query("CREATE DATABASE bench")
+        self.connection.query("CREATE TABLE bench.docs (id VARCHAR(64) PRIMARY KEY, body JSON) COLLATE utf8mb4_bin")
+        self.connection.query("USE bench")
+
+    def connected(self):
+        """A connection, as soon as the server accepts one."""
+        for _ in range(600):
+            time.sleep(0.05)
+            try:
+                return Connection(self.socket, {})
+            except OSError:
+                if self.process.poll() is not None:
+                    break
+        with open(self.log.name) as file:
+            raise SystemExit(f"MariaDB does not start: {file.read()[-1000:]}")
+
+    def client(self):
+        client = Connection(self.socket, {})
+        client.query("USE bench")
+        client.asked = {kind: client.prepared(statement) for kind, statement in asked_of(self.corpus).items()}
+        return client
+
+    def processor(self):
+        return processes.processor(self.process.pid)
+
+    def size(self):
+        return processes.memory(self.process.pid)
+
+    def pages(self):
+        """The size of the file of the table and its indexes in bytes."""
+        return os.path.getsize(os.path.join(self.data, "bench", "docs.ibd"))
+
+    def prepare_bulk(self, numbers):
+        if len(numbers) not in self.bulks:
+            rows = ", ".join(["(?, ?)"] * len(numbers))
+            self.bulks[len(numbers)] = self.connection.prepared(f"INSERT INTO docs (id, body) VALUES {rows}")
+        values = [word for i in numbers for word in (self.corpus.name(i), compact(self.corpus.body(i)))]
+        body = bound(self.bulks[len(numbers)], values)
+        return len(body).to_bytes(3, "little") + b"\0" + body
+
+    def send_bulk(self, message, count):
+        self.connection.exchange(message)
+
+    def index(self, which):
+        for member in INDEXES[which]:
+            path = self.corpus.path(member)
+            made = f"{column(member)} {TYPES[member]} AS (JSON_VALUE(body, '$.{path}')) VIRTUAL"
+            self.connection.query(f"ALTER TABLE docs ADD COLUMN IF NOT EXISTS {made}")
+        self.connection.query(f"CREATE INDEX by_{which} ON docs ({', '.join(map(column, INDEXES[which]))}, id)")
+
+    def settle(self):
+        self.connection.query("ANALYZE TABLE docs")
+        for kind, statement in asked_of(self.corpus).items():
+            if kind not in ("scan", "commit"):
+                self.check_plan(kind, statement, self.corpus.requests(kind, 1, "plan")[0])
+
+    def check_plan(self, kind, statement, request):
+        """Ends the run unless the plan of a statement reads an index and sorts nothing."""
+        for value in values_of(request):
+            statement = statement.replace("?", str(value) if isinstance(value, int) else f"'{value}'", 1)
+        plan = b"\n".join(self.connection.query(f"EXPLAIN {statement}")).decode(errors="replace")
+        if not ("PRIMARY" in plan if kind == "get" else "by_" in plan) or "filesort" in plan:
+            raise SystemExit(f"MariaDB does not read {kind} by an index:\n{plan!r}")
+
+    def share(self):
+        """Nothing to do before several clients connect."""
+
+    def close(self):
+        self.process.kill()
+        self.process.wait()
+        self.log.close()
+        shutil.rmtree(self.folder)
