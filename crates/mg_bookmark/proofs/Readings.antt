@@ -10,12 +10,13 @@ use Rattle.base64.specs.Engines.{url_safe_no_pad}
 use Rattle.base64.proofs.EngineFacts.{decode_of-encode_of}
 use Rattle.base64.proofs.Streams.{decoded_of-ok}
 use Rattle.serde_json.specs.Read.{read}
+use Rattle.mg_collate.specs.Direction.{direction_named, direction_word}
 use Rattle.mg_collate.specs.declared.direction.Direction.{Direction}
 use Rattle.mg_collate.specs.declared.direction.Direction.TheVariants.{Asc, Desc}
 use Rattle.mg_value.specs.Text.{Reads, compact, whole_of}
 use Rattle.mg_value.specs.Value.{Value, null, text, list, item, no_items}
-use Rattle.mg_bookmark.specs.Bookmark.{IsReadAs, Place, Spells, ddoc_value, direction_text, place_value, spelled}
-use Rattle.mg_bookmark.specs.Reading.{bookmark_read, ddoc_in, direction_in, if_spelled, place_in, place_read, value_in}
+use Rattle.mg_bookmark.specs.Bookmark.{IsReadAs, Place, Spells, ddoc_value, place_value, spelled}
+use Rattle.mg_bookmark.specs.Reading.{bookmark_read, ddoc_in, if_spelled, place_in, place_read, value_in}
 use Rattle.mg_bookmark.proofs.Spellings.{utf8-bytes}
 
 -- ---- what is spelled is read
@@ -32,7 +33,7 @@ ddoc_again : (d : Option (List ℕ)) → ddoc_in (ddoc_value d) ≡ Some d
 ddoc_again None = refl
 ddoc_again (Some s) = refl
 
-direction_again : (d : Direction) → direction_in (direction_text d) ≡ Some d
+direction_again : (d : Direction) → direction_named (direction_word d) ≡ Some d
 direction_again Asc = refl
 direction_again Desc = refl
 
@@ -67,14 +68,14 @@ ddoc_found null d e = let f : d ≡ None = cc in rw f refl
 ddoc_found (text s) d e = let f : d ≡ Some s = cc in rw f refl
 ddoc_found v d e = absurd cc
 
-direction_found : (word : List ℕ) (d : Direction) → direction_in word ≡ Some d → word ≡ direction_text d
+direction_found : (word : List ℕ) (d : Direction) → direction_named word ≡ Some d → word ≡ direction_word d
 direction_found word d = asc (bytes_eq word (codes "asc")) refl
   where
-    desc : (b : Bool) → bytes_eq word (codes "desc") ≡ b → cond b (Some Desc) None ≡ Some d → word ≡ direction_text d
+    desc : (b : Bool) → bytes_eq word (codes "desc") ≡ b → cond b (Some Desc) None ≡ Some d → word ≡ direction_word d
     desc true same e = let f : d ≡ Desc = cc in rw f ((bytes_eq-Decides word (codes "desc")).0 same)
     desc false same e = absurd cc
 
-    asc : (b : Bool) → bytes_eq word (codes "asc") ≡ b → cond b (Some Asc) ((if bytes_eq word (codes "desc") then Some Desc else None)) ≡ Some d → word ≡ direction_text d
+    asc : (b : Bool) → bytes_eq word (codes "asc") ≡ b → cond b (Some Asc) ((if bytes_eq word (codes "desc") then Some Desc else None)) ≡ Some d → word ≡ direction_word d
     asc true same e = let f : d ≡ Asc = cc in rw f ((bytes_eq-Decides word (codes "asc")).0 same)
     asc false same e = desc (bytes_eq word (codes "desc")) refl e
 
@@ -86,8 +87,8 @@ option_mapped f (Some x) y e k = k x refl cc
 place_found : (v : Value) (p : Place) → place_in v ≡ Some p → v ≡ place_value p
 place_found (list (item d (item (text name) (item (text word) (item (list key) (item (text id) no_items)))))) p e =
     let Made : Option (List ℕ) → Direction → Place = λ ddoc direction. record { ddoc = ddoc; name = name; direction = direction; key = key; id = id } in
-    option_and_then_some (λ ddoc. option_map (Made ddoc) (direction_in word)) (ddoc_in d) p e
-    (λ ddoc de f. option_mapped (Made ddoc) (direction_in word) p f (λ direction we made.
+    option_and_then_some (λ ddoc. option_map (Made ddoc) (direction_named word)) (ddoc_in d) p e
+    (λ ddoc de f. option_mapped (Made ddoc) (direction_named word) p f (λ direction we made.
     subst (λ q. list (item d (item (text name) (item (text word) (item (list key) (item (text id) no_items))))) ≡ place_value q) made (rw (ddoc_found d ddoc de) (rw (direction_found word direction we) refl))))
 place_found v p e = absurd cc
 

@@ -7,8 +7,8 @@ use Rattle.base64.specs.Engines.{url_safe_no_pad}
 use Rattle.mg_value.specs.Value.{Value, null, text, list, Items, item, no_items, items_depth}
 use Rattle.mg_value.specs.Held.{ItemsAreHeld}
 use Rattle.mg_value.specs.Text.{Reads, compact}
+use Rattle.mg_collate.specs.Direction.{direction_word}
 use Rattle.mg_collate.specs.declared.direction.Direction.{Direction}
-use Rattle.mg_collate.specs.declared.direction.Direction.TheVariants.{Asc, Desc}
 
 -- the place of a row: the index's design document (none for `_all_docs`) and name, the direction, the row's key and id
 pub record Place : Type 0 where
@@ -23,14 +23,9 @@ abbrev pub ddoc_value : Option (List ℕ) → Value
 ddoc_value None = null
 ddoc_value (Some s) = text s
 
--- the word for a direction
-abbrev pub direction_text : Direction → List ℕ
-direction_text Asc = codes "asc"
-direction_text Desc = codes "desc"
-
 -- the array that is spelled
 abbrev pub place_value : Place → Value
-place_value p = list (item (ddoc_value p.ddoc) (item (text p.name) (item (text (direction_text p.direction)) (item (list p.key) (item (text p.id) no_items)))))
+place_value p = list (item (ddoc_value p.ddoc) (item (text p.name) (item (text (direction_word p.direction)) (item (list p.key) (item (text p.id) no_items)))))
 
 -- the spelling of a bookmark
 abbrev pub spelled : Place → List ℕ

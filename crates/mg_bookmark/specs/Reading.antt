@@ -6,8 +6,7 @@ use Rattle.base64.specs.Engines.{url_safe_no_pad}
 use Rattle.serde_json.specs.Read.{read}
 use Rattle.mg_value.specs.Value.{Value, null, text, list, item, no_items}
 use Rattle.mg_value.specs.Text.{compact, whole_of}
-use Rattle.mg_collate.specs.declared.direction.Direction.{Direction}
-use Rattle.mg_collate.specs.declared.direction.Direction.TheVariants.{Asc, Desc}
+use Rattle.mg_collate.specs.Direction.{direction_named}
 use Rattle.mg_bookmark.specs.Bookmark.{Place, place_value, spelled}
 
 -- the design document that a value names: a text, or `None` for null
@@ -16,14 +15,10 @@ ddoc_in null = Some None
 ddoc_in (text s) = Some (Some s)
 ddoc_in v = None
 
--- the direction that a word names
-abbrev pub direction_in : List ℕ → Option Direction
-direction_in word = if bytes_eq word (codes "asc") then Some Asc else if bytes_eq word (codes "desc") then Some Desc else None
-
 -- the place whose five parts an array has
 abbrev pub place_in : Value → Option Place
 place_in (list (item d (item (text name) (item (text word) (item (list key) (item (text id) no_items)))))) =
-    option_and_then (λ ddoc. option_map (λ direction. record { ddoc = ddoc; name = name; direction = direction; key = key; id = id }) (direction_in word)) (ddoc_in d)
+    option_and_then (λ ddoc. option_map (λ direction. record { ddoc = ddoc; name = name; direction = direction; key = key; id = id }) (direction_named word)) (ddoc_in d)
 place_in v = None
 
 -- the value of UTF-8 bytes that are a JSON text

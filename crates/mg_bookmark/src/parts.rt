@@ -2,9 +2,10 @@
 ghost use Rattle.std.specs.Prelude.{◌≡◌, ℕ, List, Option, Err, IfOk, option_map, string_bytes};
 ghost use Rattle.mg_value.specs.Value.{list, text, Items};
 ghost use Rattle.mg_value.specs.View.{view, items_view};
-ghost use Rattle.mg_bookmark.specs.Bookmark.{Place, place_value, ddoc_value, direction_text};
+ghost use Rattle.mg_bookmark.specs.Bookmark.{Place, place_value, ddoc_value};
 ghost use Rattle.mg_bookmark.specs.Decoding.{five};
 ghost use Rattle.mg_bookmark.specs.Seen.{bookmark_place};
+ghost use Rattle.mg_collate.specs.Direction.{direction_word};
 ghost use Rattle.mg_collate.specs.declared.direction.Direction.{Direction as DirectionValue};
 
 use crate::bookmark::Bookmark;
@@ -88,9 +89,9 @@ fn text_in(value: &Json) -> Result<String, BookmarkError>
 }
 
 fn direction_in(value: &Json) -> Result<Direction, BookmarkError>
-    ensures ok { IfOk result (λ direction. view value.now ≡ text (direction_text direction)) }
+    ensures ok { IfOk result (λ direction. view value.now ≡ text (direction_word direction)) }
     ensures invalid { result ≡ Err BookmarkError.Invalid
-        → (direction : DirectionValue) → ¬ (view value.now ≡ text (direction_text direction)) }
+        → (direction : DirectionValue) → ¬ (view value.now ≡ text (direction_word direction)) }
 {
     match value {
         Json::Text(word) => direction_named(word.as_str()),
@@ -99,14 +100,13 @@ fn direction_in(value: &Json) -> Result<Direction, BookmarkError>
 }
 
 fn direction_named(word: &str) -> Result<Direction, BookmarkError>
-    ensures ok { IfOk result (λ direction. word.now ≡ direction_text direction) }
+    ensures ok { IfOk result (λ direction. word.now ≡ direction_word direction) }
     ensures invalid { result ≡ Err BookmarkError.Invalid
-        → (direction : DirectionValue) → ¬ (word.now ≡ direction_text direction) }
+        → (direction : DirectionValue) → ¬ (word.now ≡ direction_word direction) }
 {
-    match word {
-        "asc" => Ok(Direction::Asc),
-        "desc" => Ok(Direction::Desc),
-        _ => Err(BookmarkError::Invalid),
+    match Direction::named(word) {
+        Some(direction) => Ok(direction),
+        None => Err(BookmarkError::Invalid),
     }
 }
 

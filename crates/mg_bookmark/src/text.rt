@@ -4,8 +4,9 @@ ghost use Rattle.json.specs.Print.{quoted};
 ghost use Rattle.mg_value.specs.Text.{compact};
 ghost use Rattle.mg_value.specs.Value.{list, item, text, no_items};
 ghost use Rattle.mg_value.specs.View.{items_view};
-ghost use Rattle.mg_bookmark.specs.Bookmark.{ddoc_value, direction_text};
+ghost use Rattle.mg_bookmark.specs.Bookmark.{ddoc_value};
 ghost use Rattle.mg_bookmark.specs.Seen.{key_at};
+ghost use Rattle.mg_collate.specs.Direction.{direction_word};
 
 use crate::place::RowKey;
 use json::Writer;
@@ -39,19 +40,9 @@ fn with_null(mut out: Vec<u8>) -> Result<Vec<u8>, NoMemory>
 }
 
 pub(crate) fn with_direction(out: Vec<u8>, direction: Direction) -> Result<Vec<u8>, NoMemory>
-    ensures { IfOk result (λ b. b.items ≡ out.items ++ quoted (direction_text direction)) }
+    ensures { IfOk result (λ b. b.items ≡ out.items ++ quoted (direction_word direction)) }
 {
-    with_text(out, word_of(direction))
-}
-
-// The word for a direction.
-fn word_of(direction: Direction) -> &'static str
-    ensures { result.now ≡ direction_text direction }
-{
-    match direction {
-        Direction::Asc => "asc",
-        Direction::Desc => "desc",
-    }
+    with_text(out, direction.word())
 }
 
 // The key of the row of the document with this id.

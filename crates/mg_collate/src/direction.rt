@@ -8,8 +8,35 @@ pub enum Direction {
 }
 
 impl Direction {
-    ghost use Rattle.std.specs.Prelude.{◌≡◌};
-    ghost use Rattle.mg_collate.specs.Direction.{directed};
+    ghost use Rattle.std.specs.Prelude.{◌≡◌, None, IfSome};
+    ghost use Rattle.mg_collate.specs.Direction.{directed, direction_named, direction_word};
+    ghost use Rattle.mg_collate.specs.declared.direction.Direction.{Direction as DirectionValue};
+
+    /// The direction of this word, `asc` or `desc`; `None` for any other text. Takes no memory.
+    ///
+    /// Source: `sort` in CouchDB's API reference.
+    pub fn named(word: &str) -> Option<Direction>
+        ensures direction { result ≡ direction_named word.now }
+        ensures some { IfSome result (λ direction. word.now ≡ direction_word direction) }
+        ensures none { result ≡ None
+            → (direction : DirectionValue) → ¬ (word.now ≡ direction_word direction) }
+    {
+        match word {
+            "asc" => Some(Direction::Asc),
+            "desc" => Some(Direction::Desc),
+            _ => None,
+        }
+    }
+
+    /// The word for the direction, as `named` reads it: `asc` or `desc`. Takes no memory.
+    pub fn word(self) -> &'static str
+        ensures { result.now ≡ direction_word self }
+    {
+        match self {
+            Direction::Asc => "asc",
+            Direction::Desc => "desc",
+        }
+    }
 
     /// Gives an ascending order back for `Asc`, and reversed for `Desc`. Rows are listed in the order
     /// `direction.apply(a.cmp(b))`: descending reverses keys and ids together.

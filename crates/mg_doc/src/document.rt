@@ -1,11 +1,10 @@
 ghost use Rattle.std.specs.Prelude.{◌≡◌, IfOk, IfSome, IsOk, None, option_map};
 ghost use Rattle.mg_value.specs.View.{view};
-ghost use Rattle.mg_revtree.specs.History.{History as Paths, Leaf as Winner};
+ghost use Rattle.mg_revtree.specs.History.{History as Paths, Leaf as Winner, first_of};
 ghost use Rattle.mg_revtree.specs.Tree.{StandsFor};
 ghost use Rattle.mg_doc.specs.Served.{served_form as form_of, served_of};
 
-use mg_packed::Packed;
-use mg_revtree::{Leaf, RevTree};
+use mg_revtree::{Form, Leaf, RevTree};
 use mg_value::{Json, NoMemory};
 use std::alloc::Global;
 
@@ -34,30 +33,47 @@ pub fn served(alloc: Global, id: &str, tree: &RevTree) -> Result<Option<Json>, N
 fn served_form(alloc: Global, id: &str, leaf: &Leaf) -> Result<Json, NoMemory>
     ensures { IfOk result (λ form. view form ≡ form_of id.now leaf.now) }
 {
-    let mut form = leaf.body.part().copy(alloc)?;
+    let mut form = leaf.body.copy(alloc)?;
     form.insert(alloc, "_rev", Json::Text(leaf.rev.text(alloc)?))?;
     form.insert(alloc, "_id", Json::Text(String::from_str(alloc, id)?))?;
     Ok(form)
 }
 
-/// The document that `served` gives, in one block of memory, made of the block of the winning revision's body.
+/// The document that `served` gives, in one block of memory. The winner's body then stands in that block too, and its own
+/// block is given back, unless a copy of the tree shares the winner. Contracts see the same tree.
 ///
-/// Where there is none, no memory is needed. Cost: two copies of the body's bytes. Source: `GET` of a document in CouchDB's API reference.
-pub fn served_packed(alloc: Global, id: &str, tree: &RevTree) -> Result<Option<Packed>, NoMemory>
+/// Where there is none, no memory is needed. Cost: two copies of the body's bytes; none if the tree has given the form of this
+/// winner before, which is then shared. Source: `GET` of a document in CouchDB's API reference.
+pub fn served_packed(alloc: Global, id: &str, tree: &mut RevTree) -> Result<Option<Form>, NoMemory>
+    ensures served { IfOk result (λ o. (h : Paths) → StandsFor tree.old h → o ≡ served_of id.now h) }
+    ensures form { IfOk result (λ o. IfSome o (λ form. (l : Winner) × (form ≡ form_of id.now l))) }
+    ensures none { (h : Paths) → StandsFor tree.old h → served_of id.now h ≡ None → IsOk result }
+    ensures tree { tree.new ≡ tree.old }
+{
+    let form = winner_form(alloc, id, tree)?;
+    if let Some(form) = &form {
+        let own = form.share()?;
+        tree.share_form(own);
+    }
+    Ok(form)
+}
+
+// The form of the winner, if it is not deleted.
+fn winner_form(alloc: Global, id: &str, tree: &RevTree) -> Result<Option<Form>, NoMemory>
     ensures served { IfOk result (λ o. (h : Paths) → StandsFor tree.now h → o ≡ served_of id.now h) }
     ensures form { IfOk result (λ o. IfSome o (λ form. (l : Winner) × (form ≡ form_of id.now l))) }
+    ensures first { IfOk result (λ o. IfSome o (λ form. IfSome (first_of tree.now.leaves) (λ l. form ≡ form_of id.now l))) }
     ensures none { (h : Paths) → StandsFor tree.now h → served_of id.now h ≡ None → IsOk result }
 {
     match tree.winner() {
-        Some(leaf) if !leaf.deleted => Ok(Some(packed_form(alloc, id, leaf)?)),
+        Some(leaf) if !leaf.deleted => Ok(Some(leaf_form(alloc, id, leaf)?)),
         _ => Ok(None),
     }
 }
 
-// The block of a leaf's body, with the document's id and its revision.
-fn packed_form(alloc: Global, id: &str, leaf: &Leaf) -> Result<Packed, NoMemory>
+// The form of a leaf: its body with the document's id and its revision.
+fn leaf_form(alloc: Global, id: &str, leaf: &Leaf) -> Result<Form, NoMemory>
     ensures { IfOk result (λ form. form ≡ form_of id.now leaf.now) }
 {
-    let form = leaf.body.with_text(alloc, "_rev", &leaf.rev.text(alloc)?)?;
-    form.with_text(alloc, "_id", id)
+    leaf.body.form(alloc, id, &leaf.rev.text(alloc)?)
 }

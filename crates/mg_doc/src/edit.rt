@@ -1,18 +1,15 @@
-ghost use Rattle.std.specs.Prelude.{◌≡◌, Err, IfOk, None, OnErr, Some, option_map, string_bytes, true};
+ghost use Rattle.std.specs.Prelude.{◌≡◌, Err, IfOk, None, Some, option_map, string_bytes, true};
 ghost use Rattle.mg_value.specs.View.{view, members_view};
-ghost use Rattle.mg_revtree.specs.History.{History as Paths};
-ghost use Rattle.mg_revtree.specs.Tree.{StandsFor};
-ghost use Rattle.mg_doc.specs.Applied.{Applied, Foreseen};
 ghost use Rattle.mg_doc.specs.Document.{Gives, edit_of, is_object, members_read};
 
-use crate::apply::{check_base, extend, extend_by_copy, look_for, merge, merge_by_copy};
+mod apply;
+
 use crate::change::Change;
 use crate::digest::id_ahead;
-use crate::error::{DocError, EditError};
+use crate::error::DocError;
 use crate::fault::gives_change;
 use crate::members::{checked_mark, keep_own, take_id};
-use crate::path::take_change;
-use mg_revtree::{Rev, RevTree};
+use crate::revisions::take_change;
 use mg_value::{Json, NoMemory};
 use std::alloc::Global;
 use std::collections::BTreeMap;
@@ -117,72 +114,6 @@ impl Edit {
             body: self.body.copy(alloc)?,
             ahead: None,
         })
-    }
-
-    /// Foresees what the edit does to the tree of its document, without changing the tree. Returns the newest revision of a
-    /// path that is known whole, because that changes nothing; `None` if the edit is to be applied.
-    ///
-    /// Errors: those of `apply`, except the `Conflict` of a made revision that is already known, which only `apply` finds. No
-    /// refusal needs memory. Cost: the look-ups of a path, or one look-up among the leaves.
-    pub fn look(&self, tree: &RevTree) -> Result<Option<Rev>, EditError>
-        ensures { (h : Paths) → StandsFor tree.now h → Foreseen h self.now result tree.now }
-    {
-        match &self.change {
-            Change::New(named) => {
-                check_base(tree, named.as_ref())?;
-                Ok(None)
-            }
-            Change::Replica(path) => look_for(tree, path),
-        }
-    }
-
-    /// Applies the edit to the tree of its document, and returns the revision that the edit brings.
-    ///
-    /// A new edit makes a revision over the one that it names, which has to be a leaf. If it names none, it
-    /// makes one over a deleted winner, or at position 1 in an empty tree. The path of
-    /// a replica is merged; one that is known whole changes nothing.
-    ///
-    /// Errors: `Conflict` if the named revision is not a leaf, if none is named but the winner is not
-    /// deleted, or if the made revision is already known; `BadHistory` if the extended leaf has the
-    /// last position, 4,294,967,295, or if a replica's path does not fit; else `NoMemory` if an allocation fails. No refusal needs
-    /// memory, except that of a made revision that is already known. An error leaves the tree as it was.
-    /// Cost: a copy of the body, unless the path is known whole, and the cost of `RevTree::extend` or `RevTree::merge`.
-    /// Source: CouchDB's `_bulk_docs` with `new_edits` true and false.
-    pub fn apply(&self, alloc: Global, tree: &mut RevTree) -> Result<Rev, EditError>
-        ensures applied { (h : Paths) → StandsFor tree.old h → Applied h self.now result tree.new }
-        ensures unchanged { OnErr result (tree.new ≡ tree.old) }
-    {
-        if let Some(rev) = self.look(tree)? {
-            return Ok(rev);
-        }
-        match &self.change {
-            Change::New(named) => {
-                extend_by_copy(alloc, tree, named.as_ref(), self.deleted, &self.body)
-            }
-            Change::Replica(path) => merge_by_copy(alloc, tree, path, self.deleted, &self.body),
-        }
-    }
-
-    /// Does what `apply` does, without a copy of the body. Cost: that of `RevTree::extend` or `RevTree::merge`, and the length of
-    /// the body's text if the edit extends a deleted winner that it does not name.
-    pub fn bring(self, alloc: Global, tree: &mut RevTree) -> Result<Rev, EditError>
-        ensures applied { (h : Paths) → StandsFor tree.old h → Applied h self result tree.new }
-        ensures unchanged { OnErr result (tree.new ≡ tree.old) }
-    {
-        if let Some(rev) = self.look(tree)? {
-            return Ok(rev);
-        }
-        let Edit {
-            id: _,
-            change,
-            deleted,
-            body,
-            ahead,
-        } = self;
-        match change {
-            Change::New(named) => extend(alloc, tree, named.as_ref(), deleted, body, ahead),
-            Change::Replica(path) => merge(tree, &path, deleted, body),
-        }
     }
 }
 

@@ -7,7 +7,7 @@ ghost use Rattle.mg_revtree.specs.Revision.{revision_of, run_of};
 ghost use Rattle.mg_doc.specs.Document.{change_given, path_ids as ids_of_path, rev_of, revisions_of, run_at};
 ghost use Rattle.mg_doc.specs.Form.{is_enough, is_id as gives_id};
 
-use crate::path::position;
+use crate::revisions::position;
 use mg_revtree::{Rev, RevError, is_id};
 use mg_value::Json;
 use std::alloc::Global;

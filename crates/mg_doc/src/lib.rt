@@ -1,7 +1,6 @@
 //! Documents of a bulk, their edits, and the form in which they are served.
 #![tactic(auto)]
 
-mod apply;
 mod change;
 mod conflicts;
 mod digest;
@@ -10,7 +9,7 @@ mod edit;
 mod error;
 mod fault;
 mod members;
-mod path;
+mod revisions;
 
 pub use change::Change;
 pub use conflicts::with_conflicts;

@@ -10,8 +10,8 @@ use Rattle.mg_engine.specs.Settled.{IsSettled, settled_of}
 use Rattle.mg_engine.specs.Stands.{Holds, Shown}
 use Rattle.mg_engine.specs.View.{said}
 use Rattle.mg_engine.specs.World.{World}
-use Rattle.mg_engine.specs.declared.prepared.ReadBulk.{ReadBulk}
-use Rattle.mg_engine.specs.declared.prepared.ReadBulk.TheVariants.{Edits, Refused}
+use Rattle.mg_engine.specs.declared.bulk.read.ReadBulk.{ReadBulk}
+use Rattle.mg_engine.specs.declared.bulk.read.ReadBulk.TheVariants.{Edits, Refused}
 use Rattle.mg_engine.specs.declared.refusal.Refusal.{Refusal}
 use Rattle.mg_engine.specs.declared.reply.Reply.{Reply}
 use Rattle.mg_engine.proofs.Runs.{answered}

@@ -8,7 +8,7 @@ use Rattle.mg_doc.specs.declared.error.Refused.TheVariants.{BadHistory, Conflict
 use Rattle.mg_shard.specs.Edits.{id_in}
 use Rattle.mg_engine.specs.Bulk.{entries_of, entry_before, entry_of, refused_entry}
 use Rattle.mg_engine.specs.Outcomes.{entries_told, reply_in, told_id}
-use Rattle.mg_engine.specs.declared.edits.Outcome.{Outcome}
+use Rattle.mg_engine.specs.declared.bulk.apply.Outcome.{Outcome}
 
 -- the entries by the outcomes are those by the edits, if both have the same ids
 pub by_ids : (b : Bool) (es : List Edit) (os : List Outcome) → map id_in es ≡ map told_id os → entries_of b es (map reply_in os) ≡ entries_told b os

@@ -4,8 +4,8 @@ use Rattle.mg_doc.specs.Document.{Edit}
 use Rattle.mg_engine.specs.Commands.{Asked, edits_effect, next, refused, reply_of, shards_after}
 use Rattle.mg_engine.specs.Objects.{BringObjects}
 use Rattle.mg_engine.specs.World.{World}
-use Rattle.mg_engine.specs.declared.prepared.ReadBulk.{ReadBulk}
-use Rattle.mg_engine.specs.declared.prepared.ReadBulk.TheVariants.{Edits, Refused}
+use Rattle.mg_engine.specs.declared.bulk.read.ReadBulk.{ReadBulk}
+use Rattle.mg_engine.specs.declared.bulk.read.ReadBulk.TheVariants.{Edits, Refused}
 use Rattle.mg_engine.specs.declared.refusal.Refusal.{Refusal}
 
 -- in every world the command has the effect of these edits

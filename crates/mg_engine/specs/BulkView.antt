@@ -5,7 +5,7 @@ use Rattle.std.specs.declared.vec.Vec.{Vec}
 use Rattle.mg_value.specs.View.{items_view}
 use Rattle.mg_doc.specs.Document.{Edit}
 use Rattle.mg_engine.specs.Bulk.{Bulk, BulkEdits}
-use Rattle.mg_engine.specs.declared.bulk.Bulk as code
+use Rattle.mg_engine.specs.declared.bulk.read.Bulk as code
 
 -- the bulk that the code's `Bulk` stands for
 abbrev pub bulk_seen : code.Bulk → Bulk

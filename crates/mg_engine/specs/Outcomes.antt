@@ -5,7 +5,7 @@ use Rattle.mg_revtree.specs.Revision.{Revision}
 use Rattle.mg_doc.specs.declared.error.Refused.{Refused}
 use Rattle.mg_shard.specs.Edits.{outcome_seen}
 use Rattle.mg_engine.specs.Bulk.{entry_before, entry_of}
-use Rattle.mg_engine.specs.declared.edits.Outcome.{Outcome}
+use Rattle.mg_engine.specs.declared.bulk.apply.Outcome.{Outcome}
 
 -- the id of the edit
 abbrev pub told_id : Outcome → List ℕ

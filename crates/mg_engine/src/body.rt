@@ -1,7 +1,7 @@
 //! Bodies of replies.
 ghost use Rattle.std.specs.Prelude.{◌≡◌, ◌∷◌, ◌++◌, [], IfOk};
 ghost use Rattle.mg_value.specs.View.{view};
-ghost use Rattle.mg_engine.specs.Bodies.{line_of};
+ghost use Rattle.mg_engine.specs.Bodies.{done_value, line_of};
 
 use mg_value::{Json, NoMemory, write};
 use std::alloc::Global;
@@ -31,4 +31,13 @@ pub(crate) fn text_line(alloc: Global, text: &[u8]) -> Result<Vec<u8>, NoMemory>
     line.extend_from_slice(text)?;
     line.push(b'\n')?;
     Ok(line)
+}
+
+/// The body `{"ok":true}` and a line feed.
+pub(crate) fn done_line(alloc: Global) -> Result<Vec<u8>, NoMemory>
+    ensures { IfOk result (λ b. b.items ≡ line_of done_value) }
+{
+    let mut done = Json::empty_object(alloc);
+    done.insert(alloc, "ok", Json::Flag(true))?;
+    line(alloc, &done)
 }

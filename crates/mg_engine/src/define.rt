@@ -3,7 +3,7 @@ ghost use Rattle.std.specs.Prelude.{◌≡◌, ◌∷◌, codes, IfOk, Ok, Some,
 ghost use Rattle.mg_value.specs.View.{view};
 ghost use Rattle.mg_index.specs.Definition.{listed_all_docs, listed_of};
 ghost use Rattle.mg_index.specs.Catalog.{definition_at, with_definition};
-ghost use Rattle.mg_engine.specs.Bodies.{done_value, index_value, line_of, indexes_value};
+ghost use Rattle.mg_engine.specs.Bodies.{index_value, indexes_value, line_of};
 ghost use Rattle.mg_engine.specs.Commands.{create_index, created, drop_index, list_indexes, next, reply_of, world_defined};
 ghost use Rattle.mg_engine.specs.Settled.{IsSettled, accepts, shard_without, state_with, state_without};
 ghost use Rattle.mg_scan.specs.Built.{with_index};
@@ -13,13 +13,15 @@ ghost use Rattle.mg_engine.specs.View.{said};
 ghost use Rattle.mg_engine.specs.World.{World};
 ghost use Rattle.mg_shard.specs.Dealt.{Placing};
 
-use crate::body::line;
+use crate::body::{done_line, line};
+use crate::context::Context;
 use crate::fault::Fault;
 use crate::refusal::Refusal;
 use crate::reply::Reply;
+use crate::shards::wrap_shards;
 use crate::state::State;
 use mg_index::{Catalog, IndexDef, all_docs_listed, design_document};
-use mg_scan::{NoGate, Workers, build};
+use mg_scan::{NoGate, build};
 use mg_shard::Shard;
 use mg_value::{Json, NoMemory};
 use std::alloc::Global;
@@ -30,12 +32,10 @@ impl State {
     /// Creates an index. Returns the reply, and the next state, or `None` if the body defines no index.
     /// Cost: the number of shards and of indexes if the same definition is there already; otherwise each document, and the sorting of
     /// its rows.
-    pub(crate) fn create_index<R: Threads + Sync>(
+    pub(crate) fn create_index<R: Threads + Sync, G>(
         &self,
-        rt: &R,
-        alloc: Global,
+        context: &Context<'_, R, G>,
         body: &Json,
-        workers: Workers,
     ) -> Result<(Reply, Option<State>), NoMemory>
         ensures does { IfOk result (λ r. (place : Placing) (w : World) → Holds place self.now w
             → (said r.0 ≡ Some (reply_of w (create_index (view body.now))))
@@ -43,25 +43,23 @@ impl State {
         ensures settled { IfOk result (λ r. IsSettled r.0 r.1) }
         ensures number { IfOk result (λ r. length (unwrap_or r.1 self.now).shards ≡ length self.now.shards) }
     {
-        match IndexDef::read(alloc, body) {
+        match IndexDef::read(context.alloc, body) {
             Ok(definition) => {
-                let (reply, next) = self.define(rt, alloc, definition, workers)?;
+                let (reply, next) = self.define(context, definition)?;
                 Ok((reply, Some(next)))
             }
             Err(fault) => match Fault::from(fault) {
-                Fault::Refused(refusal) => Ok((Reply::refusing(alloc, refusal)?, None)),
+                Fault::Refused(refusal) => Ok((Reply::refusing(context.alloc, refusal)?, None)),
                 Fault::NoMemory => Err(NoMemory),
             },
         }
     }
 
     // The reply to a definition, and the state that has it.
-    fn define<R: Threads + Sync>(
+    fn define<R: Threads + Sync, G>(
         &self,
-        rt: &R,
-        alloc: Global,
+        context: &Context<'_, R, G>,
         definition: IndexDef,
-        workers: Workers,
     ) -> Result<(Reply, State), NoMemory>
         ensures does { IfOk result (λ r. (place : Placing) (w : World) → Holds place self.now w
             → (said r.0 ≡ Some (created w (Ok definition)))
@@ -70,47 +68,43 @@ impl State {
         ensures number { IfOk result (λ r. length r.1.shards ≡ length self.now.shards) }
     {
         let there = self.catalog.has(&definition);
-        let body = created_line(alloc, &definition, there)?;
-        let next = self.defined(rt, alloc, definition, there, workers)?;
+        let body = created_line(context.alloc, &definition, there)?;
+        let next = self.defined(context, definition, there)?;
         Ok((Reply::Full { status: 200, body }, next))
     }
 
     // The state with a definition. If the same definition is there already, the state is shared as it is.
-    fn defined<R: Threads + Sync>(
+    fn defined<R: Threads + Sync, G>(
         &self,
-        rt: &R,
-        alloc: Global,
+        context: &Context<'_, R, G>,
         definition: IndexDef,
         there: bool,
-        workers: Workers,
     ) -> Result<State, NoMemory>
         requires same { there ≡ true → with_definition definition self.now.catalog ≡ self.now.catalog }
         ensures stands { IfOk result (λ s. (place : Placing) (w : World) → Holds place self.now w → Holds place s (world_defined w (Ok definition))) }
         ensures number { IfOk result (λ s. length s.shards ≡ length self.now.shards) }
     {
         if there {
-            let state = self.share(alloc)?;
+            let state = self.share(context.alloc)?;
             Ok(state)
         } else {
-            let state = self.with_index(rt, alloc, definition, workers)?;
+            let state = self.with_index(context, definition)?;
             Ok(state)
         }
     }
 
     // The state with an index, which is built on all shards.
-    fn with_index<R: Threads + Sync>(
+    fn with_index<R: Threads + Sync, G>(
         &self,
-        rt: &R,
-        alloc: Global,
+        context: &Context<'_, R, G>,
         definition: IndexDef,
-        workers: Workers,
     ) -> Result<State, NoMemory>
         ensures { IfOk result (λ s. s ≡ state_with definition self.now) }
     {
-        let shards = all_with(rt, alloc, &self.shards, &definition, workers)?;
-        let mut catalog = self.catalog.copy(alloc)?;
+        let shards = all_with(context, &self.shards, &definition)?;
+        let mut catalog = self.catalog.copy(context.alloc)?;
         catalog.add(definition)?;
-        self.with_catalog(alloc, catalog, shards)
+        self.with_catalog(context.alloc, catalog, shards)
     }
 
     /// Drops an index. Returns the reply, and the next state, or `None` if there is no such index. Cost: the number of shards and of
@@ -156,20 +150,10 @@ impl State {
     }
 }
 
-// Whether an index of this design document and name is in the catalog.
 fn has_index(catalog: &Catalog, ddoc: &str, name: &str) -> bool
     ensures { result ≡ is_some (definition_at ddoc.now name.now catalog.now) }
 {
     catalog.find(ddoc, name).is_some()
-}
-
-/// The body `{"ok":true}` and a line feed.
-pub(crate) fn done_line(alloc: Global) -> Result<Vec<u8>, NoMemory>
-    ensures { IfOk result (λ b. b.items ≡ line_of done_value) }
-{
-    let mut done = Json::empty_object(alloc);
-    done.insert(alloc, "ok", Json::Flag(true))?;
-    line(alloc, &done)
 }
 
 // The body of the reply that lists the indexes.
@@ -205,28 +189,17 @@ fn created_line(alloc: Global, definition: &IndexDef, there: bool) -> Result<Vec
 }
 
 // Builds an index on all shards.
-fn all_with<R: Threads + Sync>(
-    rt: &R,
-    alloc: Global,
+fn all_with<R: Threads + Sync, G>(
+    context: &Context<'_, R, G>,
     shards: &[Arc<Shard>],
     definition: &IndexDef,
-    workers: Workers,
 ) -> Result<Vec<Arc<Shard>>, NoMemory>
     ensures { IfOk result (λ v. shards_seen v.items ≡ map (with_index definition.now) (shards_seen shards.now)) }
 {
-    let built = build(rt, alloc, shards, definition, workers.count(), &NoGate)?;
-    shared(alloc, built)
-}
-
-/// Puts each shard into an `Arc`. Cost: their number.
-pub(crate) fn shared(alloc: Global, shards: Vec<Shard>) -> Result<Vec<Arc<Shard>>, NoMemory>
-    ensures { IfOk result (λ v. shards_seen v.items ≡ shards.items) }
-{
-    let mut all = Vec::with_capacity(alloc, shards.len())?;
-    for shard in shards {
-        all.push(Arc::new(alloc, shard)?)?;
-    }
-    Ok(all)
+    let alloc = context.alloc;
+    let workers = context.workers.count();
+    let built = build(context.rt, alloc, shards, definition, workers, &NoGate)?;
+    wrap_shards(alloc, built)
 }
 
 // Drops an index from all shards.

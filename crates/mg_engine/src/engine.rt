@@ -8,6 +8,7 @@ ghost use Rattle.mg_shard.specs.Shard.{shards_seen};
 ghost use Rattle.mg_engine.specs.Run.{Answers, IsRun, kept};
 
 use crate::command::Command;
+use crate::context::Context;
 use crate::prepared::Prepared;
 use crate::reply::Reply;
 use crate::state::State;
@@ -81,10 +82,13 @@ impl<P: Placement + Drop> Engine<P> {
         ensures shards { IfSome (said result) (λ _. shard_count self.new ≡ shards_after (shard_count self.old) (asked command.now)) }
         ensures placement { self.new.0 ≡ self.old.0 }
     {
-        let workers = Workers::most(workers);
-        let (reply, next) = self
-            .state
-            .execute(rt, alloc, &*self.placement, command, workers, &NoGate);
+        let context = Context {
+            rt,
+            alloc,
+            workers: Workers::most(workers),
+            gate: &NoGate,
+        };
+        let (reply, next) = self.state.execute(&context, &*self.placement, command);
         if let Some(next) = next {
             self.state = next;
         }
@@ -106,10 +110,13 @@ impl<P: Placement + Drop> Engine<P> {
         requires most { workers ≤ 32 }
         ensures { (w : World) → Stands P.place self.now w → IfSome (said result) (λ a. a ≡ reply_of w (asked command.now)) }
     {
-        let workers = Workers::exactly(workers);
-        let (reply, _) = self
-            .state
-            .execute(rt, alloc, &*self.placement, command, workers, gate);
+        let context = Context {
+            rt,
+            alloc,
+            workers: Workers::exactly(workers),
+            gate,
+        };
+        let (reply, _) = self.state.execute(&context, &*self.placement, command);
         reply
     }
 
@@ -127,10 +134,13 @@ impl<P: Placement + Drop> Engine<P> {
         requires most { workers ≤ 32 }
         ensures { (w : World) → Stands P.place self.now w → IfSome (said result) (λ a. a ≡ reply_of w (asked command.now)) }
     {
-        let workers = Workers::most(workers);
-        let (reply, _) = self
-            .state
-            .execute(rt, alloc, &*self.placement, command, workers, &NoGate);
+        let context = Context {
+            rt,
+            alloc,
+            workers: Workers::most(workers),
+            gate: &NoGate,
+        };
+        let (reply, _) = self.state.execute(&context, &*self.placement, command);
         reply
     }
 
@@ -181,10 +191,15 @@ impl<P: Placement + Drop> Engine<P> {
         let Ok(placement) = self.placement.clone() else {
             return (Reply::NoMemory, None);
         };
-        let workers = Workers::most(workers);
+        let context = Context {
+            rt,
+            alloc,
+            workers: Workers::most(workers),
+            gate: &NoGate,
+        };
         match self
             .state
-            .execute_prepared(rt, alloc, &*self.placement, prepared, workers)
+            .execute_prepared(&context, &*self.placement, prepared)
         {
             (reply, Some(state)) => (reply, Some(Engine { placement, state })),
             (reply, None) => (reply, None),

@@ -8,13 +8,13 @@ ghost use Rattle.mg_engine.specs.View.{asked, said};
 ghost use Rattle.mg_engine.specs.World.{World};
 
 use crate::command::Command;
+use crate::context::Context;
 use crate::prepared::Prepared;
 use crate::reply::Reply;
 use crate::state::State;
-use mg_scan::{Gate, NoGate, Workers};
+use mg_scan::Gate;
 use mg_shard::Placement;
 use mg_value::NoMemory;
-use std::alloc::Global;
 use std::thread::Threads;
 
 impl State {
@@ -22,12 +22,9 @@ impl State {
     /// is no next state. A query passes the gate.
     pub(crate) fn execute<P: Placement, R: Threads + Sync, G: Gate + Sync>(
         &self,
-        rt: &R,
-        alloc: Global,
+        context: &Context<'_, R, G>,
         placement: &P,
         command: &Command,
-        workers: Workers,
-        gate: &G,
     ) -> (Reply, Option<State>)
         ensures answers { (w : World) → Holds (P.place placement.now) self.now w
             → Answers w (asked command.now) (said result.0) (Holds (P.place placement.now) (unwrap_or result.1 self.now)) }
@@ -37,25 +34,32 @@ impl State {
             ≡ shards_after (length self.now.shards) (asked command.now)) }
     {
         match command {
-            Command::Bulk(body) => settled(self.bulk(alloc, placement, body)),
-            Command::CreateIndex(body) => settled(self.create_index(rt, alloc, body, workers)),
-            Command::DropIndex { ddoc, name } => settled(self.drop_index(alloc, ddoc, name)),
-            Command::ListIndexes => told(self.list_indexes(alloc)),
-            Command::Find(body) => told(self.find(rt, alloc, body, workers, gate)),
-            Command::Explain(body) => told(self.explain(alloc, body)),
-            Command::Get { id, conflicts } => told(self.get(alloc, placement, id, *conflicts)),
-            Command::Reshard(body) => { settled(self.reshard(rt, alloc, placement, body, workers)) }
+            Command::Bulk(body) => settled(self.bulk(context.alloc, placement, body)),
+            Command::CreateIndex(body) => settled(self.create_index(context, body)),
+            Command::DropIndex { ddoc, name } => settled(self.drop_index(
+                context.alloc,
+                ddoc,
+                name,
+            )),
+            Command::ListIndexes => told(self.list_indexes(context.alloc)),
+            Command::Find(body) => told(self.find(context, body)),
+            Command::Explain(body) => told(self.explain(context.alloc, body)),
+            Command::Get { id, conflicts } => told(self.get(
+                context.alloc,
+                placement,
+                id,
+                *conflicts,
+            )),
+            Command::Reshard(body) => settled(self.reshard(context, placement, body)),
         }
     }
 
-    /// Executes a prepared command as `execute` does, without a gate.
-    pub(crate) fn execute_prepared<P: Placement, R: Threads + Sync>(
+    /// Executes a prepared command as `execute` does.
+    pub(crate) fn execute_prepared<P: Placement, R: Threads + Sync, G: Gate + Sync>(
         &self,
-        rt: &R,
-        alloc: Global,
+        context: &Context<'_, R, G>,
         placement: &P,
         prepared: Prepared<'_>,
-        workers: Workers,
     ) -> (Reply, Option<State>)
         ensures answers { (w : World) → Holds (P.place placement.now) self.now w
             → Answers w prepared.entry (said result.0) (Holds (P.place placement.now) (unwrap_or result.1 self.now)) }
@@ -65,8 +69,8 @@ impl State {
     {
         let Prepared { command, bulk } = prepared;
         match bulk {
-            Some(read) => settled(self.apply(alloc, placement, read)),
-            None => self.execute(rt, alloc, placement, command, workers, &NoGate),
+            Some(read) => settled(self.apply(context.alloc, placement, read)),
+            None => self.execute(context, placement, command),
         }
     }
 }

@@ -4,10 +4,9 @@
 mod body;
 mod bulk;
 mod command;
+mod context;
 mod define;
-mod edits;
 mod engine;
-mod entry;
 mod execute;
 mod fault;
 pub mod laws;
@@ -17,8 +16,8 @@ mod read;
 mod refusal;
 mod reply;
 mod reshard;
+mod shards;
 mod state;
-mod write;
 
 pub use command::Command;
 pub use engine::Engine;

@@ -14,12 +14,13 @@ ghost use Rattle.mg_engine.specs.View.{said};
 ghost use Rattle.mg_engine.specs.World.{World};
 
 use crate::body::{line, with_line_feed};
+use crate::context::Context;
 use crate::fault::Fault;
 use crate::reply::Reply;
 use crate::state::State;
 use mg_index::Catalog;
 use mg_query::{Query, explain, page_text_by};
-use mg_scan::{Gate, Workers};
+use mg_scan::Gate;
 use mg_shard::Shard;
 use mg_value::{Json, NoMemory};
 use std::alloc::Global;
@@ -31,24 +32,13 @@ impl State {
     /// are found; the page.
     pub(crate) fn find<R: Threads + Sync, G: Gate + Sync>(
         &self,
-        rt: &R,
-        alloc: Global,
+        context: &Context<'_, R, G>,
         body: &Json,
-        workers: Workers,
-        gate: &G,
     ) -> Result<Reply, NoMemory>
         ensures { IfOk result (λ r. (place : Placing) (w : World) → Holds place self.now w → said r ≡ Some (reply_of w (find (view body.now)))) }
     {
-        let line = page_line(
-            rt,
-            alloc,
-            &self.catalog,
-            self.whole_shards(),
-            body,
-            workers,
-            gate,
-        );
-        let reply = told(alloc, line)?;
+        let line = page_line(context, &self.catalog, self.whole_shards(), body);
+        let reply = told(context.alloc, line)?;
         Ok(reply)
     }
 
@@ -64,37 +54,37 @@ impl State {
 
 // Reads a query and writes the line of its page. Each shard has the indexes of the catalog.
 fn page_line<R: Threads + Sync, G: Gate + Sync>(
-    rt: &R,
-    alloc: Global,
+    context: &Context<'_, R, G>,
     catalog: &Catalog,
     shards: &[Arc<Shard>],
     body: &Json,
-    workers: Workers,
-    gate: &G,
 ) -> Result<Vec<u8>, Fault>
     requires indexes { HaveIndexes catalog.now (shards_seen shards.now) }
     ensures { (place : Placing) (w : World) → ShardsStandFor place (shards_seen shards.now) w.docs → AreWhole (candidates_of w.docs)
         → w.indexes ≡ catalog.now → Tells result (answer_of_query w (query_of (view body.now))) }
 {
-    let query = Query::read(alloc, body)?;
-    answer_line(rt, alloc, catalog, shards, &query, workers, gate)
+    let query = Query::read(context.alloc, body)?;
+    answer_line(context, catalog, shards, &query)
 }
 
 // Writes the line of a query's page.
 fn answer_line<R: Threads + Sync, G: Gate + Sync>(
-    rt: &R,
-    alloc: Global,
+    context: &Context<'_, R, G>,
     catalog: &Catalog,
     shards: &[Arc<Shard>],
     query: &Query<'_>,
-    workers: Workers,
-    gate: &G,
 ) -> Result<Vec<u8>, Fault>
     requires indexes { HaveIndexes catalog.now (shards_seen shards.now) }
     ensures { (place : Placing) (w : World) → ShardsStandFor place (shards_seen shards.now) w.docs → AreWhole (candidates_of w.docs)
         → w.indexes ≡ catalog.now → Tells result (answer_of_query w (Ok (query_seen query.now))) }
 {
-    match page_text_by(rt, alloc, query, catalog, shards, workers, gate) {
+    let Context {
+        rt,
+        alloc,
+        workers,
+        gate,
+    } = context;
+    match page_text_by(*rt, *alloc, query, catalog, shards, *workers, *gate) {
         Ok(text) => {
             let line = with_line_feed(text)?;
             Ok(line)

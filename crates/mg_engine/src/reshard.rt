@@ -13,14 +13,14 @@ ghost use Rattle.mg_engine.specs.Stands.{HaveRows, Holds};
 ghost use Rattle.mg_engine.specs.View.{said};
 ghost use Rattle.mg_engine.specs.World.{World};
 
-use crate::define::{done_line, shared};
+use crate::body::done_line;
+use crate::context::Context;
 use crate::refusal::Refusal;
 use crate::reply::Reply;
+use crate::shards::wrap_shards;
 use crate::state::State;
-use mg_scan::Workers;
 use mg_shard::{Placement, Shard, redeal};
 use mg_value::{Json, NoMemory};
-use std::alloc::Global;
 use std::sync::Arc;
 use std::thread::Threads;
 
@@ -28,13 +28,11 @@ impl State {
     /// Deals the documents to the number of shards that the body asks for. Returns the reply, and the next state, or `None` if the body
     /// does not ask for a whole number from 1 to 64: it is then refused as `WrongShape`. The documents, the indexes and the counter stay
     /// as they are. Cost: the number of shards, if it does not change; otherwise each document, and its row in each index.
-    pub(crate) fn reshard<P: Placement, R: Threads + Sync>(
+    pub(crate) fn reshard<P: Placement, R: Threads + Sync, G>(
         &self,
-        rt: &R,
-        alloc: Global,
+        context: &Context<'_, R, G>,
         placement: &P,
         body: &Json,
-        workers: Workers,
     ) -> Result<(Reply, Option<State>), NoMemory>
         ensures does { IfOk result (λ r. (w : World) → Holds (P.place placement.now) self.now w
             → (said r.0 ≡ Some (reply_of w (reshard (view body.now))))
@@ -44,31 +42,29 @@ impl State {
             ≡ shards_after (length self.now.shards) (reshard (view body.now))) }
     {
         let Some(count) = shards_asked(body) else {
-            return Ok((Reply::refusing(alloc, Refusal::WrongShape)?, None));
+            return Ok((Reply::refusing(context.alloc, Refusal::WrongShape)?, None));
         };
-        let body = done_line(alloc)?;
-        let next = self.over_shards(rt, alloc, placement, count, workers)?;
+        let body = done_line(context.alloc)?;
+        let next = self.over_shards(context, placement, count)?;
         Ok((Reply::Full { status: 200, body }, Some(next)))
     }
 
     // The state over `count` shards. If it has that many already, it is shared as it is.
-    fn over_shards<P: Placement, R: Threads + Sync>(
+    fn over_shards<P: Placement, R: Threads + Sync, G>(
         &self,
-        rt: &R,
-        alloc: Global,
+        context: &Context<'_, R, G>,
         placement: &P,
         count: usize,
-        workers: Workers,
     ) -> Result<State, NoMemory>
         requires { 0 < count }
         ensures stands { IfOk result (λ s. (w : World) → Holds (P.place placement.now) self.now w → Holds (P.place placement.now) s w) }
         ensures number { IfOk result (λ s. length s.shards ≡ count) }
     {
         if count == self.shards.len() {
-            let state = self.share(alloc)?;
+            let state = self.share(context.alloc)?;
             Ok(state)
         } else {
-            let shards = dealt_anew(rt, alloc, &self.shards, placement, count, workers)?;
+            let shards = dealt_anew(context, &self.shards, placement, count)?;
             let state = self.with_shards(shards, self.counter)?;
             Ok(state)
         }
@@ -76,13 +72,11 @@ impl State {
 }
 
 // Deals the documents of these shards to `count` new ones, with the rows of the same indexes.
-fn dealt_anew<P: Placement, R: Threads + Sync>(
-    rt: &R,
-    alloc: Global,
+fn dealt_anew<P: Placement, R: Threads + Sync, G>(
+    context: &Context<'_, R, G>,
     shards: &[Arc<Shard>],
     placement: &P,
     count: usize,
-    workers: Workers,
 ) -> Result<Vec<Arc<Shard>>, NoMemory>
     requires { 0 < count }
     ensures number { IfOk result (λ v. length (shards_seen v.items) ≡ count) }
@@ -91,8 +85,9 @@ fn dealt_anew<P: Placement, R: Threads + Sync>(
     ensures rows { IfOk result (λ v. (ds : List IndexDefinition) → 0 < length shards.now → HaveRows ds (shards_seen shards.now)
         → HaveRows ds (shards_seen v.items)) }
 {
-    let dealt = redeal(rt, alloc, shards, placement, count, workers.count())?;
-    let shards = shared(alloc, dealt)?;
+    let workers = context.workers.count();
+    let dealt = redeal(context.rt, context.alloc, shards, placement, count, workers)?;
+    let shards = wrap_shards(context.alloc, dealt)?;
     Ok(shards)
 }
 

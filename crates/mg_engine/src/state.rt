@@ -1,12 +1,11 @@
 //! The state of the engine: what the database holds.
 ghost use Rattle.std.specs.Prelude.{◌≡◌, ◌<◌, All, IfOk, length};
-ghost use Rattle.std.specs.Prelude.{replicate};
 ghost use Rattle.mg_engine.specs.World.{empty_world};
 ghost use Rattle.mg_engine.specs.Stands.{HaveRows, Holds};
-ghost use Rattle.mg_engine.specs.StateView.{empty_shard};
 ghost use Rattle.mg_shard.specs.Shard.{shards_seen};
 ghost use Rattle.mg_shard.specs.Dealt.{Placing};
 
+use crate::shards::{empty_shards, share_shards};
 use mg_index::Catalog;
 use mg_shard::Shard;
 use mg_shard::laws::nothing_is_dealt;
@@ -107,30 +106,8 @@ impl State {
     pub(crate) fn share(&self, alloc: Global) -> Result<State, NoMemory>
         ensures { IfOk result (λ s. s ≡ self.now) }
     {
-        let shards = shares(alloc, &self.shards)?;
+        let shards = share_shards(alloc, &self.shards)?;
         let state = self.with_shards(shards, self.counter)?;
         Ok(state)
     }
-}
-
-// Makes shards without documents and indexes.
-fn empty_shards(alloc: Global, shards: usize) -> Result<Vec<Arc<Shard>>, NoMemory>
-    ensures { IfOk result (λ v. shards_seen v.items ≡ replicate shards empty_shard) }
-{
-    let mut made = Vec::with_capacity(alloc, shards)?;
-    for _ in 0..shards {
-        made.push(Arc::new(alloc, Shard::new(alloc))?)?;
-    }
-    Ok(made)
-}
-
-// A second list that shares these shards.
-fn shares(alloc: Global, shards: &[Arc<Shard>]) -> Result<Vec<Arc<Shard>>, NoMemory>
-    ensures { IfOk result (λ v. shards_seen v.items ≡ shards_seen shards.now) }
-{
-    let mut all = Vec::with_capacity(alloc, shards.len())?;
-    for shard in shards {
-        all.push(shard.clone()?)?;
-    }
-    Ok(all)
 }

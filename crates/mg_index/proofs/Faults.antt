@@ -8,7 +8,8 @@ use Rattle.mg_path.specs.Part.{steps_of}
 use Rattle.mg_collate.specs.declared.direction.Direction.{Direction}
 use Rattle.mg_index.specs.Definition.{Steps}
 use Rattle.mg_index.specs.Fault.{is_column, is_directed, fault_of_directions}
-use Rattle.mg_index.specs.Reading.{◌>>=◌, or_fault, each_of, field_path, field_direction, is_same, one_direction, Columns, columns_of, Gives}
+use Rattle.mg_selector.specs.Fault.{◌>>=◌, or_fault}
+use Rattle.mg_index.specs.Reading.{each_of, field_path, field_direction, is_same, one_direction, Columns, columns_of, Gives}
 use Rattle.mg_index.specs.declared.error.IndexError.{IndexError}
 use Rattle.mg_index.specs.declared.error.IndexError.TheVariants.{Shape, Mixed, NoMemory}
 

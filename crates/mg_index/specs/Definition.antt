@@ -8,9 +8,10 @@ use Rattle.hex.specs.Hex.{encode_lower}
 use Rattle.mg_value.specs.Value.{Value, null, text, list, object, no_members, member}
 use Rattle.mg_value.specs.View.{items_of}
 use Rattle.mg_value.specs.Text.{compact}
+use Rattle.mg_collate.specs.Direction.{direction_word}
 use Rattle.mg_collate.specs.contracts.direction.Direction as direction
 use Rattle.mg_collate.specs.declared.direction.Direction.{Direction}
-use Rattle.mg_collate.specs.declared.direction.Direction.TheVariants.{Asc, Desc}
+use Rattle.mg_collate.specs.declared.direction.Direction.TheVariants.{Asc}
 
 -- the steps of a path
 abbrev pub Steps : Type 0
@@ -32,11 +33,6 @@ definition_code =
     (coded× (coded_list coded_ℕ) (coded× (coded_list coded_ℕ) (coded× (coded_list (coded_list coded_ℕ)) (coded× (coded_list (coded_list (coded_list coded_ℕ))) direction.the_row.coded))))
     (λ d. (d.ddoc, (d.name, (d.texts, (d.columns, d.direction)))))
     (λ p. record { ddoc = p.0; name = p.1.0; texts = p.1.1.0; columns = p.1.1.1.0; direction = p.1.1.1.1 }) (λ _. refl)
-
--- the word for a direction
-abbrev pub direction_word : Direction → List ℕ
-direction_word Asc = codes "asc"
-direction_word Desc = codes "desc"
 
 -- a column as it is listed: `{path: direction}`
 abbrev pub field_value : Direction → List ℕ → Value

@@ -5,7 +5,8 @@ use Rattle.std.specs.Result.{result_err}
 use Rattle.mg_value.specs.Value.{Value}
 use Rattle.mg_path.specs.Part.{steps_of}
 use Rattle.mg_collate.specs.declared.direction.Direction.{Direction}
-use Rattle.mg_index.specs.Reading.{◌>>=◌, or_fault, each_of, field_path, field_direction, is_same, one_direction}
+use Rattle.mg_selector.specs.Fault.{◌>>=◌, or_fault}
+use Rattle.mg_index.specs.Reading.{each_of, field_path, field_direction, is_same, one_direction}
 use Rattle.mg_index.specs.declared.error.IndexError.{IndexError}
 use Rattle.mg_index.specs.declared.error.IndexError.TheVariants.{Shape}
 

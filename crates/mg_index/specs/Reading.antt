@@ -7,24 +7,13 @@ use Rattle.mg_value.specs.Value.{Value, flag, text, list, object, Members, no_me
 use Rattle.mg_path.specs.Part.{steps_of}
 use Rattle.mg_path.specs.declared.error.PathError.{PathError}
 use Rattle.mg_path.specs.declared.error.PathError.TheVariants as path_fault
+use Rattle.mg_collate.specs.Direction.{direction_named}
 use Rattle.mg_collate.specs.declared.direction.Direction.{Direction}
 use Rattle.mg_collate.specs.declared.direction.Direction.TheVariants.{Asc, Desc}
+use Rattle.mg_selector.specs.Fault.{◌>>=◌, or_fault}
 use Rattle.mg_index.specs.Definition.{Steps, IndexDefinition, fields_digest, design_front, design_document}
 use Rattle.mg_index.specs.declared.error.IndexError.{IndexError}
 use Rattle.mg_index.specs.declared.error.IndexError.TheVariants.{Shape, Mixed, NoMemory}
-
--- ---- faults
-
--- the fault, or what f gives of the value
-infixl 10 ◌>>=◌
-abbrev pub ◌>>=◌ : {A B : Type 0} → Result A IndexError → (A → Result B IndexError) → Result B IndexError
-(Ok x) >>= f = f x
-(Err e) >>= f = Err e
-
--- what was found, or this fault
-abbrev pub or_fault : {A : Type 0} → IndexError → Option A → Result A IndexError
-or_fault e None = Err e
-or_fault e (Some x) = Ok x
 
 -- what f gives of each item, if it gives something of all
 abbrev pub each_of : {A B : Type 0} → (A → Option B) → List A → Option (List B)
@@ -45,19 +34,15 @@ field_path (text path) = Some path
 field_path (object ms) = option_map (λ m. m.0) (only_member ms)
 field_path v = None
 
--- the direction that a word names
-abbrev pub direction_named : List ℕ → Option Direction
-direction_named word = if bytes_eq word (codes "asc") then Some Asc else if bytes_eq word (codes "desc") then Some Desc else None
-
 -- the direction that a value names
-abbrev pub word_direction : Value → Option Direction
-word_direction (text word) = direction_named word
-word_direction v = None
+abbrev pub direction_in : Value → Option Direction
+direction_in (text word) = direction_named word
+direction_in v = None
 
 -- the direction
 abbrev pub field_direction : Value → Option Direction
 field_direction (text path) = Some Asc
-field_direction (object ms) = option_and_then (λ m. word_direction m.1) (only_member ms)
+field_direction (object ms) = option_and_then (λ m. direction_in m.1) (only_member ms)
 field_direction v = None
 
 -- ---- the columns
@@ -68,6 +53,7 @@ pub record Columns : Type 0 where
   pub steps : List Steps
   pub direction : Direction
 
+-- the directions are the same
 abbrev pub is_same : Direction → Direction → Bool
 is_same Asc Asc = true
 is_same Desc Desc = true

@@ -1,9 +1,10 @@
-ghost use Rattle.std.specs.Prelude.{◌≡◌, map, option_map, string_bytes};
+ghost use Rattle.std.specs.Prelude.{◌≡◌, ◌≤◌, length, map, option_map, string_bytes};
+ghost use Rattle.std.specs.List.{find};
 ghost use Rattle.mg_value.specs.View.{view};
 ghost use Rattle.mg_path.specs.Equal.{path_eq};
 ghost use Rattle.mg_selector.specs.View.{operator_of};
 ghost use Rattle.mg_normal.specs.View.{atom_view, atoms_view, sense_of};
-ghost use Rattle.mg_index.specs.Bound.{allows, bound_by, bound_in, bound_on, is_fixed as has_one_value, is_bounded as has_bound, bounded_count};
+ghost use Rattle.mg_index.specs.Bound.{allows, bound_by, bound_in, bound_on, bounds_on, is_exact, is_fixed as has_one_value, is_bounded as has_bound, bounded_count};
 
 use mg_collate::compare;
 use mg_normal::Atom;
@@ -89,33 +90,43 @@ fn bound_of(op: &Op, negated: bool) -> Option<Bound<'_>>
     Some(Bound { comparison, value })
 }
 
-// How many columns are bounded: the leading ones whose value the atoms fix, and the next one if they
-// give a bound on it.
-pub(crate) fn bounded_count(columns: &[Path], atoms: &[Atom]) -> usize
-    ensures { result ≡ bounded_count (atoms_view atoms.now) columns.now }
+/// How many columns are bounded: the leading ones whose value the atoms fix, and the next one if they
+/// give a bound on it. Takes no memory. Cost: the columns times the atoms.
+pub fn bounded_count(columns: &[Path], atoms: &[Atom]) -> usize
+    ensures count { result ≡ bounded_count (atoms_view atoms.now) columns.now }
+    ensures within { result ≤ length columns.now }
 {
     for (place, column) in columns.iter().enumerate() {
-        if !is_fixed(atoms, column) {
-            return place + usize::from(is_bounded(atoms, column));
+        if !is_fixed(column, atoms) {
+            return place + usize::from(is_bounded(column, atoms));
         }
     }
     columns.len()
 }
 
-fn is_fixed(atoms: &[Atom], column: &Path) -> bool
-    ensures { result ≡ has_one_value (atoms_view atoms.now) column.now }
+/// The first value that the atoms ask the column to equal. Takes no memory. Cost: each atom once.
+pub fn fixed_value<'a>(column: &Path, atoms: &'a [Atom]) -> Option<&'a Json>
+    ensures { option_map (λ v. bound_by Comparison.Exactly (view v.now)) result
+        ≡ find is_exact (bounds_on (atoms_view atoms.now) column.now) }
 {
     for atom in atoms {
         if let Some(bound) = Bound::on(column, atom) {
             if bound.comparison == Comparison::Exactly {
-                return true;
+                return Some(bound.value);
             }
         }
     }
-    false
+    None
 }
 
-fn is_bounded(atoms: &[Atom], column: &Path) -> bool
+#[tactic(auto, using(crate::proofs::Bounds::some_found))]
+fn is_fixed(column: &Path, atoms: &[Atom]) -> bool
+    ensures { result ≡ has_one_value (atoms_view atoms.now) column.now }
+{
+    fixed_value(column, atoms).is_some()
+}
+
+fn is_bounded(column: &Path, atoms: &[Atom]) -> bool
     ensures { result ≡ has_bound (atoms_view atoms.now) column.now }
 {
     for atom in atoms {

@@ -62,7 +62,7 @@ impl Catalog {
     pub fn find(&self, ddoc: &str, name: &str) -> Option<&IndexDef>
         ensures { option_map (λ d. d.now) result ≡ definition_at ddoc.now name.now self.now }
     {
-        found_at(&self.definitions, ddoc, name)
+        definition_at(&self.definitions, ddoc, name)
     }
 
     /// Whether the same definition is there; then adding it changes nothing. Takes no memory. Cost: each definition once.
@@ -70,7 +70,7 @@ impl Catalog {
         ensures there { result ≡ is_there definition.now self.now }
         ensures same { result ≡ true → with_definition definition.now self.now ≡ self.now }
     {
-        let found = found_at(&self.definitions, definition.ddoc(), definition.name());
+        let found = definition_at(&self.definitions, definition.ddoc(), definition.name());
         match found {
             Some(found) => definition.is_same(found),
             None => false,
@@ -137,13 +137,13 @@ impl Catalog {
         ensures { IfOk result (λ c. c ≡ self.now) }
     {
         Ok(Catalog {
-            definitions: copied(alloc, &self.definitions)?,
+            definitions: copy_definitions(alloc, &self.definitions)?,
         })
     }
 }
 
 // The definition of this design document and name.
-fn found_at<'a>(definitions: &'a [IndexDef], ddoc: &str, name: &str) -> Option<&'a IndexDef>
+fn definition_at<'a>(definitions: &'a [IndexDef], ddoc: &str, name: &str) -> Option<&'a IndexDef>
     ensures { option_map (λ d. d.now) result ≡ definition_at ddoc.now name.now definitions.now }
 {
     definitions.iter().find(|d| d.is_at(ddoc, name))
@@ -176,7 +176,7 @@ fn place_of(definitions: &[IndexDef], definition: &IndexDef) -> Slot
     Slot::Before(definitions.len())
 }
 
-fn copied(alloc: Global, definitions: &[IndexDef]) -> Result<Vec<IndexDef>, NoMemory>
+fn copy_definitions(alloc: Global, definitions: &[IndexDef]) -> Result<Vec<IndexDef>, NoMemory>
     ensures { IfOk result (λ copy. copy.items ≡ definitions.now) }
 {
     let mut copy = Vec::with_capacity(alloc, definitions.len())?;

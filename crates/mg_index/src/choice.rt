@@ -53,7 +53,7 @@ pub fn choose(
     ensures { Chooses catalog.now (choice_of catalog.now normal.now.atoms
         sort.now.paths.items (hint_of hint.now)) result }
 {
-    match preferred(catalog.list(), normal.atoms(), &sort.paths, hint) {
+    match best_place(catalog.list(), normal.atoms(), &sort.paths, hint) {
         Some(place) => Ok(Choice::Index(place)),
         None => if is_all_docs_usable(&sort.paths) {
             Ok(Choice::AllDocs)
@@ -64,7 +64,7 @@ pub fn choose(
 }
 
 // The place of the usable index that is preferred to all others.
-fn preferred(definitions: &[IndexDef], atoms: &[Atom], sort: &[Path], hint: &Hint) -> Option<usize>
+fn best_place(definitions: &[IndexDef], atoms: &[Atom], sort: &[Path], hint: &Hint) -> Option<usize>
     ensures { Names definitions.now (least (preference (atoms_view atoms.now) (hint_of hint.now))
         (usable_of (atoms_view atoms.now) sort.now definitions.now)) result }
 {

@@ -3,7 +3,8 @@ ghost use Rattle.std.specs.Prelude.{◌≡◌, Some, map, string_bytes};
 ghost use Rattle.mg_value.specs.View.{view, items_view};
 ghost use Rattle.mg_value.specs.Value.{list};
 ghost use Rattle.mg_path.specs.Part.{steps_of};
-ghost use Rattle.mg_index.specs.Reading.{Gives, each_of, or_fault, field_path as path_text, field_direction as direction_given, one_direction as shared_direction, columns_of, columns_read};
+ghost use Rattle.mg_selector.specs.Fault.{or_fault};
+ghost use Rattle.mg_index.specs.Reading.{Gives, each_of, field_path as path_text, field_direction as direction_given, one_direction as shared_direction, columns_of, columns_read};
 ghost use Rattle.mg_index.specs.View.{columns_seen};
 
 use crate::error::IndexError;

@@ -9,7 +9,6 @@ ghost use Rattle.mg_index.specs.Reading.{Gives, definition_of};
 
 use crate::error::IndexError;
 use crate::fault::fault_of;
-use crate::field::is_same;
 use crate::listing::fields_json;
 use crate::reader;
 use mg_collate::Direction;
@@ -123,7 +122,7 @@ impl IndexDef {
             ddoc: self.ddoc.clone()?,
             name: self.name.clone()?,
             texts: copy_texts(alloc, &self.texts)?,
-            columns: copied_paths(alloc, &self.columns)?,
+            columns: copy_paths(alloc, &self.columns)?,
             direction: self.direction,
         })
     }
@@ -149,7 +148,7 @@ impl IndexDef {
         ensures { result ≡ is_same_definition self.now other.now }
     {
         self.is_at(other.ddoc.as_str(), other.name.as_str())
-            && is_same(self.direction, other.direction)
+            && self.direction == other.direction
             && are_same_texts(&self.texts, &other.texts)
             && self.columns == other.columns
     }
@@ -168,7 +167,7 @@ fn are_same_texts(texts: &[String], others: &[String]) -> bool
     texts == others
 }
 
-fn copied_paths(alloc: Global, paths: &[Path]) -> Result<Vec<Path>, NoMemory>
+fn copy_paths(alloc: Global, paths: &[Path]) -> Result<Vec<Path>, NoMemory>
     ensures { IfOk result (λ copy. copy.items ≡ paths.now) }
 {
     let mut copy = Vec::with_capacity(alloc, paths.len())?;

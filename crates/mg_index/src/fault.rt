@@ -8,7 +8,7 @@ ghost use Rattle.mg_index.specs.Fault.{is_column as gives_column, is_directed as
 ghost use Rattle.mg_index.specs.Reading.{each_of, definition_of, columns_read, field_direction as direction_given};
 
 use crate::error::IndexError;
-use crate::field::{field_direction, field_path, is_same};
+use crate::field::{field_direction, field_path};
 use crate::reader::{is_plain, member_of_index, text_given};
 use mg_collate::Direction;
 use mg_path::is_path;
@@ -78,13 +78,13 @@ fn direction_fault(fields: &[Json]) -> Option<IndexError>
         return Some(IndexError::Shape);
     };
     match field_direction(first) {
-        Some(direction) => mixed(direction, others),
+        Some(direction) => mixed_fault(direction, others),
         None => Some(IndexError::Shape),
     }
 }
 
 // `Mixed` if one of the others does not have this direction.
-fn mixed(direction: Direction, others: &[Json]) -> Option<IndexError>
+fn mixed_fault(direction: Direction, others: &[Json]) -> Option<IndexError>
     ensures { result ≡ (if list_all (gives_direction direction) (map view others.now) then None else Some IndexError.Mixed) }
 {
     for field in others {
@@ -99,7 +99,7 @@ fn is_directed(direction: Direction, field: &Json) -> bool
     ensures { result ≡ gives_direction direction (view field.now) }
 {
     match field_direction(field) {
-        Some(given) => is_same(direction, given),
+        Some(given) => direction == given,
         None => false,
     }
 }

@@ -2,7 +2,7 @@
 ghost use Rattle.std.specs.Prelude.{◌≡◌, option_map};
 ghost use Rattle.std.specs.List.{list_all};
 ghost use Rattle.mg_value.specs.View.{view, members_view};
-ghost use Rattle.mg_index.specs.Reading.{field_path as path_text, field_direction as direction_given, word_direction as direction_word, direction_named as named_direction, only_member as member_alone, is_same as are_same};
+ghost use Rattle.mg_index.specs.Reading.{field_path as path_text, field_direction as direction_given, direction_in as named_direction, only_member as member_alone, is_same};
 
 use mg_collate::Direction;
 use mg_value::Json;
@@ -10,25 +10,14 @@ use std::collections::BTreeMap;
 
 /// Whether all others have this direction. Takes no memory. Cost: their number.
 pub fn are_all(direction: Direction, others: &[Direction]) -> bool
-    ensures { result ≡ list_all (are_same direction) others.now }
+    ensures { result ≡ list_all (is_same direction) others.now }
 {
     for other in others {
-        if !is_same(direction, *other) {
+        if direction != *other {
             return false;
         }
     }
     true
-}
-
-/// Whether two directions are the same. Takes no memory.
-pub fn is_same(a: Direction, b: Direction) -> bool
-    ensures { result ≡ are_same a b }
-{
-    match (a, b) {
-        (Direction::Asc, Direction::Asc) => true,
-        (Direction::Desc, Direction::Desc) => true,
-        _ => false,
-    }
 }
 
 /// The text of a field's path, if it has one. Takes no memory. Source: `fields` and `sort` in CouchDB's API reference.
@@ -52,31 +41,20 @@ pub fn field_direction(field: &Json) -> Option<Direction>
     match field {
         Json::Text(_) => Some(Direction::Asc),
         Json::Object(members) => {
-            let (_, word) = only_member(members)?;
-            word_direction(word)
+            let (_, value) = only_member(members)?;
+            direction_in(value)
         }
         _ => None,
     }
 }
 
-fn word_direction(word: &Json) -> Option<Direction>
-    ensures { result ≡ direction_word (view word.now) }
+// The direction that a value names.
+fn direction_in(value: &Json) -> Option<Direction>
+    ensures { result ≡ named_direction (view value.now) }
 {
-    match word {
-        Json::Text(word) => direction_named(word.as_str()),
+    match value {
+        Json::Text(word) => Direction::named(word.as_str()),
         _ => None,
-    }
-}
-
-fn direction_named(word: &str) -> Option<Direction>
-    ensures { result ≡ named_direction word.now }
-{
-    if word == "asc" {
-        Some(Direction::Asc)
-    } else if word == "desc" {
-        Some(Direction::Desc)
-    } else {
-        None
     }
 }
 

@@ -15,11 +15,11 @@ mod query;
 mod reader;
 mod usable;
 
-pub use bound::{Bound, Comparison};
+pub use bound::{Bound, Comparison, bounded_count, fixed_value};
 pub use catalog::{Added, Catalog};
 pub use choice::{Choice, choose};
 pub use definition::IndexDef;
 pub use error::{IndexError, NoUsableIndex};
-pub use field::{are_all, field_direction, field_path, is_same};
+pub use field::{are_all, field_direction, field_path};
 pub use listing::{all_docs_listed, design_document};
 pub use query::{Hint, Sort};

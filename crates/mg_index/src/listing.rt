@@ -1,7 +1,7 @@
 // How an index is listed and named.
 ghost use Rattle.std.specs.Prelude.{◌≡◌, IfOk, map, string_bytes};
 ghost use Rattle.mg_value.specs.View.{view};
-ghost use Rattle.mg_index.specs.Definition.{fields_value, fields_digest as digest_of, field_value, direction_word as word_for, design_document as design_of, design_front, listed_all_docs};
+ghost use Rattle.mg_index.specs.Definition.{fields_value, fields_digest as digest_of, field_value, design_document as design_of, design_front, listed_all_docs};
 
 use md5::{Digest, Md5};
 use mg_collate::Direction;
@@ -69,19 +69,10 @@ pub(crate) fn fields_json(
 fn field_json(alloc: Global, direction: Direction, text: &str) -> Result<Json, NoMemory>
     ensures { IfOk result (λ v. view v ≡ field_value direction text.now) }
 {
-    let word = String::from_str(alloc, direction_word(direction))?;
+    let word = String::from_str(alloc, direction.word())?;
     let mut field = Json::empty_object(alloc);
     field.insert(alloc, text, Json::Text(word))?;
     Ok(field)
-}
-
-fn direction_word(direction: Direction) -> &'static str
-    ensures { result.now ≡ word_for direction }
-{
-    match direction {
-        Direction::Asc => "asc",
-        Direction::Desc => "desc",
-    }
 }
 
 // The MD5 of the fields' compact text, in lower-case hexadecimal.

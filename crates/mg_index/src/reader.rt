@@ -2,7 +2,8 @@
 ghost use Rattle.std.specs.Prelude.{◌≡◌, IfOk, Some, is_err, is_none, option_map};
 ghost use Rattle.mg_value.specs.Value.{object};
 ghost use Rattle.mg_value.specs.View.{view, members_view};
-ghost use Rattle.mg_index.specs.Reading.{Gives, or_fault, definition_of, columns_read, is_plain as asks_plainly, is_json_type as names_json, is_no_filter as keeps_all, is_not_partitioned as has_one_part, member_of_index as member_in_index, definition_named as named_by, text_given as given_text};
+ghost use Rattle.mg_selector.specs.Fault.{or_fault};
+ghost use Rattle.mg_index.specs.Reading.{Gives, definition_of, columns_read, is_plain as asks_plainly, is_json_type as names_json, is_no_filter as keeps_all, is_not_partitioned as has_one_part, member_of_index as member_in_index, definition_named as named_by, text_given as given_text};
 ghost use Rattle.mg_index.specs.View.{columns_seen};
 
 use crate::column::{Columns, read_columns};
@@ -23,7 +24,7 @@ pub(crate) fn read_definition(alloc: Global, body: &Json) -> Result<IndexDef, In
     let ddoc = text_given(body.member("ddoc"))?;
     let name = text_given(body.member("name"))?;
     let columns = read_fields(alloc, member_of_index(body, "fields"))?;
-    Ok(named(alloc, ddoc, name, columns)?)
+    Ok(name_definition(alloc, ddoc, name, columns)?)
 }
 
 // The columns of `fields`.
@@ -50,7 +51,7 @@ pub(crate) fn text_given(value: Option<&Json>) -> Result<Option<&str>, IndexErro
 }
 
 // The definition of these columns. An absent name or design document is named by the digest of the fields.
-fn named(
+fn name_definition(
     alloc: Global,
     ddoc: Option<&str>,
     name: Option<&str>,

@@ -40,7 +40,7 @@ use Rattle.mg_live.specs.contracts.seat.Shared as Shared
 use Rattle.mg_live.specs.contracts.snapshot.Snapshot as Snapshot
 use Rattle.mg_live.specs.contracts.tally.Tally as Tally
 use Rattle.mg_live.specs.declared.database.Database as database
-use Rattle.mg_scan.proofs.Crossing.{shard_send, shard_sync}
+use Rattle.mg_shard.proofs.Crossing.{shard_send, shard_sync}
 use Rattle.mg_machine.specs.contracts.point.Point as Point
 use Rattle.mg_shard.specs.contracts.placement.Md5Placement as Md5Placement
 use Rattle.mg_shard.specs.contracts.placement.Md5PlacementPlacement.TheImpl as md5

@@ -2,13 +2,14 @@
 use Rattle.std.proofs.Common.{◌≡◌, ℕ, zero, suc, ◌+◌, ◌<◌, ◌≤◌, List, [], ◌∷◌, ◌++◌, length, get_or, set, map, take, All, Option, None, Some, option_map, IfSome, IfNone, Ordering, Bool, true, false, if◌then◌else◌, append_assoc, refl, sym, ap, ap₂, ◌∙◌, subst, arith}
 use Rattle.std.specs.Ordering.{is_gt}
 use Rattle.std.proofs.lemmas.List.{get_or-map, length-map, length-set, map-append, map-set, length-append}
+use Rattle.std.specs.List.Sorted.{IsStrictlySortedBy}
 use Rattle.mg_collate.specs.declared.direction.Direction.{Direction}
 use Rattle.mg_collate.specs.Row.{RowValue, directed_order}
 use Rattle.mg_collate.specs.Sorted.{IsInOrder, sorted, sorted_with}
 use Rattle.mg_collate.proofs.Directed.{directed_total}
 use Rattle.mg_merge.specs.Merged.{joined, order_by}
 use Rattle.mg_merge.specs.Pulled.{AreFrom, IsAhead, IsGivenBy, coming, comings, firsts_of}
-use Rattle.mg_merge.specs.Rests.{AreInTurn, BeginsFirst, Climbs, begin_order, turn_order}
+use Rattle.mg_merge.specs.Rests.{AreInTurn, BeginsFirst, begin_order, turn_order}
 use Rattle.mg_merge.proofs.Heads.{first_taken, none_left, order_kept}
 use Rattle.mg_merge.proofs.Queues.{begins_first, first_enters, others_climb}
 use Rattle.mg_merge.proofs.Rows.{by_total}
@@ -157,9 +158,9 @@ pulled_ahead row direction heads rests p queue x pulled new h order turns e r =
     }
 
 pub pulled_climb : {X : Type 0} (row : X → RowValue) (direction : Direction) (heads : List (Option X)) (p : ℕ) (queue : List ℕ) (pulled : Option X)
-    → AreInTurn (order_by row direction) (firsts_of heads) (length (firsts_of heads)) (p ∷ queue) → Climbs (turn_order (order_by row direction) (firsts_of (set heads p pulled))) queue
+    → AreInTurn (order_by row direction) (firsts_of heads) (length (firsts_of heads)) (p ∷ queue) → IsStrictlySortedBy (turn_order (order_by row direction) (firsts_of (set heads p pulled))) queue
 pulled_climb row direction heads p queue pulled turns =
-    subst (λ lists. Climbs (turn_order (order_by row direction) lists) queue) (sym (map-set (λ head. coming head []) heads p pulled))
+    subst (λ lists. IsStrictlySortedBy (turn_order (order_by row direction) lists) queue) (sym (map-set (λ head. coming head []) heads p pulled))
     (others_climb (order_by row direction) (by_total row direction) (firsts_of heads) (length (firsts_of heads)) p queue (coming pulled []) turns)
 
 -- ---- a pull from the code's sources

@@ -2,6 +2,7 @@
 use Rattle.std.proofs.Common.{◌≡◌, ◌≢◌, ℕ, zero, suc, ◌+◌, ◌<◌, ◌≤◌, List, [], ◌∷◌, length, get_or, set, remove, Bool, true, false, ◌||◌, nat_eq, if◌then◌else◌, ◌⊎◌, inl, inr, Bor, Ordering, Less, Equal, Greater, is_gt, refl, sym, ap, ap₂, ◌∙◌, subst, arith}
 use Rattle.std.specs.Cmp.{IsTotalOrder, then_total}
 use Rattle.std.specs.List.{AllByRecursion, insert}
+use Rattle.std.specs.List.Sorted.{IsStrictlySortedBy}
 use Rattle.std.specs.Ordering.{nat_cmp, ordering_then, ordering_reverse}
 use Rattle.std.proofs.lemmas.Bool.{eqb-true, eq-eqb}
 use Rattle.std.proofs.lemmas.Bool.Decides.{nat_tests}
@@ -9,7 +10,7 @@ use Rattle.std.proofs.lemmas.List.{get_or-set_other, length-set}
 use Rattle.std.proofs.lemmas.Cmp.{on_total, nat_cmp_total, upto, tied_itself}
 use Rattle.mg_collate.specs.Sorted.{sorted_with}
 use Rattle.mg_collate.proofs.Sorting.{all_weaker}
-use Rattle.mg_merge.specs.Rests.{AreInTurn, BeginsFirst, Climbs, begin_order, is_in, rests_of, turn_order}
+use Rattle.mg_merge.specs.Rests.{AreInTurn, BeginsFirst, begin_order, is_in, rests_of, turn_order}
 use Rattle.mg_merge.proofs.Heads.{all_at, begin_total, rests_of-set}
 use borrow.Author.Count.{below_more}
 
@@ -49,7 +50,8 @@ turn_ties order lists j k h = nat_equal j k (then_equal (begin_order order (get_
 
 -- ---- the place where a queue stays in order
 
-pub climbs_up : {X : Type 0} (o : X → X → Ordering) → IsTotalOrder o → (xs : List X) (i j : ℕ) (d : X) → Climbs o xs → i ≤ j → j < length xs → is_gt (o (get_or xs i d) (get_or xs j d)) ≡ false
+pub climbs_up : {X : Type 0} (o : X → X → Ordering) → IsTotalOrder o → (xs : List X) (i j : ℕ) (d : X) → IsStrictlySortedBy o xs → i ≤ j → j < length xs → is_gt (o (get_or xs i d) (get_or xs j d)) ≡ false
+unfolding IsStrictlySortedBy
 climbs_up o t [] i j d h l k = absurd (omega arith)
 climbs_up o t (x ∷ xs) zero zero d h l k = ap is_gt (tied_itself t x)
 climbs_up o t (x ∷ xs) zero (suc j) d h l k = ap is_gt (all_at (λ y. o x y ≡ Less) xs j d (omega arith) h.0)
@@ -70,8 +72,8 @@ placed o x d (y ∷ ys) (suc place) k after before =
     ∙ ap (λ b. if b then y ∷ sorted_with o x ys else x ∷ y ∷ ys) (sym (after 0 (omega arith)))
 
 -- the result of a test, as a fact about the order
-pub told : (a r : Ordering) (b c : Bool) → r ≡ a → b ≡ is_gt r → b ≡ c → is_gt a ≡ c
-told a r b c e f h = sym (ap is_gt e) ∙ sym f ∙ h
+pub gt_of_result : (a r : Ordering) (b c : Bool) → r ≡ a → b ≡ is_gt r → b ≡ c → is_gt a ≡ c
+gt_of_result a r b c e f h = sym (ap is_gt e) ∙ sym f ∙ h
 
 -- ---- a queue after one more number has entered it
 
@@ -93,12 +95,14 @@ was_less Less h k = refl
 was_less Equal h k = absurd (k refl)
 was_less Greater h k = absurd cc
 
-climbs_at : {X : Type 0} (o : X → X → Ordering) → IsTotalOrder o → (x y : X) (ys : List X) (b : Bool) → is_gt (o x y) ≡ b → (o x y ≡ Equal → ⊥) → Climbs o (y ∷ ys) → Climbs o (sorted_with o x ys)
-    → Climbs o (if b then y ∷ sorted_with o x ys else x ∷ y ∷ ys)
+climbs_at : {X : Type 0} (o : X → X → Ordering) → IsTotalOrder o → (x y : X) (ys : List X) (b : Bool) → is_gt (o x y) ≡ b → (o x y ≡ Equal → ⊥) → IsStrictlySortedBy o (y ∷ ys) → IsStrictlySortedBy o (sorted_with o x ys)
+    → IsStrictlySortedBy o (if b then y ∷ sorted_with o x ys else x ∷ y ∷ ys)
+unfolding IsStrictlySortedBy
 climbs_at o t x y ys true e apart h more = (all_inserted o (λ z. o y z ≡ Less) x ys (was_greater (o y x) (o x y) (t.antisymm y x) e) h.0, more)
 climbs_at o t x y ys false e apart h more = let less = was_less (o x y) e apart in ((less, all_weaker (λ z. o y z ≡ Less) (λ z. o x z ≡ Less) (λ z l. t.trans x y z less l) ys h.0), h)
 
-climbs_inserted : {X : Type 0} (o : X → X → Ordering) → IsTotalOrder o → (x : X) (ys : List X) → AllByRecursion (λ y. o x y ≡ Equal → ⊥) ys → Climbs o ys → Climbs o (sorted_with o x ys)
+climbs_inserted : {X : Type 0} (o : X → X → Ordering) → IsTotalOrder o → (x : X) (ys : List X) → AllByRecursion (λ y. o x y ≡ Equal → ⊥) ys → IsStrictlySortedBy o ys → IsStrictlySortedBy o (sorted_with o x ys)
+unfolding IsStrictlySortedBy
 climbs_inserted o t x [] apart h = (tt, tt)
 climbs_inserted o t x (y ∷ ys) apart h = climbs_at o t x y ys (is_gt (o x y)) refl apart.0 h (climbs_inserted o t x ys apart.1 h.1)
 
@@ -127,6 +131,7 @@ is_in-inserted o k x (y ∷ ys) =
     (ap (λ b. nat_eq k y || b) (is_in-inserted o k x ys) ∙ or_swapped (nat_eq k y) (nat_eq k x) (is_in k ys)) refl
 
 pub none_entered : {X : Type 0} (order : X → X → Ordering) (lists : List (List X)) → AreInTurn order lists 0 []
+unfolding IsStrictlySortedBy
 none_entered order lists = record { climbs = tt; within = tt; each = λ k l. absurd (omega arith) }
 
 -- the next number enters a queue that has all lower numbers
@@ -164,6 +169,7 @@ turn_before order lists p k queue h e l =
     ((λ m. absurd (omega arith)), all_weaker (λ n. turn_order order lists p n ≡ Less) (λ n. n < p → begins (get_or lists n []) ≡ Less) (λ n less m. then_decides (begins (get_or lists n [])) (nat_cmp p n) (nat_greater p n m) less) queue h) e l
 
 pub begins_first : {X : Type 0} (order : X → X → Ordering) → IsTotalOrder order → (lists : List (List X)) (size p : ℕ) (queue : List ℕ) → AreInTurn order lists size (p ∷ queue) → BeginsFirst order lists size p
+unfolding IsStrictlySortedBy
 begins_first order o lists size p queue h = record {
   least = λ k l. turn_least order o lists p k queue h.climbs.0 (h.each k l);
   before = λ k l. let low = h.within.0 in turn_before order lists p k queue h.climbs.0 (h.each k (omega (arith, low, l))) l;
@@ -180,19 +186,22 @@ all_both P Q R f [] h k = tt
 all_both P Q R f (n ∷ ns) h k = (f n h.0 k.0, all_both P Q R f ns h.1 k.1)
 
 -- a queue climbs in an order that is the same for its numbers
-climbs_same : (o q : ℕ → ℕ → Ordering) (P : ℕ → Type 0) → ((j k : ℕ) → P j → P k → q j k ≡ o j k) → (ns : List ℕ) → AllByRecursion P ns → Climbs o ns → Climbs q ns
+climbs_same : (o q : ℕ → ℕ → Ordering) (P : ℕ → Type 0) → ((j k : ℕ) → P j → P k → q j k ≡ o j k) → (ns : List ℕ) → AllByRecursion P ns → IsStrictlySortedBy o ns → IsStrictlySortedBy q ns
+unfolding IsStrictlySortedBy
 climbs_same o q P same [] h c = tt
 climbs_same o q P same (n ∷ ns) h c =
     (all_both P (λ k. o n k ≡ Less) (λ k. q n k ≡ Less) (λ k p l. same n k h.0 p ∙ l) ns h.1 c.0, climbs_same o q P same ns h.1 c.1)
 
 -- none of the others is the first
 others : {X : Type 0} (order : X → X → Ordering) → IsTotalOrder order → (lists : List (List X)) (size p : ℕ) (queue : List ℕ) → AreInTurn order lists size (p ∷ queue) → AllByRecursion (λ k. k ≢ p) queue
+unfolding IsStrictlySortedBy
 others order o lists size p queue h =
     all_weaker (λ k. turn_order order lists p k ≡ Less) (λ k. k ≢ p)
     (λ k l e. let wrong : Less ≡ Equal = sym l ∙ ap (turn_order order lists p) e ∙ tied_itself (turn_total order o lists) p in absurd cc) queue h.climbs.0
 
 pub others_climb : {X : Type 0} (order : X → X → Ordering) → IsTotalOrder order → (lists : List (List X)) (size p : ℕ) (queue : List ℕ) (rest : List X) → AreInTurn order lists size (p ∷ queue)
-    → Climbs (turn_order order (set lists p rest)) queue
+    → IsStrictlySortedBy (turn_order order (set lists p rest)) queue
+unfolding IsStrictlySortedBy
 others_climb order o lists size p queue rest h =
     climbs_same (turn_order order lists) (turn_order order (set lists p rest)) (λ k. k ≢ p)
     (λ j k m n. ap₂ (λ xs ys. ordering_then (begin_order order xs ys) (nat_cmp j k)) (get_or-set_other lists p j rest [] m) (get_or-set_other lists p k rest [] n))
@@ -221,9 +230,9 @@ pub rests_begin : {X : Type 0} (order : X → X → Ordering) → IsTotalOrder o
 rests_begin order o rests p queue h = begins_first order o (rests_of rests) (length (rests_of rests)) p queue h
 
 pub rests_climb : {X : Type 0} (order : X → X → Ordering) → IsTotalOrder order → (rests : List (Bor (List X))) (p : ℕ) (queue : List ℕ) (left : Bor (List X)) → AreInTurn order (rests_of rests) (length (rests_of rests)) (p ∷ queue)
-    → Climbs (turn_order order (rests_of (set rests p left))) queue
+    → IsStrictlySortedBy (turn_order order (rests_of (set rests p left))) queue
 rests_climb order o rests p queue left h =
-    subst (λ lists. Climbs (turn_order order lists) queue) (sym (rests_of-set rests p left)) (others_climb order o (rests_of rests) (length (rests_of rests)) p queue left.now h)
+    subst (λ lists. IsStrictlySortedBy (turn_order order lists) queue) (sym (rests_of-set rests p left)) (others_climb order o (rests_of rests) (length (rests_of rests)) p queue left.now h)
 
 pub rests_in_turn : {X : Type 0} (order : X → X → Ordering) → IsTotalOrder order → (rests : List (Bor (List X))) (p : ℕ) (queue : List ℕ) (left : Bor (List X)) → AreInTurn order (rests_of rests) (length (rests_of rests)) (p ∷ queue)
     → AreInTurn order (rests_of (set rests p left)) (length (rests_of (set rests p left))) (sorted_with (turn_order order (rests_of (set rests p left))) p queue)

@@ -33,7 +33,7 @@ pub fn merge(
     ensures taken { IfOk result (λ made. made.1.taken ≡ length made.0.items) }
 {
     let lent = first_lent(alloc, lists, direction, take)?;
-    let rows = copied_rows(alloc, &lent)?;
+    let rows = copy_rows(alloc, &lent)?;
     let work = Work::of(alloc, lists, rows.len())?;
     Ok((rows, work))
 }
@@ -60,7 +60,7 @@ pub fn merge_all<T: Ranked + Copy>(
     ensures taken { IfOk result (λ made. made.1.taken ≡ length made.0.items) }
 {
     let lent = first_lent(alloc, lists, direction, take)?;
-    let items = copied(alloc, &lent)?;
+    let items = copy_all(alloc, &lent)?;
     let work = Work::of(alloc, lists, items.len())?;
     Ok((items, work))
 }
@@ -103,7 +103,7 @@ fn first_of_one<'a, T>(alloc: Global, list: &'a [T], count: usize) -> Result<Vec
     Ok(lent)
 }
 
-fn copied<T: Copy>(alloc: Global, lent: &[&T]) -> Result<Vec<T>, NoMemory>
+fn copy_all<T: Copy>(alloc: Global, lent: &[&T]) -> Result<Vec<T>, NoMemory>
     ensures { IfOk result (λ items. items.items ≡ lent_of lent.now) }
 {
     let mut items = Vec::with_capacity(alloc, lent.len())?;
@@ -113,7 +113,7 @@ fn copied<T: Copy>(alloc: Global, lent: &[&T]) -> Result<Vec<T>, NoMemory>
     Ok(items)
 }
 
-fn copied_rows(alloc: Global, lent: &[&Row]) -> Result<Vec<Row>, NoMemory>
+fn copy_rows(alloc: Global, lent: &[&Row]) -> Result<Vec<Row>, NoMemory>
     ensures { IfOk result (λ rows. rows_view rows.items ≡ rows_view (lent_of lent.now)) }
 {
     let mut rows = Vec::with_capacity(alloc, lent.len())?;

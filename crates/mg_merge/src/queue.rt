@@ -4,9 +4,10 @@
 //! place, with one comparison of rows for each step; at most the numbers of the other lists are moved.
 ghost use Rattle.std.specs.Prelude.{◌≡◌, ◌<◌, ◌≤◌, length, All, IfOk, OnOk};
 ghost use Rattle.std.specs.List.{insert};
+ghost use Rattle.std.specs.List.Sorted.{IsStrictlySortedBy};
 ghost use Rattle.mg_collate.specs.Sorted.{sorted_with};
 ghost use Rattle.mg_merge.specs.Merged.{order_by};
-ghost use Rattle.mg_merge.specs.Rests.{AreInTurn, Climbs, turn_order};
+ghost use Rattle.mg_merge.specs.Rests.{AreInTurn, turn_order};
 
 use crate::begins::Begins;
 use crate::ranked::Ranked;
@@ -39,7 +40,7 @@ pub(crate) fn enter<T: Ranked, B: Begins<T>>(
     direction: Direction,
 ) -> Result<(), NoMemory>
     requires within { All (λ other. other < length (B.lists lists.now)) queue.old.items }
-    requires climbs { Climbs (turn_order (order_by T.row_of direction) (B.lists lists.now))
+    requires climbs { IsStrictlySortedBy (turn_order (order_by T.row_of direction) (B.lists lists.now))
         queue.old.items }
     requires list { list < length (B.lists lists.now) }
     ensures { OnOk result (queue.new.items
@@ -59,7 +60,7 @@ fn place_of<T: Ranked, B: Begins<T>>(
     direction: Direction,
 ) -> usize
     requires within { All (λ other. other < length (B.lists lists.now)) queue.now }
-    requires climbs { Climbs (turn_order (order_by T.row_of direction) (B.lists lists.now))
+    requires climbs { IsStrictlySortedBy (turn_order (order_by T.row_of direction) (B.lists lists.now))
         queue.now }
     requires list { list < length (B.lists lists.now) }
     ensures within { result ≤ length queue.now }

@@ -7,7 +7,7 @@ ghost use Rattle.mg_normal.specs.View.{atoms_view};
 use crate::atom::{Atom, all_hold};
 use crate::form::Form;
 use crate::meaning::rest_holds;
-use crate::pushed::pushed;
+use crate::pushed::push_inwards;
 use crate::rest::take_atoms;
 use mg_selector::{Sel, Sense};
 use mg_value::{Json, LentValue, NoMemory};
@@ -47,7 +47,7 @@ impl Normal {
     pub fn of(alloc: Global, selector: &Sel) -> Result<Normal, NoMemory>
         ensures { IfOk result (λ normal. IsNormalOf (selector_of selector.now) normal) }
     {
-        let form = pushed(alloc, selector, Sense::Plain)?;
+        let form = push_inwards(alloc, selector, Sense::Plain)?;
         let mut steps = Vec::new(alloc);
         let mut atoms = Vec::new(alloc);
         let rest = take_atoms(alloc, form, &mut steps, &mut atoms)?;

@@ -12,8 +12,8 @@ use mg_value::NoMemory;
 use std::alloc::Global;
 
 /// The form of the selector in the sense, with its negations pushed inwards to the operators.
-#[cycle(pushed)]
-pub(crate) fn pushed(alloc: Global, sel: &Sel, sense: Sense) -> Result<Form, NoMemory>
+#[cycle(push_inwards)]
+pub(crate) fn push_inwards(alloc: Global, sel: &Sel, sense: Sense) -> Result<Form, NoMemory>
     ensures { IfOk result (λ form. Says (holds_in (selector_of sel.now) sense)
         (atoms_in (selector_of sel.now) sense) (form_of form)) }
 {
@@ -21,10 +21,10 @@ pub(crate) fn pushed(alloc: Global, sel: &Sel, sense: Sense) -> Result<Form, NoM
         Sel::Members(arms) => object(alloc, arms, sense),
         Sel::And(arms) => conjunction(alloc, arms, sense),
         Sel::Or(arms) => disjunction(alloc, arms, sense),
-        Sel::Nor(arms) => disjunction(alloc, arms, sense.flipped()),
-        Sel::Not(inner) => pushed(alloc, inner, sense.flipped()),
+        Sel::Nor(arms) => disjunction(alloc, arms, sense.flip()),
+        Sel::Not(inner) => push_inwards(alloc, inner, sense.flip()),
         Sel::At(path, inner) => {
-            let inner = pushed(alloc, inner, sense)?;
+            let inner = push_inwards(alloc, inner, sense)?;
             Ok(Form::At(path.copy(alloc)?, Box::new(alloc, inner)?))
         }
         Sel::Ask(op) => Ok(Form::Ask(op.copy(alloc)?, sense)),
@@ -32,18 +32,18 @@ pub(crate) fn pushed(alloc: Global, sel: &Sel, sense: Sense) -> Result<Form, NoM
 }
 
 // An object of one member is that member.
-#[cycle(pushed)]
+#[cycle(push_inwards)]
 fn object(alloc: Global, arms: &[Sel], sense: Sense) -> Result<Form, NoMemory>
     ensures { IfOk result (λ form. Says (holds_in (members (arms_view arms.now)) sense)
         (atoms_in (members (arms_view arms.now)) sense) (form_of form)) }
 {
     match arms {
-        [only] => pushed(alloc, only, sense),
+        [only] => push_inwards(alloc, only, sense),
         _ => conjunction(alloc, arms, sense),
     }
 }
 
-#[cycle(pushed)]
+#[cycle(push_inwards)]
 fn conjunction(alloc: Global, arms: &[Sel], sense: Sense) -> Result<Form, NoMemory>
     ensures { IfOk result (λ form. Says (holds_in (every (arms_view arms.now)) sense)
         (atoms_in (every (arms_view arms.now)) sense) (form_of form)) }
@@ -54,7 +54,7 @@ fn conjunction(alloc: Global, arms: &[Sel], sense: Sense) -> Result<Form, NoMemo
     }
 }
 
-#[cycle(pushed)]
+#[cycle(push_inwards)]
 fn disjunction(alloc: Global, arms: &[Sel], sense: Sense) -> Result<Form, NoMemory>
     ensures { IfOk result (λ form. Says (holds_in (some (arms_view arms.now)) sense)
         (atoms_in (some (arms_view arms.now)) sense) (form_of form)) }
@@ -66,31 +66,31 @@ fn disjunction(alloc: Global, arms: &[Sel], sense: Sense) -> Result<Form, NoMemo
 }
 
 // All arms, each in the sense.
-#[cycle(pushed)]
+#[cycle(push_inwards)]
 fn all_of(alloc: Global, arms: &[Sel], sense: Sense) -> Result<Form, NoMemory>
     ensures { IfOk result (λ form. Says (every_arm (arms_view arms.now) sense)
         (arms_atoms (arms_view arms.now) sense) (form_of form)) }
 {
-    Ok(Form::All(pushed_arms(alloc, arms, sense)?))
+    Ok(Form::All(push_arms(alloc, arms, sense)?))
 }
 
 // Some arm in the sense; an empty list holds.
-#[cycle(pushed)]
+#[cycle(push_inwards)]
 fn any_of(alloc: Global, arms: &[Sel], sense: Sense) -> Result<Form, NoMemory>
     ensures { IfOk result (λ form. Says
         (λ x. is_no_arms (arms_view arms.now) || some_arm (arms_view arms.now) sense x)
         no_atoms (form_of form)) }
 {
-    Ok(Form::Any(pushed_arms(alloc, arms, sense)?))
+    Ok(Form::Any(push_arms(alloc, arms, sense)?))
 }
 
-#[cycle(pushed)]
-fn pushed_arms(alloc: Global, arms: &[Sel], sense: Sense) -> Result<Vec<Form>, NoMemory>
+#[cycle(push_inwards)]
+fn push_arms(alloc: Global, arms: &[Sel], sense: Sense) -> Result<Vec<Form>, NoMemory>
     ensures { IfOk result (λ forms. AllSay (arms_view arms.now) sense (forms_view forms.items)) }
 {
     let mut forms = Vec::with_capacity(alloc, arms.len())?;
     for arm in arms {
-        forms.push(pushed(alloc, arm, sense)?)?;
+        forms.push(push_inwards(alloc, arm, sense)?)?;
     }
     Ok(forms)
 }

@@ -4,7 +4,7 @@ use Rattle.std.proofs.lemmas.List.{drop_at, drop-drop}
 use Rattle.std.specs.List.{concat}
 use Rattle.mg_value.specs.Value.{Value, null, flag, whole, text, list, object, put, with_member}
 use Rattle.mg_packed.specs.Gap.{begin_of, with_row, rows_in, IsObjectBlock, names_before, names_up_to}
-use Rattle.mg_packed.specs.Kept.{IsKept}
+use Rattle.mg_value.specs.Stored.{IsStored}
 use Rattle.mg_packed.specs.Packed.{word, places, packed, table, named, member_rows}
 use Rattle.mg_packed.specs.Read.{Holds, IsBlockOf, tag_of, word_of, place_of, members_in}
 use Rattle.mg_packed.proofs.Gaps.{first_places, first_rows, last_rows, begin_behind, length-with_row, concat-with_row, assembled}
@@ -14,7 +14,7 @@ use Rattle.mg_packed.proofs.Put.{put_row, put_kept}
 use Rattle.mg_packed.proofs.Rows.{count, place_is, length-word, length-places, length-table}
 use Rattle.mg_packed.proofs.Words.{tail}
 
-block : (b : List ℕ) (v : Value) → IsKept v → length (packed v) < 2 ^ 32 → b ≡ packed v → Holds b v
+block : (b : List ℕ) (v : Value) → IsStored v → length (packed v) < 2 ^ 32 → b ≡ packed v → Holds b v
 block b v kept short is = record { kept = kept; short = short; rest = []; begins = is ∙ sym (append-nil (packed v)) }
 
 pub object_block : (b : List ℕ) (v : Value) → Holds b v → b ≡ packed v → tag_of b ≡ 6 → IsObjectBlock b × (v ≡ object (members_in b))
@@ -105,7 +105,7 @@ made_is b new k v i j n len h =
     let counted : n ≡ length (with_row i j row (rows_in b)) = omega (arith, h.counted, length-with_row (rows_in b) row i j h.ordered h.within) in
     assembled new (rows_in b) row i j n counted h.made ∙ ap (λ rows. 6 ∷ table rows) (sym (made_table b new k v i j n len h))
 
-pub made_block : (b new k : List ℕ) (v : Value) (i j n len : ℕ) → IsObjectBlock b → IsUtf8 k → IsKept v → IsMade b new k v i j n len → IsBlockOf new (object (put k v (members_in b)))
+pub made_block : (b new k : List ℕ) (v : Value) (i j n len : ℕ) → IsObjectBlock b → IsUtf8 k → IsStored v → IsMade b new k v i j n len → IsBlockOf new (object (put k v (members_in b)))
 made_block b new k v i j n len o utf8 kept h =
     let row = named k (packed v) in
     let ms = put k v (members_in b) in

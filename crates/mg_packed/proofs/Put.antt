@@ -7,14 +7,14 @@ use Rattle.mg_value.specs.Held.{AllAfter}
 use Rattle.mg_value.specs.Value.{Value, Members, no_members, member, member_list, get_member, put}
 use Rattle.mg_collate.proofs.Ties.{same_text}
 use Rattle.mg_packed.specs.Gap.{names_before, names_up_to, with_row}
-use Rattle.mg_packed.specs.Kept.{IsKept, MembersAreKept}
+use Rattle.mg_value.specs.Stored.{IsStored, MembersAreStored}
 use Rattle.mg_packed.specs.Packed.{packed, member_rows, named}
 use Rattle.mg_packed.specs.Read.{nth_value}
 use Rattle.mg_packed.proofs.Search.{seen, turned, turned_back, after}
 
 -- ---- the search finds the gap
 
-pub gap_found : (name : List ℕ) (ms : Members) → MembersAreKept ms → (i : ℕ) → i < length (member_list ms) → seen name ms i ≡ Equal → (names_before name ms ≡ i) × (names_up_to name ms ≡ suc i)
+pub gap_found : (name : List ℕ) (ms : Members) → MembersAreStored ms → (i : ℕ) → i < length (member_list ms) → seen name ms i ≡ Equal → (names_before name ms ≡ i) × (names_up_to name ms ≡ suc i)
 gap_found name no_members kept i h e = absurd (omega arith)
 gap_found name (member l v ms) kept zero h e =
     (ap (λ o. match_ordering o 0 0 (suc (names_before name ms))) e, ap (λ o. match_ordering o 0 1 (suc (names_up_to name ms))) e)
@@ -61,7 +61,7 @@ missed_by Less k l w ms e a rest h = none_after k ms (after_less k l ms e a)
 missed_by Equal k l w ms e a rest h = absurd (omega arith)
 missed_by Greater k l w ms e a rest h = rest (omega arith)
 
-pub missed : (k : List ℕ) (ms : Members) → MembersAreKept ms → names_up_to k ms ≤ names_before k ms → get_member k ms ≡ None
+pub missed : (k : List ℕ) (ms : Members) → MembersAreStored ms → names_up_to k ms ≤ names_before k ms → get_member k ms ≡ None
 missed k no_members kept h = refl
 missed k (member l w ms) kept h = missed_by (slice_cmp nat_cmp k l) k l w ms refl kept.0 (missed k ms kept.3) h
 
@@ -91,12 +91,12 @@ after_put : (l k : List ℕ) (v : Value) (ms : Members) → slice_cmp nat_cmp l 
 after_put l k v no_members e a = (e, tt)
 after_put l k v (member m w ms) e a = after_by (slice_cmp nat_cmp k m) l k m v w ms e a (after_put l k v ms e a.1)
 
-kept_by : (o : Ordering) (k l : List ℕ) (v w : Value) (ms : Members) → slice_cmp nat_cmp k l ≡ o → MembersAreKept (member l w ms) → IsUtf8 k → IsKept v → MembersAreKept (put k v ms)
-    → MembersAreKept (match_ordering o (member k v (member l w ms)) (member l v ms) (member l w (put k v ms)))
+kept_by : (o : Ordering) (k l : List ℕ) (v w : Value) (ms : Members) → slice_cmp nat_cmp k l ≡ o → MembersAreStored (member l w ms) → IsUtf8 k → IsStored v → MembersAreStored (put k v ms)
+    → MembersAreStored (match_ordering o (member k v (member l w ms)) (member l v ms) (member l w (put k v ms)))
 kept_by Less k l v w ms e kept utf8 value rest = ((e, after_less k l ms e kept.0), utf8, value, kept)
 kept_by Equal k l v w ms e kept utf8 value rest = (kept.0, kept.1, value, kept.3)
 kept_by Greater k l v w ms e kept utf8 value rest = (after_put l k v ms (turned_back k l e) kept.0, kept.1, kept.2, rest)
 
-pub put_kept : (k : List ℕ) (v : Value) (ms : Members) → MembersAreKept ms → IsUtf8 k → IsKept v → MembersAreKept (put k v ms)
+pub put_kept : (k : List ℕ) (v : Value) (ms : Members) → MembersAreStored ms → IsUtf8 k → IsStored v → MembersAreStored (put k v ms)
 put_kept k v no_members kept utf8 value = (tt, utf8, value, tt)
 put_kept k v (member l w ms) kept utf8 value = kept_by (slice_cmp nat_cmp k l) k l v w ms refl kept utf8 value (put_kept k v ms kept.3 utf8 value)

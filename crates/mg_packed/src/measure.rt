@@ -4,7 +4,7 @@ ghost use Rattle.std.specs.Int.{w64};
 ghost use Rattle.mg_value.specs.Value.{whole, text as string, list, object};
 ghost use Rattle.mg_value.specs.View.{view, items_view, members_view};
 ghost use Rattle.mg_packed.specs.Packed.{packed};
-ghost use Rattle.mg_packed.specs.Kept.{IsKept, ItemsAreKept, MembersAreKept};
+ghost use Rattle.mg_value.specs.Stored.{IsStored, AreStored, MembersAreStored};
 ghost use Rattle.mg_packed.specs.Sizes.{items_size, members_size};
 
 use mg_value::{Json, NoMemory};
@@ -54,7 +54,7 @@ fn long_len(_number: i64) -> u32
 
 fn whole_len(number: i64) -> Result<u32, NoMemory>
     ensures len { IfOk result (λ n. n ≡ length (packed (whole number))) }
-    ensures kept { OnOk result (IsKept (whole number)) }
+    ensures kept { OnOk result (IsStored (whole number)) }
 {
     let len = long_len(number);
     Ok(len)
@@ -63,7 +63,7 @@ fn whole_len(number: i64) -> Result<u32, NoMemory>
 #[cycle(measure)]
 pub(crate) fn measure(value: &Json) -> Result<u32, NoMemory>
     ensures len { IfOk result (λ n. n ≡ length (packed (view value.now))) }
-    ensures kept { OnOk result (IsKept (view value.now)) }
+    ensures kept { OnOk result (IsStored (view value.now)) }
 {
     match value {
         Json::Null => Ok(1),
@@ -79,7 +79,7 @@ pub(crate) fn measure(value: &Json) -> Result<u32, NoMemory>
 #[cycle(measure)]
 fn measure_list(items: &[Json]) -> Result<u32, NoMemory>
     ensures len { IfOk result (λ n. n ≡ length (packed (list (items_view items.now)))) }
-    ensures kept { OnOk result (ItemsAreKept (items_view items.now)) }
+    ensures kept { OnOk result (AreStored (items_view items.now)) }
 {
     let len = measure_items(items)?;
     Ok(len)
@@ -88,7 +88,7 @@ fn measure_list(items: &[Json]) -> Result<u32, NoMemory>
 #[cycle(measure)]
 fn measure_object(members: &BTreeMap<String, Json>) -> Result<u32, NoMemory>
     ensures len { IfOk result (λ n. n ≡ length (packed (object (members_view members.now.entries)))) }
-    ensures kept { OnOk result (MembersAreKept (members_view members.now.entries)) }
+    ensures kept { OnOk result (MembersAreStored (members_view members.now.entries)) }
 {
     let len = measure_members(members)?;
     Ok(len)
@@ -98,7 +98,7 @@ fn measure_object(members: &BTreeMap<String, Json>) -> Result<u32, NoMemory>
 #[cycle(measure)]
 fn measure_items(items: &[Json]) -> Result<u32, NoMemory>
     ensures len { IfOk result (λ n. n ≡ 5 + items_size (items_view items.now)) }
-    ensures kept { OnOk result (ItemsAreKept (items_view items.now)) }
+    ensures kept { OnOk result (AreStored (items_view items.now)) }
 {
     let mut len = 5;
     for item in items {
@@ -111,7 +111,7 @@ fn measure_items(items: &[Json]) -> Result<u32, NoMemory>
 #[cycle(measure)]
 fn measure_members(members: &BTreeMap<String, Json>) -> Result<u32, NoMemory>
     ensures len { IfOk result (λ n. n ≡ 5 + members_size (members_view members.now.entries)) }
-    ensures kept { OnOk result (MembersAreKept (members_view members.now.entries)) }
+    ensures kept { OnOk result (MembersAreStored (members_view members.now.entries)) }
 {
     let mut len = 5;
     for (name, member) in members.iter() {

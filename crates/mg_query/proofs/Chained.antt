@@ -8,6 +8,7 @@ use Rattle.std.specs.Ordering.{ordering_reverse}
 use Rattle.std.specs.FinMap.{entries, entries_sorted}
 use Rattle.std.specs.FinMap.Entries.{below_all, is_sorted}
 use Rattle.std.specs.List.{AllByRecursion, filter, filter_map}
+use Rattle.std.specs.List.Sorted.{IsStrictlySortedBy}
 use Rattle.std.specs.Option.{option_map_or}
 use Rattle.std.proofs.lemmas.Cmp.{on_total, tied_itself, nat_eq_equiv, nat_list_cmp_total}
 use Rattle.std.proofs.lemmas.List.{map-append, take-append-drop}
@@ -124,11 +125,6 @@ module _ (columns : List Steps) (q : Query) where
   order_total : IsTotalOrder order
   order_total = on_total (row_by columns) (directed_total q.direction)
 
-  -- each is below all later ones
-  abbrev Climbs : List Candidate → Type 0
-  Climbs [] = Unit {0}
-  Climbs (c ∷ cs) = AllByRecursion (λ d. order c d ≡ Less) cs × Climbs cs
-
   less : (c d : Candidate) (o : Ordering) → order c d ≡ o → is_gt o ≡ false → Differ c d → o ≡ Less
   less c d Less e h k = refl
   less c d Equal e h k = absurd (k (ap (λ r. r.1) (directed_ties q.direction (row_by columns c) (row_by columns d) e)))
@@ -138,7 +134,8 @@ module _ (columns : List Steps) (q : Query) where
   all_less c [] h k = tt
   all_less c (d ∷ ds) h k = (less c d (order c d) refl h.0 k.0, all_less c ds h.1 k.1)
 
-  climbs : (cs : List Candidate) → Rises order cs → Apart cs → Climbs cs
+  climbs : (cs : List Candidate) → Rises order cs → Apart cs → IsStrictlySortedBy order cs
+  unfolding IsStrictlySortedBy
   climbs [] h k = tt
   climbs (c ∷ cs) h k = (all_less c cs h.0 k.0, climbs cs h.1 k.1)
 
@@ -156,7 +153,8 @@ module _ (columns : List Steps) (q : Query) where
   all_middle P (x ∷ xs) c ys h = all_middle P xs c ys h.1
 
   -- what comes after one of them is what stands after it
-  after_one : (xs : List Candidate) (c : Candidate) (ys : List Candidate) → Climbs (xs ++ c ∷ ys) → filter (follows c) (xs ++ c ∷ ys) ≡ ys
+  after_one : (xs : List Candidate) (c : Candidate) (ys : List Candidate) → IsStrictlySortedBy order (xs ++ c ∷ ys) → filter (follows c) (xs ++ c ∷ ys) ≡ ys
+  unfolding IsStrictlySortedBy
   after_one [] c ys h =
       let itself : follows c c ≡ false = ap is_gt (tied_itself order_total c) in
       ap (λ b. cond b (c ∷ filter (follows c) ys) (filter (follows c) ys)) itself ∙ all_later c ys h.0
@@ -236,7 +234,7 @@ module _ (ds : List IndexDefinition) (s : Source) (q : Query) (cs : List Candida
   one_more t page (next ∷ pages) answer some f = (answer, some, f)
 
   -- there are such pages
-  join : Climbs (columns_of s) q whole → AllByRecursion (CanBeReadBack s q) whole
+  join : IsStrictlySortedBy (order (columns_of s) q) whole → AllByRecursion (CanBeReadBack s q) whole
       → (n : ℕ) (done left : List Candidate) (place : Option Place) (t : List ℕ) → length left ≤ n → whole ≡ done ++ left → filter (after place) whole ≡ left → bookmark_read t ≡ Some place
       → fits s (asked_after q place t) ≡ true → Joined t left
   join climbing back n done [] place t small parts here read fit =
@@ -254,7 +252,7 @@ module _ (ds : List IndexDefinition) (s : Source) (q : Query) (cs : List Candida
       let readable : CanBeReadBack s q l.end = all_middle (columns_of s) q (CanBeReadBack s q) (done ++ l.front) l.end later (subst (AllByRecursion (CanBeReadBack s q)) whole_is back) in
       let mark : page.bookmark ≡ spelled (place_at s q l.end) = ap (λ (o : Option Candidate). option_map_or (λ d. spelled (place_at s q d)) o t) l.at in
       let here_next : filter (after (Some (place_at s q l.end))) whole ≡ later =
-      ap (filter (after (Some (place_at s q l.end)))) whole_is ∙ after_one (columns_of s) q (done ++ l.front) l.end later (subst (Climbs (columns_of s) q) whole_is climbing) in
+      ap (filter (after (Some (place_at s q l.end)))) whole_is ∙ after_one (columns_of s) q (done ++ l.front) l.end later (subst (IsStrictlySortedBy (order (columns_of s) q)) whole_is climbing) in
       let parts_next : whole ≡ (done ++ rows) ++ later = parts ∙ ap (λ xs. done ++ xs) cut ∙ sym (append_assoc done rows later) in
       let fewer : length later ≡ length (c ∷ rest) - q.limit = length-drop q.limit (c ∷ rest) in
       let smaller : length later ≤ n = omega (arith, fewer, small, some) in

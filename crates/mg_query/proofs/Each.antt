@@ -1,7 +1,7 @@
 -- Lists that are read one element after the other.
 use Rattle.std.proofs.Common.{◌≡◌, List, [], ◌∷◌, ◌++◌, Option, Some, None, option_map, Ok, refl, sym, ap, append_assoc}
 use Rattle.mg_index.specs.Reading.{each_of}
-use Rattle.mg_query.specs.Query.{or_fault}
+use Rattle.mg_selector.specs.Fault.{or_fault}
 use Rattle.mg_query.specs.Seen.{Fails}
 use Rattle.mg_query.specs.declared.error.QueryError.{QueryError}
 use Rattle.mg_query.specs.declared.error.QueryError.TheVariants.{Shape, InvalidOperator, BadArg, BadBookmark, MixedSort, NoMemory}

@@ -1,6 +1,6 @@
 -- What the exit of a `?` returns.
 use Rattle.std.proofs.Common.{◌≡◌, Result, Err, sym, ap, subst}
-use Rattle.mg_query.specs.Query.{◌>>=◌}
+use Rattle.mg_selector.specs.Fault.{◌>>=◌}
 use Rattle.mg_query.specs.Seen.{Fails, Gives}
 use Rattle.mg_query.specs.declared.error.QueryError.{QueryError}
 use Rattle.mg_query.specs.declared.error.QueryError.TheVariants.{Shape, InvalidOperator, BadArg, BadBookmark, MixedSort, NoMemory}

@@ -9,7 +9,8 @@ use Rattle.mg_index.specs.Definition.{Steps}
 use Rattle.mg_index.specs.Reading.{each_of, field_direction}
 use Rattle.mg_selector.specs.Reading.{reading}
 use Rattle.mg_query.specs.Given.{Given, fault_given, given, gives_path, gives_sort, parsed, with_parts}
-use Rattle.mg_query.specs.Query.{Shaped, ◌>>=◌, early_fault, or_fault, path_of, query_of, query_with, selector_or_fault, shaped, sort_path}
+use Rattle.mg_selector.specs.Fault.{◌>>=◌, or_fault}
+use Rattle.mg_query.specs.Query.{Shaped, early_fault, path_of, query_of, query_with, selector_or_fault, shaped, sort_path}
 use Rattle.mg_query.specs.Seen.{Fails, Gives, query_seen}
 use Rattle.mg_query.specs.declared.error.QueryError.{QueryError}
 use Rattle.mg_query.specs.declared.error.QueryError.TheVariants.{Shape, InvalidOperator, BadArg, BadBookmark, MixedSort, NoMemory}

@@ -13,7 +13,8 @@ use Rattle.mg_index.specs.Choice.{Hint}
 use Rattle.mg_index.specs.Definition.{Steps}
 use Rattle.mg_index.specs.Reading.{each_of, field_direction}
 use Rattle.mg_query.specs.Laws.{BookmarksChangeNothingElse, HasBookmark, asked_after}
-use Rattle.mg_query.specs.Query.{Query, Shaped, ◌>>=◌, ◌>>◌, bookmark_given, conflicts_of, count_of, fields_of, hint_given, one_direction, or_fault, query_with, selector_given, selector_or_fault, shaped, sort_fields, sort_path, told_fields_of}
+use Rattle.mg_selector.specs.Fault.{◌>>=◌, or_fault}
+use Rattle.mg_query.specs.Query.{Query, Shaped, ◌>>◌, bookmark_given, conflicts_of, count_of, fields_of, hint_given, one_direction, query_with, selector_given, selector_or_fault, shaped, sort_fields, sort_path, rendered_fields_of}
 use Rattle.mg_query.specs.declared.error.QueryError.{QueryError}
 use Rattle.mg_query.specs.declared.error.QueryError.TheVariants.{BadBookmark, MixedSort, Shape}
 
@@ -90,7 +91,7 @@ query_made fields m selector bookmark direction = record {
   bookmark = bookmark;
   conflicts = m.conflicts;
   given_selector = m.selector;
-  given_fields = told_fields_of fields;
+  given_fields = rendered_fields_of fields;
   given_bookmark = m.bookmark;
 }
 

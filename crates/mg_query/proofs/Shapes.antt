@@ -7,7 +7,8 @@ use Rattle.mg_index.specs.Choice.{Hint}
 use Rattle.mg_index.specs.Definition.{Steps}
 use Rattle.mg_index.specs.Reading.{each_of, field_direction}
 use Rattle.mg_query.specs.Given.{Given, given, parsed, query_given}
-use Rattle.mg_query.specs.Query.{Shaped, ◌>>=◌, or_fault, path_of, query_of, query_with, shaped, sort_fields, selector_given, count_of, hint_given, bookmark_given, conflicts_of, fields_of, sort_path}
+use Rattle.mg_selector.specs.Fault.{◌>>=◌, or_fault}
+use Rattle.mg_query.specs.Query.{Shaped, path_of, query_of, query_with, shaped, sort_fields, selector_given, count_of, hint_given, bookmark_given, conflicts_of, fields_of, sort_path}
 use Rattle.mg_query.specs.declared.error.QueryError.TheVariants.{Shape as wrong_shape}
 
 -- the paths of the fields

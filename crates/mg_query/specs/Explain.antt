@@ -1,4 +1,4 @@
--- How a query is told that it would be answered, after CouchDB's `_explain`.
+-- How a query would be answered, after CouchDB's `_explain`.
 use Rattle.std.specs.Prelude.{ℕ, pos, List, codes, Result}
 use Rattle.mg_value.specs.Value.{Value, text, whole, object, no_members, member}
 use Rattle.mg_normal.specs.Atoms.{atoms_of}
@@ -14,16 +14,16 @@ abbrev pub listed_source : Source → Value
 listed_source all_docs = listed_all_docs
 listed_source (defined d) = listed_of d
 
--- `{"dbname":..,"fields":..,"index":..,"limit":..,"range":..,"selector":..,"skip":..}`, of an index and a range as they are told
-abbrev pub told_of : List ℕ → Query → Value → Value → Value
-told_of db q index range =
+-- `{"dbname":..,"fields":..,"index":..,"limit":..,"range":..,"selector":..,"skip":..}`, with an index and a range as they are shown
+abbrev pub explanation_with : List ℕ → Query → Value → Value → Value
+explanation_with db q index range =
     object (member (codes "dbname") (text db) (member (codes "fields") q.given_fields (member (codes "index") index
     (member (codes "limit") (whole (pos q.limit)) (member (codes "range") range
     (member (codes "selector") q.given_selector (member (codes "skip") (whole (pos q.skip)) no_members)))))))
 
 -- the explanation of a query that this index serves
 abbrev pub explained : List ℕ → Query → Source → Value
-explained db q s = told_of db q (listed_source s) (range_value (range_of (atoms_of q.selector) (columns_of s)))
+explained db q s = explanation_with db q (listed_source s) (range_value (range_of (atoms_of q.selector) (columns_of s)))
 
 -- the explanation of a query in a database of this name, or why it is not answered
 abbrev pub explanation_of : List ℕ → List IndexDefinition → Query → Result Value Unanswered

@@ -8,7 +8,8 @@ use Rattle.mg_index.specs.Choice.{Hint, no_hint, in_document, exactly}
 use Rattle.mg_index.specs.Definition.{design_document}
 use Rattle.mg_index.specs.Reading.{each_of, field_direction}
 use Rattle.mg_selector.specs.Reading.{reading}
-use Rattle.mg_query.specs.Query.{Query, Shaped, ◌>>=◌, or_fault, query_with, selector_or_fault, path_of, sort_path, sort_fields, selector_given, count_of, hint_given, bookmark_given, conflicts_of}
+use Rattle.mg_selector.specs.Fault.{◌>>=◌, or_fault}
+use Rattle.mg_query.specs.Query.{Query, Shaped, query_with, selector_or_fault, path_of, sort_path, sort_fields, selector_given, count_of, hint_given, bookmark_given, conflicts_of}
 use Rattle.mg_query.specs.declared.error.QueryError.{QueryError}
 use Rattle.mg_query.specs.declared.error.QueryError.TheVariants.{Shape as wrong_shape}
 use Rattle.mg_query.specs.declared.member.Members as code

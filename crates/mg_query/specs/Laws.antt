@@ -9,7 +9,8 @@ use Rattle.mg_index.specs.Definition.{IndexDefinition}
 use Rattle.mg_merge.specs.Merged.{joined}
 use Rattle.mg_shard.specs.Histories.{Histories}
 use Rattle.mg_query.specs.Page.{Candidate, Page, Unanswered, answer_of, bookmark_at, candidates_of, columns_of, ddoc_of, candidates_found, name_of, row_by, served_by, shown_of}
-use Rattle.mg_query.specs.Query.{Query, or_fault, query_of}
+use Rattle.mg_selector.specs.Fault.{or_fault}
+use Rattle.mg_query.specs.Query.{Query, query_of}
 use Rattle.mg_query.specs.declared.error.QueryError.TheVariants.{BadBookmark}
 
 -- ---- a query and its bookmark

@@ -155,7 +155,7 @@ fits s q = option_map_or (is_place_in s q) q.bookmark true
 abbrev pub served_by : List IndexDefinition → Query → Result Source Unanswered
 served_by ds q = option_map_or (λ s. if fits s q then Ok s else Err bad_bookmark) (choice_of ds (atoms_of q.selector) q.sort q.hint) (Err no_usable_index)
 
--- what is told of it, or why it is not answered
+-- what f gives of it, or why the query is not answered
 abbrev pub if_served : {A : Type 0} → (Source → A) → Result Source Unanswered → Result A Unanswered
 if_served f (Ok s) = Ok (f s)
 if_served f (Err why) = Err why

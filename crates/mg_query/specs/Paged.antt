@@ -35,6 +35,6 @@ count_handed columns q hs = min (q.skip + q.limit) (length (candidates_found col
 abbrev pub counts_handed : List Steps → Query → Placing → ℕ → Histories → List ℕ
 counts_handed columns q place n hs = map (λ i. count_handed columns q (histories_on place n i hs)) (range_with_len 0 n)
 
--- the same in the index that serves the query, or why the query is not answered
+-- how many rows each of n shards hands over, read in the index that serves the query; or why the query is not answered
 abbrev pub handed_of : List IndexDefinition → Query → Placing → ℕ → Histories → Result (List ℕ) Unanswered
 handed_of ds q place n hs = if_served (λ s. counts_handed (columns_of s) q place n hs) (served_by ds q)

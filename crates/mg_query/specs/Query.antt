@@ -13,6 +13,7 @@ use Rattle.mg_selector.specs.Selector.{Selector}
 use Rattle.mg_selector.specs.Reading.{reading}
 use Rattle.mg_selector.specs.declared.error.SelError.{SelError}
 use Rattle.mg_selector.specs.declared.error.SelError.TheVariants as selector_fault
+use Rattle.mg_selector.specs.Fault.{◌>>=◌, or_fault}
 use Rattle.mg_bookmark.specs.Bookmark.{Place}
 use Rattle.mg_bookmark.specs.Reading.{bookmark_read}
 use Rattle.mg_index.specs.Choice.{Hint, no_hint, in_document, exactly}
@@ -23,7 +24,7 @@ use Rattle.mg_query.specs.declared.error.QueryError.TheVariants.{Shape, InvalidO
 
 -- what a query asks for: the paths of the parts that a page shows of a document, none where it shows the whole; how many documents,
 -- and how many are passed over; its sort, which may be empty; which indexes it prefers; the place after which the page begins; and
--- whether conflicts are shown. Beside these stand the selector, the fields and the bookmark as they are told again
+-- whether conflicts are shown. Beside these stand the selector, the fields and the bookmark as they were given
 pub record Query : Type 0 where
   pub selector : Selector
   pub fields : List Steps
@@ -39,17 +40,6 @@ pub record Query : Type 0 where
   pub given_bookmark : List ℕ
 
 -- ---- faults
-
--- the fault, or what f gives of the value
-infixl 10 ◌>>=◌
-abbrev pub ◌>>=◌ : {A B : Type 0} → Result A QueryError → (A → Result B QueryError) → Result B QueryError
-(Ok x) >>= f = f x
-(Err e) >>= f = Err e
-
--- what was found, or this fault
-abbrev pub or_fault : {A : Type 0} → QueryError → Option A → Result A QueryError
-or_fault e None = Err e
-or_fault e (Some x) = Ok x
 
 -- a selector's fault as the query's
 abbrev pub fault_of_selector : SelError → QueryError
@@ -86,11 +76,11 @@ fields_of None = Some []
 fields_of (Some (list vs)) = each_of path_of (item_list vs)
 fields_of (Some v) = None
 
--- `fields` as they are told: as given, and `all_fields` where they are absent or empty
-abbrev pub told_fields_of : Option Value → Value
-told_fields_of None = text (codes "all_fields")
-told_fields_of (Some (list no_items)) = text (codes "all_fields")
-told_fields_of (Some v) = v
+-- `fields` as `_explain` renders them: as given, and `all_fields` where they are absent or empty
+abbrev pub rendered_fields_of : Option Value → Value
+rendered_fields_of None = text (codes "all_fields")
+rendered_fields_of (Some (list no_items)) = text (codes "all_fields")
+rendered_fields_of (Some v) = v
 
 -- the greatest `limit` and `skip`
 abbrev pub greatest_count : ℕ
@@ -200,7 +190,7 @@ query_with fields m =
       bookmark = bookmark;
       conflicts = m.conflicts;
       given_selector = m.selector;
-      given_fields = told_fields_of fields;
+      given_fields = rendered_fields_of fields;
       given_bookmark = m.bookmark;
     }))))
 

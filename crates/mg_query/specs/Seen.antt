@@ -7,7 +7,7 @@ use Rattle.mg_value.specs.declared.value.Json.{Json}
 use Rattle.mg_selector.specs.View.{selector_of}
 use Rattle.mg_bookmark.specs.Seen.{bookmark_place}
 use Rattle.mg_index.specs.View.{hint_of}
-use Rattle.mg_query.specs.Query.{Query, told_fields_of}
+use Rattle.mg_query.specs.Query.{Query, rendered_fields_of}
 use Rattle.mg_query.specs.declared.error.QueryError.{QueryError}
 use Rattle.mg_query.specs.declared.error.QueryError.TheVariants.{Shape, InvalidOperator, BadArg, BadBookmark, MixedSort, NoMemory}
 use Rattle.mg_query.specs.declared.query.Query as code
@@ -29,7 +29,7 @@ query_seen q = record {
   bookmark = option_map bookmark_place q.bookmark;
   conflicts = q.conflicts;
   given_selector = view q.given_selector.now;
-  given_fields = told_fields_of (lent q.given_fields);
+  given_fields = rendered_fields_of (lent q.given_fields);
   given_bookmark = q.given_bookmark.now;
 }
 

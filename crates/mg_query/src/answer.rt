@@ -17,7 +17,7 @@ ghost use Rattle.mg_query.specs.Served.{PageAnswers, AreWhole, source_seen};
 use crate::error::PageError;
 use crate::found::{after_skip, find, find_first};
 use crate::query::Query;
-use crate::shown::{Page, bookmark_of, shown};
+use crate::shown::{Page, bookmark_of, show};
 use crate::source::Source;
 use crate::text::text_with;
 use mg_collate::Direction;
@@ -65,7 +65,7 @@ pub fn page<R: Threads + Sync, G: Gate + Sync>(
 {
     let found = find(rt, alloc, query, catalog, shards, workers, gate)?;
     let hits = after_skip(&found.hits, query.skip);
-    let docs = shown_all(alloc, query, hits)?;
+    let docs = show_all(alloc, query, hits)?;
     let bookmark = last_bookmark(alloc, query, found.source, hits)?;
     Ok((Page { docs, bookmark }, found.work))
 }
@@ -98,7 +98,7 @@ pub fn page_text<R: Threads + Sync, G: Gate + Sync>(
 {
     let found = find(rt, alloc, query, catalog, shards, workers, gate)?;
     let hits = after_skip(&found.hits, query.skip);
-    let text = text_found(alloc, query, found.source, hits)?;
+    let text = write_page(alloc, query, found.source, hits)?;
     Ok((text, found.work))
 }
 
@@ -125,11 +125,11 @@ pub fn page_text_by<R: Threads + Sync, G: Gate + Sync>(
 {
     let found = find_first(rt, alloc, query, catalog, shards, workers, gate)?;
     let hits = after_skip(&found.hits, found.skip);
-    Ok(text_found(alloc, query, found.source, hits)?)
+    Ok(write_page(alloc, query, found.source, hits)?)
 }
 
 // The text of the page of these hits.
-fn text_found(
+fn write_page(
     alloc: Global,
     query: &Query<'_>,
     source: Source<'_>,
@@ -144,13 +144,13 @@ fn text_found(
 }
 
 // What the page shows of the documents.
-fn shown_all(alloc: Global, query: &Query<'_>, hits: &[Hit<'_>]) -> Result<Vec<Json>, NoMemory>
+fn show_all(alloc: Global, query: &Query<'_>, hits: &[Hit<'_>]) -> Result<Vec<Json>, NoMemory>
     ensures { IfOk result (λ v. (columns : List Steps) (cs : List Candidate) → LendEach columns hits.now cs
         → map view v.items ≡ map (shown_of (query_seen query.now)) cs) }
 {
     let mut docs = Vec::with_capacity(alloc, hits.len())?;
     for hit in hits {
-        let doc = shown(alloc, query, hit.form(), hit.document().tree())?;
+        let doc = show(alloc, query, hit.form(), hit.document().tree())?;
         docs.push(doc)?;
     }
     Ok(docs)

@@ -1,8 +1,8 @@
 ghost use Rattle.std.specs.Prelude.{◌≡◌, ◌<◌, None, Some, IfOk, length};
 ghost use Rattle.mg_value.specs.Value.{list};
 ghost use Rattle.mg_value.specs.View.{view, items_view};
-ghost use Rattle.mg_query.specs.Explain.{explanation_of, told_of};
-ghost use Rattle.mg_query.specs.Query.{told_fields_of};
+ghost use Rattle.mg_query.specs.Explain.{explanation_of, explanation_with};
+ghost use Rattle.mg_query.specs.Query.{rendered_fields_of};
 ghost use Rattle.mg_query.specs.Seen.{lent, query_seen};
 ghost use Rattle.mg_query.specs.Served.{PageAnswers};
 
@@ -35,11 +35,11 @@ pub fn explain(
     let range = source.range(alloc, &normal)?;
     let range = range.to_json(alloc)?;
     let index = source.listed(alloc)?;
-    Ok(told(alloc, db, query, index, range)?)
+    Ok(render_explanation(alloc, db, query, index, range)?)
 }
 
-// The explanation, of an index and a range as they are told.
-fn told(
+// The explanation, with an index and a range as they are shown.
+fn render_explanation(
     alloc: Global,
     db: &str,
     query: &Query<'_>,
@@ -47,54 +47,54 @@ fn told(
     range: Json,
 ) -> Result<Json, NoMemory>
     ensures { IfOk result
-        (λ v. view v ≡ told_of db.now (query_seen query.now) (view index) (view range)) }
+        (λ v. view v ≡ explanation_with db.now (query_seen query.now) (view index) (view range)) }
 {
-    let fields = given_fields(alloc, query.given_fields)?;
+    let fields = render_fields(alloc, query.given_fields)?;
     let db = Json::Text(String::from_str(alloc, db)?);
     let selector = query.given_selector.copy(alloc)?;
-    let mut told = Json::empty_object(alloc);
-    told.insert(alloc, "skip", Json::Whole(i64::from(query.skip)))?;
-    told.insert(alloc, "selector", selector)?;
-    told.insert(alloc, "range", range)?;
-    told.insert(alloc, "limit", Json::Whole(i64::from(query.limit)))?;
-    told.insert(alloc, "index", index)?;
-    told.insert(alloc, "fields", fields)?;
-    told.insert(alloc, "dbname", db)?;
-    Ok(told)
+    let mut explanation = Json::empty_object(alloc);
+    explanation.insert(alloc, "skip", Json::Whole(i64::from(query.skip)))?;
+    explanation.insert(alloc, "selector", selector)?;
+    explanation.insert(alloc, "range", range)?;
+    explanation.insert(alloc, "limit", Json::Whole(i64::from(query.limit)))?;
+    explanation.insert(alloc, "index", index)?;
+    explanation.insert(alloc, "fields", fields)?;
+    explanation.insert(alloc, "dbname", db)?;
+    Ok(explanation)
 }
 
 // The fields as they were given, `all_fields` where they are absent or empty.
-fn given_fields(alloc: Global, fields: Option<&Json>) -> Result<Json, NoMemory>
-    ensures { IfOk result (λ v. view v ≡ told_fields_of (lent fields.entry)) }
+fn render_fields(alloc: Global, fields: Option<&Json>) -> Result<Json, NoMemory>
+    ensures { IfOk result (λ v. view v ≡ rendered_fields_of (lent fields.entry)) }
 {
     match fields {
-        Some(fields) => told_given(alloc, fields),
+        Some(fields) => render_given(alloc, fields),
         None => all_fields(alloc),
     }
 }
 
-fn told_given(alloc: Global, fields: &Json) -> Result<Json, NoMemory>
-    ensures { IfOk result (λ v. view v ≡ told_fields_of (Some (view fields.now))) }
+fn render_given(alloc: Global, fields: &Json) -> Result<Json, NoMemory>
+    ensures { IfOk result (λ v. view v ≡ rendered_fields_of (Some (view fields.now))) }
 {
     match fields {
-        Json::List(paths) => told_list(alloc, paths),
+        Json::List(paths) => render_list(alloc, paths),
         _ => fields.copy(alloc),
     }
 }
 
-fn told_list(alloc: Global, paths: &[Json]) -> Result<Json, NoMemory>
-    ensures { IfOk result (λ v. view v ≡ told_fields_of (Some (list (items_view paths.now)))) }
+fn render_list(alloc: Global, paths: &[Json]) -> Result<Json, NoMemory>
+    ensures { IfOk result (λ v. view v ≡ rendered_fields_of (Some (list (items_view paths.now)))) }
 {
     if paths.is_empty() {
         all_fields(alloc)
     } else {
-        copied_list(alloc, paths)
+        copy_list(alloc, paths)
     }
 }
 
-fn copied_list(alloc: Global, paths: &[Json]) -> Result<Json, NoMemory>
+fn copy_list(alloc: Global, paths: &[Json]) -> Result<Json, NoMemory>
     requires { 0 < length paths.now }
-    ensures { IfOk result (λ v. view v ≡ told_fields_of (Some (list (items_view paths.now)))) }
+    ensures { IfOk result (λ v. view v ≡ rendered_fields_of (Some (list (items_view paths.now)))) }
 {
     let copy = copy_items(alloc, paths)?;
     Ok(array_of(copy))
@@ -107,7 +107,7 @@ fn array_of(items: Vec<Json>) -> Json
 }
 
 fn all_fields(alloc: Global) -> Result<Json, NoMemory>
-    ensures { IfOk result (λ v. view v ≡ told_fields_of None) }
+    ensures { IfOk result (λ v. view v ≡ rendered_fields_of None) }
 {
     Ok(Json::Text(String::from_str(alloc, "all_fields")?))
 }

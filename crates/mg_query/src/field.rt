@@ -2,7 +2,8 @@
 ghost use Rattle.std.specs.Prelude.{◌≡◌, map};
 ghost use Rattle.mg_value.specs.View.{view};
 ghost use Rattle.mg_index.specs.Reading.{each_of, field_direction as direction_given};
-ghost use Rattle.mg_query.specs.Query.{or_fault, one_direction as shared_direction, path_of, sort_path as path_of_field};
+ghost use Rattle.mg_selector.specs.Fault.{or_fault};
+ghost use Rattle.mg_query.specs.Query.{one_direction as shared_direction, path_of, sort_path as path_of_field};
 ghost use Rattle.mg_query.specs.Seen.{Gives};
 
 use crate::error::QueryError;

@@ -88,7 +88,7 @@ pub(crate) fn find<'a, R: Threads + Sync, G: Gate + Sync>(
     definitions_are_catalogs(shards);
     let asked = asked_of(alloc, query, catalog)?;
     let range = asked.range.in_rows(alloc)?;
-    let (hits, work) = gathered(rt, alloc, query, &asked, &range, shards, workers, gate)?;
+    let (hits, work) = gather(rt, alloc, query, &asked, &range, shards, workers, gate)?;
     Ok(Found {
         source: asked.source,
         hits,
@@ -127,7 +127,7 @@ pub(crate) fn find_first<'a, R: Threads + Sync, G: Gate + Sync>(
     })
 }
 
-// What the query asks, over the indexes of the catalog.
+// What the query asks of each shard, over the indexes of the catalog.
 fn asked_of<'a>(
     alloc: Global,
     query: &Query<'_>,
@@ -194,9 +194,9 @@ fn first_of<'a, R: Threads + Sync, G: Gate + Sync>(
     let is_one = workers.count() < 2 || shards.len() < 2;
     let is_small = is_one || is_small(query, asked, range, shards);
     if workers.is_alone(is_small) {
-        return found_alone(alloc, query, asked, range, shards);
+        return find_alone(alloc, query, asked, range, shards);
     }
-    let (hits, _) = gathered(
+    let (hits, _) = gather(
         rt,
         alloc,
         query,
@@ -209,9 +209,9 @@ fn first_of<'a, R: Threads + Sync, G: Gate + Sync>(
     Ok((hits, query.skip))
 }
 
-// The same on the caller's thread, as the merge asks for them. Where the range decides, those that the page passes over are rows, whose
-// documents are not looked up.
-fn found_alone<'a>(
+// The hits of the page, found on the caller's thread as the merge asks for them, behind so many others. Where the range decides, none
+// stand before them: those that the page passes over are rows, whose documents are not looked up.
+fn find_alone<'a>(
     alloc: Global,
     query: &Query<'_>,
     asked: &Asked<'_>,
@@ -225,15 +225,15 @@ fn found_alone<'a>(
         (λ made. AreOfPage (query_seen query.now) asked.now (shards_seen shards.now) made.1 made.0.items) }
 {
     if asked.is_decided {
-        let hits = pulled_rows(alloc, query, asked, range, shards)?;
+        let hits = pull_page(alloc, query, asked, range, shards)?;
         return Ok((hits, 0));
     }
-    let hits = pulled(alloc, query, asked, range, shards)?;
+    let hits = pull_hits(alloc, query, asked, range, shards)?;
     Ok((hits, query.skip))
 }
 
 // The hits of the page alone, where the range decides.
-fn pulled_rows<'a>(
+fn pull_page<'a>(
     alloc: Global,
     query: &Query<'_>,
     asked: &Asked<'_>,
@@ -253,7 +253,7 @@ fn pulled_rows<'a>(
 }
 
 // The first hits of all shards together, as many as a page looks at, as the merge asks for them.
-fn pulled<'a>(
+fn pull_hits<'a>(
     alloc: Global,
     query: &Query<'_>,
     asked: &Asked<'_>,
@@ -270,8 +270,8 @@ fn pulled<'a>(
     Ok(hits)
 }
 
-// The same out of what each shard hands over, and how many these are.
-fn gathered<'a, R: Threads + Sync, G: Gate + Sync>(
+// The first hits of all shards together, merged out of what each shard hands over, and how many rows each handed over.
+fn gather<'a, R: Threads + Sync, G: Gate + Sync>(
     rt: &R,
     alloc: Global,
     query: &Query<'_>,
@@ -342,7 +342,7 @@ fn is_small(
     is_small_page(query, asked) || reads_at_most(shards, search_of(query, asked, range), SMALL_SCAN)
 }
 
-// Whether its page is, by its text alone.
+// Whether the page is small, by the query's text alone.
 fn is_small_page(query: &Query<'_>, asked: &Asked<'_>) -> bool {
     let count = row_count(query);
     let has_bound = asked.range.entered_at(Direction::Asc).is_some()

@@ -12,7 +12,7 @@ pub fn pages_join()
     what_is_spelled_is_read();
 }
 
-/// The same where each bookmark is read back as the place that it spells, with nothing said of the keys.
+/// Pages join as `pages_join` says, also with other keys and texts, if each bookmark is read back as the place that it spells.
 pub fn pages_that_read_back_join()
     ensures { PagesReadBackJoin }
 {}

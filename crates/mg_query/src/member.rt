@@ -94,12 +94,12 @@ fn items_in(value: &Json) -> Option<&[Json]>
     ensures { option_map (λ items. map view items.now) result ≡ sort_fields (Some (view value.now)) }
 {
     match value {
-        Json::List(items) => listed(items),
+        Json::List(items) => some_items(items),
         _ => None,
     }
 }
 
-fn listed(items: &[Json]) -> Option<&[Json]>
+fn some_items(items: &[Json]) -> Option<&[Json]>
     ensures { option_map (λ items. map view items.now) result
         ≡ sort_fields (Some (list (items_view items.now))) }
 {

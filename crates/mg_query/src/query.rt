@@ -1,7 +1,8 @@
 ghost use Rattle.std.specs.Prelude.{◌≡◌, Err, Some, option_map, unwrap_or};
 ghost use Rattle.mg_value.specs.View.{view};
 ghost use Rattle.mg_query.specs.Given.{given_seen, query_given};
-ghost use Rattle.mg_query.specs.Query.{early_fault, or_fault, query_of};
+ghost use Rattle.mg_selector.specs.Fault.{or_fault};
+ghost use Rattle.mg_query.specs.Query.{early_fault, query_of};
 ghost use Rattle.mg_bookmark.specs.Reading.{bookmark_read};
 ghost use Rattle.mg_bookmark.specs.Seen.{bookmark_place};
 ghost use Rattle.mg_query.specs.Seen.{Gives, lent, query_seen};
@@ -17,7 +18,7 @@ use mg_selector::Sel;
 use mg_value::Json;
 use std::alloc::Global;
 
-/// A query: what the body of a `_find` or an `_explain` asks for. What is told again of the body is lent from it.
+/// A query: what the body of a `_find` or an `_explain` asks for. The parts of the body that are shown again are lent from it.
 #[derive(Debug, Drop)]
 pub struct Query<'a> {
     /// Which documents are asked for.

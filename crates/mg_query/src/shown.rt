@@ -28,7 +28,7 @@ pub struct Page {
 
 // A document of this form and tree as a query shows it: with its conflicts, where they are asked for, and of that the
 // parts at the fields, where there are any.
-pub(crate) fn shown(
+pub(crate) fn show(
     alloc: Global,
     query: &Query<'_>,
     form: Part<'_>,
@@ -56,7 +56,7 @@ fn parts_in(alloc: Global, fields: &[Path], document: Json) -> Result<Json, NoMe
     }
 }
 
-// The same of a document that is lent.
+// The parts of a lent document at the fields, or a copy of the whole where there are none.
 fn parts_of(alloc: Global, fields: &[Path], document: Part<'_>) -> Result<Json, NoMemory>
     ensures { IfOk result (λ v. view v ≡ projected fields.now document.entry) }
 {

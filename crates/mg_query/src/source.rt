@@ -18,7 +18,7 @@ ghost use Rattle.mg_query.specs.Served.{PageAnswers, Chooses, IsListed, source_s
 use crate::error::PageError;
 use crate::query::Query;
 use mg_bookmark::Bookmark;
-use mg_index::{Catalog, Choice, IndexDef, all_docs_listed, choose, is_same};
+use mg_index::{Catalog, Choice, IndexDef, all_docs_listed, choose};
 use mg_normal::Normal;
 use mg_path::{Path, PathError};
 use mg_range::{KeyRange, decides};
@@ -48,7 +48,7 @@ pub(crate) fn served_by<'a>(
     ensures answers { PageAnswers source_seen result (served_of catalog.now (query_seen query.now)) }
     ensures listed { IfOk result (λ s. IsListed catalog.now (source_seen s)) }
 {
-    let source = chosen(query, normal, catalog)?;
+    let source = choose_source(query, normal, catalog)?;
     if fits(source, query) {
         Ok(source)
     } else {
@@ -56,7 +56,7 @@ pub(crate) fn served_by<'a>(
     }
 }
 
-fn chosen<'a>(
+fn choose_source<'a>(
     query: &Query<'_>,
     normal: &Normal,
     catalog: &'a Catalog,
@@ -88,7 +88,7 @@ fn is_place_in(source: Source<'_>, query: &Query<'_>, bookmark: &Bookmark) -> bo
 {
     is_ddoc(bookmark.ddoc.as_deref(), source.ddoc())
         && bookmark.name.as_str() == source.name()
-        && is_same(bookmark.direction, query.sort.direction)
+        && bookmark.direction == query.sort.direction
         && key_width(&bookmark.key) == source.width()
 }
 

@@ -11,7 +11,7 @@ ghost use Rattle.mg_query.specs.Lent.{LendEach, Lends, shows_whole};
 ghost use Rattle.mg_query.specs.Seen.{query_seen};
 
 use crate::query::Query;
-use crate::shown::shown;
+use crate::shown::show;
 use json::Writer;
 use mg_scan::Hit;
 use mg_value::{NoMemory, write};
@@ -79,7 +79,7 @@ fn with_comma(mut out: Vec<u8>, place: usize) -> Result<Vec<u8>, NoMemory>
     Ok(out)
 }
 
-// What it shows of one.
+// What the page shows of one document.
 fn with_document(
     alloc: Global,
     query: &Query<'_>,
@@ -96,7 +96,7 @@ fn with_document(
     }
 }
 
-// The text that is kept of a document.
+// The text of a document as it is served, which the shard has.
 fn with_kept(mut out: Vec<u8>, hit: &Hit<'_>) -> Result<Vec<u8>, NoMemory>
     ensures { IfOk result (λ b. b.items ≡ out.items ++ hit_text hit.now) }
 {
@@ -104,7 +104,7 @@ fn with_kept(mut out: Vec<u8>, hit: &Hit<'_>) -> Result<Vec<u8>, NoMemory>
     Ok(out)
 }
 
-// The text of what is made of it.
+// The text of a document's parts, or of the document with its conflicts.
 fn with_shown(
     alloc: Global,
     query: &Query<'_>,
@@ -114,7 +114,7 @@ fn with_shown(
     ensures { IfOk result (λ b. (columns : List Steps) (c : Candidate) → Lends columns hit.now c
         → b.items ≡ out.items ++ compact (shown_of (query_seen query.now) c)) }
 {
-    let doc = shown(alloc, query, hit.form(), hit.document().tree())?;
+    let doc = show(alloc, query, hit.form(), hit.document().tree())?;
     let text = write(alloc, &doc)?;
     out.extend_from_slice(&text)?;
     Ok(out)

@@ -1,7 +1,7 @@
 -- The range by its tightest bounds has the keys that meet every bound.
 use Rattle.std.proofs.Common.{◌≡◌, Bool, true, false, cond, not, ◌&&◌, ◌||◌, List, [], ◌∷◌, length, Option, Some, None, is_some, Ordering, Less, Equal, Greater, refl, sym, ap, ap₂, ◌∙◌, arith}
 use Rattle.std.proofs.lemmas.Bool.{false≢true, and_parts}
-use Rattle.std.specs.List.{list_any, list_all, find}
+use Rattle.std.specs.List.{list_all, find}
 use Rattle.std.specs.Ordering.{is_eq, ordering_reverse, match_ordering}
 use Rattle.mg_value.specs.Value.{Value}
 use Rattle.mg_collate.specs.Order.{value_order}
@@ -12,6 +12,7 @@ use Rattle.mg_index.specs.Bound.{Bound, bounds_on, meets, meets_all, allows, is_
 use Rattle.mg_index.specs.Definition.{Steps}
 use Rattle.mg_index.specs.declared.bound.Comparison.{Comparison}
 use Rattle.mg_index.specs.declared.bound.Comparison.TheVariants.{Below, AtMost, Exactly, AtLeast, Above}
+use Rattle.mg_index.proofs.Bounds.{some_found}
 use Rattle.mg_range.proofs.Limits.{and_false, and_true, above, is_within_some, meets_tightest}
 use Rattle.mg_range.specs.RangeSide.{admits, is_within, is_before, is_past, place_from, is_place_within, has_key}
 use Rattle.mg_range.specs.Range.{Limit, Range, span_of, is_crossed, between, with_equal, range_from, range_of, in_range, tightest}
@@ -93,14 +94,6 @@ behind_at Greater b p = refl
 has_behind : (w : Value) (rest : Range) (v : Value) (vs : List Value) → has_key (with_equal w rest) (v ∷ vs) ≡ (is_eq (value_order v w) && has_key rest vs)
 has_behind w None v vs = and_false (is_eq (value_order v w))
 has_behind w (Some s) v vs = behind_at (value_order v w) (is_before s.equal s.lower vs) (is_past s.equal s.upper vs)
-
-find_at : {X : Type 0} (x : X) (more : Bool) (o : Option X) → more ≡ is_some o → (b : Bool) → (b || more) ≡ is_some (cond b (Some x) o)
-find_at x more o e true = refl
-find_at x more o e false = e
-
-pub some_found : {X : Type 0} (p : X → Bool) (xs : List X) → list_any p xs ≡ is_some (find p xs)
-some_found p [] = refl
-some_found p (x ∷ xs) = find_at x (list_any p xs) (find p xs) (some_found p xs) (p x)
 
 -- y passes the test p, and passes each test that all elements pass
 abbrev Found : {X : Type 0} → (X → Bool) → List X → X → Type 0

@@ -3,7 +3,7 @@ use Rattle.std.proofs.Common.{◌≡◌, Bool, true, false, Option, Some, None, 
 use Rattle.std.specs.Ordering.{is_gt, is_lt}
 use Rattle.mg_collate.specs.Row.{RowValue}
 use Rattle.mg_range.proofs.Ends.{before_low, past_apart, past_high}
-use Rattle.mg_range.specs.InRows.{BothEnds, HasEnds, ends_at, ends_of, place_at}
+use Rattle.mg_range.specs.InRows.{BothEnds, HasEnds, ends_at, ends_of}
 use Rattle.mg_range.specs.RangeSide.{is_before, is_past, is_place_before, is_place_past, place_of}
 use Rattle.mg_range.specs.Range.{Range, Span}
 use Rattle.mg_range.specs.declared.place.RangeSide.TheVariants.{Before, Within, Past}
@@ -28,13 +28,6 @@ below_is ends s row e = before_low s.equal s.lower row.0 row.1 ∙ ap (λ (x : B
 above_is : (ends : Ends) (s : Span) (row : RowValue) → ends_at ends ≡ ends_of s → is_past s.equal s.upper (item_list row.0) ≡ is_above (ends_at ends) row
 above_is ends s row e = past_high s.equal s.upper row.0 row.1 ∙ ap (λ (x : BothEnds). is_above x row) (sym e)
 
--- whether a row is before, within or past the range
-pub placed : (range : Range) (ends : Ends) (row : RowValue) → HasEnds range (Some ends) → place_of range (item_list row.0) ≡ place_at ends row
-placed None ends row h = absurd (let e = h.1 in cc)
-placed (Some s) ends row h =
-    let e = same_ends ends s h.1 in
-    ap₂ (λ (b p : Bool). if b then Before else if p then Past else Within) (below_is ends s row e) (above_is ends s row e)
-
 before_at : (b p : Bool) → is_place_before (if b then Before else if p then Past else Within) ≡ b
 before_at true p = refl
 before_at false true = refl
@@ -42,7 +35,9 @@ before_at false false = refl
 
 -- whether a row is below the range
 pub placed_before : (range : Range) (ends : Ends) (row : RowValue) → HasEnds range (Some ends) → is_place_before (place_of range (item_list row.0)) ≡ is_below (ends_at ends) row
-placed_before range ends row h = ap is_place_before (placed range ends row h) ∙ before_at (is_below (ends_at ends) row) (is_above (ends_at ends) row)
+placed_before None ends row h = absurd (let e = h.1 in cc)
+placed_before (Some s) ends row h =
+    before_at (is_before s.equal s.lower (item_list row.0)) (is_past s.equal s.upper (item_list row.0)) ∙ below_is ends s row (same_ends ends s h.1)
 
 past_at : (b p : Bool) → (p ≡ true → b ≡ false) → is_place_past (if b then Before else if p then Past else Within) ≡ p
 past_at true true f = absurd (let wrong = f refl in cc)

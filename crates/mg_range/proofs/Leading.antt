@@ -1,22 +1,46 @@
--- An atom is decided where it bounds one of the bounded columns.
-use Rattle.std.proofs.Common.{◌≡◌, Bool, true, false, cond, ◌&&◌, ◌||◌, List, [], ◌∷◌, is_some, refl, sym, ap, ap₂, ◌∙◌}
-use Rattle.std.specs.List.{list_all}
+-- The atoms are decided if each bounds one of the bounded columns.
+use Rattle.std.proofs.Common.{◌≡◌, ℕ, suc, Bool, true, false, ◌&&◌, ◌||◌, List, [], ◌∷◌, Option, Some, None, is_some, take, if◌then◌else◌, refl, sym, ap, ap₂, ◌∙◌}
+use Rattle.std.specs.List.{AllByRecursion, cons_option, list_all, list_any}
 use Rattle.mg_normal.specs.Atoms.{Atom}
-use Rattle.mg_index.specs.Bound.{bound_on, is_fixed}
+use Rattle.mg_index.specs.Bound.{Bound, bound_on, bounds_on, bounded_count, is_bounded, is_fixed}
 use Rattle.mg_index.specs.Definition.{Steps}
-use Rattle.mg_range.specs.Decided.{bounded_columns, bounds_one, is_decided}
+use Rattle.mg_range.specs.Decided.{bounds_one, is_decided}
 
-at_column : (b f : Bool) (p : Bool → Bool) → p false ≡ false → (b || p f) ≡ (b || (f && p true))
-at_column b true p e = refl
-at_column b false p e = ap (λ t. b || t) e
+-- ---- where no bound is given, no atom gives one
 
-pub decided_leading : (atoms : List Atom) (columns : List Steps) (a : Atom) → bounds_one (bounded_columns atoms columns) a ≡ is_decided atoms columns a
-decided_leading atoms [] a = refl
-decided_leading atoms (c ∷ cs) a =
-    at_column (is_some (bound_on c a)) (is_fixed atoms c) (λ f. bounds_one (cond f (bounded_columns atoms cs) []) a) refl
-    ∙ ap (λ d. is_some (bound_on c a) || (is_fixed atoms c && d)) (decided_leading atoms cs a)
+none_at : (o : Option Bound) (rest : List Bound) → list_any (λ b. true) (cons_option o rest) ≡ false → (is_some o ≡ false) × (list_any (λ b. true) rest ≡ false)
+none_at None rest h = (refl, h)
+none_at (Some b) rest h = absurd cc
 
--- all of some atoms are decided if each bounds one of these columns
-pub all_leading : (atoms : List Atom) (columns : List Steps) (some : List Atom) → list_all (is_decided atoms columns) some ≡ list_all (bounds_one (bounded_columns atoms columns)) some
-all_leading atoms columns [] = refl
-all_leading atoms columns (a ∷ some) = ap₂ (λ s t. s && t) (sym (decided_leading atoms columns a)) (all_leading atoms columns some)
+none_bounds : (c : Steps) (atoms : List Atom) → is_bounded atoms c ≡ false → AllByRecursion (λ a. is_some (bound_on c a) ≡ false) atoms
+none_bounds c [] h = tt
+none_bounds c (a ∷ atoms) h =
+    let both = none_at (bound_on c a) (bounds_on atoms c) h in
+    (both.0, none_bounds c atoms both.1)
+
+-- ---- the bounded columns, one after another
+
+-- a column that no atom bounds is not bounded by this one
+abbrev Gives : List Atom → Atom → Type 0
+Gives atoms a = (c : Steps) → is_bounded atoms c ≡ false → is_some (bound_on c a) ≡ false
+
+at_column : (c : Steps) (cs : List Steps) (a : Atom) (n : ℕ) (decided fixed bounded : Bool) → bounds_one (take n cs) a ≡ decided → (bounded ≡ false → is_some (bound_on c a) ≡ false)
+    → bounds_one (take (if fixed then suc n else if bounded then 1 else 0) (c ∷ cs)) a ≡ (is_some (bound_on c a) || (fixed && decided))
+at_column c cs a n decided true bounded e free = ap (λ t. is_some (bound_on c a) || t) e
+at_column c cs a n decided false true e free = refl
+at_column c cs a n decided false false e free = sym (ap (λ t. t || false) (free refl))
+
+decided_leading : (atoms : List Atom) (a : Atom) → Gives atoms a → (columns : List Steps) → bounds_one (take (bounded_count atoms columns) columns) a ≡ is_decided atoms columns a
+decided_leading atoms a gives [] = refl
+decided_leading atoms a gives (c ∷ cs) =
+    at_column c cs a (bounded_count atoms cs) (is_decided atoms cs a) (is_fixed atoms c) (is_bounded atoms c) (decided_leading atoms a gives cs) (gives c)
+
+leading : (atoms : List Atom) (columns : List Steps) (some : List Atom) → ((c : Steps) → is_bounded atoms c ≡ false → AllByRecursion (λ a. is_some (bound_on c a) ≡ false) some)
+    → list_all (is_decided atoms columns) some ≡ list_all (bounds_one (take (bounded_count atoms columns) columns)) some
+leading atoms columns [] free = refl
+leading atoms columns (a ∷ some) free =
+    ap₂ (λ s t. s && t) (sym (decided_leading atoms a (λ c h. (free c h).0) columns)) (leading atoms columns some (λ c h. (free c h).1))
+
+-- all atoms are decided if each bounds one of the bounded columns
+pub all_leading : (atoms : List Atom) (columns : List Steps) → list_all (is_decided atoms columns) atoms ≡ list_all (bounds_one (take (bounded_count atoms columns) columns)) atoms
+all_leading atoms columns = leading atoms columns atoms (λ c. none_bounds c atoms)

@@ -1,5 +1,5 @@
 -- Which atoms a range decides: those whose bounds it is made of. They need not be asked of a document whose key is in the range.
-use Rattle.std.specs.Prelude.{List, [], ◌∷◌, Bool, false, not, ◌&&◌, ◌||◌, is_some, if◌then◌else◌}
+use Rattle.std.specs.Prelude.{List, [], ◌∷◌, Bool, false, not, ◌&&◌, ◌||◌, is_some}
 use Rattle.std.specs.List.{filter, list_all, list_any}
 use Rattle.mg_normal.specs.Atoms.{Atom}
 use Rattle.mg_index.specs.Bound.{bound_on, is_fixed}
@@ -18,13 +18,6 @@ undecided atoms columns = filter (λ a. not (is_decided atoms columns a)) atoms
 abbrev pub decides_of : List Atom → List Steps → Bool
 decides_of atoms columns = list_all (is_decided atoms columns) atoms
 
--- ---- for private clauses: the bounded columns on their own
-
--- the leading columns whose value is fixed, and the next one
-abbrev pub bounded_columns : List Atom → List Steps → List Steps
-bounded_columns atoms [] = []
-bounded_columns atoms (c ∷ cs) = c ∷ (if is_fixed atoms c then bounded_columns atoms cs else [])
-
--- the atom bounds one of the columns
+-- for private clauses: the atom bounds one of the columns
 abbrev pub bounds_one : List Steps → Atom → Bool
 bounds_one columns a = list_any (λ c. is_some (bound_on c a)) columns

@@ -1,9 +1,9 @@
-// What the atoms of a selector ask of one column: limits and fixed values, all lent by the atoms.
+// What the atoms of a selector ask of one column: limits, lent by the atoms.
 ghost use Rattle.std.specs.Prelude.{◌≡◌, List, option_map};
-ghost use Rattle.std.specs.List.{cons_option, filter_map, find, fold};
+ghost use Rattle.std.specs.List.{cons_option, filter_map, fold};
 ghost use Rattle.mg_value.specs.View.{view};
 ghost use Rattle.mg_normal.specs.View.{atom_view, atoms_view};
-ghost use Rattle.mg_index.specs.Bound.{Bound as BoundValue, bound_by, bound_on, bounds_on, is_exact, meets_all as meets_each};
+ghost use Rattle.mg_index.specs.Bound.{Bound as BoundValue, bound_on, bounds_on, meets_all as meets_each};
 ghost use Rattle.mg_range.specs.Range.{inclusive_from as inclusive_given, limit_by, limit_of, tightest as tightest_of};
 ghost use Rattle.mg_range.specs.Edge.{edge_seen, tightened, tighter as tighter_of};
 
@@ -67,7 +67,7 @@ fn tighter<'a>(direction: Direction, a: Edge<'a>, b: Edge<'a>) -> Edge<'a>
 }
 
 // The tightest limit so far, after one more atom.
-fn tightened_by<'a>(
+fn tighten<'a>(
     direction: Direction,
     best: Option<Edge<'a>>,
     column: &Path,
@@ -101,24 +101,9 @@ pub(crate) fn tightest<'a>(
 {
     let mut best = None;
     for atom in atoms {
-        best = tightened_by(direction, best, column, atom);
+        best = tighten(direction, best, column, atom);
     }
     best
-}
-
-// The first value that the atoms ask the column to equal.
-pub(crate) fn fixed_value<'a>(column: &Path, atoms: &'a [Atom]) -> Option<&'a Json>
-    ensures { option_map (λ v. bound_by Comparison.Exactly (view v.now)) result
-        ≡ find is_exact (bounds_on (atoms_view atoms.now) column.now) }
-{
-    for atom in atoms {
-        if let Some(bound) = Bound::on(column, atom) {
-            if bound.comparison == Comparison::Exactly {
-                return Some(bound.value);
-            }
-        }
-    }
-    None
 }
 
 // Whether the value meets every bound that the atoms give on the column.

@@ -11,7 +11,7 @@ mod row_range;
 mod span;
 mod text;
 
-pub use decided::{decides, is_decided};
+pub use decided::decides;
 pub use place::RangeSide;
 pub use range::KeyRange;
 pub use row_range::RowRange;

@@ -13,9 +13,9 @@ use std::alloc::Global;
 pub(crate) fn empty_json(alloc: Global) -> Result<Json, NoMemory>
     ensures { IfOk result (λ v. view v ≡ range_value None) }
 {
-    let mut told = Json::empty_object(alloc);
-    told.insert(alloc, "empty", Json::Flag(true))?;
-    Ok(told)
+    let mut object = Json::empty_object(alloc);
+    object.insert(alloc, "empty", Json::Flag(true))?;
+    Ok(object)
 }
 
 // `{"equal":[..],"lower":..,"upper":..}`
@@ -25,11 +25,11 @@ pub(crate) fn span_json(alloc: Global, span: &Span) -> Result<Json, NoMemory>
     let equal = values_json(alloc, &span.equal)?;
     let lower = limit_json(alloc, span.lower.as_ref())?;
     let upper = limit_json(alloc, span.upper.as_ref())?;
-    let mut told = Json::empty_object(alloc);
-    told.insert(alloc, "upper", upper)?;
-    told.insert(alloc, "lower", lower)?;
-    told.insert(alloc, "equal", equal)?;
-    Ok(told)
+    let mut object = Json::empty_object(alloc);
+    object.insert(alloc, "upper", upper)?;
+    object.insert(alloc, "lower", lower)?;
+    object.insert(alloc, "equal", equal)?;
+    Ok(object)
 }
 
 fn values_json(alloc: Global, values: &[Json]) -> Result<Json, NoMemory>
@@ -50,8 +50,8 @@ fn limit_json(alloc: Global, limit: Option<&Limit>) -> Result<Json, NoMemory>
         return Ok(Json::Null);
     };
     let value = limit.value.copy(alloc)?;
-    let mut told = Json::empty_object(alloc);
-    told.insert(alloc, "value", value)?;
-    told.insert(alloc, "inclusive", Json::Flag(limit.inclusive))?;
-    Ok(told)
+    let mut object = Json::empty_object(alloc);
+    object.insert(alloc, "value", value)?;
+    object.insert(alloc, "inclusive", Json::Flag(limit.inclusive))?;
+    Ok(object)
 }

@@ -2,7 +2,7 @@ ghost use Rattle.std.specs.Prelude.{◌≡◌, ℕ, List, [], ◌∷◌, IfOk, i
 ghost use Rattle.mg_value.specs.Value.{Value, text as string};
 ghost use Rattle.mg_value.specs.View.{view as json_view};
 ghost use Rattle.mg_range.specs.Listed.{range_value};
-ghost use Rattle.mg_range.specs.RangeSide.{has_key, place_of};
+ghost use Rattle.mg_range.specs.RangeSide.{has_key, is_place_within, place_of};
 ghost use Rattle.mg_range.specs.Enter.{limit_entered};
 ghost use Rattle.mg_range.specs.Range.{in_range, limit_at, range_of};
 
@@ -62,28 +62,17 @@ impl KeyRange {
     pub fn contains(&self, key: &[Json]) -> bool
         ensures { result ≡ has_key self.now (map json_view key.now) }
     {
-        match self.place(key) {
-            RangeSide::Before => false,
-            RangeSide::Within => true,
-            RangeSide::Past => false,
+        match &self.span {
+            Some(span) => is_within(place_in(span, key)),
+            None => false,
         }
     }
 
-    /// Whether the key is before, within or past the range. Takes no memory. Cost: one pass over the key at most.
+    /// Whether the key that is this one text is before, within or past the range. Takes no memory. Cost: at
+    /// most one pass over the text for each limit.
     ///
     /// Among rows in order, all before the range come first, then all in it, then all past it. So a binary
     /// search finds the ends of the range.
-    pub fn place(&self, key: &[Json]) -> RangeSide
-        ensures { result ≡ place_of self.now (map json_view key.now) }
-    {
-        match &self.span {
-            Some(span) => place_in(span, key),
-            None => RangeSide::Past,
-        }
-    }
-
-    /// Does what `place` does, for the key that is this one text. Takes no memory. Cost: at most one pass over
-    /// the text for each limit.
     pub fn place_of_text(&self, text: &str) -> RangeSide
         ensures { result ≡ place_of self.now (string text.now ∷ []) }
     {
@@ -131,5 +120,15 @@ impl KeyRange {
             Some(span) => span_json(alloc, span),
             None => empty_json(alloc),
         }
+    }
+}
+
+fn is_within(side: RangeSide) -> bool
+    ensures { result ≡ is_place_within side }
+{
+    match side {
+        RangeSide::Before => false,
+        RangeSide::Within => true,
+        RangeSide::Past => false,
     }
 }

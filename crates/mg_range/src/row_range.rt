@@ -6,11 +6,10 @@ ghost use Rattle.mg_value.specs.View.{items_view, view as json_view};
 ghost use Rattle.mg_rows.specs.Bound.{bound_order};
 ghost use Rattle.mg_rows.specs.Laws.{joined_items};
 ghost use Rattle.mg_range.specs.Ends.{end_values, high_edge as high_side, low_edge as low_side};
-ghost use Rattle.mg_range.specs.InRows.{ends_at, ends_of as both_ends, place_at};
+ghost use Rattle.mg_range.specs.InRows.{ends_at, ends_of as both_ends};
 ghost use Rattle.mg_range.specs.RangeSide.{is_early as stands_early, is_late as stands_late, is_place_before, is_place_past, place_of};
 ghost use Rattle.mg_range.specs.View.{limit_seen, span_seen};
 
-use crate::place::RangeSide;
 use crate::range::KeyRange;
 use crate::span::{Limit, Span};
 use mg_collate::Direction;
@@ -67,17 +66,6 @@ impl<'a> RowRange<'a> {
         self.keys
     }
 
-    /// Whether the key of the row is before, within or past the range. Takes no memory. Cost: one comparison of bytes for a row
-    /// before the range, else two.
-    pub fn place(&self, row: &RowBytes) -> RangeSide
-        ensures { result ≡ place_of self.now (item_list row.now.0) }
-    {
-        match &self.ends {
-            Some(ends) => place_between(ends, row),
-            None => RangeSide::Past,
-        }
-    }
-
     /// Whether the row comes before the range in the direction. Takes no memory. Cost: a comparison of bytes.
     pub fn is_early(&self, direction: Direction, row: &RowBytes) -> bool
         ensures { result ≡ stands_early direction (place_of self.now (item_list row.now.0)) }
@@ -131,19 +119,6 @@ fn is_past(ends: &Ends, row: &RowBytes) -> bool
     ensures { result ≡ is_lt (bound_order ends.now.high.0 ends.now.high.1 row.now) }
 {
     ends.high.against(row).is_lt()
-}
-
-// Whether the row is before, between or past the ends.
-fn place_between(ends: &Ends, row: &RowBytes) -> RangeSide
-    ensures { result ≡ place_at ends.now row.now }
-{
-    if is_before(ends, row) {
-        RangeSide::Before
-    } else if is_past(ends, row) {
-        RangeSide::Past
-    } else {
-        RangeSide::Within
-    }
 }
 
 // The ends of a span, if there is one.

@@ -5,12 +5,13 @@ ghost use Rattle.mg_normal.specs.View.{atoms_view};
 ghost use Rattle.mg_collate.specs.declared.direction.Direction.TheVariants.{Asc, Desc};
 ghost use Rattle.mg_range.specs.Edge.{edge_seen};
 ghost use Rattle.mg_range.specs.Range.{range_of, between, are_crossed as cross, is_crossed as is_cross};
-ghost use Rattle.mg_range.specs.RangeSide.{place_from, is_before as stands_before, is_past as stands_past, is_within as stands_within};
+ghost use Rattle.mg_range.specs.RangeSide.{admits as admits_by, place_from, is_before as stands_before, is_past as stands_past, is_within as stands_within};
 ghost use Rattle.mg_range.specs.View.{limit_seen, span_seen, with_equals};
 
-use crate::edge::{Edge, fixed_value, meets_all, tightest};
+use crate::edge::{Edge, meets_all, tightest};
 use crate::place::RangeSide;
 use mg_collate::{Direction, compare};
+use mg_index::fixed_value;
 use mg_normal::Atom;
 use mg_path::Path;
 use mg_value::{Json, NoMemory};
@@ -74,8 +75,8 @@ fn span_between(
     }
     Ok(Some(Span {
         equal,
-        lower: kept(alloc, lower)?,
-        upper: kept(alloc, upper)?,
+        lower: keep_limit(alloc, lower)?,
+        upper: keep_limit(alloc, upper)?,
     }))
 }
 
@@ -100,7 +101,7 @@ fn are_crossed(lower: Edge<'_>, upper: Edge<'_>) -> bool
 }
 
 // The limit with a copy of its value.
-fn kept(alloc: Global, edge: Option<Edge<'_>>) -> Result<Option<Limit>, NoMemory>
+fn keep_limit(alloc: Global, edge: Option<Edge<'_>>) -> Result<Option<Limit>, NoMemory>
     ensures { IfOk result (λ l. option_map limit_seen l ≡ option_map edge_seen edge.entry) }
 {
     match edge {
@@ -176,7 +177,13 @@ fn is_past(upper: &Option<Limit>, rest: &[Json]) -> bool
 fn is_within(direction: Direction, limit: &Limit, value: &Json) -> bool
     ensures { result ≡ stands_within direction (limit_seen limit.now) (view value.now) }
 {
-    let order = direction.apply(compare(value, &limit.value));
+    admits(limit, direction.apply(compare(value, &limit.value)))
+}
+
+// Whether a value with this order to the limit's value is within the limit.
+pub(crate) fn admits(limit: &Limit, order: Ordering) -> bool
+    ensures { result ≡ admits_by limit.now.inclusive order }
+{
     if limit.inclusive {
         order.is_ge()
     } else {

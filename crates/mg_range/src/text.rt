@@ -6,7 +6,7 @@ ghost use Rattle.mg_range.specs.RangeSide.{place_from, is_before as stands_befor
 ghost use Rattle.mg_range.specs.View.{limit_seen};
 
 use crate::place::RangeSide;
-use crate::span::{Limit, Span, place_at_limits};
+use crate::span::{Limit, Span, admits, place_at_limits};
 use mg_collate::{Direction, compare_text};
 use mg_value::Json;
 use std::cmp::Ordering;
@@ -73,10 +73,5 @@ fn is_past(upper: &Option<Limit>, text: &str) -> bool
 fn is_within(direction: Direction, limit: &Limit, text: &str) -> bool
     ensures { result ≡ stands_within direction (limit_seen limit.now) (string text.now) }
 {
-    let order = direction.apply(compare_text(text, &limit.value));
-    if limit.inclusive {
-        order.is_ge()
-    } else {
-        order.is_gt()
-    }
+    admits(limit, direction.apply(compare_text(text, &limit.value)))
 }

@@ -10,8 +10,8 @@ use Rattle.mg_revtree.specs.Tree.{AreSorted}
 use Rattle.mg_revtree.specs.Nodes.{AreWithin, Grows, NodeWithin, link_in, text_of_part}
 use Rattle.mg_revtree.specs.Steps.{IsGap, IsPlace}
 use Rattle.mg_revtree.specs.Known.{AreBelow, with_link, with_links}
-use Rattle.mg_revtree.specs.declared.node.Node.{Node}
-use Rattle.mg_revtree.specs.declared.node.Part.{Part}
+use Rattle.mg_revtree.specs.declared.links.node.Node.{Node}
+use Rattle.mg_revtree.specs.declared.links.node.Part.{Part}
 use Rattle.mg_revtree.proofs.Find.{place_is, sorted_at}
 use Rattle.mg_revtree.proofs.Texts.{grown-length, grown-links, kept_at, node-within, now_is, or_within, within-more}
 use Rattle.mg_revtree.proofs.Kept.{are_below-append, are_below_less, gap_above, gap_with, place_below, place_with, sorted_all, with_more, with_passed}

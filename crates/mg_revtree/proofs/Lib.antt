@@ -19,3 +19,4 @@ pub mod Extend
 pub mod Fits
 pub mod Replicas
 pub mod Leafless
+pub mod Bodies

@@ -15,8 +15,8 @@ use Rattle.mg_revtree.specs.Tree.{AreNodes, AreSorted, IsBelow, find, node}
 use Rattle.mg_revtree.specs.Steps.{IsGap, IsPlace, put}
 use Rattle.mg_revtree.specs.Nodes.{AreWithin, IsWithin, NodeWithin, ParentWithin, PartsWithin, link_in, links_in, text_of_part}
 use Rattle.mg_revtree.specs.Room.{AreFrom, Joins, used}
-use Rattle.mg_revtree.specs.declared.node.Node.{Node}
-use Rattle.mg_revtree.specs.declared.node.Part.{Part}
+use Rattle.mg_revtree.specs.declared.links.node.Node.{Node}
+use Rattle.mg_revtree.specs.declared.links.node.Part.{Part}
 use Rattle.mg_revtree.proofs.Find.{find-insert, gap_none, sorted-insert}
 use Rattle.mg_revtree.proofs.Joins.{node-put-before}
 use Rattle.mg_revtree.proofs.Texts.{find-joined, map-insert, part-within, sorted-joined, within-joined}

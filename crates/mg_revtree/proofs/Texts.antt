@@ -8,8 +8,8 @@ use Rattle.mg_revtree.specs.Tree.{AreSorted, find}
 use Rattle.mg_revtree.specs.Nodes.{text_of_part, link_in, IsWithin, ParentWithin, NodeWithin, AreWithin, PartsWithin, Grows}
 use Rattle.mg_revtree.specs.Steps.{put, IsPlace}
 use Rattle.mg_revtree.specs.Known.{parent_below}
-use Rattle.mg_revtree.specs.declared.node.Part.{Part}
-use Rattle.mg_revtree.specs.declared.node.Node.{Node}
+use Rattle.mg_revtree.specs.declared.links.node.Part.{Part}
+use Rattle.mg_revtree.specs.declared.links.node.Node.{Node}
 use Rattle.mg_revtree.proofs.Find.{find-set, place_find, place_is, sorted-set}
 
 -- ---- a text that grows

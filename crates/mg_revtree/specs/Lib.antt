@@ -8,3 +8,5 @@ pub mod Laws
 pub mod Room
 pub mod Losers
 pub mod Known
+pub mod Body
+pub mod Block

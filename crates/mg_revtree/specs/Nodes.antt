@@ -1,8 +1,8 @@
 -- How a tree keeps its known revisions: each id once, in one text of all ids, and a revision with its parent as a node.
 use Rattle.std.specs.Prelude.{◌≡◌, ℕ, ◌+◌, ◌-◌, ◌≤◌, List, [], ◌∷◌, ◌++◌, Option, None, Some, map, option_map, take, drop}
 use Rattle.mg_revtree.specs.History.{Link}
-use Rattle.mg_revtree.specs.declared.node.Part.{Part}
-use Rattle.mg_revtree.specs.declared.node.Node.{Node}
+use Rattle.mg_revtree.specs.declared.links.node.Part.{Part}
+use Rattle.mg_revtree.specs.declared.links.node.Node.{Node}
 
 -- the bytes of a part
 abbrev pub text_of_part : List ℕ → Part → List ℕ

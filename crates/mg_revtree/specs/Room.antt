@@ -5,7 +5,7 @@ use Rattle.mg_revtree.specs.History.{Link}
 use Rattle.mg_revtree.specs.Tree.{AreSorted, find}
 use Rattle.mg_revtree.specs.Steps.{put}
 use Rattle.mg_revtree.specs.Nodes.{link_in, links_in}
-use Rattle.mg_revtree.specs.declared.node.Node.{Node}
+use Rattle.mg_revtree.specs.declared.links.node.Node.{Node}
 
 -- the nodes before a room and those after it
 abbrev pub used : List Node → ℕ → ℕ → List Node

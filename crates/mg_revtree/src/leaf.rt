@@ -1,9 +1,11 @@
 ghost use Rattle.std.specs.Prelude.{◌≡◌, IfOk};
+ghost use Rattle.mg_revtree.specs.Body.{IsFormOf};
 ghost use Rattle.mg_revtree.specs.History.{leaf_order};
 ghost use Rattle.mg_revtree.specs.Steps.{marked_as};
 
+use crate::body::Body;
+use crate::form::Form;
 use crate::revision::Rev;
-use mg_packed::Packed;
 use mg_value::NoMemory;
 use std::alloc::Global;
 use std::cmp::Ordering;
@@ -17,7 +19,7 @@ pub struct Leaf {
     /// Whether the revision deletes the document.
     pub deleted: bool,
     /// The body, in one block of memory.
-    pub body: Packed,
+    pub body: Body,
 }
 
 impl Model for Leaf {
@@ -85,6 +87,16 @@ impl Shared {
         ensures { result.now ≡ self.now }
     {
         &self.leaf
+    }
+
+    /// Moves the leaf's body into the block of its form, if no copy of a tree shares the leaf. Takes no memory.
+    pub fn move_into(&mut self, form: Form)
+        requires { IsFormOf self.old.body form }
+        ensures { self.new ≡ self.old }
+    {
+        if let Some(leaf) = Arc::get_mut(&mut self.leaf) {
+            leaf.body.move_into(form);
+        }
     }
 
     /// Another reference to the leaf. Takes no memory.

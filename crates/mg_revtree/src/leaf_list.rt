@@ -108,11 +108,11 @@ pub fn kept_among(alloc: Global, leaves: &[Shared]) -> Result<Vec<&Leaf>, NoMemo
     Ok(found)
 }
 
-/// A list that shares the same leaves.
+/// A list that shares the same leaves, with capacity for one more, so that an edit of the copy does not reallocate it.
 pub fn copy_leaves(alloc: Global, leaves: &[Shared]) -> Result<Vec<Shared>, NoMemory>
     ensures { IfOk result (λ made. made.items ≡ leaves.now) }
 {
-    let mut made = Vec::with_capacity(alloc, leaves.len())?;
+    let mut made = Vec::with_capacity(alloc, leaves.len().saturating_add(1))?;
     for leaf in leaves {
         made.push(leaf.share()?)?;
     }

@@ -1,23 +1,21 @@
 //! Revision histories of documents, after the replication and conflict model of CouchDB.
 #![tactic(auto)]
 
+mod body;
+mod capacity;
 mod error;
-mod fold;
+mod form;
 mod history;
-mod known;
 pub mod laws;
 mod leaf;
 mod leaf_list;
 mod links;
-mod lookup;
-mod node;
-mod older;
-mod parts;
 mod revision;
-mod room;
 mod tree;
 
+pub use body::Body;
 pub use error::{MergeError, Merged, Refusal, RevError, TreeError};
+pub use form::Form;
 pub use history::History;
 pub use leaf::Leaf;
 pub use revision::{Rev, is_id};

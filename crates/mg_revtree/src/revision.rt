@@ -1,7 +1,7 @@
 ghost use Rattle.std.specs.Prelude.{◌≡◌, Err, IfOk, IsSome, None, Some, string_bytes};
 ghost use Rattle.std.specs.Char.{is_ascii_digit};
 ghost use Rattle.std.specs.List.{list_all};
-ghost use Rattle.mg_revtree.specs.Revision.{is_id_byte, is_revision_id, position_of, revision_of, revision_order, revision_text, same_revision};
+ghost use Rattle.mg_revtree.specs.Revision.{is_id_byte, is_revision_id, position_of, revision_of, revision_order, revision_text};
 
 use crate::error::RevError;
 use mg_value::NoMemory;
@@ -76,13 +76,6 @@ impl Rev {
         ensures { result ≡ revision_order (pos, id.now) self.now }
     {
         pos.cmp(&self.pos).then(id.cmp(self.id.as_bytes()))
-    }
-
-    /// Whether both are the same revision.
-    pub fn is(&self, other: &Rev) -> bool
-        ensures { result ≡ same_revision self.now other.now }
-    {
-        self.order(other).is_eq()
     }
 
     /// A copy of the revision. Cost: the length of the id.

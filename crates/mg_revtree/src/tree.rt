@@ -1,19 +1,22 @@
 ghost use Rattle.std.specs.Prelude.{◌≡◌, ◌+◌, ◌<◌, ◌≤◌, [], Err, IfOk, IfSome, IsOk, IsOkUnless, Ok, OnErr, OnOk, false, is_some, length, map, option_copied, string_bytes, true};
 ghost use Rattle.mg_value.specs.View.{view};
 ghost use Rattle.mg_revtree.specs.Revision.{run_from};
-ghost use Rattle.mg_revtree.specs.History.{History as Paths, fits, is_whole, leaves_of, winner_of};
+ghost use Rattle.mg_revtree.specs.Body.{IsFormOf};
+ghost use Rattle.mg_revtree.specs.History.{History as Paths, first_of, fits, is_whole, leaves_of, winner_of};
 ghost use Rattle.mg_revtree.specs.Tree.{AreLeaves, AreLosers, AreRanked, StandsFor};
 ghost use Rattle.mg_revtree.specs.Losers.{losers_of};
 ghost use Rattle.mg_revtree.specs.Changes.{Decides, extension, found_of, next_position, path_of, position_below, refusal_of, with_path};
 ghost use Rattle.mg_revtree.specs.Steps.{base_in, ids_over};
 
+use crate::body::Body;
+use crate::capacity::reserve;
 use crate::error::{MergeError, Merged, Refusal, TreeError};
+use crate::form::Form;
 use crate::history::History;
-use crate::known::Known;
 use crate::leaf::{Leaf, Shared};
 use crate::leaf_list::{add_leaf, copy_leaves, is_leaf, kept_among, unleaf};
+use crate::links::Known;
 use crate::revision::Rev;
-use mg_packed::Packed;
 use mg_value::{Json, NoMemory};
 use std::alloc::Global;
 use std::marker::Model;
@@ -79,12 +82,27 @@ impl RevTree {
 
     /// The best leaf, by `Leaf::order`. Takes no memory.
     pub fn winner(&self) -> Option<&Leaf>
-        ensures { (h : Paths) → StandsFor self.now h → option_copied result ≡ winner_of h }
+        ensures winner { (h : Paths) → StandsFor self.now h → option_copied result ≡ winner_of h }
+        ensures first { option_copied result ≡ first_of self.now.leaves }
     {
         if self.leaves.is_empty() {
             return None;
         }
         Some(self.leaves[0].leaf())
+    }
+
+    /// Moves the winner's body into the block of the form in which the document is served, unless a copy of the tree shares the
+    /// winner, so that the body and its form take one block. Contracts see the same tree. Takes no memory. Cost: two look-ups
+    /// of a member in the body.
+    pub fn share_form(&mut self, form: Form)
+        requires { IfSome (first_of self.old.leaves) (λ l. IsFormOf l.body form) }
+        ensures { self.new ≡ self.old }
+    {
+        if self.leaves.is_empty() {
+            return;
+        }
+        let winner = &mut self.leaves[0];
+        winner.move_into(form);
     }
 
     /// The leaves, best first. Cost: their number.
@@ -158,29 +176,13 @@ impl RevTree {
         }
     }
 
-    /// Why a new revision over the leaf `parent`, or the first of a tree without leaves, is refused, if it is: the errors of
-    /// `next_position`, then `Known` if the revision is already known. Takes no memory. Cost: the logarithms of the leaves and
-    /// of the known revisions.
-    pub fn refusal(&self, parent: Option<&Rev>, id: &String) -> Option<Refusal>
-        ensures { (h : Paths) → StandsFor self.now h → result ≡ refusal_of h (option_copied parent.entry) (string_bytes id.now) }
-    {
-        match self.next_position(parent) {
-            Err(refusal) => Some(refusal),
-            Ok(pos) => if self.links.knows(pos, id) {
-                Some(Refusal::Known)
-            } else {
-                None
-            },
-        }
-    }
-
     /// Accepts a path as a replica sends it, with the mark and the body of its newest revision. Unknown revisions
     /// become known, and known ones without a parent get the parent that the path gives them. If the newest
     /// revision is already known, it keeps its mark and its body. A path that is known whole changes nothing.
     ///
-    /// Errors: `BadHistory` if the path contradicts a known parent; else `NoMemory` if an allocation fails, or if the body
-    /// takes more than 4,294,967,295 bytes. Neither a bad path nor one that is known whole needs memory. An error leaves the
-    /// tree as it was.
+    /// Errors: `BadHistory` if the path contradicts a known parent; else `NoMemory` if an allocation fails, or if the body or the
+    /// ids of the known revisions take more than 4,294,967,295 bytes. Neither a bad path nor one that is known whole needs memory.
+    /// An error leaves the tree as it was.
     ///
     /// Cost: the size of the body, the length of the path times the logarithms of the known revisions and of the leaves, a
     /// move of one pointer for each leaf, and one pass over the newer known revisions above the lowest unknown one of the
@@ -226,9 +228,9 @@ impl RevTree {
             id: id.clone()?,
         };
         let alloc = *self.leaves.allocator();
-        let body = Packed::of(alloc, &body)?;
+        let body = Body::of(alloc, &body)?;
         let leaf = Shared::new(alloc, Leaf { rev, deleted, body })?;
-        self.leaves.reserve(1)?;
+        reserve(&mut self.leaves, 1)?;
         self.links.join(start, ids)?;
         unleaf(&mut self.leaves, start, ids);
         if known {
@@ -241,8 +243,9 @@ impl RevTree {
     /// Makes a new revision over the leaf `parent`; without a parent, at position 1 in a tree without leaves. The caller gives
     /// an id that `is_id` allows.
     ///
-    /// Errors: what `refusal` returns, found without memory; else `NoMemory`, as for `merge`. An error
-    /// leaves the tree as it was. Cost: as for `merge`, with a path of the new revision and its parent.
+    /// Errors, in this order: those of `next_position`, then `Known` if the revision is already known, all found without memory;
+    /// else `NoMemory`, as for `merge`. An error leaves the tree as it was. Cost: as for `merge`, with a path of the new revision
+    /// and its parent.
     pub fn extend(
         &mut self,
         parent: Option<&Rev>,

@@ -9,7 +9,8 @@ use Rattle.mg_value.specs.Value.{Items, no_items, item}
 use Rattle.mg_rows.specs.Bound.{first_columns, edge_order, edge_bytes, bound_order}
 use Rattle.mg_rows.specs.Bytes.{bytes_order, text_before, value_before, items_before, columns_before, row_bytes}
 use Rattle.mg_rows.specs.Laws.{joined_items}
-use Rattle.mg_rows.specs.Stored.{AreStored, IsStoredRow}
+use Rattle.mg_value.specs.Stored.{AreStored}
+use Rattle.mg_rows.specs.Stored.{IsStoredRow}
 use Rattle.mg_rows.specs.declared.edge.Edge.{Edge}
 use Rattle.mg_rows.specs.declared.edge.Edge.TheVariants.{Before, After}
 use Rattle.mg_rows.proofs.Joined.{columns_append}

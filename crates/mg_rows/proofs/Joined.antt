@@ -6,7 +6,8 @@ use Rattle.mg_value.specs.View.{view, items_view}
 use Rattle.mg_value.specs.declared.value.Json.{Json}
 use Rattle.mg_collate.specs.Row.{RowValue}
 use Rattle.mg_rows.specs.Bytes.{bytes_order, big_endian, sign_turned, text_before, value_before, items_before, members_before, columns_before, row_bytes}
-use Rattle.mg_rows.specs.Stored.{IsStored, AreStored, IsKey, IsRow}
+use Rattle.mg_value.specs.Stored.{IsStored, AreStored}
+use Rattle.mg_rows.specs.Stored.{IsKey, IsRow}
 use Rattle.mg_rows.specs.Bound.{IsBound, edge_bytes}
 use Rattle.mg_rows.specs.Laws.{joined_items}
 use Rattle.mg_rows.specs.declared.edge.Edge.{Edge}

@@ -11,7 +11,7 @@ use Rattle.mg_value.specs.declared.value.Json.{Json, the_lemmas}
 use Rattle.mg_value.specs.declared.value.Json as made
 use Rattle.mg_rows.specs.Bytes.{big_endian, sign_turned, text_before, value_before, items_before, members_before}
 use Rattle.mg_rows.specs.Laws.{joined_items}
-use Rattle.mg_rows.specs.Stored.{IsStored, AreStored, MembersAreStored}
+use Rattle.mg_value.specs.Stored.{IsStored, AreStored, MembersAreStored}
 
 pub view-Null : view made.Null ≡ null
 view-Null = search (rules, the_lemmas)
@@ -191,7 +191,7 @@ after_last k (member m v ms) l w ns h = after_last k ms l w ns h.1
 put_ascending : (done : Members) (l : List ℕ) (w : Value) (ns : Members) → MembersAreStored (joined_members done (member l w ns)) → joined_members (put l w done) ns ≡ joined_members done (member l w ns)
 put_ascending no_members l w ns h = refl
 put_ascending (member k v ms) l w ns h =
-    let above : slice_cmp nat_cmp l k ≡ Greater = nat_list_cmp_total.antisymm l k ∙ ap ordering_reverse (after_last k ms l w ns h.1) in
+    let above : slice_cmp nat_cmp l k ≡ Greater = nat_list_cmp_total.antisymm l k ∙ ap ordering_reverse (after_last k ms l w ns h.0) in
     rw above (ap (member k v) (put_ascending ms l w ns h.3))
 
 pub members_ended : (ns : Members) (rest bytes tail : List ℕ) (done ms : Members) (tag : ℕ) → bytes ≡ tag ∷ tail → tag ≡ 0 → bytes ≡ members_before ns rest → joined_members done ns ≡ ms → (done ≡ ms) × (tail ≡ rest)
@@ -221,4 +221,4 @@ pub members_case : (P : Type 0) (done ns : Members) (rest bytes tail : List ℕ)
 members_case P done no_members rest bytes tail ms tag e z stored h k go = let f : tag ≡ 0 = ap head_of (sym e ∙ h) in absurd (omega (arith, f, z))
 members_case P done (member l w ns) rest bytes tail ms tag e z stored h k go =
     let all = rest_stored done (member l w ns) (subst MembersAreStored (sym k) stored) in
-    go l w (members_before ns rest) all.0 all.2 (ap others (sym e ∙ h))
+    go l w (members_before ns rest) all.1 all.2 (ap others (sym e ∙ h))

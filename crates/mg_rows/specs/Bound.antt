@@ -7,7 +7,7 @@ use Rattle.mg_value.specs.Value.{Items, no_items, item}
 use Rattle.mg_collate.specs.Order.{items_order}
 use Rattle.mg_collate.specs.Row.{RowValue}
 use Rattle.mg_rows.specs.Bytes.{columns_before}
-use Rattle.mg_rows.specs.Stored.{AreStored}
+use Rattle.mg_value.specs.Stored.{AreStored}
 use Rattle.mg_rows.specs.declared.edge.Edge.{Edge}
 use Rattle.mg_rows.specs.declared.edge.Edge.TheVariants.{Before, After}
 

@@ -3,7 +3,8 @@ use Rattle.std.specs.Prelude.{◌≡◌, ◌++◌, [], ℕ, List}
 use Rattle.mg_value.specs.Value.{Value, Items, no_items, item}
 use Rattle.mg_collate.specs.Row.{RowValue, row_value_order}
 use Rattle.mg_rows.specs.Bytes.{bytes_order, columns_before, row_bytes, value_before}
-use Rattle.mg_rows.specs.Stored.{IsStored, IsStoredRow, IsRow}
+use Rattle.mg_value.specs.Stored.{IsStored}
+use Rattle.mg_rows.specs.Stored.{IsStoredRow, IsRow}
 
 -- the order of the bytes of two rows is the order of the rows
 abbrev pub RowsAreInTheOrderOfTheirBytes : Type 0

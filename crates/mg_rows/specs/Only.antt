@@ -11,7 +11,8 @@ use Rattle.mg_collate.specs.Order.{value_order, items_order}
 use Rattle.mg_collate.specs.Row.{RowValue}
 use Rattle.mg_collate.proofs.Ties.{both, same, same_items, same_rows, same_text}
 use Rattle.mg_rows.specs.Bytes.{bytes_order, value_before, items_before, columns_before, row_bytes, row_parts}
-use Rattle.mg_rows.specs.Stored.{IsStored, AreStored, MembersAreStored, IsStoredRow, IsKey, IsRow}
+use Rattle.mg_value.specs.Stored.{IsStored, AreStored, MembersAreStored}
+use Rattle.mg_rows.specs.Stored.{IsStoredRow, IsKey, IsRow}
 use Rattle.mg_rows.specs.Bound.{IsBound, edge_bytes}
 use Rattle.mg_rows.specs.Ranked.{value_cmp, items_cmp, row_cmp}
 use Rattle.mg_rows.specs.declared.edge.Edge.{Edge}

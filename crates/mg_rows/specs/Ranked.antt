@@ -14,7 +14,8 @@ use Rattle.mg_collate.specs.Compared.{members_order}
 use Rattle.mg_collate.specs.Row.{RowValue, row_value_order}
 use Rattle.mg_collate.proofs.Flat.{then_equal, then_assoc, text_order, items_order-item, items_order-below, items_order-above, members_order-member}
 use Rattle.mg_rows.specs.Bytes.{bytes_order, big_endian, sign_turned, text_before, value_before, items_before, members_before, row_bytes}
-use Rattle.mg_rows.specs.Stored.{IsStored, AreStored, MembersAreStored, IsStoredRow}
+use Rattle.mg_value.specs.Stored.{IsStored, AreStored, MembersAreStored}
+use Rattle.mg_rows.specs.Stored.{IsStoredRow}
 
 -- the high bytes decide, and where they tie the lowest one
 split_one : (n m : ℕ) (o p : Ordering) → MatchOrdering o (n / 256 < m / 256) (n / 256 ≡ m / 256) (m / 256 < n / 256) → MatchOrdering p (n % 256 < m % 256) (n % 256 ≡ m % 256) (m % 256 < n % 256)

@@ -1,30 +1,9 @@
--- What a `Json` can hold: each number has 64 bits, texts and names are UTF-8, and the names of an object ascend.
-use Rattle.std.specs.Prelude.{◌≡◌, ℕ, List, [], FitsSigned, IsUtf8, ⊤}
-use Rattle.std.specs.Int.{w64}
-use Rattle.mg_value.specs.Held.{AllAfter}
-use Rattle.mg_value.specs.Value.{Value, null, flag, whole, text, list, object, Items, no_items, item, Members, no_members, member}
+-- Rows and keys that the code can hold, and their bytes.
+use Rattle.std.specs.Prelude.{◌≡◌, ℕ, List, [], IsUtf8}
+use Rattle.mg_value.specs.Stored.{AreStored}
+use Rattle.mg_value.specs.Value.{Items}
 use Rattle.mg_collate.specs.Row.{RowValue}
 use Rattle.mg_rows.specs.Bytes.{columns_before, row_parts}
-
-abbrev mutual
-  -- a `Json` can hold the value
-  pub IsStored : Value → Type 0
-  IsStored null = ⊤
-  IsStored (flag b) = ⊤
-  IsStored (whole z) = FitsSigned w64 z
-  IsStored (text s) = IsUtf8 s
-  IsStored (list vs) = AreStored vs
-  IsStored (object ms) = MembersAreStored ms
-
-  -- a `Json` can hold each of the items
-  pub AreStored : Items → Type 0
-  AreStored no_items = ⊤
-  AreStored (item v vs) = IsStored v × AreStored vs
-
-  -- a `Json` can hold each of the members, and their names ascend
-  pub MembersAreStored : Members → Type 0
-  MembersAreStored no_members = ⊤
-  MembersAreStored (member k v ms) = IsUtf8 k × AllAfter k ms × IsStored v × MembersAreStored ms
 
 -- a row whose key and id the code can hold
 abbrev pub IsStoredRow : RowValue → Type 0

@@ -22,13 +22,13 @@ const FARTHEST: u64 = ((1 << 60) - 1) << 1;
 pub fn value_hint(value: Option<&Json>) -> u64 {
     match value {
         None => 0,
-        Some(Json::Null) => typed(1),
-        Some(Json::Flag(false)) => typed(2),
-        Some(Json::Flag(true)) => typed(3),
+        Some(Json::Null) => type_hint(1),
+        Some(Json::Flag(false)) => type_hint(2),
+        Some(Json::Flag(true)) => type_hint(3),
         Some(Json::Whole(number)) => turned_hint(number.cast_unsigned().wrapping_add(1 << 63)),
         Some(Json::Text(text)) => encoded_hint(encoded_front(text.as_bytes())),
-        Some(Json::List(_)) => typed(6),
-        Some(Json::Object(_)) => typed(7),
+        Some(Json::List(_)) => type_hint(6),
+        Some(Json::Object(_)) => type_hint(7),
     }
 }
 
@@ -39,10 +39,10 @@ pub(crate) fn row_hint(bytes: &[u8]) -> u64 {
             *a, *b, *c, *d, *e, *f, *g, *h,
         ])),
         [5, a, b, c, d, e, f, g, h, ..] => {
-            encoded_hint(ended(u64::from_be_bytes([*a, *b, *c, *d, *e, *f, *g, *h])))
+            encoded_hint(front_before_zero(u64::from_be_bytes([*a, *b, *c, *d, *e, *f, *g, *h])))
         }
-        [5, short @ ..] => encoded_hint(ended(front_of(short))),
-        [tag, ..] => typed(*tag),
+        [5, short @ ..] => encoded_hint(front_before_zero(front_of(short))),
+        [tag, ..] => type_hint(*tag),
         [] => 0,
     }
 }
@@ -62,7 +62,7 @@ pub(crate) fn place_hint(bytes: &[u8]) -> u64 {
 fn first_end(bytes: &[u8], number: u64) -> usize {
     match bytes.first() {
         None | Some(255) => 0,
-        Some(4) if number != typed(4) && number != typed(4) | FARTHEST => 9,
+        Some(4) if number != type_hint(4) && number != type_hint(4) | FARTHEST => 9,
         Some(4) => 0,
         Some(5) => text_end(bytes),
         Some(_) => 1,
@@ -78,7 +78,7 @@ fn text_end(bytes: &[u8]) -> usize {
 }
 
 // The hint of a type, without what a value holds.
-fn typed(tag: u8) -> u64 {
+fn type_hint(tag: u8) -> u64 {
     u64::from(tag.min(7)) << TYPE_SHIFT
 }
 
@@ -86,12 +86,12 @@ fn typed(tag: u8) -> u64 {
 fn turned_hint(turned: u64) -> u64 {
     let lowest = (1 << 63) - NEAR;
     let near = turned.max(lowest).min((1 << 63) + NEAR - 1) - lowest;
-    typed(4) | (near << 1)
+    type_hint(4) | (near << 1)
 }
 
 // The hint of a text, from its first eight bytes as a row stores them.
 fn encoded_hint(front: u64) -> u64 {
-    typed(5) | ((front >> 4) << 1)
+    type_hint(5) | ((front >> 4) << 1)
 }
 
 // The first eight bytes of a text as a row stores them, filled up with zeros.
@@ -120,7 +120,7 @@ fn front_of(bytes: &[u8]) -> u64 {
 }
 
 // The bytes before the first 0, filled up with zeros.
-fn ended(front: u64) -> u64 {
+fn front_before_zero(front: u64) -> u64 {
     // the highest bit of each byte that is 0
     let zeros = !((front & LOW_BITS).wrapping_add(LOW_BITS) | front | LOW_BITS);
     let after = u64::MAX.checked_shr(zeros.leading_zeros()).unwrap_or(0);

@@ -19,7 +19,7 @@ pub struct KeyBytes {
 
 impl Model for KeyBytes {
     ghost use Rattle.mg_value.specs.Value.{Items};
-    ghost use Rattle.mg_rows.specs.Code.{items_code};
+    ghost use Rattle.mg_value.specs.Code.{items_code};
 
     ghost Value = { Items };
 

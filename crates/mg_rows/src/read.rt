@@ -5,7 +5,7 @@ ghost use Rattle.std.specs.Int.{w64};
 ghost use Rattle.mg_value.specs.Value.{Value, Items, Members};
 ghost use Rattle.mg_value.specs.View.{view, items_view, members_view};
 ghost use Rattle.mg_rows.specs.Bytes.{big_endian, sign_turned, text_before, value_before, items_before, members_before};
-ghost use Rattle.mg_rows.specs.Stored.{IsStored, AreStored, MembersAreStored};
+ghost use Rattle.mg_value.specs.Stored.{IsStored, AreStored, MembersAreStored};
 
 use crate::error::DecodeError;
 use mg_value::Json;

@@ -4,7 +4,8 @@ ghost use Rattle.mg_value.specs.Value.{Items};
 ghost use Rattle.mg_value.specs.View.{items_view};
 ghost use Rattle.mg_rows.specs.Bytes.{big_endian, sign_turned, text_before, value_before};
 ghost use Rattle.mg_rows.specs.Bytes.{columns_before, items_before, members_before};
-ghost use Rattle.mg_rows.specs.Stored.{IsStored, AreStored, MembersAreStored, IsKey};
+ghost use Rattle.mg_value.specs.Stored.{IsStored, AreStored, MembersAreStored};
+ghost use Rattle.mg_rows.specs.Stored.{IsKey};
 ghost use Rattle.mg_rows.specs.Only.{KeyOf};
 
 use mg_value::{Json, Kind, LentValue, NoMemory};

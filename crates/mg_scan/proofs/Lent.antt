@@ -18,7 +18,7 @@ use Rattle.std.specs.contracts.sync.Arc as Arc
 use Rattle.std.specs.contracts.sync.atomic.AtomicU64 as Word
 use Rattle.mg_index.specs.contracts.definition.IndexDef as IndexDef
 use Rattle.mg_scan.proofs.Asked.{definition_sync, search_sync}
-use Rattle.mg_scan.proofs.Crossing.{shard_send, shard_sync}
+use Rattle.mg_shard.proofs.Crossing.{shard_send, shard_sync}
 use Rattle.mg_scan.specs.contracts.search.Search as Search
 use Rattle.mg_shard.specs.contracts.shard.Shard as Shard
 

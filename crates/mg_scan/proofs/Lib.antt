@@ -9,7 +9,6 @@ pub mod Own
 pub mod Made
 pub mod Builds
 pub mod Values
-pub mod Crossing
 pub mod Asked
 pub mod Lent
 pub mod Begun

@@ -68,10 +68,9 @@ fn lead_of_documents<'a>(
     ensures left { AreKept shard.now.documents documents.old → AreKept shard.now.documents documents.new }
 {
     while let Some(document) = documents.next() {
-        let Some(_key) = document.id_key() else {
+        let Some(id) = document.id_key() else {
             continue;
         };
-        let id = document.id();
         if is_past_id(search, id) {
             return None;
         }

@@ -121,10 +121,9 @@ fn hits_of_documents<'a>(
     let _ = shard;
     let mut hits = Vec::with_capacity(alloc, search.take.min(FIRST_ROOM))?;
     for document in documents {
-        let Some(_key) = document.id_key() else {
+        let Some(id) = document.id_key() else {
             continue;
         };
-        let id = document.id();
         if is_over_at_id(search, hits.len(), id) {
             return Ok(hits);
         }

@@ -63,10 +63,9 @@ fn next_of_documents<'a>(documents: &mut Documents<'a>, search: Search<'_>) -> O
     ensures left { (ds : KeptDocuments) → AreKept ds documents.old → AreKept ds documents.new }
 {
     while let Some(document) = documents.next() {
-        let Some(_key) = document.id_key() else {
+        let Some(id) = document.id_key() else {
             continue;
         };
-        let id = document.id();
         if is_past_id(search, id) {
             return None;
         }

@@ -1,5 +1,5 @@
--- The faults of selectors, and how the first one is passed on.
-use Rattle.std.specs.Prelude.{Result, Ok, Err}
+-- The faults of selectors, and how the first fault of several steps is passed on.
+use Rattle.std.specs.Prelude.{Option, Some, None, Result, Ok, Err}
 use Rattle.mg_path.specs.declared.error.PathError.{PathError}
 use Rattle.mg_path.specs.declared.error.PathError.TheVariants.{Empty, NoMemory as path_refused}
 use Rattle.mg_selector.specs.declared.error.SelError.{SelError}
@@ -12,11 +12,16 @@ fault_of_path path_refused = NoMemory
 
 -- the fault, or what f gives of the value
 infixl 10 ◌>>=◌
-abbrev pub ◌>>=◌ : {A B : Type 0} → Result A SelError → (A → Result B SelError) → Result B SelError
+abbrev pub ◌>>=◌ : {A B E : Type 0} → Result A E → (A → Result B E) → Result B E
 (Ok x) >>= f = f x
 (Err e) >>= f = Err e
 
 -- the fault, or f of the value
-abbrev pub fmap : {A B : Type 0} → (A → B) → Result A SelError → Result B SelError
+abbrev pub fmap : {A B E : Type 0} → (A → B) → Result A E → Result B E
 fmap f (Ok x) = Ok (f x)
 fmap f (Err e) = Err e
+
+-- what was found, or this fault
+abbrev pub or_fault : {A E : Type 0} → E → Option A → Result A E
+or_fault e None = Err e
+or_fault e (Some x) = Ok x

@@ -6,37 +6,37 @@ use crate::selector::Sel;
 use mg_value::{NoMemory, copy_items};
 use std::alloc::Global;
 
-#[cycle(copied)]
-pub(crate) fn copied(alloc: Global, sel: &Sel) -> Result<Sel, NoMemory>
+#[cycle(copy_selector)]
+pub(crate) fn copy_selector(alloc: Global, sel: &Sel) -> Result<Sel, NoMemory>
     ensures { IfOk result (λ copy. selector_of copy ≡ selector_of sel.now) }
 {
     match sel {
-        Sel::Members(arms) => Ok(Sel::Members(copied_arms(alloc, arms)?)),
-        Sel::And(arms) => Ok(Sel::And(copied_arms(alloc, arms)?)),
-        Sel::Or(arms) => Ok(Sel::Or(copied_arms(alloc, arms)?)),
-        Sel::Nor(arms) => Ok(Sel::Nor(copied_arms(alloc, arms)?)),
-        Sel::Not(inner) => Ok(Sel::Not(Box::new(alloc, copied(alloc, inner)?)?)),
+        Sel::Members(arms) => Ok(Sel::Members(copy_arms(alloc, arms)?)),
+        Sel::And(arms) => Ok(Sel::And(copy_arms(alloc, arms)?)),
+        Sel::Or(arms) => Ok(Sel::Or(copy_arms(alloc, arms)?)),
+        Sel::Nor(arms) => Ok(Sel::Nor(copy_arms(alloc, arms)?)),
+        Sel::Not(inner) => Ok(Sel::Not(Box::new(alloc, copy_selector(alloc, inner)?)?)),
         Sel::At(path, inner) => Ok(Sel::At(
             path.copy(alloc)?,
-            Box::new(alloc, copied(alloc, inner)?)?,
+            Box::new(alloc, copy_selector(alloc, inner)?)?,
         )),
-        Sel::Ask(op) => Ok(Sel::Ask(copied_operator(alloc, op)?)),
+        Sel::Ask(op) => Ok(Sel::Ask(copy_operator(alloc, op)?)),
     }
 }
 
-#[cycle(copied)]
-fn copied_arms(alloc: Global, arms: &[Sel]) -> Result<Vec<Sel>, NoMemory>
+#[cycle(copy_selector)]
+fn copy_arms(alloc: Global, arms: &[Sel]) -> Result<Vec<Sel>, NoMemory>
     ensures { IfOk result (λ copies. arms_view copies.items ≡ arms_view arms.now) }
 {
     let mut copies = Vec::with_capacity(alloc, arms.len())?;
     for arm in arms {
-        copies.push(copied(alloc, arm)?)?;
+        copies.push(copy_selector(alloc, arm)?)?;
     }
     Ok(copies)
 }
 
-#[cycle(copied)]
-pub(crate) fn copied_operator(alloc: Global, op: &Op) -> Result<Op, NoMemory>
+#[cycle(copy_selector)]
+pub(crate) fn copy_operator(alloc: Global, op: &Op) -> Result<Op, NoMemory>
     ensures { IfOk result (λ copy. operator_of copy ≡ operator_of op.now) }
 {
     match op {
@@ -53,7 +53,7 @@ pub(crate) fn copied_operator(alloc: Global, op: &Op) -> Result<Op, NoMemory>
         Op::Size(size) => Ok(Op::Size(*size)),
         Op::Mod(divisor, remainder) => Ok(Op::Mod(*divisor, *remainder)),
         Op::All(arguments) => Ok(Op::All(copy_items(alloc, arguments)?)),
-        Op::ElemMatch(inner) => Ok(Op::ElemMatch(Box::new(alloc, copied(alloc, inner)?)?)),
-        Op::AllMatch(inner) => Ok(Op::AllMatch(Box::new(alloc, copied(alloc, inner)?)?)),
+        Op::ElemMatch(inner) => Ok(Op::ElemMatch(Box::new(alloc, copy_selector(alloc, inner)?)?)),
+        Op::AllMatch(inner) => Ok(Op::AllMatch(Box::new(alloc, copy_selector(alloc, inner)?)?)),
     }
 }

@@ -28,7 +28,7 @@ pub(crate) fn holds_in<L: LentValue>(sel: &Sel, sense: Sense, part: Option<L>) -
             Sense::Plain => every_arm(arms, Sense::Negated, part),
             Sense::Negated => some_arm(arms, Sense::Plain, part),
         },
-        Sel::Not(inner) => holds_in(inner, sense.flipped(), part),
+        Sel::Not(inner) => holds_in(inner, sense.flip(), part),
         Sel::At(path, inner) => holds_in(inner, sense, path.get_in(part)),
         Sel::Ask(op) => operator_holds(op, sense, part),
     }

@@ -71,6 +71,6 @@ impl Op {
     pub fn copy(&self, alloc: Global) -> Result<Op, NoMemory>
         ensures { IfOk result (λ copy. operator_of copy ≡ operator_of self.now) }
     {
-        copy::copied_operator(alloc, self)
+        copy::copy_operator(alloc, self)
     }
 }

@@ -80,7 +80,7 @@ impl Sel {
     pub fn copy(&self, alloc: Global) -> Result<Sel, NoMemory>
         ensures { IfOk result (λ copy. selector_of copy ≡ selector_of self.now) }
     {
-        copy::copied(alloc, self)
+        copy::copy_selector(alloc, self)
     }
 }
 

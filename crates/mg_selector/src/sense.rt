@@ -10,7 +10,7 @@ pub enum Sense {
 
 impl Sense {
     /// The other sense.
-    pub fn flipped(self) -> Sense
+    pub fn flip(self) -> Sense
         ensures { result ≡ flip self }
     {
         match self {

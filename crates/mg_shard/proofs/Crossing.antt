@@ -6,10 +6,13 @@ use Rattle.mg_index.proofs.definition.IndexDef.TheSendSync as definition
 use Rattle.mg_packed.proofs.packed.Packed.TheSendSync as packed
 use Rattle.mg_pages.proofs.element.Shared.TheSendSync as element
 use Rattle.mg_pages.proofs.pages.Pages.TheSendSync as pages
+use Rattle.mg_revtree.specs.contracts.body.Block as Block
+use Rattle.mg_revtree.specs.contracts.body.Body as Body
+use Rattle.mg_revtree.specs.contracts.form.Form as Form
 use Rattle.mg_revtree.specs.contracts.leaf.Leaf as Leaf
 use Rattle.mg_revtree.specs.contracts.leaf.Shared as Shared
 use Rattle.mg_revtree.specs.contracts.tree.RevTree as RevTree
-use Rattle.mg_revtree.proofs.links.Links.TheSendSync as links
+use Rattle.mg_revtree.proofs.links.list.Links.TheSendSync as links
 use Rattle.mg_revtree.proofs.revision.Rev.TheSendSync as revision
 use Rattle.mg_rows.proofs.row.RowBytes.TheSendSync as row
 use Rattle.mg_shard.specs.contracts.document.Document as Document
@@ -17,11 +20,29 @@ use Rattle.mg_shard.specs.contracts.index.IndexRows as IndexRows
 use Rattle.mg_shard.specs.contracts.served.Served as Served
 use Rattle.mg_shard.specs.contracts.shard.Shard as Shard
 
+pub form_send : IsSend Form.the_row
+form_send = search (sendable, crosses, maps, packed.the_send, packed.the_sync) depth 40
+
+pub form_sync : IsSync Form.the_row
+form_sync = search (sendable, crosses, maps, packed.the_send, packed.the_sync) depth 40
+
+pub block_send : IsSend Block.the_row
+block_send = search (sendable, crosses, maps, packed.the_send, form_send) depth 40
+
+pub block_sync : IsSync Block.the_row
+block_sync = search (sendable, crosses, maps, packed.the_sync, form_sync) depth 40
+
+pub body_send : IsSend Body.the_row
+body_send = search (sendable, crosses, maps, block_send) depth 40
+
+pub body_sync : IsSync Body.the_row
+body_sync = search (sendable, crosses, maps, block_sync) depth 40
+
 pub leaf_send : IsSend Leaf.the_row
-leaf_send = search (sendable, crosses, maps, packed.the_send, packed.the_sync, revision.the_send, revision.the_sync) depth 40
+leaf_send = search (sendable, crosses, maps, body_send, revision.the_send) depth 40
 
 pub leaf_sync : IsSync Leaf.the_row
-leaf_sync = search (sendable, crosses, maps, packed.the_send, packed.the_sync, revision.the_send, revision.the_sync) depth 40
+leaf_sync = search (sendable, crosses, maps, body_sync, revision.the_sync) depth 40
 
 pub shared_send : IsSend Shared.the_row
 shared_send = search (sendable, crosses, maps, leaf_send, leaf_sync) depth 40
@@ -36,10 +57,10 @@ pub tree_sync : IsSync RevTree.the_row
 tree_sync = search (sendable, crosses, maps, shared_send, shared_sync, links.the_send, links.the_sync) depth 40
 
 pub served_send : IsSend Served.the_row
-served_send = search (sendable, crosses, maps, packed.the_send, packed.the_sync) depth 40
+served_send = search (sendable, crosses, maps, form_send) depth 40
 
 pub served_sync : IsSync Served.the_row
-served_sync = search (sendable, crosses, maps, packed.the_send, packed.the_sync) depth 40
+served_sync = search (sendable, crosses, maps, form_sync) depth 40
 
 pub document_send : IsSend Document.the_row
 document_send = search (sendable, crosses, maps, tree_send, tree_sync, served_send, served_sync) depth 40

@@ -1,6 +1,6 @@
 -- Documents are served with their own ids.
 use denote.Ref.{Bor}
-use Rattle.std.proofs.Common.{◌≡◌, ℕ, Bool, true, false, List, [], ◌∷◌, Ordering, Less, Equal, Greater, Option, Some, None, IfSome, codes, cond, is_eq, map, nat_cmp, option_and_then, option_map, refl, ap, sym, ◌∙◌, subst}
+use Rattle.std.proofs.Common.{◌≡◌, ℕ, Bool, true, false, List, [], ◌∷◌, Ordering, Less, Equal, Greater, Option, Some, None, IfSome, codes, cond, is_eq, is_some, map, nat_cmp, option_and_then, option_map, refl, ap, sym, ◌∙◌, subst}
 use Rattle.std.proofs.lemmas.Cmp.{nat_list_cmp_total, tied_itself}
 use Rattle.std.specs.Cmp.Lexicographic.{slice_cmp}
 use Rattle.std.specs.FinMap.{find, get-from_entries}
@@ -13,10 +13,9 @@ use Rattle.mg_path.specs.Part.{part_of}
 use Rattle.mg_revtree.specs.History.{Leaf}
 use Rattle.mg_revtree.specs.Revision.{revision_text}
 use Rattle.mg_value.specs.Value.{Value, null, flag, whole, text, list, object, Members, no_members, member, no_items, item, get_member, member_of, put, with_member}
-use Rattle.mg_value.specs.View.{items_of, view}
-use Rattle.mg_value.specs.declared.value.Json.{Json}
+use Rattle.mg_value.specs.View.{items_of}
 use Rattle.mg_shard.specs.Documents.{Kept, kept_entry, form_at, form_of, id_of, kept_of, shown}
-use Rattle.mg_shard.specs.Own.{HasOwnId, IsServedOwn, all_columns}
+use Rattle.mg_shard.specs.Own.{HasOwnId, IsServedOwn, all_columns, has_own_id}
 use Rattle.mg_shard.specs.Rows.{row_key}
 use Rattle.mg_shard.specs.declared.document.Document.{Document}
 use Rattle.mg_shard.specs.declared.served.Served.{Served}
@@ -75,6 +74,42 @@ key-member (whole z) = refl
 key-member (text s) = refl
 key-member (list vs) = refl
 key-member (object ms) = one_part (get_member (codes "_id") ms)
+
+-- what is found at `_id`, where something is
+found_own : (id : List ℕ) (o : Option Value) → ((part : Value) → option_and_then (part_of []) o ≡ Some part → part ≡ text id) → is_some o ≡ true
+    → Some (item (text id) no_items) ≡ option_map (λ part. item part no_items) o
+found_own id None own e = absurd cc
+found_own id (Some part) own e = ap (λ v. Some (item v no_items)) (sym (own part refl))
+
+found_none : (o : Option Value) → is_some o ≡ false → None ≡ option_map (λ part. item part no_items) o
+found_none None e = refl
+found_none (Some part) e = absurd cc
+
+member_own : (id : List ℕ) (form : Value) → HasOwnId id form → is_some (member_of (codes "_id") form) ≡ true → Some (item (text id) no_items) ≡ row_key all_columns form
+member_own id null own e = absurd cc
+member_own id (flag b) own e = absurd cc
+member_own id (whole z) own e = absurd cc
+member_own id (text s) own e = absurd cc
+member_own id (list vs) own e = absurd cc
+member_own id (object ms) own e = found_own id (get_member (codes "_id") ms) own e ∙ sym (key-member (object ms))
+
+member_none : (form : Value) → is_some (member_of (codes "_id") form) ≡ false → None ≡ row_key all_columns form
+member_none form e = found_none (member_of (codes "_id") form) e ∙ sym (key-member form)
+
+served_own : (id : List ℕ) (o : Option Served) → IsServedOwn id o → has_own_id o ≡ true → Some (item (text id) no_items) ≡ option_and_then (row_key all_columns) (option_map (λ s. s.form) o)
+served_own id None own e = absurd cc
+served_own id (Some s) own e = member_own id s.form (own s refl) (sym s.has_member ∙ e)
+
+served_none : (o : Option Served) → has_own_id o ≡ false → None ≡ option_and_then (row_key all_columns) (option_map (λ s. s.form) o)
+served_none None e = refl
+served_none (Some s) e = member_none s.form (sym s.has_member ∙ e)
+
+-- the key of a document among all documents, where it has one
+pub key_own : (d : Document) → has_own_id d.served ≡ true → Some (item (text (id_of d)) no_items) ≡ option_and_then (row_key all_columns) (form_of d)
+key_own d e = served_own (id_of d) d.served d.own_id e
+
+pub key_none : (d : Document) → has_own_id d.served ≡ false → None ≡ option_and_then (row_key all_columns) (form_of d)
+key_none d e = served_none d.served e
 
 -- ---- the documents of a shard
 

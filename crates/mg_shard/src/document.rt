@@ -32,10 +32,11 @@ impl Identified for Document {
     }
 }
 
-// The form in which the document of an id is served, with its text, if it is not deleted.
-fn served_in(alloc: Global, id: &str, tree: &RevTree) -> Result<Option<Served>, NoMemory>
+// The form in which the document of an id is served, with its text, if it is not deleted. The tree shares the form's block.
+fn served_in(alloc: Global, id: &str, tree: &mut RevTree) -> Result<Option<Served>, NoMemory>
     ensures own { IfOk result (λ served. IsServedOwn id.now served) }
-    ensures served { IfOk result (λ served. (h : History) → StandsFor tree.now h → option_map (λ s. s.form) served ≡ served_of id.now h) }
+    ensures served { IfOk result (λ served. (h : History) → StandsFor tree.old h → option_map (λ s. s.form) served ≡ served_of id.now h) }
+    ensures tree { tree.new ≡ tree.old }
 {
     match served_packed(alloc, id, tree)? {
         Some(form) => Ok(Some(Served::of(alloc, form)?)),
@@ -44,25 +45,26 @@ fn served_in(alloc: Global, id: &str, tree: &RevTree) -> Result<Option<Served>, 
 }
 
 impl Document {
-    ghost use Rattle.std.specs.Prelude.{◌≡◌, string_bytes, option_and_then, option_map, IfOk};
-    ghost use Rattle.mg_value.specs.Value.{item, no_items};
+    ghost use Rattle.std.specs.Prelude.{◌≡◌, string_bytes, option_and_then, option_map, IfOk, IfSome};
+    ghost use Rattle.mg_value.specs.Value.{item, no_items, text};
     ghost use Rattle.mg_value.specs.Text.{compact};
     ghost use Rattle.mg_revtree.specs.History.{History};
     ghost use Rattle.mg_revtree.specs.Tree.{StandsFor};
     ghost use Rattle.mg_doc.specs.Served.{served_of};
     ghost use Rattle.mg_shard.specs.Documents.{form_of, id_of, kept_of};
     ghost use Rattle.mg_shard.specs.Rows.{row_key};
-    ghost use Rattle.mg_shard.specs.Own.{all_columns};
+    ghost use Rattle.mg_shard.specs.Own.{all_columns, has_own_id};
 
     /// The document of an id whose revision tree this is.
     ///
-    /// Errors: `NoMemory` if an allocation fails. Cost: the winner's body in a second block, and its text.
-    pub(crate) fn of(alloc: Global, id: String, tree: RevTree) -> Result<Document, NoMemory>
+    /// Errors: `NoMemory` if an allocation fails. Cost: the form and its text, where the winner is new. The winner's body and
+    /// the form take one block.
+    pub(crate) fn of(alloc: Global, id: String, mut tree: RevTree) -> Result<Document, NoMemory>
         ensures id { IfOk result (λ d. string_bytes d.id ≡ string_bytes id) }
         ensures tree { IfOk result (λ d. d.tree ≡ tree) }
         ensures served { IfOk result (λ d. (h : History) → StandsFor tree h → form_of d ≡ served_of (string_bytes id) h) }
     {
-        let served = served_in(alloc, &id, &tree)?;
+        let served = served_in(alloc, &id, &mut tree)?;
         Ok(Document { id, tree, served })
     }
 
@@ -95,7 +97,7 @@ impl Document {
         ensures { option_map (λ v. v.now) result ≡ form_of self.now }
     {
         match &self.served {
-            Some(served) => Some(&served.form),
+            Some(served) => Some(served.form.packed()),
             None => None,
         }
     }
@@ -110,11 +112,22 @@ impl Document {
         }
     }
 
-    /// The key of its row among all documents, by id: the `_id` of that form alone, which is lent. Takes no memory.
-    /// Cost: one look-up of a member.
-    pub fn id_key(&self) -> Option<Part<'_>>
-        ensures { option_map (λ id. item id no_items) result ≡ option_and_then (row_key all_columns) (form_of self.now) }
+    // Whether it is served with an `_id`.
+    fn has_id(&self) -> bool
+        ensures { result ≡ has_own_id self.now.served }
     {
-        self.form()?.member("_id")
+        match &self.served {
+            Some(served) => served.has_id,
+            None => false,
+        }
+    }
+
+    /// Its id, if it has a row among all documents, by id: if it is served with an `_id`, which is then its own. Takes no
+    /// memory. Cost: constant.
+    pub fn id_key(&self) -> Option<&str>
+        ensures key { option_map (λ id. item (text id.now) no_items) result ≡ option_and_then (row_key all_columns) (form_of self.now) }
+        ensures own { IfSome result (λ id. id.now ≡ id_of self.now) }
+    {
+        if self.has_id() { Some(&self.id) } else { None }
     }
 }

@@ -144,7 +144,7 @@ const TELLING: [Draw; 7] = [
 ];
 
 // The status and the body of a reply; 0 and an empty body if there is none.
-fn told(reply: Option<&Option<Reply>>) -> (u16, &[u8]) {
+fn status_and_body(reply: Option<&Option<Reply>>) -> (u16, &[u8]) {
     match reply {
         Some(Some(reply)) => (reply.status(), reply.body()),
         _ => (0, b""),
@@ -152,7 +152,7 @@ fn told(reply: Option<&Option<Reply>>) -> (u16, &[u8]) {
 }
 
 // The replies to these events: the number of the event, the status and the body.
-const TOLD: &[(usize, u16, &str)] = &[
+const REPLIES: &[(usize, u16, &str)] = &[
     (0, 0, ""),
     (1, 201, "[]\n"),
     (2, 404, MISSING),
@@ -162,16 +162,16 @@ const TOLD: &[(usize, u16, &str)] = &[
     (6, 200, INDEXES),
 ];
 
-fn is_told(reply: Option<&Option<Reply>>, status: u16, text: &str) -> bool {
-    told(reply) == (status, text.as_bytes())
+fn is_reply(reply: Option<&Option<Reply>>, status: u16, text: &str) -> bool {
+    status_and_body(reply) == (status, text.as_bytes())
 }
 
 #[test]
 fn seats_see_what_they_looked_at_or_were_told(rt: HostRuntime) {
     let replies = replies_to(&rt, rt.alloc(), &TELLING);
-    for (event, status, text) in TOLD {
+    for (event, status, text) in REPLIES {
         let reply = replies.get(*event);
-        check(&rt, is_told(reply, *status, text), text);
+        check(&rt, is_reply(reply, *status, text), text);
     }
 }
 
@@ -199,7 +199,7 @@ pub(crate) fn commands_of<R: Abort>(
 }
 
 // Fails the test if one of the replies is out of memory.
-fn answered<R: Abort>(rt: &R, replies: &[Reply]) {
+fn check_answered<R: Abort>(rt: &R, replies: &[Reply]) {
     for reply in replies {
         check(rt, reply.status() != 503, "memory");
     }
@@ -215,7 +215,7 @@ pub(crate) fn plain_reply<R: Threads + Sync + Abort>(
     let commands = commands_of(rt, alloc, commits, command);
     let mut engine = Engine::new(alloc, "db", Md5Placement, 1).expect(rt, "memory");
     let mut replies = engine.run(rt, alloc, &commands, 1).expect(rt, "memory");
-    answered(rt, &replies);
+    check_answered(rt, &replies);
     replies.pop()
 }
 
@@ -234,7 +234,7 @@ impl Plain {
         }
         let seen = self.seen[draw.seat % 3].min(all);
         let reply = plain_reply(rt, alloc, &self.commits[..seen], draw.by);
-        if writes && told(Some(&reply)).0 < 300 {
+        if writes && status_and_body(Some(&reply)).0 < 300 {
             self.commits.push(draw.by).expect(rt, "memory");
             self.seen[draw.seat % 3] = self.commits.len();
         }
@@ -266,7 +266,7 @@ fn below(state: &mut u64, limit: u64) -> u64 {
     (*state >> 33) % limit.max(1)
 }
 
-fn drawn<R: Abort>(rt: &R, alloc: Global, seed: u64) -> Vec<Draw> {
+fn draw_events<R: Abort>(rt: &R, alloc: Global, seed: u64) -> Vec<Draw> {
     let mut state = seed;
     let mut draws = Vec::new(alloc);
     for _event in 0..60 {
@@ -293,7 +293,7 @@ fn are_plain<R: Threads + Sync + Abort>(
     };
     for (draw, reply) in draws.iter().zip(replies) {
         let wanted = plain.happens(rt, alloc, draw);
-        if told(Some(reply)) != told(Some(&wanted)) {
+        if status_and_body(Some(reply)) != status_and_body(Some(&wanted)) {
             return false;
         }
     }
@@ -303,7 +303,7 @@ fn are_plain<R: Threads + Sync + Abort>(
 #[test]
 fn drawn_events_are_answered_as_plain_runs(rt: HostRuntime) {
     for seed in 1..11 {
-        let draws = drawn(&rt, rt.alloc(), seed);
+        let draws = draw_events(&rt, rt.alloc(), seed);
         let replies = replies_to(&rt, rt.alloc(), &draws);
         check(
             &rt,

@@ -227,7 +227,7 @@ fn are_answered<D: Database, C: Ends, R: Wait + Threads + Sync>(
 }
 
 // Lets the second seat learn what the first has seen; false if that was refused memory.
-fn is_told<D: Database, C: Ends, R: Wait>(
+fn teach<D: Database, C: Ends, R: Wait>(
     rt: &R,
     a: &mut Seat<D, C>,
     b: &mut Seat<D, C>,
@@ -257,7 +257,7 @@ fn is_bare<D: Database, C: Ends>(seat: &mut Seat<D, C>, refused: &mut u32) -> bo
 }
 
 // Whether the two seats give all expected replies.
-fn are_told<D: Database, C: Ends, R: Wait + Threads + Sync>(
+fn both_answer<D: Database, C: Ends, R: Wait + Threads + Sync>(
     rt: &R,
     alloc: Global,
     a: &mut Seat<D, C>,
@@ -266,14 +266,14 @@ fn are_told<D: Database, C: Ends, R: Wait + Threads + Sync>(
     refused: &mut u32,
 ) -> bool {
     are_answered(rt, alloc, a, b, BEFORE, refused)
-        && (is_told(rt, a, b, refused) || is_told(rt, a, b, refused))
+        && (teach(rt, a, b, refused) || teach(rt, a, b, refused))
         && are_answered(rt, alloc, a, b, AFTER, refused)
         && are_answered(rt, alloc, a, b, calls, refused)
         && (is_bare(b, refused) || is_bare(b, refused))
 }
 
 // Closes the database and returns the number of its commits. A first try, without one of the seats, must be refused.
-fn closed<D: Database, C: Ends, R: Wait + Abort>(
+fn close<D: Database, C: Ends, R: Wait + Abort>(
     rt: &R,
     live: Live<D, C>,
     seats: Vec<Seat<D, C>>,
@@ -327,9 +327,9 @@ fn two<D: Database + Send + Sync, R: Threads + Wait + Abort + Sync + Send + Drop
         rt.panic("a seat")
     };
     let mut refused = 0;
-    assert!(rt; are_told(&rt, alloc, &mut a, &mut b, calls, &mut refused));
+    assert!(rt; both_answer(&rt, alloc, &mut a, &mut b, calls, &mut refused));
     seats.push(a).expect(&rt, "memory");
-    assert!(rt; closed(&rt, live, seats, b) == commits);
+    assert!(rt; close(&rt, live, seats, b) == commits);
     check(&rt, refused == 0, "a call was refused memory");
 }
 

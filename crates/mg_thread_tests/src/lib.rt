@@ -1,5 +1,5 @@
 //! Tests with threads: shards that several threads read at the same time, seats on threads, seats that learn from each other, and a write
-//! during a query. A failing test ends the process, as in mg_tests.
+//! during a query; and calls of mg_index and mg_range that the program does not make. A failing test ends the process, as in mg_tests.
 #![tactic(auto)]
 
 #[cfg(test)]
@@ -10,6 +10,8 @@ mod engine_tests;
 mod gate_tests;
 #[cfg(test)]
 mod given;
+#[cfg(test)]
+mod range_tests;
 #[cfg(test)]
 mod scan_tests;
 #[cfg(test)]

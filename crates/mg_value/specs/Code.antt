@@ -109,3 +109,23 @@ from_steps-steps v = ap (λ xs. top (built xs ([], [], [])).0) (sym (append-nil 
 -- the code that a `Model` over values takes
 abbrev pub value_code : Coded Value
 value_code = code_by (List Step) (coded_list (coded⊎ (coded⊎ coded_bool coded_ℤ) (coded⊎ (coded⊎ (coded_list coded_ℕ) (coded_list coded_ℕ)) coded_ℕ))) steps from_steps from_steps-steps
+
+-- ---- items and members are stored as the values that they make
+
+-- an array's items; another value has no items
+abbrev pub items_of_value : Value → Items
+items_of_value (list vs) = vs
+items_of_value v = no_items
+
+-- an object's members; another value has no members
+abbrev pub members_of_value : Value → Members
+members_of_value (object ms) = ms
+members_of_value v = no_members
+
+-- the code that a `Model` over items takes
+abbrev pub items_code : Coded Items
+items_code = code_by Value value_code (λ vs. list vs) items_of_value (λ _. refl)
+
+-- the code that a `Model` over members takes
+abbrev pub members_code : Coded Members
+members_code = code_by Value value_code (λ ms. object ms) members_of_value (λ _. refl)

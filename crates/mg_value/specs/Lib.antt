@@ -3,6 +3,7 @@ pub mod View
 pub mod Text
 pub mod Code
 pub mod Held
+pub mod Stored
 pub mod Borrowed
 pub mod Kind
 pub mod Weight

@@ -46,7 +46,7 @@ pub(crate) fn read_whole(alloc: Global, text: &str, buffer: &mut ReadBuffer) -> 
     whole_in(alloc, text, &mut buffer.scratch)
 }
 
-// The same value, read with this scratch.
+// The value of the text, read with this scratch; `None` as for `read_whole`.
 fn whole_in(alloc: Global, text: &str, scratch: &mut Scratch) -> Option<Json>
     ensures { IfSome result (λ v. Reads text.now (view v)) }
 {

@@ -7,8 +7,8 @@ use std::alloc::Global;
 use std::collections::BTreeMap;
 
 // A deep copy: it shares no memory with the value.
-#[cycle(copied)]
-pub(crate) fn copied(alloc: Global, value: &Json) -> Result<Json, NoMemory>
+#[cycle(copy_value)]
+pub(crate) fn copy_value(alloc: Global, value: &Json) -> Result<Json, NoMemory>
     ensures { IfOk result (λ v. view v ≡ view value.now) }
 {
     match value {
@@ -17,26 +17,26 @@ pub(crate) fn copied(alloc: Global, value: &Json) -> Result<Json, NoMemory>
         Json::Whole(number) => Ok(Json::Whole(*number)),
         Json::Text(text) => Ok(Json::Text(text.clone()?)),
         Json::List(items) => Ok(Json::List(copy_items(alloc, items)?)),
-        Json::Object(members) => Ok(Json::Object(copied_members(alloc, members)?)),
+        Json::Object(members) => Ok(Json::Object(copy_members(alloc, members)?)),
     }
 }
 
 /// Copies the values, deeply, into a new list.
 ///
 /// Errors: `NoMemory` if an allocation fails. Cost: the size of the values.
-#[cycle(copied)]
+#[cycle(copy_value)]
 pub fn copy_items(alloc: Global, items: &[Json]) -> Result<Vec<Json>, NoMemory>
     ensures { IfOk result (λ v. items_view v.items ≡ items_view items.now) }
 {
     let mut copies = Vec::with_capacity(alloc, items.len())?;
     for item in items {
-        copies.push(copied(alloc, item)?)?;
+        copies.push(copy_value(alloc, item)?)?;
     }
     Ok(copies)
 }
 
-#[cycle(copied)]
-fn copied_members(
+#[cycle(copy_value)]
+fn copy_members(
     alloc: Global,
     members: &BTreeMap<String, Json>,
 ) -> Result<BTreeMap<String, Json>, NoMemory>
@@ -45,7 +45,7 @@ fn copied_members(
     let mut copies = BTreeMap::new(alloc);
     for (name, member) in members.iter() {
         let copied_name = name.clone()?;
-        drop(copies.insert(copied_name, copied(alloc, member)?)?);
+        drop(copies.insert(copied_name, copy_value(alloc, member)?)?);
     }
     Ok(copies)
 }

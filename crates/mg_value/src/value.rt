@@ -42,7 +42,7 @@ impl Json {
     pub fn copy(&self, alloc: Global) -> Result<Json, NoMemory>
         ensures { IfOk result (λ v. view v ≡ view self.now) }
     {
-        copy::copied(alloc, self)
+        copy::copy_value(alloc, self)
     }
 
     /// Borrows the value of an object's member with this name; `None` where the object has no such

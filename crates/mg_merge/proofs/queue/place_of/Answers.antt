@@ -2,7 +2,7 @@ use Rattle.std.proofs.Common.{◌≡◌, ◌+◌, ◌-◌, ◌/◌, get_or, is_g
 use Rattle.std.proofs.lemmas.Cmp.{upto}
 use Rattle.mg_merge.specs.Merged.{order_by}
 use Rattle.mg_merge.specs.Rests.{turn_order}
-use Rattle.mg_merge.proofs.Queues.{climbs_up, placed, still_after, told, turn_total}
+use Rattle.mg_merge.proofs.Queues.{climbs_up, placed, still_after, gt_of_result, turn_total}
 use Rattle.mg_merge.proofs.Rows.{by_total}
 use Rattle.mg_merge.proofs.queue.place_of.Goals as goal
 
@@ -13,7 +13,7 @@ loop-low-preserved-then-is_gt g c =
     let total = turn_total order (by_total g.T.Ranked.row_of c.args.direction) (g.B.Begins.lists c.args.lists.now) in
     let queue = c.args.queue.now in
     let middle = c.loop-low.low + (c.loop-low.high - c.loop-low.low) / 2 in
-    let after : is_gt (turns c.args.list (get_or queue middle 0)) ≡ true = told (turns c.args.list (get_or queue middle 0)) c.turn.result c.is_gt.result true c.turn.ensures c.is_gt.ensures c.if-is_gt.true in
+    let after : is_gt (turns c.args.list (get_or queue middle 0)) ≡ true = gt_of_result (turns c.args.list (get_or queue middle 0)) c.turn.result c.is_gt.result true c.turn.ensures c.is_gt.ensures c.if-is_gt.true in
     record {
       halves = omega arith;
       within = c.loop-low.invariant.within;
@@ -28,7 +28,7 @@ loop-low-preserved g c =
     let total = turn_total order (by_total g.T.Ranked.row_of c.args.direction) (g.B.Begins.lists c.args.lists.now) in
     let queue = c.args.queue.now in
     let middle = c.loop-low.low + (c.loop-low.high - c.loop-low.low) / 2 in
-    let before : is_gt (turns c.args.list (get_or queue middle 0)) ≡ false = told (turns c.args.list (get_or queue middle 0)) c.turn.result c.is_gt.result false c.turn.ensures c.is_gt.ensures c.if-is_gt.false in
+    let before : is_gt (turns c.args.list (get_or queue middle 0)) ≡ false = gt_of_result (turns c.args.list (get_or queue middle 0)) c.turn.result c.is_gt.result false c.turn.ensures c.is_gt.ensures c.if-is_gt.false in
     record {
       halves = omega arith;
       within = omega arith;

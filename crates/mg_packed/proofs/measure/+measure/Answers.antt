@@ -4,7 +4,7 @@ use Rattle.std.specs.Map.{keys_of}
 use Rattle.std.proofs.lemmas.Str.{IsUtf8-string_bytes}
 use Rattle.mg_value.specs.View.{view, members_view}
 use Rattle.mg_value.proofs.Views.{Entry}
-use Rattle.mg_packed.specs.Kept.{MembersAreKept}
+use Rattle.mg_value.specs.Stored.{MembersAreStored}
 use Rattle.mg_packed.specs.Packed.{packed}
 use Rattle.mg_packed.specs.Sizes.{members_size}
 use Rattle.mg_packed.proofs.Built.{above_middle, list_size, object_size}
@@ -30,5 +30,5 @@ measure_members-loop-name-preserved t c =
       omega (arith, l.invariant.0, size, named, c.in_ok-measure.ensures.len, c.in_ok-named_len.ensures, c.in_ok-add.ensures, c.in_ok-len.ensures),
       done ++ e ∷ [],
       all ∙ sym (append_assoc done (e ∷ []) left),
-      λ kept. l.invariant.3 (subst (λ es. MembersAreKept (members_view es)) (sym step) (above, IsUtf8-string_bytes e.0, c.in_ok-measure.ensures.kept, kept)),
+      λ kept. l.invariant.3 (subst (λ es. MembersAreStored (members_view es)) (sym step) (above, IsUtf8-string_bytes e.0, c.in_ok-measure.ensures.kept, kept)),
     )

@@ -8,7 +8,7 @@ use Rattle.mg_query.specs.Query.{sort_path}
 use Rattle.std.proofs.Common.{Vec, Global}
 use Rattle.std.proofs.lemmas.Result.{err_from_is_err_and}
 use Rattle.mg_path.specs.declared.path.Path.{Path}
-use Rattle.mg_query.specs.Query.{or_fault}
+use Rattle.mg_selector.specs.Fault.{or_fault}
 use Rattle.mg_query.specs.declared.error.QueryError.TheVariants.{Shape}
 use Rattle.mg_query.proofs.Exits.{exits}
 use Rattle.mg_query.proofs.Each.{failed, none_more, one_more}

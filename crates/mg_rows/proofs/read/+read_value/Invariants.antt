@@ -4,7 +4,7 @@ use Rattle.mg_value.specs.Value.{Items, Members}
 use Rattle.mg_value.specs.View.{items_view, members_view}
 use Rattle.mg_rows.specs.Bytes.{items_before, members_before}
 use Rattle.mg_rows.specs.Laws.{joined_items}
-use Rattle.mg_rows.specs.Stored.{AreStored, MembersAreStored}
+use Rattle.mg_value.specs.Stored.{AreStored, MembersAreStored}
 use Rattle.mg_rows.proofs.read.+read_value.Given as goal
 
 abbrev pub decreases-read_value : goal.decreases-read_value

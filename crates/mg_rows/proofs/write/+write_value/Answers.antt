@@ -1,6 +1,6 @@
 use Rattle.std.proofs.Common.{◌≡◌, ◌+◌, [], ◌∷◌, ◌++◌, IsUtf8, arith, sym, ap, ◌∙◌, subst, rules}
 use Rattle.mg_rows.specs.Bytes.{items_before, text_before, members_before}
-use Rattle.mg_rows.specs.Stored.{AreStored, MembersAreStored}
+use Rattle.mg_value.specs.Stored.{AreStored, MembersAreStored}
 use Rattle.mg_value.specs.Held.{NamesAscend}
 use Rattle.mg_value.specs.Value.{item, no_items, member}
 use Rattle.mg_value.specs.Weight.{members_weight}
@@ -59,7 +59,7 @@ write_members-loop-name-preserved g t c =
       members_turn k v left (c.args.out.now.items ++ members_before ms []) l.out.items c.write_text.new.out.items c.write_value.new.out.items named c.in_ok-write_value.ensures.bytes
           (l.invariant.0 ∙ ap (λ xs. l.out.items ++ members_before xs []) step),
       ascend.1,
-      λ stored. l.invariant.2 (subst MembersAreStored (sym step) (utf8, ascend.0, c.in_ok-write_value.ensures.stored, stored)),
+      λ stored. l.invariant.2 (subst MembersAreStored (sym step) (ascend.0, utf8, c.in_ok-write_value.ensures.stored, stored)),
       omega (arith, l.invariant.3, ap members_weight step),
     )
 

@@ -1,6 +1,6 @@
 use Rattle.std.proofs.Common.{◌≡◌, ◌≤◌, [], ◌++◌}
 use Rattle.mg_rows.specs.Bytes.{items_before, members_before}
-use Rattle.mg_rows.specs.Stored.{AreStored, MembersAreStored}
+use Rattle.mg_value.specs.Stored.{AreStored, MembersAreStored}
 use Rattle.mg_value.specs.Held.{NamesAscend}
 use Rattle.mg_value.proofs.Items.{items_past}
 use Rattle.mg_value.specs.Weight.{weight, items_weight, members_weight}

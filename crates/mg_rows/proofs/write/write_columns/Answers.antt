@@ -1,5 +1,5 @@
 use Rattle.std.proofs.Common.{◌<◌, length, arith, sym, subst}
-use Rattle.mg_rows.specs.Stored.{AreStored}
+use Rattle.mg_value.specs.Stored.{AreStored}
 use Rattle.mg_value.specs.View.{items_view}
 use Rattle.mg_rows.proofs.Joined.{columns_turn, here}
 use Rattle.mg_rows.proofs.write.write_columns.Goals as goal

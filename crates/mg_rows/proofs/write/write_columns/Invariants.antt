@@ -1,6 +1,6 @@
 use Rattle.std.proofs.Common.{◌≡◌, [], ◌++◌, drop}
 use Rattle.mg_rows.specs.Bytes.{columns_before}
-use Rattle.mg_rows.specs.Stored.{AreStored}
+use Rattle.mg_value.specs.Stored.{AreStored}
 use Rattle.mg_value.specs.View.{items_view}
 use Rattle.mg_rows.proofs.write.write_columns.Given as goal
 

@@ -4,7 +4,7 @@ use Rattle.std.proofs.MapsCrossing.{crosses as maps}
 use Rattle.mg_packed.proofs.packed.Packed.TheSendSync as packed
 use Rattle.mg_rows.proofs.row.RowBytes.TheSendSync as rows
 use Rattle.mg_shard.specs.Shard.{shards_seen}
-use Rattle.mg_scan.proofs.Crossing.{document_sync}
+use Rattle.mg_shard.proofs.Crossing.{document_sync}
 use Rattle.mg_scan.proofs.Lent.{scan_sync}
 use Rattle.mg_scan.proofs.Maps.{zip_documents, zip_rows}
 use Rattle.mg_scan.proofs.scanning.scan_lent.Goals as goal

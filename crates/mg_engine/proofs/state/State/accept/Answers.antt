@@ -10,7 +10,7 @@ use Rattle.mg_engine.specs.Bulk.{counter_after, entries_of, numbered}
 use Rattle.mg_engine.specs.Commands.{Answer}
 use Rattle.mg_engine.specs.Outcomes.{entries_told, reply_in, told_id}
 use Rattle.mg_engine.specs.Stands.{Holds, Shown, definitions_of}
-use Rattle.mg_engine.specs.declared.edits.Outcome.{Outcome}
+use Rattle.mg_engine.specs.declared.bulk.apply.Outcome.{Outcome}
 use Rattle.mg_engine.proofs.Entries.{by_ids}
 use Rattle.mg_engine.proofs.Indexes.{have_same}
 use Rattle.mg_engine.proofs.Whole.{still_objects}

@@ -1,0 +1,12 @@
+use Rattle.std.proofs.Common.{option_copied, string_bytes}
+use Rattle.mg_value.specs.View.{view}
+use Rattle.mg_doc.proofs.Edits.{made_over_base, no_refusal}
+use Rattle.mg_doc.proofs.edit.apply.extend_over.Goals as goal
+
+pub returns-clause-brings : goal.returns-clause-brings
+returns-clause-brings c = λ h stands.
+    let base = option_copied c.args.base in
+    let id = string_bytes c.in_ok-id.id in
+    let t = c.extend.new.self in
+    made_over_base h c.args.deleted (view c.args.body) base id (string_bytes c.in_ok-clone.field-0) c.position_over.result t c.in_ok-id.ensures c.in_ok-clone.ensures.cases (no_refusal _ _ (c.in_ok-extend.ensures.decided h stands)) c.position_over.ensures
+    (c.in_ok-extend.ensures.accepted h stands)

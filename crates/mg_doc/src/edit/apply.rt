@@ -1,0 +1,220 @@
+ghost use Rattle.std.specs.Prelude.{◌≡◌, ◌+◌, ◌==◌, IfErr, IfSome, OnErr, OnOk, None, Some, false, option_copied, string_bytes};
+ghost use Rattle.std.specs.Result.{result_map_both};
+ghost use Rattle.mg_value.specs.View.{view};
+ghost use Rattle.mg_revtree.specs.Changes.{position_below};
+ghost use Rattle.mg_revtree.specs.History.{History as Paths};
+ghost use Rattle.mg_revtree.specs.Tree.{StandsFor};
+ghost use Rattle.mg_doc.specs.Applied.{Applied, Foreseen};
+ghost use Rattle.mg_doc.specs.Base.{CopyIs, LooksFor, base_found, extended_by, made_on};
+ghost use Rattle.mg_doc.specs.Brought.{Brings};
+ghost use Rattle.mg_doc.specs.Digest.{digest_of};
+ghost use Rattle.mg_doc.specs.Edit.{first_refusal, replicated};
+ghost use Rattle.mg_doc.specs.declared.change.Change.TheVariants.{New};
+
+use crate::change::Change;
+use crate::digest::id_over;
+use crate::edit::Edit;
+use crate::error::{EditError, Refused};
+use mg_revtree::{History, Rev, RevTree};
+use mg_value::Json;
+use std::alloc::Global;
+
+impl Edit {
+    /// Foresees what the edit does to the tree of its document, without changing the tree. Returns the newest revision of a
+    /// path that is known whole, because that changes nothing; `None` if the edit is to be applied.
+    ///
+    /// Errors: those of `apply`, except the `Conflict` of a made revision that is already known, which only `apply` finds. No
+    /// refusal needs memory. Cost: the look-ups of a path, or one look-up among the leaves.
+    pub fn look(&self, tree: &RevTree) -> Result<Option<Rev>, EditError>
+        ensures { (h : Paths) → StandsFor tree.now h → Foreseen h self.now result tree.now }
+    {
+        match &self.change {
+            Change::New(named) => {
+                check_base(tree, named.as_ref())?;
+                Ok(None)
+            }
+            Change::Replica(path) => look_for(tree, path),
+        }
+    }
+
+    /// Applies the edit to the tree of its document, and returns the revision that the edit brings.
+    ///
+    /// A new edit makes a revision over the one that it names, which has to be a leaf. If it names none, it
+    /// makes one over a deleted winner, or at position 1 in an empty tree. The path of
+    /// a replica is merged; one that is known whole changes nothing.
+    ///
+    /// Errors: `Conflict` if the named revision is not a leaf, if none is named but the winner is not
+    /// deleted, or if the made revision is already known; `BadHistory` if the extended leaf has the
+    /// last position, 4,294,967,295, or if a replica's path does not fit; else `NoMemory` if an allocation fails. No refusal needs
+    /// memory, except that of a made revision that is already known. An error leaves the tree as it was.
+    /// Cost: a copy of the edit, unless its path is known whole, and the cost of `bring`.
+    /// Source: CouchDB's `_bulk_docs` with `new_edits` true and false.
+    pub fn apply(&self, alloc: Global, tree: &mut RevTree) -> Result<Rev, EditError>
+        ensures applied { (h : Paths) → StandsFor tree.old h → Applied h self.now result tree.new }
+        ensures unchanged { OnErr result (tree.new ≡ tree.old) }
+    {
+        if let Some(rev) = self.look(tree)? {
+            return Ok(rev);
+        }
+        let edit = self.copy(alloc)?;
+        edit.bring(alloc, tree)
+    }
+
+    /// Does what `apply` does, without a copy of the edit. Cost: that of `RevTree::extend` or `RevTree::merge`, and the length of
+    /// the body's text if the edit extends a deleted winner that it does not name.
+    pub fn bring(self, alloc: Global, tree: &mut RevTree) -> Result<Rev, EditError>
+        ensures applied { (h : Paths) → StandsFor tree.old h → Applied h self result tree.new }
+        ensures unchanged { OnErr result (tree.new ≡ tree.old) }
+    {
+        if let Some(rev) = self.look(tree)? {
+            return Ok(rev);
+        }
+        let Edit {
+            id: _,
+            change,
+            deleted,
+            body,
+            ahead,
+        } = self;
+        match change {
+            Change::New(named) => extend(alloc, tree, named.as_ref(), deleted, body, ahead),
+            Change::Replica(path) => merge(tree, &path, deleted, body),
+        }
+    }
+}
+
+// Looks up a replica's path: its newest revision if the path is known whole; `None` if it is not known whole, but fits.
+fn look_for(tree: &RevTree, path: &History) -> Result<Option<Rev>, EditError>
+    ensures { (h : Paths) → StandsFor tree.now h → LooksFor h path.now result }
+{
+    if tree.holds(path) {
+        return Ok(Some(path.newest()?));
+    }
+    if !tree.fits(path) {
+        return Err(EditError::BadHistory);
+    }
+    Ok(None)
+}
+
+// Merges the path of a replica.
+fn merge(tree: &mut RevTree, path: &History, deleted: bool, body: Json) -> Result<Rev, EditError>
+    ensures brings { (h : Paths) → StandsFor tree.old h → Brings h deleted (view body) (replicated h path.now) result tree.new }
+    ensures unchanged { OnErr result (tree.new ≡ tree.old) }
+{
+    let rev = path.newest()?;
+    tree.merge(path, deleted, body)?;
+    Ok(rev)
+}
+
+// Checks whether a revision may be made over the named one, or without a name. Does not check whether it is already known.
+fn check_base(tree: &RevTree, named: Option<&Rev>) -> Result<(), Refused>
+    ensures ok { OnOk result ((h : Paths) → StandsFor tree.now h → first_refusal h (New (option_copied named.entry)) ≡ None) }
+    ensures err { IfErr result (λ e. (h : Paths) → StandsFor tree.now h → first_refusal h (New (option_copied named.entry)) ≡ Some e) }
+{
+    let base = base_over(tree, named)?;
+    tree.next_position(base)?;
+    Ok(())
+}
+
+// The base that is extended: the named revision; if none is named, a deleted winner, or nothing in an empty tree.
+fn base_over<'a>(tree: &'a RevTree, named: Option<&'a Rev>) -> Result<Option<&'a Rev>, Refused>
+    ensures { (h : Paths) → StandsFor tree.now h → base_found h (option_copied named.entry) ≡ result_map_both option_copied (λ e. e) result }
+{
+    match named {
+        Some(rev) => Ok(Some(rev)),
+        None => base_unnamed(tree),
+    }
+}
+
+// The base that is extended if no revision is named.
+fn base_unnamed(tree: &RevTree) -> Result<Option<&Rev>, Refused>
+    ensures { (h : Paths) → StandsFor tree.now h → base_found h None ≡ result_map_both option_copied (λ e. e) result }
+{
+    match tree.winner() {
+        None => Ok(None),
+        Some(leaf) => if leaf.deleted {
+            Ok(Some(&leaf.rev))
+        } else {
+            Err(Refused::Conflict)
+        },
+    }
+}
+
+// A copy of the base that is extended if no revision is named.
+fn copied_base(alloc: Global, tree: &RevTree) -> Result<Option<Rev>, EditError>
+    ensures { (h : Paths) → StandsFor tree.now h → CopyIs (base_found h None) result }
+{
+    match base_unnamed(tree)? {
+        None => Ok(None),
+        Some(rev) => Ok(Some(rev.copy(alloc)?)),
+    }
+}
+
+// Makes a revision over the named one, or over the base that is found without a name. Its id may have been made ahead, over the
+// named revision or over nothing.
+fn extend(
+    alloc: Global,
+    tree: &mut RevTree,
+    named: Option<&Rev>,
+    deleted: bool,
+    body: Json,
+    ahead: Option<String>,
+) -> Result<Rev, EditError>
+    requires { IfSome ahead (λ id. string_bytes id ≡ digest_of deleted (option_copied named) (view body)) }
+    ensures brings { (h : Paths) → StandsFor tree.old h → Brings h deleted (view body)
+        (extended_by h deleted (view body) (option_copied named.entry)) result tree.new }
+    ensures unchanged { OnErr result (tree.new ≡ tree.old) }
+{
+    match named {
+        Some(rev) => extend_over(alloc, tree, Some(rev), deleted, body, ahead),
+        None => {
+            let base = copied_base(alloc, tree)?;
+            let ahead = over_nothing(ahead, base.as_ref());
+            extend_over(alloc, tree, base.as_ref(), deleted, body, ahead)
+        }
+    }
+}
+
+// Keeps an id that was made ahead over nothing, if nothing is extended.
+fn over_nothing(ahead: Option<String>, base: Option<&Rev>) -> Option<String>
+    ensures { IfSome result (λ id. (ahead ≡ Some id) × (option_copied base.entry ≡ None)) }
+{
+    match base {
+        None => ahead,
+        Some(_) => None,
+    }
+}
+
+// Makes a revision over a base, or the first revision of a document.
+fn extend_over(
+    alloc: Global,
+    tree: &mut RevTree,
+    base: Option<&Rev>,
+    deleted: bool,
+    body: Json,
+    ahead: Option<String>,
+) -> Result<Rev, EditError>
+    requires { IfSome ahead (λ id. string_bytes id ≡ digest_of deleted (option_copied base) (view body)) }
+    ensures brings { (h : Paths) → StandsFor tree.old h → Brings h deleted (view body)
+        (made_on h deleted (view body) (option_copied base.entry)) result tree.new }
+    ensures unchanged { OnErr result (tree.new ≡ tree.old) }
+{
+    let id = id_over(alloc, ahead, deleted, base, &body)?;
+    let rev = Rev {
+        pos: position_over(base),
+        id: id.clone()?,
+    };
+    tree.extend(base, id, deleted, body)?;
+    Ok(rev)
+}
+
+// The position over a base. `RevTree::extend` refuses a base at the last position.
+fn position_over(base: Option<&Rev>) -> u32
+    ensures { (position_below (option_copied base.entry) == 4294967295) ≡ false
+        → result ≡ position_below (option_copied base.entry) + 1 }
+{
+    match base {
+        None => 1,
+        Some(rev) => rev.pos.saturating_add(1),
+    }
+}

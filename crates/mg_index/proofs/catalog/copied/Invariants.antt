@@ -1,6 +1,0 @@
-use Rattle.std.proofs.Common.{◌≡◌, take}
-use Rattle.mg_index.proofs.catalog.copied.Given as goal
-
--- the copies are those of the definitions so far
-abbrev pub invariant-loop-definition : goal.invariant-loop-definition
-invariant-loop-definition l = l.copy.items ≡ take l.definition-index l.definitions

@@ -1,6 +1,0 @@
-use Rattle.std.proofs.Common.{◌≡◌, take}
-use Rattle.mg_merge.specs.Rests.{lent_of}
-use Rattle.mg_merge.proofs.merging.copied.Given as goal
-
-abbrev pub invariant-loop-item : goal.invariant-loop-item
-invariant-loop-item g l = l.items.items ≡ lent_of (take l.item-index l.lent)

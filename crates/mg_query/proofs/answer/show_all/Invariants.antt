@@ -1,0 +1,12 @@
+use Rattle.std.proofs.Common.{◌≡◌, ◌++◌, List, map, drop}
+use Rattle.mg_value.specs.View.{view}
+use Rattle.mg_index.specs.Definition.{Steps}
+use Rattle.mg_query.specs.Page.{Candidate, shown_of}
+use Rattle.mg_query.specs.Lent.{LendEach}
+use Rattle.mg_query.specs.Seen.{query_seen}
+use Rattle.mg_query.proofs.answer.show_all.Given as goal
+
+-- what is left completes what is shown
+abbrev pub invariant-loop-hit : goal.invariant-loop-hit
+invariant-loop-hit l =
+    (columns : List Steps) (cs : List Candidate) → LendEach columns l.hits cs → map view l.docs.items ++ map (shown_of (query_seen l.query)) (drop l.hit-index cs) ≡ map (shown_of (query_seen l.query)) cs

@@ -1,0 +1,16 @@
+-- For private clauses: a body in a block of its own, or in that of a form.
+use Rattle.std.specs.Prelude.{⊤}
+use Rattle.mg_value.specs.Value.{Value}
+use Rattle.mg_revtree.specs.Body.{IsFormOf, bare}
+use Rattle.mg_revtree.specs.declared.body.Block.{Block}
+use Rattle.mg_revtree.specs.declared.body.Block.TheVariants.{Own, Served}
+
+-- the body
+abbrev pub block_value : Block → Value
+block_value (Own body) = body
+block_value (Served form) = bare form
+
+-- a form is that of the body which it shows
+abbrev pub IsSound : Block → Type 0
+IsSound (Own body) = ⊤
+IsSound (Served form) = IsFormOf (bare form) form

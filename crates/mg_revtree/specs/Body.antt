@@ -1,0 +1,19 @@
+-- The form in which a document is served: the body of its winner with the document's id and the winner's revision.
+use Rattle.std.specs.Prelude.{◌≡◌, codes, None}
+use Rattle.mg_value.specs.Value.{Value, member_of, with_member, without_member}
+
+-- a body with an id and a revision
+abbrev pub as_form : Value → Value → Value → Value
+as_form id rev body = with_member (codes "_id") id (with_member (codes "_rev") rev body)
+
+-- a form without its id and its revision
+abbrev pub bare : Value → Value
+bare form = without_member (codes "_rev") (without_member (codes "_id") form)
+
+-- it is this body with some id and some revision
+abbrev pub IsFormOf : Value → Value → Type 0
+IsFormOf body form = (id : Value) × (rev : Value) × (form ≡ as_form id rev body)
+
+-- a body that has neither as a member of its own
+abbrev pub IsBare : Value → Type 0
+IsBare body = (member_of (codes "_id") body ≡ None) × (member_of (codes "_rev") body ≡ None)

@@ -1,0 +1,181 @@
+// The bodies of revisions. A body stands in a block of its own, or in the block of the form in which its document is served.
+ghost use Rattle.std.specs.Prelude.{◌≡◌, IfOk, None, Some, true};
+ghost use Rattle.mg_value.specs.Value.{member_of, text as string};
+ghost use Rattle.mg_value.specs.View.{view};
+ghost use Rattle.mg_revtree.specs.Body.{IsBare, IsFormOf, as_form, bare};
+ghost use Rattle.mg_revtree.specs.Block.{IsSound, block_value};
+
+use crate::form::Form;
+use mg_packed::{Kind, Packed, Part};
+use mg_value::{Json, NoMemory};
+use std::alloc::Global;
+use std::marker::Model;
+
+#[derive(Drop)]
+pub(crate) enum Block {
+    // the body
+    Own(Packed),
+    // the body with the document's id and its revision
+    Served(Form),
+}
+
+/// The body of a revision, in one block of memory. While the document is served with this body, the block is that of the
+/// form in which it is served. Contracts see the body.
+#[derive(Drop)]
+pub struct Body {
+    block: Block,
+}
+
+impl Model for Body {
+    ghost use Rattle.mg_value.specs.Value.{Value as JsonValue};
+    ghost use Rattle.mg_value.specs.Code.{value_code};
+
+    ghost Value = { JsonValue };
+
+    ghost coded = { value_code };
+
+    ghost use Rattle.mg_revtree.specs.Block.{IsSound, block_value};
+
+    ghost view = { λ body. block_value body.block };
+
+    ghost invariant = { λ body. IsSound body.block };
+}
+
+impl Body {
+    // Packs a body into a block of its own.
+    pub(crate) fn of(alloc: Global, value: &Json) -> Result<Body, NoMemory>
+        ensures { IfOk result (λ body. body ≡ view value.now) }
+    {
+        let packed = Packed::of(alloc, value)?;
+        Ok(Body {
+            block: Block::Own(packed),
+        })
+    }
+
+    // The body that a form shows, in the form's block.
+    fn within(form: Form) -> Body
+        requires { IsFormOf (bare form) form }
+        ensures { result ≡ bare form }
+    {
+        Body {
+            block: Block::Served(form),
+        }
+    }
+
+    /// Copies the body into a `Json` that owns its memory.
+    ///
+    /// Errors: `NoMemory` if an allocation fails. Cost: the size of the body.
+    pub fn copy(&self, alloc: Global) -> Result<Json, NoMemory>
+        ensures { IfOk result (λ value. view value ≡ self.now) }
+    {
+        copy_body(alloc, &self.block)
+    }
+
+    /// The body with this id and this revision, in one block. A body that is no object has no members, and is its own form.
+    ///
+    /// Errors: `NoMemory` if an allocation fails. Cost: two copies of the body's bytes; none if the body stands in the block
+    /// of that form already, which is then shared.
+    pub fn form(&self, alloc: Global, id: &str, rev: &str) -> Result<Form, NoMemory>
+        ensures { IfOk result (λ form. form ≡ as_form (string id.now) (string rev.now) self.now) }
+    {
+        form_of(alloc, &self.block, id, rev)
+    }
+
+    // Moves the body into the block of its form, and gives its own block back. A body that has an id or a revision as members
+    // of its own stays where it is, since the block would not show them.
+    #[tactic(auto, using(crate::proofs::Bodies::shows))]
+    pub(crate) fn move_into(&mut self, form: Form)
+        requires { IsFormOf self.old form }
+        ensures { self.new ≡ self.old }
+    {
+        if is_bare(&self.block) {
+            *self = Body::within(form);
+        }
+    }
+}
+
+fn copy_body(alloc: Global, block: &Block) -> Result<Json, NoMemory>
+    ensures { IfOk result (λ value. view value ≡ block_value block.now) }
+{
+    match block {
+        Block::Own(body) => body.part().copy(alloc),
+        Block::Served(form) => copy_bare(alloc, form),
+    }
+}
+
+// A form without its id and its revision.
+fn copy_bare(alloc: Global, form: &Form) -> Result<Json, NoMemory>
+    ensures { IfOk result (λ value. view value ≡ bare form.now) }
+{
+    let mut body = form.packed().part().copy(alloc)?;
+    drop(body.take("_id"));
+    drop(body.take("_rev"));
+    Ok(body)
+}
+
+// Whether the block is a body that has neither an id nor a revision.
+fn is_bare(block: &Block) -> bool
+    ensures { result ≡ true → IsBare (block_value block.now) }
+{
+    match block {
+        Block::Own(body) => lacks(body, "_id") && lacks(body, "_rev"),
+        Block::Served(_) => false,
+    }
+}
+
+fn lacks(body: &Packed, name: &str) -> bool
+    ensures { result ≡ true → member_of name.now body.now ≡ None }
+{
+    body.part().member(name).is_none()
+}
+
+fn form_of(alloc: Global, block: &Block, id: &str, rev: &str) -> Result<Form, NoMemory>
+    requires { IsSound block.now }
+    ensures { IfOk result (λ form. form ≡ as_form (string id.now) (string rev.now) (block_value block.now)) }
+{
+    match block {
+        Block::Own(body) => make_form(alloc, body, id, rev),
+        Block::Served(form) => share_or_make(alloc, form, id, rev),
+    }
+}
+
+// Shares a form if its id and its revision are these, and else makes another.
+#[tactic(auto, using(crate::proofs::Bodies::is_made))]
+fn share_or_make(alloc: Global, form: &Form, id: &str, rev: &str) -> Result<Form, NoMemory>
+    requires { IsFormOf (bare form.now) form.now }
+    ensures { IfOk result (λ made. made ≡ as_form (string id.now) (string rev.now) (bare form.now)) }
+{
+    if has_text(form, "_id", id) && has_text(form, "_rev", rev) {
+        return form.share();
+    }
+    let body = copy_bare(alloc, form)?;
+    let packed = Packed::of(alloc, &body)?;
+    make_form(alloc, &packed, id, rev)
+}
+
+fn make_form(alloc: Global, body: &Packed, id: &str, rev: &str) -> Result<Form, NoMemory>
+    ensures { IfOk result (λ form. form ≡ as_form (string id.now) (string rev.now) body.now) }
+{
+    let revised = body.with_text(alloc, "_rev", rev)?;
+    let form = revised.with_text(alloc, "_id", id)?;
+    Form::of(alloc, form)
+}
+
+// Whether the member with this name is this text.
+fn has_text(form: &Form, name: &str, text: &str) -> bool
+    ensures { result ≡ true → member_of name.now form.now ≡ Some (string text.now) }
+{
+    match form.packed().part().member(name) {
+        Some(part) => is_text(&part, text),
+        None => false,
+    }
+}
+
+fn is_text(part: &Part<'_>, text: &str) -> bool
+    ensures { result ≡ true → part.now ≡ string text.now }
+{
+    match part.kind() {
+        Kind::Text(found) => found == text,
+        _ => false,
+    }
+}

@@ -1,0 +1,138 @@
+ghost use Rattle.std.specs.Prelude.{◌≡◌, ◌+◌, ◌≤◌, ◌++◌, ◌*◌, ◌||◌, List, [], IfOk, OnErr, OnOk, is_some, length, map, nat_le, option_copied, option_map, string_bytes};
+ghost use Rattle.mg_revtree.specs.Revision.{run_from};
+ghost use Rattle.mg_revtree.specs.History.{Link, are_held, fit, links};
+ghost use Rattle.mg_revtree.specs.Tree.{AreNodes, AreSorted, find};
+ghost use Rattle.mg_revtree.specs.Known.{parent_below};
+
+use crate::links::list::Links;
+use crate::links::lookup::{all_agree, all_held};
+use crate::links::older::Older;
+use mg_value::NoMemory;
+use std::alloc::Global;
+use std::marker::Model;
+
+// The newer list may always hold this many revisions.
+const FEW: usize = 64;
+
+// The newer list may also hold up to about ROOTS times the square root of the number of older revisions. With more ROOTS, a copy
+// costs more, and a line of edits in one bulk costs less.
+const ROOTS: usize = 4;
+
+// Whether `number` is at most the square root of `square`.
+fn is_within_root(number: usize, square: usize) -> bool
+    ensures { result ≡ nat_le (number * number) square }
+{
+    number == 0 || number <= square / number
+}
+
+// Whether the newer list may hold `newer` revisions: at most 64, or about four times the square root of `older` (the division
+// rounds down, so up to three more).
+fn are_few(newer: usize, older: usize) -> bool {
+    newer <= FEW || is_within_root(newer / ROOTS, older)
+}
+
+/// The known revisions with their parents, in the order of the revisions. Contracts see the list of them.
+///
+/// They are kept in two lists: an older one, which copies share, and a newer one, which is copied. The newer list holds at
+/// most 64 revisions, or about four times the square root of the number of older ones. Before it grows beyond that limit, it
+/// is folded into a copy of the older list, and that copy becomes the older list. So a copy of the tree never copies more
+/// revisions than the limit, and a fold comes at most once in so many revisions of joined runs, known ones included. The
+/// parent of a revision is the one in the older list; if that list has none, the one in the newer list.
+#[derive(Drop)]
+pub struct Known {
+    older: Older,
+    newer: Links,
+}
+
+impl Model for Known {
+    ghost use Rattle.std.specs.Prelude.{List};
+    ghost use Rattle.std.specs.Coded.{coded_list};
+    ghost use Rattle.mg_revtree.specs.History.{Link};
+    ghost use Rattle.mg_revtree.specs.Tree.{AreSorted, link_code};
+    ghost use Rattle.mg_revtree.specs.Known.{with_links};
+
+    ghost Value = { List Link };
+
+    ghost coded = { coded_list link_code };
+
+    ghost view = { λ k. with_links k.older k.newer };
+
+    ghost invariant = { λ k. AreSorted k.older × AreSorted k.newer };
+}
+
+impl Known {
+    /// No revisions. Takes no memory.
+    pub fn new(alloc: Global) -> Known
+        ensures { result ≡ [] }
+    {
+        Known {
+            older: Older::none(),
+            newer: Links::new(alloc),
+        }
+    }
+
+    /// Looks up a revision: the id of its parent, `Some(None)` if it has no known parent, `None` if it is unknown. Cost: the
+    /// logarithm of the known revisions.
+    pub fn kept(&self, pos: u32, id: &[u8]) -> Option<Option<&[u8]>>
+        ensures { option_map (λ p. parent_below pos (option_copied p)) result ≡ find (pos, id.now) self.now }
+    {
+        match self.older.kept(pos, id) {
+            Some(Some(parent)) => Some(Some(parent)),
+            Some(None) => Some(self.newer.kept(pos, id).flatten()),
+            None => self.newer.kept(pos, id),
+        }
+    }
+
+    /// Whether a revision is known. Cost: the logarithm of the known revisions.
+    pub fn knows(&self, pos: u32, id: &String) -> bool
+        ensures { AreSorted self.now → result ≡ is_some (find (pos, string_bytes id.now) self.now) }
+    {
+        self.kept(pos, id.as_bytes()).is_some()
+    }
+
+    /// Whether no known revision gets another parent from a run, which is given by its start and its ids, newest first.
+    /// Cost: the length of the run times the logarithm of the known revisions.
+    pub fn fits(&self, start: u32, ids: &[String]) -> bool
+        ensures { (ls : List Link) → AreNodes self.now ls → result ≡ fit ls (links (run_from start (map string_bytes ids.now))) }
+    {
+        all_agree(self, start, ids)
+    }
+
+    /// Whether all revisions of a run, given by its start and its ids, newest first, are known with the parents that
+    /// the run gives them. Cost: as for `fits`.
+    pub fn holds(&self, start: u32, ids: &[String]) -> bool
+        ensures { (ls : List Link) → AreNodes self.now ls → result ≡ are_held ls (links (run_from start (map string_bytes ids.now))) }
+    {
+        all_held(self, start, ids)
+    }
+
+    /// Adds a run, given by its start and its ids, newest first. If memory runs out, nothing changes. Cost: while the newer
+    /// list stays small, that of `Links::join` in it; else those of `Older::with`, and of `Links::join` in all revisions.
+    pub fn join(&mut self, start: u32, ids: &[String]) -> Result<(), NoMemory>
+        requires { length ids.now ≤ start + 1 }
+        ensures nodes { OnOk result ((ls : List Link) → AreNodes self.old ls → AreNodes self.new (ls ++ links (run_from start (map string_bytes ids.now)))) }
+        ensures err { OnErr result (self.new ≡ self.old) }
+    {
+        if are_few(self.newer.len().saturating_add(ids.len()), self.older.len()) {
+            self.newer.join(start, ids)?;
+            return Ok(());
+        }
+        let alloc = self.newer.allocator();
+        let mut all = self.older.with(alloc, &self.newer)?;
+        all.join(start, ids)?;
+        self.older = Older::new(alloc, all)?;
+        self.newer = Links::new(alloc);
+        Ok(())
+    }
+
+    /// A copy that shares the older list. Cost: copies the two blocks of memory of the newer list, with no work for each
+    /// revision.
+    pub fn copy(&self, alloc: Global) -> Result<Known, NoMemory>
+        ensures { IfOk result (λ known. known ≡ self.now) }
+    {
+        Ok(Known {
+            older: self.older.share()?,
+            newer: self.newer.copy(alloc)?,
+        })
+    }
+}

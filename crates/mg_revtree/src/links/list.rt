@@ -1,0 +1,134 @@
+ghost use Rattle.std.specs.Prelude.{◌≡◌, ◌+◌, ◌≤◌, ◌++◌, List, [], IfOk, OnErr, OnOk, length, map, option_copied, option_map, string_bytes};
+ghost use Rattle.mg_revtree.specs.Revision.{run_from};
+ghost use Rattle.mg_revtree.specs.History.{Link, links};
+ghost use Rattle.mg_revtree.specs.Tree.{AreNodes, AreSorted, find};
+ghost use Rattle.mg_revtree.specs.Known.{parent_below, with_links};
+
+use crate::capacity::reserve;
+use crate::links::fold::folded;
+use crate::links::lookup::place;
+use crate::links::node::Node;
+use crate::links::parts::parts_for;
+use crate::links::room::join_all;
+use mg_value::NoMemory;
+use std::alloc::Global;
+use std::marker::Model;
+
+// The spare capacity of a copy, so that an edit of the copy does not reallocate it.
+const SPARE_BYTES: usize = 64;
+
+pub const SPARE_NODES: usize = 2;
+
+// A copy of the items, with capacity for `more` items.
+fn copied<T: Copy>(alloc: Global, items: &[T], more: usize) -> Result<Vec<T>, NoMemory>
+    ensures { IfOk result (λ made. made.items ≡ items.now) }
+{
+    let mut made = Vec::with_capacity(alloc, items.len().saturating_add(more))?;
+    made.extend_from_slice(items)?;
+    Ok(made)
+}
+
+/// Revisions with their parents, in the order of the revisions. Contracts see the list of them.
+///
+/// The id of each revision is kept once, in one text of all ids, and a revision with its parent is a node of a few
+/// numbers: no revision has a block of memory of its own.
+#[derive(Drop)]
+pub struct Links {
+    texts: Vec<u8>,
+    nodes: Vec<Node>,
+}
+
+impl Model for Links {
+    ghost use Rattle.std.specs.Prelude.{List, length};
+    ghost use Rattle.std.specs.Coded.{coded_list};
+    ghost use Rattle.mg_revtree.specs.History.{Link};
+    ghost use Rattle.mg_revtree.specs.Tree.{link_code};
+    ghost use Rattle.mg_revtree.specs.Nodes.{AreWithin, links_in};
+
+    ghost Value = { List Link };
+
+    ghost coded = { coded_list link_code };
+
+    ghost view = { λ l. links_in l.texts.items l.nodes.items };
+
+    ghost invariant = { λ l. AreWithin (length l.texts.items) l.nodes.items };
+}
+
+impl Links {
+    /// No revisions. Takes no memory.
+    pub fn new(alloc: Global) -> Links
+        ensures { result ≡ [] }
+    {
+        Links {
+            texts: Vec::new(alloc),
+            nodes: Vec::new(alloc),
+        }
+    }
+
+    /// The number of revisions.
+    pub fn len(&self) -> usize
+        ensures { result ≡ length self.now }
+    {
+        self.nodes.len()
+    }
+
+    /// The allocator that the memory comes from.
+    pub fn allocator(&self) -> Global {
+        *self.nodes.allocator()
+    }
+
+    /// Looks up a revision: the id of its parent, `Some(None)` if it has no known parent, `None` if it is unknown. Cost: the
+    /// logarithm of the revisions.
+    pub fn kept(&self, pos: u32, id: &[u8]) -> Option<Option<&[u8]>>
+        ensures { AreSorted self.now → option_map (λ p. parent_below pos (option_copied p)) result ≡ find (pos, id.now) self.now }
+    {
+        match place(&self.texts, &self.nodes, pos, id) {
+            Ok(at) => Some(self.nodes[at].parent_id(&self.texts)),
+            Err(_) => None,
+        }
+    }
+
+    /// Adds a run, given by its start and its ids, newest first. If memory runs out, nothing changes. Cost: the length of the
+    /// run times the logarithm of the revisions, and one pass over the run and the nodes above its lowest unknown revision.
+    /// There are no such nodes where the run extends the line with the highest positions.
+    pub fn join(&mut self, start: u32, ids: &[String]) -> Result<(), NoMemory>
+        requires { length ids.now ≤ start + 1 }
+        ensures nodes { OnOk result ((ls : List Link) → AreNodes self.old ls → AreNodes self.new (ls ++ links (run_from start (map string_bytes ids.now)))) }
+        ensures err { OnErr result (self.new ≡ self.old) }
+    {
+        reserve(&mut self.nodes, ids.len())?;
+        let known = self.texts.len();
+        let parts = match parts_for(&mut self.texts, &self.nodes, start, ids) {
+            Ok(parts) => parts,
+            Err(refused) => {
+                self.texts.truncate(known);
+                return Err(refused);
+            }
+        };
+        join_all(&self.texts, &mut self.nodes, start, &parts);
+        Ok(())
+    }
+
+    /// A copy of the links. Cost: copies two blocks of memory, with no work for each revision.
+    pub fn copy(&self, alloc: Global) -> Result<Links, NoMemory>
+        ensures { IfOk result (λ links. links ≡ self.now) }
+    {
+        Ok(Links {
+            texts: copied(alloc, &self.texts, SPARE_BYTES)?,
+            nodes: copied(alloc, &self.nodes, SPARE_NODES)?,
+        })
+    }
+
+    /// A list of these links with newer ones joined. Cost: that of `folded`, and a copy of the text of all ids.
+    pub fn with(&self, alloc: Global, newer: &Links) -> Result<Links, NoMemory>
+        ensures { IfOk result (λ links. AreSorted self.now → AreSorted newer.now → links ≡ with_links self.now newer.now) }
+    {
+        let mut texts = copied(
+            alloc,
+            &self.texts,
+            newer.texts.len().saturating_add(SPARE_BYTES),
+        )?;
+        let nodes = folded(alloc, &mut texts, &self.nodes, &newer.texts, &newer.nodes)?;
+        Ok(Links { texts, nodes })
+    }
+}

@@ -1,0 +1,66 @@
+ghost use Rattle.std.specs.Prelude.{◌≡◌, ◌-◌, ◌<◌, ◌≤◌, IfErr, IfOk, List, length, map, option_copied, option_map, string_bytes};
+ghost use Rattle.mg_revtree.specs.Revision.{run_from};
+ghost use Rattle.mg_revtree.specs.History.{Link, fit, are_held, links};
+ghost use Rattle.mg_revtree.specs.Tree.{AreNodes, AreSorted, find};
+ghost use Rattle.mg_revtree.specs.Nodes.{links_in};
+ghost use Rattle.mg_revtree.specs.Steps.{IsGap, IsPlace, agrees_found, held_found};
+
+use crate::links::known::Known;
+use crate::links::node::Node;
+
+/// The place of a revision's node, or the place where it would go.
+pub fn place(texts: &[u8], nodes: &[Node], pos: u32, id: &[u8]) -> Result<usize, usize>
+    ensures found { IfOk result (λ i. (i < length nodes.now) × (AreSorted (links_in texts.now nodes.now) → IsPlace (pos, id.now) (links_in texts.now nodes.now) i)) }
+    ensures absent { IfErr result (λ i. (i ≤ length nodes.now) × (AreSorted (links_in texts.now nodes.now) → IsGap (pos, id.now) (links_in texts.now nodes.now) i)) }
+{
+    nodes.binary_search_by(|node| node.order(texts, pos, id))
+}
+
+// Whether the parent given for a revision does not contradict the known one.
+fn agrees(known: &Known, pos: u32, id: &String, parent: Option<&String>) -> bool
+    ensures { result ≡ agrees_found (find (pos, string_bytes id.now) known.now) (option_map (λ p. (pos - 1, string_bytes p)) (option_copied parent.entry)) }
+{
+    match (known.kept(pos, id.as_bytes()), parent) {
+        (Some(Some(kept)), Some(given)) => kept.cmp(given.as_bytes()).is_eq(),
+        _ => true,
+    }
+}
+
+/// Whether no parent in a run contradicts a known one.
+pub fn all_agree(known: &Known, start: u32, ids: &[String]) -> bool
+    ensures { (ls : List Link) → AreNodes known.now ls → result ≡ fit ls (links (run_from start (map string_bytes ids.now))) }
+{
+    let mut pos = start;
+    for (i, id) in ids.iter().enumerate() {
+        if !agrees(known, pos, id, ids.get(i + 1)) {
+            return false;
+        }
+        pos = pos.saturating_sub(1);
+    }
+    true
+}
+
+// Whether a revision is known, and with the given parent, if one is given.
+fn holds(known: &Known, pos: u32, id: &String, parent: Option<&String>) -> bool
+    ensures { result ≡ held_found (find (pos, string_bytes id.now) known.now) (option_map (λ p. (pos - 1, string_bytes p)) (option_copied parent.entry)) }
+{
+    match (known.kept(pos, id.as_bytes()), parent) {
+        (Some(Some(kept)), Some(given)) => kept.cmp(given.as_bytes()).is_eq(),
+        (Some(_), None) => true,
+        _ => false,
+    }
+}
+
+/// Whether all revisions of a run are known, with the parents that the run gives them.
+pub fn all_held(known: &Known, start: u32, ids: &[String]) -> bool
+    ensures { (ls : List Link) → AreNodes known.now ls → result ≡ are_held ls (links (run_from start (map string_bytes ids.now))) }
+{
+    let mut pos = start;
+    for (i, id) in ids.iter().enumerate() {
+        if !holds(known, pos, id, ids.get(i + 1)) {
+            return false;
+        }
+        pos = pos.saturating_sub(1);
+    }
+    true
+}

@@ -1,0 +1,62 @@
+ghost use Rattle.std.specs.Prelude.{◌≡◌, option_copied};
+ghost use Rattle.mg_revtree.specs.Revision.{revision_order};
+ghost use Rattle.std.specs.Option.{option_or};
+ghost use Rattle.mg_revtree.specs.Nodes.{link_in, text_of_part};
+ghost use Rattle.mg_revtree.specs.Known.{parent_below};
+
+use std::cmp::Ordering;
+
+/// An id among the texts of all ids: the place of its first byte, and its length. Both have 32 bits, so that a node takes 24
+/// bytes.
+#[derive(Clone, Copy, Debug)]
+pub struct Part {
+    pub from: u32,
+    pub len: u32,
+}
+
+impl Part {
+    /// The bytes of the id. What lies beyond the texts is cut off.
+    pub fn of(self, texts: &[u8]) -> &[u8]
+        ensures { result.now ≡ text_of_part texts.now self }
+    {
+        let rest = &texts[texts.len().min(self.from as usize)..];
+        &rest[..rest.len().min(self.len as usize)]
+    }
+}
+
+/// A known revision: its position, its id, and the id of its parent, if that is known. The parent's position is the
+/// one below.
+#[derive(Clone, Copy, Debug)]
+pub struct Node {
+    pub pos: u32,
+    pub id: Part,
+    pub parent: Option<Part>,
+}
+
+impl Node {
+    /// Compares the node's revision to a revision.
+    pub fn order(&self, texts: &[u8], pos: u32, id: &[u8]) -> Ordering
+        ensures { result ≡ revision_order (link_in texts.now self.now).rev (pos, id.now) }
+    {
+        self.pos.cmp(&pos).then(self.id.of(texts).cmp(id))
+    }
+
+    /// Sets the parent, if none is known.
+    pub fn join(&mut self, parent: Option<Part>)
+        ensures { self.new ≡ record self.old { parent = option_or self.old.parent parent } }
+    {
+        if self.parent.is_none() {
+            self.parent = parent;
+        }
+    }
+
+    /// The id of the parent, if that is known.
+    pub fn parent_id(self, texts: &[u8]) -> Option<&[u8]>
+        ensures { parent_below self.pos (option_copied result) ≡ (link_in texts.now self).parent }
+    {
+        match self.parent {
+            Some(parent) => Some(parent.of(texts)),
+            None => None,
+        }
+    }
+}
