@@ -96,7 +96,7 @@ impl<P: Placement + Drop> Engine<P> {
     }
 
     /// Returns the reply to a read, with exactly `workers` workers, whatever the gate does. A query passes the gate at `ShardBegun` before
-    /// it reads the first row of a shard, and at `ShardDone` after the last. Cost: as of `step`.
+    /// it reads the first row of a shard, and at `ShardDone` after the last. Cost: as for `step`.
     pub fn answer<R: Threads + Sync, G: Gate + Sync>(
         &self,
         rt: &R,
@@ -121,7 +121,7 @@ impl<P: Placement + Drop> Engine<P> {
     }
 
     /// Returns the reply to a read, with at most `workers` workers: a query that is not worth a second thread runs on the thread of the
-    /// caller. Cost: as of `step`.
+    /// caller. Cost: as for `step`.
     pub fn reply<R: Threads + Sync>(
         &self,
         rt: &R,
@@ -145,7 +145,7 @@ impl<P: Placement + Drop> Engine<P> {
     }
 
     /// Returns the reply to a write, and the engine after it if the status is 200 or 201, otherwise `None`. `self` does not change.
-    /// Cost: as of `step`.
+    /// Cost: as for `step`.
     pub fn commit<R: Threads + Sync>(
         &self,
         rt: &R,
@@ -169,7 +169,7 @@ impl<P: Placement + Drop> Engine<P> {
         }
     }
 
-    /// Does what `commit` does, for a command that `Prepared::of` has prepared. Cost: as of `step`, but without the reading of a
+    /// Does what `commit` does, for a command that `Prepared::of` has prepared. Cost: as for `step`, but without the reading of a
     /// bulk's documents.
     pub fn commit_prepared<R: Threads + Sync>(
         &self,

@@ -18,7 +18,7 @@ use mg_value::NoMemory;
 use std::thread::Threads;
 
 impl State {
-    /// Executes a command. Returns the reply, and the next state if the command is a write and was accepted. Where memory is refused, there
+    /// Executes a command. Returns the reply, and the next state if the command is a write and was accepted. If memory is refused, there
     /// is no next state. A query passes the gate.
     pub(crate) fn execute<P: Placement, R: Threads + Sync, G: Gate + Sync>(
         &self,
@@ -75,7 +75,7 @@ impl State {
     }
 }
 
-// The reply to a write and the next state. Where memory was refused, the reply is `NoMemory`.
+// The reply to a write and the next state. If memory was refused, the reply is `NoMemory`, and there is no next state.
 fn settled(made: Result<(Reply, Option<State>), NoMemory>) -> (Reply, Option<State>)
     ensures { result ≡ settled_of made }
 {
@@ -85,7 +85,7 @@ fn settled(made: Result<(Reply, Option<State>), NoMemory>) -> (Reply, Option<Sta
     }
 }
 
-// The reply to a read, which leaves no state. Where memory was refused, the reply is `NoMemory`.
+// The reply to a read, which makes no next state. If memory was refused, the reply is `NoMemory`.
 fn told(made: Result<Reply, NoMemory>) -> (Reply, Option<State>)
     ensures { result ≡ (reply_made made, None) }
 {

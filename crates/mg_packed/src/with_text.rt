@@ -42,7 +42,7 @@ pub(crate) fn object_with_text(
     Ok(out)
 }
 
-// The same bytes in a block of their own.
+// A copy of the bytes in a block of its own.
 pub(crate) fn copied(alloc: Global, bytes: &[u8]) -> Result<Vec<u8>, NoMemory>
     ensures { IfOk result (λ b. b.items ≡ bytes.now) }
 {

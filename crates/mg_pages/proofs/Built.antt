@@ -1,8 +1,9 @@
 -- Building pages and levels, one after another, from elements in order.
-use Rattle.std.proofs.Common.{◌≡◌, List, [], ◌∷◌, ◌++◌, sym, ap, ◌∙◌, subst, append_assoc, append-nil}
+use Rattle.std.proofs.Common.{◌≡◌, ℕ, ◌+◌, ◌<◌, List, [], ◌∷◌, ◌++◌, length, take, get_or, sym, ap, ◌∙◌, subst, append_assoc, append-nil}
 use Rattle.std.proofs.lemmas.List.Concat.{flat_map-append}
 use Rattle.std.specs.List.{flat_map}
 use Rattle.mg_pages.specs.Parts.{AreWhole}
+use Rattle.mg_pages.proofs.Parts.{seen_take_more}
 use Rattle.mg_pages.proofs.Sorted.{all_append}
 
 -- whole parts and one more whole part are all whole
@@ -14,3 +15,10 @@ pub built_seen : {P T : Type 0} (seen : P → List T) (ps qs : List P) (p : P) (
 built_seen seen ps qs p left rest all e l h =
     ap (λ us. flat_map seen us ++ rest) e ∙ ap (λ us. us ++ rest) (flat_map-append seen ps (p ∷ []) ∙ ap (λ us. flat_map seen ps ++ us) (append-nil (seen p)))
     ∙ append_assoc (flat_map seen ps) (seen p) rest ∙ ap (λ us. flat_map seen ps ++ us) (sym l) ∙ h
+
+-- elements that were lent, and then those of one more part
+pub lent_more : {P T : Type 0} (seen : P → List T) (ps : List P) (i : ℕ) (p : P) (old before new : List T) → i < length ps → p ≡ get_or ps i p → before ≡ old ++ flat_map seen (take i ps) → new ≡ before ++ seen p
+    → new ≡ old ++ flat_map seen (take (i + 1) ps)
+lent_more seen ps i p old before new l at h e =
+    let front = flat_map seen (take i ps) in
+    e ∙ ap (λ us. us ++ seen p) h ∙ append_assoc old front (seen p) ∙ ap (λ us. old ++ us) (sym (seen_take_more seen ps i p l at))

@@ -1,6 +1,8 @@
 -- For the iterators: the elements that are left while an iterator holds a run, which is a piece of a sorted list.
+use denote.Ref.{Bor}
 use Rattle.mg_pages.specs.Order.{above, below}
 use Rattle.std.specs.Prelude.{◌≡◌, ◌<◌, ◌+◌, ℕ, length, List, [], ◌∷◌, ◌++◌}
+use Rattle.std.specs.List.{flat_map}
 use Rattle.std.specs.declared.cmp.Ordering.{Ordering}
 
 -- a run begins a list, and is empty only where the list is
@@ -37,3 +39,7 @@ continued order xs (x ∷ run) = x ∷ continued_after order xs x run
 abbrev pub ended : {T : Type 0} → (T → T → Ordering) → List T → List T → List T
 ended order xs [] = []
 ended order xs (x ∷ run) = below (order x) xs ++ x ∷ run
+
+-- the elements of slices that are lent, one slice after the other
+abbrev pub lent_elements : {T : Type 0} → List (Bor (List T)) → List T
+lent_elements runs = flat_map (λ run. run.now) runs

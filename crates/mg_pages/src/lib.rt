@@ -12,9 +12,11 @@ mod iter;
 mod keyed;
 pub mod laws;
 mod level;
+mod new_page;
 mod page;
 mod pages;
 mod part;
+mod runs;
 mod sides;
 
 pub use back::Back;
@@ -23,4 +25,5 @@ pub use hint::text_hint;
 pub use identified::Identified;
 pub use iter::Iter;
 pub use keyed::{Keyed, Probe};
+pub use new_page::{ELEMENTS, NewPage};
 pub use pages::Pages;

@@ -113,7 +113,7 @@ fn vec_of<X: Drop>(alloc: Global, thing: X) -> Result<Vec<X>, AllocError>
 /// that they have in common; pages and levels that no other collection shares are changed in place.
 #[derive(Drop)]
 pub struct Pages<T: Keyed> {
-    root: Root<T>,
+    pub(crate) root: Root<T>,
 }
 
 impl<T: Keyed> Model for Pages<T> {

@@ -21,7 +21,7 @@ use Rattle.mg_query.specs.Query.{Query}
 abbrev pub row_at : Place → RowValue
 row_at p = (p.key, p.id)
 
--- what a shard lists for a query, in an index of these columns: so many rows at most as the page has and passes over
+-- what a shard lists for a query, in an index of these columns: at most as many rows as the page skips and shows
 abbrev pub shard_rows : NormalForm → List Steps → Query → ShardView → List RowValue
 shard_rows normal columns q s =
     scanned (asked normal (range_of normal.atoms columns) (option_map row_at q.bookmark) (q.skip + q.limit) q.direction columns) (docs_of s.documents)

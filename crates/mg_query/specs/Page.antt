@@ -93,7 +93,7 @@ page_rows columns q cs = take q.limit (drop q.skip (candidates_found columns q c
 abbrev pub with_asked : Query → Candidate → Value
 with_asked q c = if q.conflicts then with_conflicts_of c.history c.form else c.form
 
--- the parts at the fields, or the whole where there are none
+-- the parts at the fields; the whole if no fields are given
 abbrev pub projected : List Steps → Value → Value
 projected [] v = v
 projected (field ∷ fields) v = projection_of (field ∷ fields) v
@@ -112,7 +112,7 @@ last [] = None
 last (x ∷ []) = Some x
 last (x ∷ y ∷ ys) = last (y ∷ ys)
 
--- the bookmark of the last document, and the one that came in where there is none
+-- the bookmark of the last document; without documents, the one that the query gave
 abbrev pub bookmark_after : Source → Query → List Candidate → List ℕ
 bookmark_after s q cs = option_map_or (bookmark_at s q) (last cs) q.given_bookmark
 

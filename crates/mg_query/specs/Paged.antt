@@ -20,7 +20,7 @@ abbrev pub text_of : Result Page Unanswered → Result (List ℕ) Unanswered
 text_of (Ok p) = Ok (compact (page_value p))
 text_of (Err why) = Err why
 
--- each of so many shards handed over at most so many rows, and that many were merged out of these, or all where they are fewer
+-- each of `count` shards handed over at most `most` rows, and `most` of these were merged, or all if there are fewer
 pub record IsWithin (count most : ℕ) (work : Hand) : Type 0 where
   pub shards : length work.handed ≡ count
   pub handed : All (λ n. n ≤ most) work.handed

@@ -102,7 +102,7 @@ sort_fields None = Some []
 sort_fields (Some (list vs)) = Some (item_list vs)
 sort_fields (Some v) = None
 
--- the one direction of all, ascending where there are none
+-- the direction that all share; ascending if there are none
 abbrev pub one_direction : List Direction → Option Direction
 one_direction [] = Some Asc
 one_direction (d ∷ ds) = if list_all (is_same d) ds then Some d else None

@@ -31,13 +31,12 @@ use std::sync::Arc;
 use std::thread::Threads;
 
 /// The page that answers a query over the indexes of the catalog, and how many rows each shard handed over for it: all
-/// that the query finds there, or as many as the page passes over and may have, together, where these are fewer. Each
-/// shard has to have the indexes of the catalog; others that it has are not looked at. The page does not rest on the
-/// number of workers, from 1 to 32, nor on how documents are placed on shards. The gate is passed before a shard's first
-/// row is read and after its last.
+/// that the query finds there, but at most skip + limit. Each shard must have the indexes of the catalog; others that it
+/// has are ignored. The page does not depend on the number of workers, from 1 to 32, nor on how documents are placed on
+/// shards. The gate is passed before a shard's first row is read and after its last.
 ///
-/// Errors: `NoUsableIndex` where no index serves the query, then `BadBookmark` where its bookmark is of another index
-/// or direction; `NoMemory` if an allocation fails.
+/// Errors: `NoUsableIndex` if no index serves the query, then `BadBookmark` if its bookmark is of another index or
+/// direction; `NoMemory` if an allocation fails.
 /// Cost: the choice of the index; in each shard a look-up of where to begin, then a look-up of a document and the selector on
 /// it for each row, until skip + limit are found; the merge of these; copies of what is shown. Source: `_find` of
 /// CouchDB's API reference.
@@ -71,9 +70,9 @@ pub fn page<R: Threads + Sync, G: Gate + Sync>(
 }
 
 /// The compact text of the page that answers a query, `{"bookmark":..,"docs":[..]}`, and how many rows each shard handed
-/// over for it: as `page` says. The text that a shard keeps of a document is copied where the query shows it whole.
+/// over for it, as for `page`. The text that a shard keeps of a document is copied if the query shows documents whole.
 ///
-/// Errors: as of `page`. Cost: as of `page`, but that of what is shown no value is made where documents are shown whole.
+/// Errors: those of `page`. Cost: that of `page`, but documents that are shown whole are not made into values.
 pub fn page_text<R: Threads + Sync, G: Gate + Sync>(
     rt: &R,
     alloc: Global,
@@ -102,12 +101,12 @@ pub fn page_text<R: Threads + Sync, G: Gate + Sync>(
     Ok((text, found.work))
 }
 
-/// The compact text of the page that answers a query, as `page_text` says, by so many workers: where these are a most, a
-/// query that is not worth a second thread runs on the caller's, and passes no gate.
+/// The compact text of the page that answers a query, as for `page_text`. If the number of workers is only a maximum, a query that
+/// is not worth a second thread runs on the caller's thread, and passes no gate.
 ///
-/// Errors: as of `page`. Cost: as of `page_text`. On the caller's thread each shard is read only until its rows are not among the
-/// first: the shards find skip + limit hits together, and one more each. Where the range of the index decides the whole selector, a
-/// document is looked up for each hit that the page has, and a row that it passes over costs a step.
+/// Errors: those of `page`. Cost: that of `page_text`. On the caller's thread each shard is read only until its rows are not among the
+/// first: the shards find skip + limit hits together, and one more each. If the range of the index decides the whole selector, a
+/// document is looked up for each hit that the page shows, and each row that it skips costs a step.
 pub fn page_text_by<R: Threads + Sync, G: Gate + Sync>(
     rt: &R,
     alloc: Global,
@@ -156,7 +155,7 @@ fn show_all(alloc: Global, query: &Query<'_>, hits: &[Hit<'_>]) -> Result<Vec<Js
     Ok(docs)
 }
 
-// The bookmark of the last hit, or the text that came in where there is none.
+// The bookmark of the last hit; without a hit, the bookmark's text as the query gave it.
 fn last_bookmark(
     alloc: Global,
     query: &Query<'_>,

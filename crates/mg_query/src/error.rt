@@ -8,7 +8,7 @@ use thiserror::Error;
 /// Why the body of a query was not read.
 #[derive(Clone, Copy, PartialEq, Eq, Debug, Drop, Error)]
 pub enum QueryError {
-    /// The body is no object, a member has the wrong shape, or a path of `sort` or `fields` has an empty step.
+    /// The body is not an object, a member has the wrong shape, or a path of `sort` or `fields` has an empty step.
     #[error("wrong shape")]
     Shape,
     /// An operator that is not known.
@@ -17,7 +17,7 @@ pub enum QueryError {
     /// An operator with an argument that it does not take.
     #[error("bad argument for an operator")]
     BadArg,
-    /// The bookmark is no spelling of one.
+    /// The text is not a bookmark.
     #[error("invalid bookmark")]
     BadBookmark,
     /// A sort in both directions.

@@ -73,7 +73,7 @@ pub(crate) fn read_directions(alloc: Global, fields: &[Json]) -> Result<Vec<Dire
     Ok(directions)
 }
 
-// The one direction of all, ascending where there are none.
+// The direction that all share; ascending if there are none.
 pub(crate) fn one_direction(directions: &[Direction]) -> Result<Direction, QueryError>
     ensures { Gives (λ d. d) result (or_fault QueryError.MixedSort (shared_direction directions.now)) }
 {

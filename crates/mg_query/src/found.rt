@@ -30,8 +30,8 @@ use std::alloc::Global;
 use std::sync::Arc;
 use std::thread::Threads;
 
-// The index that serves a query, the hits that its page passes over and has, lent by the shards, and what was handed
-// over for them.
+// The index that serves a query; the hits that its page skips, and then those that it shows, lent by the shards; and how many
+// rows each shard handed over for them.
 #[derive(Drop)]
 pub(crate) struct Found<'a> {
     pub(crate) source: Source<'a>,
@@ -39,7 +39,7 @@ pub(crate) struct Found<'a> {
     pub(crate) work: Work,
 }
 
-// The index that serves a query, and the hits of its page, lent by the shards, behind `skip` others.
+// The index that serves a query, and the hits of its page, lent by the shards, after `skip` hits that the page does not show.
 #[derive(Drop)]
 pub(crate) struct FirstHits<'a> {
     pub(crate) source: Source<'a>,
@@ -58,8 +58,8 @@ pub(crate) struct Asked<'a> {
     pub(crate) is_decided: bool,
 }
 
-// What the query finds, over the indexes of the catalog, which each shard has and maybe others: each shard hands over as many
-// hits as a page looks at.
+// Finds the hits of the query's page, over the indexes of the catalog; each shard has these indexes, and maybe others. Each shard
+// hands over its first hits: at most as many as the page skips and shows.
 pub(crate) fn find<'a, R: Threads + Sync, G: Gate + Sync>(
     rt: &R,
     alloc: Global,
@@ -96,8 +96,8 @@ pub(crate) fn find<'a, R: Threads + Sync, G: Gate + Sync>(
     })
 }
 
-// The hits of the query's page, over the indexes of the catalog, as of `find`. Where the workers are a most, and a
-// second thread is not worth its cost, or there is none, they are looked for on the caller's thread, as the merge asks for them.
+// Finds the hits of the query's page as `find` does. But if the number of workers is only a maximum, and there is no second worker
+// or shard or a second thread is not worth its cost, the caller's thread looks for the hits, one by one as the merge asks for them.
 pub(crate) fn find_first<'a, R: Threads + Sync, G: Gate + Sync>(
     rt: &R,
     alloc: Global,
@@ -152,14 +152,14 @@ fn asked_of<'a>(
     })
 }
 
-// How many rows a page passes over and has at most.
+// How many rows the page skips and shows, at most.
 fn row_count(query: &Query<'_>) -> usize
     ensures { result ≡ query.now.skip + query.now.limit }
 {
     query.skip as usize + query.limit as usize
 }
 
-// What is searched in each shard: what the query asks there, in its range, which is given as bytes, and as many rows as a page looks at.
+// The search that the query makes in each shard: `range` is its range as bytes, and it takes the rows that the page skips and shows.
 fn search_of<'a>(query: &Query<'_>, asked: &'a Asked<'_>, range: &'a RowRange<'_>) -> Search<'a>
     requires range { range.now ≡ asked.now.range }
     ensures { IsSearchOf (query_seen query.now) asked.now result }
@@ -174,7 +174,7 @@ fn search_of<'a>(query: &Query<'_>, asked: &'a Asked<'_>, range: &'a RowRange<'_
     }
 }
 
-// The hits of the page, behind so many others that it passes over.
+// The hits of the page, after the returned number of hits that the page does not show.
 fn first_of<'a, R: Threads + Sync, G: Gate + Sync>(
     rt: &R,
     alloc: Global,
@@ -209,8 +209,8 @@ fn first_of<'a, R: Threads + Sync, G: Gate + Sync>(
     Ok((hits, query.skip))
 }
 
-// The hits of the page, found on the caller's thread as the merge asks for them, behind so many others. Where the range decides, none
-// stand before them: those that the page passes over are rows, whose documents are not looked up.
+// What `first_of` returns, found on the caller's thread as the merge asks for hits. If the range decides, no other hits come first:
+// what the page skips are rows, whose documents are not looked up.
 fn find_alone<'a>(
     alloc: Global,
     query: &Query<'_>,
@@ -232,7 +232,7 @@ fn find_alone<'a>(
     Ok((hits, query.skip))
 }
 
-// The hits of the page alone, where the range decides.
+// Only the hits that the page shows; the range decides.
 fn pull_page<'a>(
     alloc: Global,
     query: &Query<'_>,
@@ -252,7 +252,7 @@ fn pull_page<'a>(
     Ok(hits)
 }
 
-// The first hits of all shards together, as many as a page looks at, as the merge asks for them.
+// The first hits of all shards together, as many as the page skips and shows, pulled as the merge asks for them.
 fn pull_hits<'a>(
     alloc: Global,
     query: &Query<'_>,
@@ -297,7 +297,7 @@ fn gather<'a, R: Threads + Sync, G: Gate + Sync>(
     Ok((hits, work))
 }
 
-// The first hits in each shard, as many as a page looks at.
+// The first hits in each shard, at most as many as the page skips and shows.
 fn lists_of<'a, R: Threads + Sync, G: Gate + Sync>(
     rt: &R,
     alloc: Global,
@@ -321,16 +321,16 @@ fn lists_of<'a, R: Threads + Sync, G: Gate + Sync>(
     scan_lent(rt, alloc, shards, search, workers, gate)
 }
 
-// A page of at most so many rows is small where its range has a bound. Threads cost some 100 µs each, a row at most 1 µs.
+// A page that skips and shows at most this many rows is small if its range has a bound: a thread costs some 100 µs, a row at most 1 µs.
 const SMALL_PAGE: usize = 1000;
 
-// A page of at most so many rows is small where its range decides: a row whose document is not looked up costs at most 0.1 µs.
+// A page of at most this many rows is small if its range decides: a row whose document is not looked up costs at most 0.1 µs.
 const SMALL_ROWS: usize = 4000;
 
-// So many documents or rows that can be read, of all shards together, are few.
+// A scan that can read at most this many documents or rows, in all shards together, is small.
 const SMALL_SCAN: usize = 1000;
 
-// Whether a query is not worth a second thread: by its text, or since there is not much to read.
+// Whether a query is not worth a second thread: by its text, or because there is little to read.
 fn is_small(
     query: &Query<'_>,
     asked: &Asked<'_>,
@@ -360,7 +360,7 @@ fn after_row(alloc: Global, query: &Query<'_>) -> Result<Option<RowBytes>, NoMem
     }
 }
 
-// The hits without those that the page passes over.
+// The hits without the first `skip`, which the page does not show.
 pub(crate) fn after_skip<'a, 'b>(hits: &'b [Hit<'a>], skip: u32) -> &'b [Hit<'a>]
     ensures { result.now ≡ drop skip hits.now }
 {

@@ -23,17 +23,17 @@ use std::alloc::Global;
 pub struct Query<'a> {
     /// Which documents are asked for.
     pub selector: Sel,
-    /// The paths of the parts that a page shows of a document; none where it shows the whole.
+    /// The paths of the parts that a page shows of a document; empty if it shows the whole.
     pub fields: Vec<Path>,
     /// How many documents a page has at most.
     pub limit: u32,
-    /// How many documents are passed over.
+    /// How many documents the page skips.
     pub skip: u32,
     /// The order that is asked for.
     pub sort: Sort,
     /// Which indexes are preferred.
     pub hint: Hint,
-    /// The place after which the page begins, none where it begins with the first document.
+    /// The place after which the page begins; `None` if it begins with the first document.
     pub bookmark: Option<Bookmark>,
     /// Whether documents are shown with their conflicts.
     pub conflicts: bool,
@@ -41,7 +41,7 @@ pub struct Query<'a> {
     pub given_selector: &'a Json,
     /// The fields as they were given.
     pub given_fields: Option<&'a Json>,
-    /// The bookmark's text as it was given, `nil` where none was.
+    /// The bookmark's text as it was given; `nil` if none was given.
     pub given_bookmark: &'a str,
 }
 
@@ -49,14 +49,14 @@ impl<'a> Query<'a> {
     /// Reads the body of a `_find` or an `_explain`, an object:
     ///
     /// - `selector`, an object, has to be there.
-    /// - `limit` and `skip`, whole numbers from 0 to 2,147,483,647, and 25 and 0 where they are absent.
-    /// - `sort`, an array whose items are paths, which are ascending, and `{path: "asc"}` or `{path: "desc"}`.
+    /// - `limit` and `skip`, whole numbers from 0 to 2,147,483,647; 25 and 0 if they are absent.
+    /// - `sort`, an array whose items are paths, for ascending order, and `{path: "asc"}` or `{path: "desc"}`.
     /// - `fields`, an array whose items are paths. Without one, documents are shown whole.
     /// - `use_index`, a design document, or an array of none, of one, or of one and a name.
     /// - `conflicts`, true or false; `bookmark`, null or a text. Other members are ignored.
     ///
     /// Errors, in this order: `Shape` for any other body, or a path of `sort` or `fields` with an empty step; the
-    /// selector's first fault; `BadBookmark` where the text spells no bookmark; `MixedSort` for a sort in both
+    /// selector's first fault; `BadBookmark` if the text is not a bookmark; `MixedSort` for a sort in both
     /// directions. `NoMemory` if an allocation fails, and never in place of a wrong shape or of the selector's fault.
     /// Cost: the size of the selector, the sort, the fields and the bookmark. Source: `_find` of CouchDB's API
     /// reference.
@@ -118,7 +118,7 @@ fn query_with<'a>(
     })
 }
 
-// The place that a bookmark's text names, none for `nil`.
+// The place that a bookmark's text names; `None` for `nil`.
 fn read_bookmark(alloc: Global, text: &str) -> Result<Option<Bookmark>, QueryError>
     ensures { Gives (option_map bookmark_place) result
         (or_fault QueryError.BadBookmark (bookmark_read text.now)) }

@@ -19,15 +19,15 @@ use mg_revtree::RevTree;
 use mg_value::{Json, NoMemory};
 use std::alloc::Global;
 
-/// A page: what it shows of its documents, and the bookmark of the last one, or the text that came in where there is none.
+/// A page: what it shows of its documents, and the bookmark of the last one; without documents, the bookmark as the query gave it.
 #[derive(Debug, Drop)]
 pub struct Page {
     pub docs: Vec<Json>,
     pub bookmark: String,
 }
 
-// A document of this form and tree as a query shows it: with its conflicts, where they are asked for, and of that the
-// parts at the fields, where there are any.
+// A document of this form and tree as a query shows it: with its conflicts if they are asked for, and only the parts at the fields if
+// fields are given.
 pub(crate) fn show(
     alloc: Global,
     query: &Query<'_>,
@@ -45,7 +45,7 @@ pub(crate) fn show(
     }
 }
 
-// The parts at the fields, or the whole where there are none.
+// The parts of a document at the fields; the whole document if no fields are given.
 fn parts_in(alloc: Global, fields: &[Path], document: Json) -> Result<Json, NoMemory>
     ensures { IfOk result (λ v. view v ≡ projected fields.now (view document)) }
 {
@@ -56,7 +56,7 @@ fn parts_in(alloc: Global, fields: &[Path], document: Json) -> Result<Json, NoMe
     }
 }
 
-// The parts of a lent document at the fields, or a copy of the whole where there are none.
+// A copy of the parts of a lent document at the fields; of the whole document if no fields are given.
 fn parts_of(alloc: Global, fields: &[Path], document: Part<'_>) -> Result<Json, NoMemory>
     ensures { IfOk result (λ v. view v ≡ projected fields.now document.entry) }
 {

@@ -110,7 +110,7 @@ fn is_ddoc(a: Option<&str>, b: Option<&str>) -> bool
 }
 
 impl<'a> Source<'a> {
-    // Its design document, none for the index of all documents.
+    // Its design document; `None` for the index of all documents.
     pub(crate) fn ddoc(self) -> Option<&'a str>
         ensures { option_map (λ t. t.now) result ≡ ddoc_of (source_seen self.entry) }
     {
@@ -165,8 +165,8 @@ impl<'a> Source<'a> {
         }
     }
 
-    // Whether the range of its keys decides the whole selector, so that no document has to be asked. False for the index of all
-    // documents, where the documents are at hand.
+    // Whether the range of its keys decides the whole selector, so that no document has to be tested. False for the index of all
+    // documents, whose rows are the documents themselves.
     pub(crate) fn is_decided(self, normal: &Normal) -> bool
         ensures { result ≡ true → IsDecidedBy (columns_of (source_seen self.entry)) normal.now }
     {

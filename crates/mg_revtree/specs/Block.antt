@@ -5,12 +5,12 @@ use Rattle.mg_revtree.specs.Body.{IsFormOf, bare}
 use Rattle.mg_revtree.specs.declared.body.Block.{Block}
 use Rattle.mg_revtree.specs.declared.body.Block.TheVariants.{Own, Served}
 
--- the body
+-- the body that a block holds
 abbrev pub block_value : Block → Value
 block_value (Own body) = body
 block_value (Served form) = bare form
 
--- a form is that of the body which it shows
+-- a block of a form holds the form of a body: of what is left without the id and the revision
 abbrev pub IsSound : Block → Type 0
 IsSound (Own body) = ⊤
 IsSound (Served form) = IsFormOf (bare form) form

@@ -10,10 +10,10 @@ as_form id rev body = with_member (codes "_id") id (with_member (codes "_rev") r
 abbrev pub bare : Value → Value
 bare form = without_member (codes "_rev") (without_member (codes "_id") form)
 
--- it is this body with some id and some revision
+-- the form is this body with some id and some revision
 abbrev pub IsFormOf : Value → Value → Type 0
 IsFormOf body form = (id : Value) × (rev : Value) × (form ≡ as_form id rev body)
 
--- a body that has neither as a member of its own
+-- the body has neither `_id` nor `_rev` as a member
 abbrev pub IsBare : Value → Type 0
 IsBare body = (member_of (codes "_id") body ≡ None) × (member_of (codes "_rev") body ≡ None)

@@ -85,11 +85,11 @@ IsLeaf h l = leaf_at l.rev h ≡ Some (l.deleted, l.body)
 abbrev pub leaf_order : Leaf → Leaf → Ordering
 leaf_order = then_cmp (on (λ l. not l.deleted) bool_cmp) (on (λ l. l.rev) revision_order)
 
--- the leaf that a path ends in, if its newest revision is one
+-- the leaf at the newest revision of a path, if that revision is a leaf
 abbrev pub tip_of : History → Path → Option Leaf
 tip_of h p = option_and_then (leaf_of h) (newest_of p.revs)
 
--- leaves, best first, with one more; if one of them ties with it, that is the same leaf and is not added again
+-- leaves, best first, with one more; if it ties with one of them, it is that leaf and is not added again
 abbrev pub ranked_with : Leaf → List Leaf → List Leaf
 ranked_with l [] = l ∷ []
 ranked_with l (m ∷ ms) = match_ordering (leaf_order l m) (m ∷ ranked_with l ms) (m ∷ ms) (l ∷ m ∷ ms)
@@ -99,7 +99,7 @@ abbrev pub ranked : List Leaf → List Leaf
 ranked [] = []
 ranked (l ∷ ls) = ranked_with l (ranked ls)
 
--- the leaves of a history, best first: those that its paths end in
+-- the leaves of a history, best first: those at the newest revisions of its paths
 abbrev pub leaves_of : History → List Leaf
 leaves_of h = ranked (filter_map (tip_of h) h)
 

@@ -13,14 +13,14 @@ use std::marker::Model;
 
 #[derive(Drop)]
 pub(crate) enum Block {
-    // the body
+    // a block of its own
     Own(Packed),
-    // the body with the document's id and its revision
+    // the block of a form in which the document was served: the body with the document's id and the body's revision
     Served(Form),
 }
 
-/// The body of a revision, in one block of memory. While the document is served with this body, the block is that of the
-/// form in which it is served. Contracts see the body.
+/// The body of a revision, in one block of memory: a block of its own, or that of a form in which the document was served with
+/// this body. Contracts see the body alone.
 #[derive(Drop)]
 pub struct Body {
     block: Block,
@@ -71,18 +71,18 @@ impl Body {
         copy_body(alloc, &self.block)
     }
 
-    /// The body with this id and this revision, in one block. A body that is no object has no members, and is its own form.
+    /// The body with this id and this revision, in one block. A body that is not an object has no members, and is its own form.
     ///
-    /// Errors: `NoMemory` if an allocation fails. Cost: two copies of the body's bytes; none if the body stands in the block
-    /// of that form already, which is then shared.
+    /// Errors: `NoMemory` if an allocation fails. Cost: two copies of the body's bytes. If the body stands in the block of this
+    /// form already, that block is shared and nothing is copied; from the block of another form it is first copied out.
     pub fn form(&self, alloc: Global, id: &str, rev: &str) -> Result<Form, NoMemory>
         ensures { IfOk result (λ form. form ≡ as_form (string id.now) (string rev.now) self.now) }
     {
         form_of(alloc, &self.block, id, rev)
     }
 
-    // Moves the body into the block of its form, and gives its own block back. A body that has an id or a revision as members
-    // of its own stays where it is, since the block would not show them.
+    // Moves the body into the block of its form, and gives its own block back. A body stays where it is if it has `_id` or
+    // `_rev` as a member, since the form replaces these, or if it stands in the block of a form already.
     #[tactic(auto, using(crate::proofs::Bodies::shows))]
     pub(crate) fn move_into(&mut self, form: Form)
         requires { IsFormOf self.old form }
@@ -103,7 +103,7 @@ fn copy_body(alloc: Global, block: &Block) -> Result<Json, NoMemory>
     }
 }
 
-// A form without its id and its revision.
+// Copies the body out of a form: the form without `_id` and `_rev`.
 fn copy_bare(alloc: Global, form: &Form) -> Result<Json, NoMemory>
     ensures { IfOk result (λ value. view value ≡ bare form.now) }
 {
@@ -113,7 +113,7 @@ fn copy_bare(alloc: Global, form: &Form) -> Result<Json, NoMemory>
     Ok(body)
 }
 
-// Whether the block is a body that has neither an id nor a revision.
+// Whether the block is the body's own, and the body has neither `_id` nor `_rev` as a member.
 fn is_bare(block: &Block) -> bool
     ensures { result ≡ true → IsBare (block_value block.now) }
 {
@@ -139,7 +139,7 @@ fn form_of(alloc: Global, block: &Block, id: &str, rev: &str) -> Result<Form, No
     }
 }
 
-// Shares a form if its id and its revision are these, and else makes another.
+// Shares the form if it has this id and this revision; else makes the form of its body with them.
 #[tactic(auto, using(crate::proofs::Bodies::is_made))]
 fn share_or_make(alloc: Global, form: &Form, id: &str, rev: &str) -> Result<Form, NoMemory>
     requires { IsFormOf (bare form.now) form.now }

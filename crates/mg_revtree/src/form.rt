@@ -4,8 +4,8 @@ use std::alloc::Global;
 use std::marker::Model;
 use std::sync::Arc;
 
-/// The form in which a document is served, in one block of memory that its revision tree and others share. Contracts see
-/// the value.
+/// The form in which a document is served, in one block of memory that several owners share, such as the document and the
+/// winner in its revision tree. Contracts see the form as a value.
 #[derive(Drop)]
 pub struct Form {
     block: Arc<Packed>,
@@ -42,7 +42,7 @@ impl Form {
         &self.block
     }
 
-    /// Another reference to the block. Takes no memory. Errors: `NoMemory` if there are too many of them.
+    /// Another reference to the block. Takes no memory. Errors: `NoMemory` if there are too many references.
     pub fn share(&self) -> Result<Form, NoMemory>
         ensures { IfOk result (λ shared. shared ≡ self.now) }
     {

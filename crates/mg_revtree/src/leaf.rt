@@ -34,8 +34,8 @@ impl Model for Leaf {
 }
 
 impl Leaf {
-    /// Orders leaves by which one wins; the winner is the greater: first the one that is not deleted, then the higher position,
-    /// then the greater id.
+    /// Orders leaves; the greatest wins. A leaf that is not deleted is greater than a deleted one; then the higher position is
+    /// greater; then the greater id.
     pub fn order(&self, other: &Leaf) -> Ordering
         ensures { result ≡ leaf_order self.now other.now }
     {
@@ -89,7 +89,7 @@ impl Shared {
         &self.leaf
     }
 
-    /// Moves the leaf's body into the block of its form, if no copy of a tree shares the leaf. Takes no memory.
+    /// Moves the leaf's body into the block of its form, if no copy of the tree shares the leaf. Takes no memory.
     pub fn move_into(&mut self, form: Form)
         requires { IsFormOf self.old.body form }
         ensures { self.new ≡ self.old }
@@ -99,7 +99,7 @@ impl Shared {
         }
     }
 
-    /// Another reference to the leaf. Takes no memory.
+    /// Another reference to the leaf. Takes no memory. Errors: `NoMemory` if there are too many references.
     pub fn share(&self) -> Result<Shared, NoMemory>
         ensures { IfOk result (λ shared. shared ≡ self.now) }
     {

@@ -91,9 +91,9 @@ impl RevTree {
         Some(self.leaves[0].leaf())
     }
 
-    /// Moves the winner's body into the block of the form in which the document is served, unless a copy of the tree shares the
-    /// winner, so that the body and its form take one block. Contracts see the same tree. Takes no memory. Cost: two look-ups
-    /// of a member in the body.
+    /// Moves the winner's body into the block of the form in which the document is served, so that both take one block. The body
+    /// stays where it is if a copy of the tree shares the winner, or if the body has `_id` or `_rev` as a member. Contracts see
+    /// the same tree. Takes no memory. Cost: two look-ups of a member in the body.
     pub fn share_form(&mut self, form: Form)
         requires { IfSome (first_of self.old.leaves) (λ l. IsFormOf l.body form) }
         ensures { self.new ≡ self.old }

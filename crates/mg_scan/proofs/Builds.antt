@@ -3,7 +3,6 @@ use Rattle.std.proofs.Common.{◌≡◌, ℕ, zero, suc, ◌+◌, ◌<◌, List,
 use Rattle.std.specs.Arc.{arc_value}
 use Rattle.std.specs.declared.alloc.Global.{Global}
 use Rattle.std.specs.declared.sync.Arc.{Arc}
-use Rattle.std.specs.declared.vec.Vec.{Vec}
 use Rattle.mg_collate.specs.Row.{RowValue}
 use Rattle.mg_index.specs.Definition.{IndexDefinition}
 use Rattle.mg_scan.specs.Built.{with_index}
@@ -15,14 +14,14 @@ use Rattle.mg_shard.specs.Rows.{rows_of}
 use Rattle.mg_value.specs.declared.error.NoMemory.{NoMemory}
 
 abbrev Extracted : Type 0
-Extracted = Result (Vec RowValue Global) NoMemory
+Extracted = Result (List RowValue) NoMemory
 
 -- the shard at a place
 pub shard_at : (shards : List (Arc ShardView Global)) (i : ℕ) (a : Arc ShardView Global) (s : ShardView) → i < length shards → a ≡ get_or shards i a → s ≡ arc_value a → slice_get (shards_seen shards) i ≡ Some s
 shard_at shards i a s less is same = get-map arc_value shards i a less is ∙ ap Some (sym same)
 
-pub rows_there : (d : IndexDefinition) (shards : List (Arc ShardView Global)) (i : ℕ) (s : ShardView) (v : Vec RowValue Global) → slice_get (shards_seen shards) i ≡ Some s → v.items ≡ rows_of d.columns (docs_of s.documents)
-    → (t : ShardView) → slice_get (shards_seen shards) i ≡ Some t → v.items ≡ rows_of d.columns (docs_of t.documents)
+pub rows_there : (d : IndexDefinition) (shards : List (Arc ShardView Global)) (i : ℕ) (s : ShardView) (v : List RowValue) → slice_get (shards_seen shards) i ≡ Some s → v ≡ rows_of d.columns (docs_of s.documents)
+    → (t : ShardView) → slice_get (shards_seen shards) i ≡ Some t → v ≡ rows_of d.columns (docs_of t.documents)
 rows_there d shards i s v at is = λ t e. is ∙ ap (λ (x : ShardView). rows_of d.columns (docs_of x.documents)) (some_is s t (sym at ∙ e))
 
 pub rows-set : (d : IndexDefinition) (shards : List ShardView) (rs : List Extracted) (at : ℕ) (r : Extracted) → AreRowsAt d shards rs → HasRowsAt d shards at r → AreRowsAt d shards (set rs at r)

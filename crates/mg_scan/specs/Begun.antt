@@ -31,7 +31,7 @@ IsBegunIn at s shard left.Nothing = at ≡ None
 abbrev pub IsBegun : Search → ShardView → Left → Type 0
 IsBegun s shard = IsBegunIn (columns_of s.target shard.definitions) s shard
 
--- it is behind the first so many rows of an index; documents stay as they are
+-- it is what is left after the first n rows of an index; documents stay as they are
 abbrev pub IsBehind : ℕ → Left → Left → Type 0
 IsBehind n (left.Rows rows) l = l ≡ left.Rows (drop n rows)
 IsBehind n (left.Documents documents) l = (n ≡ 0) × (l ≡ left.Documents documents)

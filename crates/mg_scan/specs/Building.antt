@@ -1,7 +1,5 @@
 -- The lists of rows that a build makes, shard by shard. These words serve private clauses.
 use Rattle.std.specs.Prelude.{◌≡◌, ℕ, ◌+◌, List, Some, Result, IfOk, slice_get}
-use Rattle.std.specs.declared.alloc.Global.{Global}
-use Rattle.std.specs.declared.vec.Vec.{Vec}
 use Rattle.mg_collate.specs.Row.{RowValue}
 use Rattle.mg_index.specs.Definition.{IndexDefinition}
 use Rattle.mg_shard.specs.Documents.{docs_of}
@@ -10,13 +8,13 @@ use Rattle.mg_shard.specs.Shard.{ShardView}
 use Rattle.mg_value.specs.declared.error.NoMemory.{NoMemory}
 
 -- these are the rows that the index has in the i-th shard, unless memory was refused
-abbrev pub HasRowsAt : IndexDefinition → List ShardView → ℕ → Result (Vec RowValue Global) NoMemory → Type 0
-HasRowsAt d shards i r = IfOk r (λ v. (s : ShardView) → slice_get shards i ≡ Some s → v.items ≡ rows_of d.columns (docs_of s.documents))
+abbrev pub HasRowsAt : IndexDefinition → List ShardView → ℕ → Result (List RowValue) NoMemory → Type 0
+HasRowsAt d shards i r = IfOk r (λ v. (s : ShardView) → slice_get shards i ≡ Some s → v ≡ rows_of d.columns (docs_of s.documents))
 
 -- each is what the index has in the shard of its place
-abbrev pub AreRowsAt : IndexDefinition → List ShardView → List (Result (Vec RowValue Global) NoMemory) → Type 0
-AreRowsAt d shards rs = (i : ℕ) (r : Result (Vec RowValue Global) NoMemory) → slice_get rs i ≡ Some r → HasRowsAt d shards i r
+abbrev pub AreRowsAt : IndexDefinition → List ShardView → List (Result (List RowValue) NoMemory) → Type 0
+AreRowsAt d shards rs = (i : ℕ) (r : Result (List RowValue) NoMemory) → slice_get rs i ≡ Some r → HasRowsAt d shards i r
 
 -- each is what the index has in the shard that is as far behind a place
-abbrev pub AreRowsFrom : IndexDefinition → List ShardView → ℕ → List (Result (Vec RowValue Global) NoMemory) → Type 0
-AreRowsFrom d shards from rs = (i : ℕ) (r : Result (Vec RowValue Global) NoMemory) → slice_get rs i ≡ Some r → HasRowsAt d shards (from + i) r
+abbrev pub AreRowsFrom : IndexDefinition → List ShardView → ℕ → List (Result (List RowValue) NoMemory) → Type 0
+AreRowsFrom d shards from rs = (i : ℕ) (r : Result (List RowValue) NoMemory) → slice_get rs i ≡ Some r → HasRowsAt d shards (from + i) r

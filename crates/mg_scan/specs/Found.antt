@@ -28,6 +28,6 @@ asked normal range after count direction columns =
 abbrev pub found_in : Target → (List Steps → Request) → ShardView → List RowValue
 found_in target request s = option_map_or (λ columns. scanned (request columns) (docs_of s.documents)) (columns_of target s.definitions) []
 
--- the same without a limit
+-- all that a scan without a limit finds in a shard
 abbrev pub all_found_in : Target → (List Steps → Request) → ShardView → List RowValue
 all_found_in target request s = option_map_or (λ columns. all_scanned (request columns) (docs_of s.documents)) (columns_of target s.definitions) []

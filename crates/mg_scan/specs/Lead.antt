@@ -39,7 +39,7 @@ AreLeadsIn shards leads = AllByRecursion (IsLeadIn shards) leads
 abbrev pub AreServed : KeptDocuments → List RowValue → Type 0
 AreServed ds rows = AllByRecursion (λ r. is_some (form_at ds r.1) ≡ true) rows
 
--- the same search of any document
+-- the search with a selector that every document matches
 abbrev pub unasked : Search → Search
 unasked s = record s { normal = record { ref_ptr = s.normal.ref_ptr; now = everything } }
 

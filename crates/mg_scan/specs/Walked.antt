@@ -34,13 +34,13 @@ is_late_row direction range r = is_late direction (place_of range (item_list r.0
 abbrev pub holds_at : NormalForm → KeptDocuments → List ℕ → Bool
 holds_at normal ds id = option_map_or (λ form. normal_holds normal (Some form)) (form_at ds id) false
 
--- of rows in order the first so many that hold, up to the first that is late
+-- of rows in order the first n that hold, up to the first that is late
 abbrev pub walked : (RowValue → Bool) → (RowValue → Bool) → ℕ → List RowValue → List RowValue
 walked late holds zero rows = []
 walked late holds (suc n) [] = []
 walked late holds (suc n) (r ∷ rows) = if late r then [] else if holds r then r ∷ walked late holds n rows else walked late holds (suc n) rows
 
--- the same without a limit
+-- of rows in order all that hold, up to the first that is late
 abbrev pub walked_all : (RowValue → Bool) → (RowValue → Bool) → List RowValue → List RowValue
 walked_all late holds [] = []
 walked_all late holds (r ∷ rows) = if late r then [] else if holds r then r ∷ walked_all late holds rows else walked_all late holds rows

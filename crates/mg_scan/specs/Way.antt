@@ -23,7 +23,7 @@ all_found_by s = all_found_in s.target (asked_by s)
 abbrev pub begin_at : Search → RowValue → Ordering
 begin_at s r = begin_order s.direction (place_of s.range.now (item_list r.0)) (option_map (row_value_order r) (after_of s))
 
--- what a search finds on the way through rows of a shard with these documents, so many at most
+-- what a search finds on the way through rows of a shard with these documents, at most this many
 abbrev pub walked_by : Search → KeptDocuments → ℕ → List RowValue → List RowValue
 walked_by s ds = walked (is_late_row s.direction s.range.now) (λ r. holds_at s.normal.now ds r.1)
 

@@ -6,8 +6,8 @@ use mg_rows::{RowBytes, value_hint};
 use mg_value::Json;
 use std::cmp::Ordering;
 
-/// Where a search begins: before the first row, in its direction, that its range does not come after and that comes after the row that
-/// is named.
+/// Where a search begins: in its direction, before the first row that is at or past the beginning of its range, and after `after` if that
+/// is given.
 #[derive(Clone, Copy)]
 pub(crate) struct Begin<'a> {
     pub(crate) search: Search<'a>,
@@ -54,8 +54,8 @@ impl<'a, X: Identified> Probe<Shared<X>> for Begin<'a> {
     }
 }
 
-// The number beside those of the rows that have the value at which the range is entered: on the side on which they come first, where
-// they may be in the range, and else on the other one.
+// A number just below or above those of the rows with the value at which the range is entered: in the direction before them if they
+// may be in the range, else after them.
 fn row_hint(search: Search<'_>) -> u64 {
     let is_up = search.direction == Direction::Asc;
     match search.range.keys().entered_at(search.direction) {

@@ -8,6 +8,7 @@ ghost use Rattle.std.specs.Thread.{IsSync};
 
 use crate::gate::{Gate, Place};
 use mg_index::IndexDef;
+use mg_pages::Pages;
 use mg_rows::RowBytes;
 use mg_shard::Shard;
 use mg_value::NoMemory;
@@ -17,7 +18,7 @@ use std::sync::Arc;
 use std::thread;
 use std::thread::Threads;
 
-// The rows that the index has in the i-th shard, extracted by so many workers between two passes of the gate.
+// The rows that the index has in the i-th shard, extracted by this many workers between two passes of the gate.
 fn rows_at<R: Threads + Sync, G: Gate>(
     rt: &R,
     alloc: Global,
@@ -26,7 +27,7 @@ fn rows_at<R: Threads + Sync, G: Gate>(
     i: usize,
     workers: usize,
     gate: &G,
-) -> Result<Vec<RowBytes>, NoMemory>
+) -> Result<Pages<RowBytes>, NoMemory>
     requires { i < length shards.now }
     ensures { HasRowsAt definition.now (shards_seen shards.now) i result }
 {
@@ -37,7 +38,7 @@ fn rows_at<R: Threads + Sync, G: Gate>(
     Ok(rows)
 }
 
-// The rows that the index has in each shard, one shard after the other, each by so many workers.
+// The rows that the index has in each shard, one shard after the other, each by this many workers.
 fn extracted_in_turn<R: Threads + Sync, G: Gate>(
     rt: &R,
     alloc: Global,
@@ -45,7 +46,7 @@ fn extracted_in_turn<R: Threads + Sync, G: Gate>(
     definition: &IndexDef,
     workers: usize,
     gate: &G,
-) -> Result<Vec<Result<Vec<RowBytes>, NoMemory>>, NoMemory>
+) -> Result<Vec<Result<Pages<RowBytes>, NoMemory>>, NoMemory>
     ensures rows { IfOk result (λ v. AreRowsAt definition.now (shards_seen shards.now) v.items) }
     ensures len { IfOk result (λ v. vec_len v ≡ length shards.now) }
 {
@@ -57,7 +58,7 @@ fn extracted_in_turn<R: Threads + Sync, G: Gate>(
     Ok(all)
 }
 
-// The rows that the index has in so many shards from a place on, extracted by a thread each, which has so many workers.
+// The rows that the index has in some shards from the given one on, each extracted by a thread of its own with this many workers.
 fn extracted_at_once<R: Threads + Sync, G: Gate + Sync>(
     rt: &R,
     alloc: Global,
@@ -67,7 +68,7 @@ fn extracted_at_once<R: Threads + Sync, G: Gate + Sync>(
     count: usize,
     workers: usize,
     gate: &G,
-) -> Result<Vec<Result<Vec<RowBytes>, NoMemory>>, AllocError>
+) -> Result<Vec<Result<Pages<RowBytes>, NoMemory>>, AllocError>
     requires { from + count ≤ length shards.now }
     ensures rows { IfOk result (λ v. AreRowsFrom definition.now (shards_seen shards.now) from v.items) }
     ensures len { IfOk result (λ v. vec_len v ≡ count) }
@@ -76,7 +77,7 @@ fn extracted_at_once<R: Threads + Sync, G: Gate + Sync>(
         rt,
         alloc,
         count,
-        &|k: usize| -> Result<Vec<RowBytes>, NoMemory>
+        &|k: usize| -> Result<Pages<RowBytes>, NoMemory>
             requires { IsSync R.row × (from + k < length shards.now) × (from + k < 2 ^ 64) }
             ensures { HasRowsAt definition.entry.now (shards_seen shards.entry.now) (from + k) result }
         { rows_at(rt, alloc, shards, definition, from + k, workers, gate) },
@@ -84,7 +85,7 @@ fn extracted_at_once<R: Threads + Sync, G: Gate + Sync>(
     Ok(rows)
 }
 
-// The rows that the index has in each shard, extracted by so many threads at a time. Workers that are left over help with the last shards.
+// The rows that the index has in each shard, extracted by this many threads at a time. Workers that are left over help with the last shards.
 fn extracted_by_threads<R: Threads + Sync, G: Gate + Sync>(
     rt: &R,
     alloc: Global,
@@ -92,7 +93,7 @@ fn extracted_by_threads<R: Threads + Sync, G: Gate + Sync>(
     definition: &IndexDef,
     workers: usize,
     gate: &G,
-) -> Result<Vec<Result<Vec<RowBytes>, NoMemory>>, NoMemory>
+) -> Result<Vec<Result<Pages<RowBytes>, NoMemory>>, NoMemory>
     requires { 0 < workers }
     ensures rows { IfOk result (λ v. AreRowsAt definition.now (shards_seen shards.now) v.items) }
     ensures len { IfOk result (λ v. vec_len v ≡ length shards.now) }
@@ -116,7 +117,7 @@ fn extracted<R: Threads + Sync, G: Gate + Sync>(
     definition: &IndexDef,
     workers: usize,
     gate: &G,
-) -> Result<Vec<Result<Vec<RowBytes>, NoMemory>>, NoMemory>
+) -> Result<Vec<Result<Pages<RowBytes>, NoMemory>>, NoMemory>
     ensures rows { IfOk result (λ v. AreRowsAt definition.now (shards_seen shards.now) v.items) }
     ensures len { IfOk result (λ v. vec_len v ≡ length shards.now) }
 {
@@ -132,7 +133,7 @@ fn with_these(
     shards: &[Arc<Shard>],
     definition: &Arc<IndexDef>,
     i: usize,
-    rows: Result<Vec<RowBytes>, NoMemory>,
+    rows: Result<Pages<RowBytes>, NoMemory>,
 ) -> Result<Shard, NoMemory>
     requires inside { i < length shards.now }
     requires rows { HasRowsAt (arc_value definition.now) (shards_seen shards.now) i rows }
@@ -142,13 +143,13 @@ fn with_these(
     Ok(shard.with_rows(alloc, definition, rows?)?)
 }
 
-// What was extracted of the i-th shard, which then gives way to a refusal.
+// Takes out what was extracted from the i-th shard, and leaves a refusal in its place.
 fn taken(
-    given: &mut Vec<Result<Vec<RowBytes>, NoMemory>>,
+    given: &mut Vec<Result<Pages<RowBytes>, NoMemory>>,
     i: usize,
     shards: &[Arc<Shard>],
     definition: &Arc<IndexDef>,
-) -> Result<Vec<RowBytes>, NoMemory>
+) -> Result<Pages<RowBytes>, NoMemory>
     requires inside { i < vec_len given.old }
     requires given { AreRowsAt (arc_value definition.now) (shards_seen shards.now) given.old.items }
     ensures rows { HasRowsAt (arc_value definition.now) (shards_seen shards.now) i result }
@@ -164,7 +165,7 @@ fn with_all(
     alloc: Global,
     shards: &[Arc<Shard>],
     definition: &Arc<IndexDef>,
-    given: Vec<Result<Vec<RowBytes>, NoMemory>>,
+    given: Vec<Result<Pages<RowBytes>, NoMemory>>,
 ) -> Result<Vec<Shard>, NoMemory>
     requires rows { AreRowsAt (arc_value definition.now) (shards_seen shards.now) given.items }
     requires len { vec_len given ≡ length shards.now }
@@ -180,9 +181,10 @@ fn with_all(
     Ok(built)
 }
 
-/// The shards, each with an index of this definition, instead of one of its design document and name: what `Shard::with_index` makes of
-/// each, for every number of workers, from 1 to 32, and for every gate. One worker starts no thread. Several take a shard each; where there
-/// are twice as many workers as shards left, as many threads extract the rows of a large shard as there are processors. The definition is copied once, and the shards share it.
+/// The shards, each with an index of this definition, which replaces one of its design document and name: what `Shard::with_index` makes
+/// of each, for every number of workers, from 1 to 32, and for every gate. One worker starts no thread. Several take a shard each; if there
+/// are twice as many workers as shards left, as many threads extract the rows of a large shard as there are processors. The definition is
+/// copied once, and the shards share it.
 ///
 /// The gate is passed before a shard's first document is read and after its last row is made.
 /// Errors: `NoMemory` if an allocation fails. Cost: each document once, and its row to its place.

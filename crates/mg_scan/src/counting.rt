@@ -14,8 +14,8 @@ use crate::target::Target;
 use mg_shard::Shard;
 use std::sync::Arc;
 
-/// Whether a search of all shards reads at most `most` documents or rows, wherever its range ends: so many come after where it begins,
-/// however many it takes. Nothing is read for it. Takes no memory.
+/// Whether at most `most` documents or rows of all shards come after the place where a search begins, so that it reads no more than
+/// that, wherever its range ends and however many hits it takes. None of them is read for this. Takes no memory.
 ///
 /// Cost: in each shard one look-up of where to begin, with the counts on the way there.
 pub fn reads_at_most(shards: &[Arc<Shard>], search: Search<'_>, most: usize) -> bool
@@ -44,7 +44,7 @@ fn count_ahead(shard: &Shard, search: Search<'_>) -> usize
     }
 }
 
-// How many rows of an index do, and none where there is no such index.
+// How many rows of an index come after the place where the search begins; 0 if there is no such index.
 fn count_rows_ahead(shard: &Shard, ddoc: &str, name: &str, search: Search<'_>) -> usize
     ensures { result ≡ option_map_or (λ rows. length (beyond search.entry.direction (begin_at search.entry) rows))
         (rows_at ddoc.now name.now shard.now) 0 }

@@ -58,7 +58,7 @@ impl<'a> Hit<'a> {
         self.text
     }
 
-    /// A row of its own. Errors: `NoMemory` if an allocation fails. Cost: the size of the row.
+    /// Copies the row. Errors: `NoMemory` if an allocation fails. Cost: the size of the row.
     pub fn row(&self, alloc: Global) -> Result<Row, NoMemory>
         ensures { IfOk result (λ row. row_view row ≡ hit_row self.now) }
     {

@@ -41,7 +41,7 @@ impl<'a> HitRow<'a> {
         }
     }
 
-    /// A row of its own. Errors: `NoMemory` if an allocation fails. Cost: the size of the row.
+    /// Copies the row. Errors: `NoMemory` if an allocation fails. Cost: the size of the row.
     pub(crate) fn row(&self, alloc: Global) -> Result<Row, NoMemory>
         ensures { IfOk result (λ row. row_view row ≡ lent_row self.now) }
     {

@@ -93,7 +93,8 @@ pub(crate) fn lead_source_of<'a, 'b>(shard: &'a Shard, search: Search<'b>) -> Le
     }
 }
 
-// The same behind the first rows, and how many these are: as many as are named, or none. Cost: two look-ups.
+// What `lead_source_of` gives, after the first rows, and how many were passed over: `count` of an index, 0 of documents.
+// Cost: two look-ups.
 pub(crate) fn lead_source_behind<'a, 'b>(
     shard: &'a Shard,
     search: Search<'b>,

@@ -37,7 +37,7 @@ fn documents_of<'a>(shard: &'a Shard, search: Search<'_>) -> Documents<'a>
     shard.documents_beyond(&Begin { search }, search.direction)
 }
 
-// The rows of an index from where the search begins, and nothing where the shard has no such index.
+// The rows of an index from where the search begins; nothing if the shard has no such index.
 fn rows_of<'a>(shard: &'a Shard, ddoc: &str, name: &str, search: Search<'_>) -> Left<'a>
     ensures { IsBegunIn (option_map (λ d. d.columns) (definition_at ddoc.now name.now shard.now.definitions))
         search.entry shard.now result }
@@ -48,8 +48,8 @@ fn rows_of<'a>(shard: &'a Shard, ddoc: &str, name: &str, search: Search<'_>) -> 
     }
 }
 
-// What is left behind the first rows, and how many these are: as many as are named, where they are rows of an index, and none of
-// documents, of which some may be deleted.
+// What is left after the first rows, and how many were passed over: `count` of an index; 0 of documents, since some of them may be
+// deleted.
 pub(crate) fn left_behind<'a>(left: Left<'a>, count: usize) -> (Left<'a>, usize)
     ensures behind { IsBehind result.1 left.entry result.0 }
     ensures within { result.1 ≤ count }

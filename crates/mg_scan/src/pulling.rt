@@ -20,10 +20,9 @@ use mg_value::NoMemory;
 use std::alloc::Global;
 use std::sync::Arc;
 
-/// The first `take` hits of a search in all shards together, in the direction's order of their rows: in the target's rows that the
-/// direction lists strictly after the row, if one is named, those whose key is in the range and of whose document the selector holds.
-/// Beside them stands how many hits were looked for and found: at most `take`, and one more for each shard. All is done on the caller's
-/// thread.
+/// The first `take` hits of a search in all shards together, in the order of its direction: rows of the target after `after`, whose key
+/// is in the range and whose document matches the selector. Also returns how many hits were found for them: at most `take`, and one more
+/// for each shard. All is done on the caller's thread.
 ///
 /// Errors: `NoMemory` if an allocation fails. Cost: in each shard one look-up of where to begin; then for each row that is
 /// read, until those hits are found, a look-up of its document and the selector on it; the merge.
@@ -42,12 +41,12 @@ pub fn pull_lent<'a>(
     Ok((hits, pulled))
 }
 
-/// The same hits without the first `skip` of them, where the range decides: in each shard the key of a row tells whether the selector
-/// holds of its document. Documents are looked up only for the hits that are given, and the selector is not asked. Beside them stands
-/// how many rows were looked for and found: at most `take`, and one more for each shard. All is done on the caller's thread.
+/// The hits of `pull_lent` without the first `skip`, if the range decides: in each shard the key of a row decides whether the document
+/// matches the selector. Documents are looked up only for the hits that are returned, and the selector is not evaluated. Also returns how
+/// many rows were found for them: at most `take`, and one more for each shard. All is done on the caller's thread.
 ///
 /// Errors: `NoMemory` if an allocation fails. Cost: in each shard one look-up of where to begin; then a step for each row that is
-/// read, until `take` are found, and the merge; a look-up of a document for each hit that is given. Of one shard the first `skip` rows
+/// read, until `take` are found, and the merge; a look-up of a document for each hit that is returned. With one shard the first `skip` rows
 /// of an index are passed over at once, by their count.
 pub fn pull_rows<'a>(
     alloc: Global,
@@ -69,7 +68,7 @@ pub fn pull_rows<'a>(
     }
 }
 
-// The same of any number of shards.
+// What `pull_rows` returns, for any number of shards.
 fn pull_rows_of_all<'a>(
     alloc: Global,
     shards: &'a [Arc<Shard>],
@@ -89,7 +88,7 @@ fn pull_rows_of_all<'a>(
     Ok((hits, pulled))
 }
 
-// The same of one shard, where rows of an index are passed over at once.
+// What `pull_rows` returns, for one shard: rows of an index are passed over at once.
 fn pull_rows_of_one<'a>(
     alloc: Global,
     shards: &'a [Arc<Shard>],

@@ -23,9 +23,9 @@ use std::sync::atomic::AtomicU64;
 use std::thread;
 use std::thread::Threads;
 
-/// The hits of each shard, in the order of the shards: in the target's rows that the direction lists strictly after the row, if one is
-/// named, those whose key is in the range and of whose document the selector holds, the first `take` of them, in the direction's order.
-/// They do not depend on the number of workers, which is from 1 to 32, nor on the gate. One worker, or one shard, starts no thread.
+/// Per shard, in the order of the shards, the first `take` hits in the search's direction: rows of the target after `after`, whose key is
+/// in the range and whose document matches the selector. They do not depend on the number of workers, 1 to 32, nor on the gate. One
+/// worker, or one shard, starts no thread.
 ///
 /// The gate is passed before a shard's first row is read and after its last.
 /// Errors: `NoMemory` if an allocation fails. Cost: in each shard one look-up of where to begin, then for each row that is
@@ -55,9 +55,9 @@ pub fn scan_lent<'a, R: Threads + Sync, G: Gate + Sync>(
     Ok(lists)
 }
 
-/// The same rows, copied, of a search that is given by its parts.
+/// The rows of the hits that `scan_lent` finds, copied; the search is given by its parts.
 ///
-/// Errors: `NoMemory` if an allocation fails. Cost: as of `scan_lent`, and the size of the range, of `after` and of the rows.
+/// Errors: `NoMemory` if an allocation fails. Cost: as for `scan_lent`, and the size of the range, of `after` and of the rows.
 pub fn scan<R: Threads + Sync, G: Gate + Sync>(
     rt: &R,
     alloc: Global,

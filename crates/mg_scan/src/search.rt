@@ -16,7 +16,7 @@ use mg_value::NoMemory;
 use std::alloc::Global;
 use std::cmp::Ordering;
 
-/// What is searched in each shard. Its range and the row after which it begins stand as bytes, so that these are made once a query.
+/// What is searched in each shard. The range and the row after which the search begins are bytes, which are made once per query.
 #[derive(Clone, Copy)]
 pub struct Search<'a> {
     /// What is read.
@@ -65,7 +65,7 @@ fn is_late(direction: Direction, place: RangeSide) -> bool
     }
 }
 
-// Whether something that stands so to the row after which the search begins comes after it, if there is one.
+// Whether this ordering puts an item past the row after which the search begins; true without such a row.
 fn is_beyond(direction: Direction, order: Option<Ordering>) -> bool
     ensures { result ≡ stands_beyond direction order }
 {
@@ -75,7 +75,7 @@ fn is_beyond(direction: Direction, order: Option<Ordering>) -> bool
     }
 }
 
-// Where a search begins, against something that it reaches or does not.
+// Compares the place where a search begins to an item.
 fn begin(direction: Direction, is_reached: bool) -> Ordering
     ensures { result ≡ directed direction (if is_reached then Less else Greater) }
 {
@@ -86,7 +86,7 @@ fn begin(direction: Direction, is_reached: bool) -> Ordering
     }
 }
 
-// How a row stands to another, if there is one.
+// Compares a row to another, if there is one.
 fn row_order(row: &RowBytes, after: Option<&RowBytes>) -> Option<Ordering>
     ensures { result ≡ option_map (row_value_order row.now) (option_map (λ r. r.now) after.entry) }
 {
@@ -96,7 +96,7 @@ fn row_order(row: &RowBytes, after: Option<&RowBytes>) -> Option<Ordering>
     }
 }
 
-// How the row of an id among all documents stands to another, if there is one.
+// Compares the row of an id among all documents to another, if there is one.
 fn id_order(id: &str, after: Option<&RowBytes>) -> Option<Ordering>
     ensures { result ≡ option_map (row_value_order (id_row id.now)) (option_map (λ r. r.now) after.entry) }
 {
@@ -106,7 +106,7 @@ fn id_order(id: &str, after: Option<&RowBytes>) -> Option<Ordering>
     }
 }
 
-// Where the search begins, against a row. Cost: a comparison of bytes with the end of the range, and one with the row after which it
+// Compares the place where the search begins to a row. Cost: a comparison of bytes with the end of the range, and one with the row after which it
 // begins, if there is one.
 pub(crate) fn begin_at_row(search: Search<'_>, row: &RowBytes) -> Ordering
     ensures { result ≡ begin_at search.entry row.now }
@@ -116,7 +116,7 @@ pub(crate) fn begin_at_row(search: Search<'_>, row: &RowBytes) -> Ordering
     begin(search.direction, is_reached)
 }
 
-// Where the search begins, against the row of an id among all documents.
+// Compares the place where the search begins to the row of an id among all documents.
 pub(crate) fn begin_at_id(search: Search<'_>, id: &str) -> Ordering
     ensures { result ≡ begin_at search.entry (id_row id.now) }
 {
@@ -125,14 +125,14 @@ pub(crate) fn begin_at_id(search: Search<'_>, id: &str) -> Ordering
     begin(search.direction, is_reached)
 }
 
-// Whether a search looks no further than a row. Cost: one comparison of bytes.
+// Whether a search ends before a row. Cost: one comparison of bytes.
 pub(crate) fn is_past_row(search: Search<'_>, row: &RowBytes) -> bool
     ensures { result ≡ is_late_row search.entry.direction search.entry.range.now row.now }
 {
     search.range.is_late(search.direction, row)
 }
 
-// Whether a search looks no further than the row of an id among all documents.
+// Whether a search ends before the row of an id among all documents.
 pub(crate) fn is_past_id(search: Search<'_>, id: &str) -> bool
     ensures { result ≡ is_late_row search.entry.direction search.entry.range.now (id_row id.now) }
 {

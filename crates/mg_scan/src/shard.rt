@@ -26,7 +26,7 @@ use mg_shard::{Document, Documents, Rows, Shard};
 use mg_value::NoMemory;
 use std::alloc::Global;
 
-// Room for hits is taken for so many at first.
+// A list of hits first gets room for at most this many.
 const FIRST_ROOM: usize = 64;
 
 // The hit of a document at a row, if it is served and the selector holds of it.
@@ -61,7 +61,7 @@ pub(crate) fn hit_at<'a>(shard: &'a Shard, row: &'a RowBytes, normal: &Normal) -
     hit_of(HitRow::Bytes(row), document, normal)
 }
 
-// Whether a search that has found so many looks no further than a row.
+// Whether a search that has found this many hits ends before this row.
 fn is_over_at_row(search: Search<'_>, found: usize, row: &RowBytes) -> bool
     ensures { result ≡ (nat_le search.entry.take found
         || is_late_row search.entry.direction search.entry.range.now row.now) }
@@ -69,7 +69,7 @@ fn is_over_at_row(search: Search<'_>, found: usize, row: &RowBytes) -> bool
     found >= search.take || is_past_row(search, row)
 }
 
-// The same of the row of an id among all documents.
+// Whether a search that has found this many hits ends before the row of an id among all documents.
 fn is_over_at_id(search: Search<'_>, found: usize, id: &str) -> bool
     ensures { result ≡ (nat_le search.entry.take found
         || is_late_row search.entry.direction search.entry.range.now (id_row id.now)) }
@@ -146,7 +146,7 @@ fn hits_of_all<'a>(
     Ok(hits_of_documents(alloc, shard, documents, search)?)
 }
 
-// What the search of an index finds in a shard, and nothing where the shard has no such index.
+// What the search of an index finds in a shard; nothing if the shard has no such index.
 fn hits_of_index<'a>(
     alloc: Global,
     shard: &'a Shard,

@@ -2,7 +2,7 @@ ghost use Rattle.std.specs.Prelude.{◌≡◌, ◌<◌, ◌≤◌, ◌&&◌, fal
 
 use std::marker::Model;
 
-/// How many workers a call has, 1 to 32: exactly so many, or at most so many, of which one does what is small.
+/// How many workers a call has, 1 to 32: an exact number, or a maximum; with a maximum, the caller's thread does small work alone.
 #[derive(Clone, Copy, Debug)]
 pub struct Workers {
     count: usize,
@@ -13,7 +13,7 @@ impl Model for Workers {
     ghost use Rattle.std.specs.Prelude.{ℕ, Bool, ◌≤◌};
     ghost use Rattle.std.specs.Coded.{coded×, coded_ℕ, coded_bool};
 
-    // the number, and whether it is a most
+    // the number, and whether it is only a maximum
     ghost Value = { ℕ × Bool };
 
     ghost coded = { coded× coded_ℕ coded_bool };
@@ -26,7 +26,7 @@ impl Model for Workers {
 }
 
 impl Workers {
-    /// At most so many workers: one where the work is small.
+    /// At most `count` workers: one if the work is small.
     pub fn most(count: usize) -> Self
         requires { (0 < count) × (count ≤ 32) }
         ensures { result ≡ (count, true) }
@@ -37,7 +37,7 @@ impl Workers {
         }
     }
 
-    /// Exactly so many workers.
+    /// Exactly `count` workers.
     pub fn exactly(count: usize) -> Self
         requires { (0 < count) × (count ≤ 32) }
         ensures { result ≡ (count, false) }
@@ -56,14 +56,14 @@ impl Workers {
         self.count
     }
 
-    /// Whether the caller's own thread does work that is so small.
+    /// Whether the caller's thread does the work alone, given whether the work is small.
     pub fn is_alone(self, is_small: bool) -> bool
         ensures { result ≡ (self.1 && is_small) }
     {
         self.is_most && is_small
     }
 
-    /// How many of them do work that is so small.
+    /// How many workers do the work, given whether it is small.
     pub fn needed(self, is_small: bool) -> usize
         ensures count { result ≡ if self.1 && is_small then 1 else self.0 }
         ensures range { (0 < result) × (result ≤ 32) }

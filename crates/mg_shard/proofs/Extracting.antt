@@ -1,26 +1,29 @@
--- Rows that threads extract of a list of documents, put together.
+-- What threads make of pages of documents and of rows, put together.
 use denote.Ref.{Bor}
-use Rattle.std.proofs.Common.{◌≡◌, List, [], ◌∷◌, Option, Some, None, Result, Ok, Err, map, option_and_then, refl, sym, ap, ap₂, ◌∙◌, IfOk}
+use Rattle.std.proofs.Common.{◌≡◌, ℕ, zero, suc, ◌<◌, List, [], ◌∷◌, ◌++◌, Option, Some, None, Result, Ok, Err, map, length, take, drop, option_and_then, refl, sym, ap, ap₂, ◌∙◌, subst, arith, IfOk}
+use Rattle.std.proofs.lemmas.List.{length-take}
+use Rattle.std.proofs.lemmas.List.Elements.{filter_map-append}
 use Rattle.std.specs.Prelude.{MatchResult, Contains}
-use Rattle.std.specs.List.{AllZip, cons_option, filter_map}
+use Rattle.std.specs.List.{AllByRecursion, AllZip, cons_option, filter_map, flat_map}
 use Rattle.std.specs.declared.alloc.Global.{Global}
 use Rattle.std.specs.declared.vec.Vec.{Vec}
-use Rattle.rayon.proofs.ToStd.{slice-AllZip}
+use Rattle.rayon.proofs.ToStd.{chunks_of-concat, slice-AllZip}
+use Rattle.rayon.specs.Lists.{chunks_from, chunks_of}
 use Rattle.mg_collate.specs.Row.{RowValue}
 use Rattle.mg_index.specs.Definition.{Steps}
+use Rattle.mg_pages.specs.Runs.{lent_elements}
 use Rattle.mg_shard.specs.Documents.{doc_entry, kept_entry, served_docs}
-use Rattle.mg_shard.specs.Extracted.{IsRowOf, document_row}
+use Rattle.mg_shard.specs.Extracted.{document_row, rows_in}
 use Rattle.mg_shard.specs.Histories.{ServedDocument}
-use Rattle.mg_shard.specs.Redealt.{documents_seen}
 use Rattle.mg_shard.specs.Rows.{row_of}
 use Rattle.mg_shard.specs.declared.document.Document.{Document}
 use Rattle.mg_value.specs.declared.error.NoMemory.{NoMemory}
 
-abbrev Lent : Type 0
-Lent = Bor Document
+abbrev Run : Type 0
+Run = Bor (List Document)
 
 abbrev pub Given : Type 0
-Given = Option (Result RowValue NoMemory)
+Given = Result (Vec RowValue Global) NoMemory
 
 row_step : (columns : List Steps) (o : Option ServedDocument) (ds : List ServedDocument)
     → cons_option (option_and_then (row_of columns) o) (filter_map (row_of columns) ds) ≡ filter_map (row_of columns) (cons_option o ds)
@@ -28,44 +31,84 @@ row_step columns None ds = refl
 row_step columns (Some d) ds = refl
 
 -- the rows of documents are those of the served ones
-rows_served : (columns : List Steps) (ds : List Document) → filter_map (document_row columns) ds ≡ filter_map (row_of columns) (served_docs ds)
+rows_served : (columns : List Steps) (ds : List Document) → rows_in columns ds ≡ filter_map (row_of columns) (served_docs ds)
 rows_served columns [] = refl
 rows_served columns (d ∷ ds) = ap (cons_option (document_row columns d)) (rows_served columns ds) ∙ row_step columns (doc_entry (kept_entry d)) (served_docs ds)
 
--- where no memory was refused, the rows that were given are those of the documents, in their order
-rows_given : (columns : List Steps) (ds : List Lent) (gs : List Given) (rows : List RowValue) → AllZip (λ (d : Lent) g. IsRowOf columns d.now g) ds gs
-    → filter_map (λ g. g) gs ≡ map Ok rows → rows ≡ filter_map (document_row columns) (documents_seen ds)
+-- where no memory was refused, the lists that were given hold the rows of the documents, in their order
+rows_given : (columns : List Steps) (runs : List Run) (rs : List Given) (lists : List (Vec RowValue Global)) → AllZip (λ (run : Run) r. IfOk r (λ v. v.items ≡ rows_in columns run.now)) runs rs
+    → rs ≡ map Ok lists → flat_map (λ (list : Vec RowValue Global). list.items) lists ≡ rows_in columns (lent_elements runs)
 rows_given columns [] [] [] h e = refl
-rows_given columns [] [] (r ∷ rows) h e = absurd cc
-rows_given columns [] (g ∷ gs) rows h e = absurd h
-rows_given columns (d ∷ ds) [] rows h e = absurd h
-rows_given columns (d ∷ ds) (None ∷ gs) rows h e =
-    rows_given columns ds gs rows h.1 e ∙ ap (λ r. cons_option r (filter_map (document_row columns) (documents_seen ds))) (sym h.0)
-rows_given columns (d ∷ ds) (Some (Ok r) ∷ gs) [] h e = absurd cc
-rows_given columns (d ∷ ds) (Some (Ok r) ∷ gs) (s ∷ rows) h e =
-    let same : r ≡ s = cc in
-    let more : filter_map (λ g. g) gs ≡ map Ok rows = cc in
-    ap₂ (λ x xs. x ∷ xs) (sym same) (rows_given columns ds gs rows h.1 more)
-    ∙ ap (λ o. cons_option o (filter_map (document_row columns) (documents_seen ds))) (sym h.0)
-rows_given columns (d ∷ ds) (Some (Err x) ∷ gs) [] h e = absurd cc
-rows_given columns (d ∷ ds) (Some (Err x) ∷ gs) (s ∷ rows) h e = absurd cc
+rows_given columns [] [] (v ∷ lists) h e = absurd cc
+rows_given columns [] (r ∷ rs) lists h e = absurd h
+rows_given columns (run ∷ runs) [] lists h e = absurd h
+rows_given columns (run ∷ runs) (Ok v ∷ rs) [] h e = absurd cc
+rows_given columns (run ∷ runs) (Ok v ∷ rs) (w ∷ lists) h e =
+    let same : v ≡ w = cc in
+    let more : rs ≡ map Ok lists = cc in
+    ap₂ (λ us vs. us ++ vs) (ap (λ (list : Vec RowValue Global). list.items) (sym same) ∙ h.0) (rows_given columns runs rs lists h.1 more)
+    ∙ sym (filter_map-append (document_row columns) run.now (lent_elements runs))
+rows_given columns (run ∷ runs) (Err x ∷ rs) [] h e = absurd cc
+rows_given columns (run ∷ runs) (Err x ∷ rs) (w ∷ lists) h e = absurd cc
 
-same_list : (ms gs : List Given) → AllZip (λ m g. g ≡ m) ms gs → gs ≡ ms
-same_list [] [] h = refl
-same_list [] (g ∷ gs) h = absurd h
-same_list (m ∷ ms) [] h = absurd h
-same_list (m ∷ ms) (g ∷ gs) h = ap₂ (λ x xs. x ∷ xs) h.0 (same_list ms gs h.1)
+-- what threads put together is either all lists or a refusal
+pub lists_together : (columns : List Steps) (runs : List Run) (xs : List (Bor Run)) (rs : List Given) (together : Result (Vec (Vec RowValue Global) Global) NoMemory)
+    → map (λ (x : Bor Run). x.now) xs ≡ runs → AllZip (λ (x : Bor Run) r. IfOk r (λ v. v.items ≡ rows_in columns x.now.now)) xs rs
+    → MatchResult together (λ v. (lists : List (Vec RowValue Global)) × (rs ≡ map Ok lists) × (v.items ≡ lists)) (λ e. Contains rs (Err e))
+    → IfOk together (λ v. flat_map (λ (list : Vec RowValue Global). list.items) v.items ≡ filter_map (row_of columns) (served_docs (lent_elements runs)))
+lists_together columns runs xs rs (Err e) shown each all = tt
+lists_together columns runs xs rs (Ok v) shown each all =
+    ap (flat_map (λ (list : Vec RowValue Global). list.items)) all.2
+    ∙ rows_given columns runs rs all.0 (slice-AllZip xs runs shown (λ (run : Run) r. IfOk r (λ v. v.items ≡ rows_in columns run.now)) rs each) all.1
+    ∙ rows_served columns (lent_elements runs)
 
--- what threads put together is either all rows or a refusal
-pub rows_together : (columns : List Steps) (documents : List Lent) (ds : List (Bor Lent)) (ms gs : List Given) (rs : List (Result RowValue NoMemory))
-    (together : Result (Vec RowValue Global) NoMemory)
-    → map (λ (d : Bor Lent). d.now) ds ≡ documents → AllZip (λ (d : Bor Lent) g. IsRowOf columns d.now.now g) ds ms → AllZip (λ m g. g ≡ m) ms gs
-    → rs ≡ filter_map (λ g. g) gs
-    → MatchResult together (λ v. (rows : List RowValue) × (rs ≡ map Ok rows) × (v.items ≡ rows)) (λ e. Contains rs (Err e))
-    → IfOk together (λ v. v.items ≡ filter_map (row_of columns) (served_docs (documents_seen documents)))
-rows_together columns documents ds ms gs rs (Err e) shown each same kept all = tt
-rows_together columns documents ds ms gs rs (Ok v) shown each same kept all =
-    all.2
-    ∙ rows_given columns documents ms all.0 (slice-AllZip ds documents shown (λ (d : Lent) g. IsRowOf columns d.now g) ms each)
-    (ap (filter_map (λ g. g)) (sym (same_list ms gs same)) ∙ sym kept ∙ all.1)
-    ∙ rows_served columns (documents_seen documents)
+abbrev pub Made : Type 0
+Made = Result (List RowValue) NoMemory
+
+abbrev Chunk : Type 0
+Chunk = Bor (List RowValue)
+
+-- where no memory was refused, the pages are the chunks of which they were made
+pages_given : (chunks : List (List RowValue)) (rs : List Made) (pages : List (List RowValue)) → AllZip (λ (c : List RowValue) r. IfOk r (λ p. p ≡ c)) chunks rs → rs ≡ map Ok pages → pages ≡ chunks
+pages_given [] [] [] h e = refl
+pages_given [] [] (p ∷ pages) h e = absurd cc
+pages_given [] (r ∷ rs) pages h e = absurd h
+pages_given (c ∷ chunks) [] pages h e = absurd h
+pages_given (c ∷ chunks) (Ok p ∷ rs) [] h e = absurd cc
+pages_given (c ∷ chunks) (Ok p ∷ rs) (q ∷ pages) h e =
+    let same : p ≡ q = cc in
+    let more : rs ≡ map Ok pages = cc in
+    ap₂ (λ us vs. us ∷ vs) (sym same ∙ h.0) (pages_given chunks rs pages h.1 more)
+pages_given (c ∷ chunks) (Err x ∷ rs) [] h e = absurd cc
+pages_given (c ∷ chunks) (Err x ∷ rs) (q ∷ pages) h e = absurd cc
+
+chunks_some : (fuel size : ℕ) (rows : List RowValue) → 0 < size → AllByRecursion (λ (p : List RowValue). 0 < length p) (chunks_from fuel size rows)
+chunks_some zero size rows some = tt
+chunks_some (suc n) size [] some = tt
+chunks_some (suc n) size (r ∷ rows) some =
+    let long = length-take size (r ∷ rows) in
+    let first : 0 < length (take size (r ∷ rows)) = omega arith in
+    (first, chunks_some n size (drop size (r ∷ rows)) some)
+
+module _ (size : ℕ) (rows : List RowValue) (xs : List Chunk) (rs : List Made) where
+  pages_are : (v : Vec (List RowValue) Global) → map (λ (x : Chunk). x.now) xs ≡ chunks_of size rows → AllZip (λ (x : Chunk) r. IfOk r (λ p. p ≡ x.now)) xs rs
+      → (pages : List (List RowValue)) × (rs ≡ map Ok pages) × (v.items ≡ pages) → v.items ≡ chunks_of size rows
+  pages_are v shown each all =
+      all.2 ∙ pages_given (chunks_of size rows) rs all.0 (slice-AllZip xs (chunks_of size rows) shown (λ (c : List RowValue) r. IfOk r (λ p. p ≡ c)) rs each) all.1
+
+  -- what threads put together is either all pages, which hold the rows in their order, or a refusal
+  pub pages_together : (together : Result (Vec (List RowValue) Global) NoMemory) → 0 < size
+      → map (λ (x : Chunk). x.now) xs ≡ chunks_of size rows → AllZip (λ (x : Chunk) r. IfOk r (λ p. p ≡ x.now)) xs rs
+      → MatchResult together (λ v. (pages : List (List RowValue)) × (rs ≡ map Ok pages) × (v.items ≡ pages)) (λ e. Contains rs (Err e))
+      → IfOk together (λ v. flat_map (λ (p : List RowValue). p) v.items ≡ rows)
+  pages_together (Err e) some shown each all = tt
+  pages_together (Ok v) some shown each all = ap (flat_map (λ (p : List RowValue). p)) (pages_are v shown each all) ∙ chunks_of-concat size rows some
+
+  -- and none of them is empty
+  pub pages_some : (together : Result (Vec (List RowValue) Global) NoMemory) → 0 < size
+      → map (λ (x : Chunk). x.now) xs ≡ chunks_of size rows → AllZip (λ (x : Chunk) r. IfOk r (λ p. p ≡ x.now)) xs rs
+      → MatchResult together (λ v. (pages : List (List RowValue)) × (rs ≡ map Ok pages) × (v.items ≡ pages)) (λ e. Contains rs (Err e))
+      → IfOk together (λ v. AllByRecursion (λ (p : List RowValue). 0 < length p) v.items)
+  pages_some (Err e) some shown each all = tt
+  pages_some (Ok v) some shown each all =
+      subst (λ (ps : List (List RowValue)). AllByRecursion (λ (p : List RowValue). 0 < length p) ps) (sym (pages_are v shown each all)) (chunks_some (length rows) size rows some)

@@ -7,7 +7,7 @@ use Rattle.mg_shard.specs.Draft.{DraftView, DraftStandsFor}
 use Rattle.mg_shard.specs.Histories.{Histories}
 use Rattle.mg_shard.specs.Shard.{ShardView}
 
--- which shard an id is placed on, of so many
+-- which shard an id is placed on, among this many
 abbrev pub Placing : Type 0
 Placing = List ℕ → ℕ → ℕ
 

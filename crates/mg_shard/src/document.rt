@@ -32,7 +32,8 @@ impl Identified for Document {
     }
 }
 
-// The form in which the document of an id is served, with its text, if it is not deleted. The tree shares the form's block.
+// The form in which the document with this id is served, with its text; `None` if the document is deleted. The winner's body moves
+// into the form's block, as for `served_packed`.
 fn served_in(alloc: Global, id: &str, tree: &mut RevTree) -> Result<Option<Served>, NoMemory>
     ensures own { IfOk result (λ served. IsServedOwn id.now served) }
     ensures served { IfOk result (λ served. (h : History) → StandsFor tree.old h → option_map (λ s. s.form) served ≡ served_of id.now h) }
@@ -55,10 +56,10 @@ impl Document {
     ghost use Rattle.mg_shard.specs.Rows.{row_key};
     ghost use Rattle.mg_shard.specs.Own.{all_columns, has_own_id};
 
-    /// The document of an id whose revision tree this is.
+    /// The document with this id and this revision tree. The winner's body moves into the block of the form in which the document
+    /// is served, as for `served_packed`.
     ///
-    /// Errors: `NoMemory` if an allocation fails. Cost: the form and its text, where the winner is new. The winner's body and
-    /// the form take one block.
+    /// Errors: `NoMemory` if an allocation fails. Cost: that of `served_packed`, and the length of the form's text.
     pub(crate) fn of(alloc: Global, id: String, mut tree: RevTree) -> Result<Document, NoMemory>
         ensures id { IfOk result (λ d. string_bytes d.id ≡ string_bytes id) }
         ensures tree { IfOk result (λ d. d.tree ≡ tree) }
@@ -112,7 +113,7 @@ impl Document {
         }
     }
 
-    // Whether it is served with an `_id`.
+    // Whether the form in which it is served has a member `_id`.
     fn has_id(&self) -> bool
         ensures { result ≡ has_own_id self.now.served }
     {
@@ -122,8 +123,8 @@ impl Document {
         }
     }
 
-    /// Its id, if it has a row among all documents, by id: if it is served with an `_id`, which is then its own. Takes no
-    /// memory. Cost: constant.
+    /// The key of its row in the list of all documents: its id, if it is served with an `_id`, which is then this id; else
+    /// `None`. Takes no memory. Cost: constant.
     pub fn id_key(&self) -> Option<&str>
         ensures key { option_map (λ id. item (text id.now) no_items) result ≡ option_and_then (row_key all_columns) (form_of self.now) }
         ensures own { IfSome result (λ id. id.now ≡ id_of self.now) }

@@ -54,7 +54,7 @@ pub fn id_in(edit: &Edit) -> &str
 }
 
 impl<'a> Draft<'a> {
-    /// A draft of a shard, of which no document is touched yet. Takes no memory.
+    /// A draft of the shard that has touched no document yet. Takes no memory.
     pub fn new(alloc: Global, shard: &'a Shard) -> Draft<'a>
         ensures shard { result.shard ≡ shard.now }
         ensures touched { result.touched ≡ finite.empty }
@@ -65,11 +65,11 @@ impl<'a> Draft<'a> {
         }
     }
 
-    /// Applies one edit that has an id, and moves its body into the tree of its document. A refused edit, and one whose revision is
-    /// known, touch nothing.
+    /// Applies one edit that has an id, and moves its body into the tree of its document. A refused edit touches no document, nor
+    /// does one whose path is known whole.
     ///
-    /// Errors: `NoMemory` if an allocation fails; the draft is then of no more use.
-    /// Cost: a step of its document's tree, no copy of the body, and a copy of that tree where the draft has not touched it yet.
+    /// Errors: `NoMemory` if an allocation fails; the draft is then useless.
+    /// Cost: that of `Edit::bring`, and a copy of the document's tree if the draft has not touched the document yet. No copy of the body.
     pub fn edit(&mut self, alloc: Global, edit: Edit) -> Result<EditReply, NoMemory>
         ensures outcome { IfOk result (λ r. (hs : Histories) → DraftStandsFor self.old hs → outcome_seen r ≡ outcome_in hs edit) }
         ensures stands { OnOk result ((hs : Histories) → DraftStandsFor self.old hs → DraftStandsFor self.new (after_edit hs edit)) }
@@ -81,9 +81,9 @@ impl<'a> Draft<'a> {
         }
     }
 
-    /// Applies copies of edits that have ids, in order, and says what became of each.
+    /// Applies copies of edits that have ids, in order, and returns what became of each.
     ///
-    /// Errors are as of `edit`. Cost: as of `edit`, and a copy of each edit, with its body.
+    /// Errors: those of `edit`. Cost: that of `edit`, and a copy of each edit, with its body.
     pub fn edit_all(&mut self, alloc: Global, edits: &[Edit]) -> Result<Vec<EditReply>, NoMemory>
         ensures outcomes { IfOk result (λ rs. (hs : Histories) → DraftStandsFor self.old hs → map outcome_seen rs.items ≡ outcomes hs edits.now) }
         ensures stands { OnOk result ((hs : Histories) → DraftStandsFor self.old hs → DraftStandsFor self.new (after_edits hs edits.now)) }
@@ -98,11 +98,11 @@ impl<'a> Draft<'a> {
         Ok(replies)
     }
 
-    /// The shard that the bulk leaves, and none where the bulk has touched no document: then the shard is as it was.
-    /// A document that was touched gets its served form and that form's text once, and each index its row.
+    /// The shard after the bulk; `None` if the bulk has touched no document, since the shard is then as it was.
+    /// Each touched document gets its served form and that form's text once, and each index its row.
     ///
-    /// Errors: `NoMemory` if an allocation fails. Cost: for each touched document a copy of its body, its text, and
-    /// the pages on the way to it.
+    /// Errors: `NoMemory` if an allocation fails. Cost: for each touched document its form and text, as for `Document::of`, and
+    /// the pages on the way to it and to its rows.
     pub fn finish(self, alloc: Global) -> Result<Option<Shard>, NoMemory>
         ensures stands { IfOk result (λ s. (hs : Histories) → DraftStandsFor self.entry hs → StandFor (unwrap_or s self.entry.shard).documents hs) }
         ensures indexes { IfOk result (λ s. (unwrap_or s self.entry.shard).definitions ≡ self.entry.shard.definitions) }
@@ -114,7 +114,7 @@ impl<'a> Draft<'a> {
     }
 }
 
-// What becomes of an edit that needs no copy of the tree: it is refused, or its path is known whole. None for another.
+// What becomes of an edit that needs no copy of the tree: it is refused, or its path is known whole. `None` for any other edit.
 fn looked(edit: &Edit, tree: &RevTree) -> Result<Option<EditReply>, NoMemory>
     ensures { IfOk result (λ o. (h : History) → StandsFor tree.now h
         → IfSome o (λ r. (outcome_seen r ≡ outcome_of h edit.now) × StandsFor tree.now (edited h edit.now))) }
@@ -128,7 +128,7 @@ fn looked(edit: &Edit, tree: &RevTree) -> Result<Option<EditReply>, NoMemory>
     }
 }
 
-// The same of the tree of a document, where there is one.
+// What `looked` finds for an edit of the document with this tree; `None` if there is no such document yet.
 fn looked_at(edit: &Edit, tree: Option<&RevTree>) -> Result<Option<EditReply>, NoMemory>
     ensures { IfOk result (λ o. (ds : KeptDocuments) (hs : Histories) (id : List ℕ) → option_map (λ t. t.now) tree.entry ≡ tree_at ds id → StandsAt id (get ds id) (get hs id)
         → IfSome o (λ r. (outcome_seen r ≡ outcome_of (history_at hs id) edit.now) × StandsAt id (get ds id) (Some (edited (history_at hs id) edit.now)))) }
@@ -139,7 +139,7 @@ fn looked_at(edit: &Edit, tree: Option<&RevTree>) -> Result<Option<EditReply>, N
     }
 }
 
-// A copy of the tree of a document, and an empty tree where there is none.
+// A copy of the document's tree; an empty tree if there is no such document yet.
 fn copied(alloc: Global, tree: Option<&RevTree>) -> Result<RevTree, NoMemory>
     ensures { IfOk result (λ t. (ds : KeptDocuments) (hs : Histories) (id : List ℕ) → option_map (λ t. t.now) tree.entry ≡ tree_at ds id → StandsAt id (get ds id) (get hs id)
         → StandsFor t (history_at hs id)) }
@@ -179,7 +179,7 @@ fn edit_touched(
     Ok(reply)
 }
 
-// Applies an edit to a document that was not touched before. It is touched now, unless the edit is refused or its revision is known.
+// Applies an edit to a document that was not touched before. It is touched now, unless the edit is refused or its path is known whole.
 fn edit_first(
     alloc: Global,
     shard: &Shard,

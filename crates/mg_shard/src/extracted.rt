@@ -1,16 +1,17 @@
-//! Rows of an index that several threads extract from documents.
-ghost use Rattle.std.specs.Prelude.{◌≡◌, IfOk};
-ghost use Rattle.std.specs.List.{filter_map};
+//! Rows of an index that several threads extract from documents, and pages that they make of them.
+ghost use Rattle.std.specs.Prelude.{◌≡◌, ◌<◌, ◌++◌, [], IfOk, List, OnOk, length};
+ghost use Rattle.std.specs.List.{AllByRecursion, cons_option, filter_map, flat_map};
 ghost use Rattle.std.specs.List.Sorted.{IsPermutation, IsSorted};
-ghost use Rattle.mg_collate.specs.Row.{row_value_order};
+ghost use Rattle.mg_collate.specs.Row.{RowValue, row_value_order};
+ghost use Rattle.mg_pages.specs.Order.{Ascends};
+ghost use Rattle.mg_pages.specs.Runs.{lent_elements};
 ghost use Rattle.mg_shard.specs.Documents.{served_docs};
-ghost use Rattle.mg_shard.specs.Extracted.{IsRowOf};
-ghost use Rattle.mg_shard.specs.Redealt.{documents_seen};
+ghost use Rattle.mg_shard.specs.Extracted.{document_row, rows_in};
 ghost use Rattle.mg_shard.specs.Rows.{row_of};
 
 use crate::document::Document;
 use crate::index::row_in;
-use mg_pages::{Pages, Shared};
+use mg_pages::{ELEMENTS, NewPage, Pages, Shared};
 use mg_path::Path;
 use mg_rows::{KeyBytes, RowBytes};
 use mg_value::NoMemory;
@@ -21,74 +22,103 @@ use std::thread::Threads;
 /// The least number of documents of a shard whose rows several threads extract: for fewer, a thread costs more than it saves.
 pub(crate) const MANY_DOCUMENTS: usize = 1_000;
 
-/// The least number of documents that one thread takes.
-const LEAST_PIECE: usize = 128;
+/// The least number of pages of documents that one thread takes.
+const LEAST_PIECE: usize = 2;
 
-/// These documents, deleted ones too, lent in their order. None of them is looked into.
-///
-/// Errors: `NoMemory` if an allocation fails. Cost: a step a document.
-pub(crate) fn listed<'a>(
-    alloc: Global,
-    documents: &'a Pages<Shared<Document>>,
-) -> Result<Vec<&'a Shared<Document>>, NoMemory>
-    ensures { IfOk result (λ v. documents_seen v.items ≡ documents.now) }
-{
-    let mut all = Vec::with_capacity(alloc, documents.len())?;
-    for document in documents.iter() {
-        all.push(document)?;
-    }
-    Ok(all)
-}
-
-// The row of a document, if it is served and has every column, or a refusal of memory.
-type Given = Option<Result<RowBytes, NoMemory>>;
-
-// What is extracted of a document.
-fn row_or_refusal(
+// The row of a document, if it is served and has every column.
+fn row_if_served(
     alloc: Global,
     scratch: &mut KeyBytes,
     columns: &[Path],
     document: &Document,
-) -> Given
-    ensures { IsRowOf columns.now document.now result }
+) -> Result<Option<RowBytes>, NoMemory>
+    ensures { IfOk result (λ row. row ≡ document_row columns.now document.now) }
 {
-    let form = document.form()?;
-    match row_in(alloc, scratch, columns, document.id(), &form) {
-        Ok(Some(row)) => Some(Ok(row)),
-        Ok(None) => None,
-        Err(refusal) => Some(Err(refusal)),
+    match document.form() {
+        Some(form) => Ok(row_in(alloc, scratch, columns, document.id(), &form)?),
+        None => Ok(None),
     }
 }
 
-/// The rows of these documents, of those that are served and have every column, in the order of the documents, extracted by a thread
-/// for each piece, which has a scratch of its own.
+// Adds a row, if there is one.
+fn add_row(rows: &mut Vec<RowBytes>, row: Option<RowBytes>) -> Result<(), NoMemory>
+    ensures { OnOk result (rows.new.items ≡ rows.old.items ++ cons_option row []) }
+{
+    if let Some(row) = row {
+        rows.push(row)?;
+    }
+    Ok(())
+}
+
+// The rows of the documents of a page, of those that are served and have every column, in the order of the documents.
+fn rows_of_run(
+    alloc: Global,
+    scratch: &mut KeyBytes,
+    columns: &[Path],
+    documents: &[Shared<Document>],
+) -> Result<Vec<RowBytes>, NoMemory>
+    ensures { IfOk result (λ rows. rows.items ≡ rows_in columns.now documents.now) }
+{
+    let mut rows = Vec::with_capacity(alloc, documents.len())?;
+    for document in documents {
+        let row = row_if_served(alloc, scratch, columns, document.get())?;
+        add_row(&mut rows, row)?;
+    }
+    Ok(rows)
+}
+
+// Lists of rows as one list, with room for `count` rows, one list after the other.
+fn joined(alloc: Global, count: usize, lists: Vec<Vec<RowBytes>>) -> Result<Vec<RowBytes>, NoMemory>
+    ensures { IfOk result (λ rows. rows.items ≡ flat_map (λ list. list.items) lists.items) }
+{
+    let mut all = Vec::with_capacity(alloc, count)?;
+    for list in lists {
+        let mut list = list;
+        all.append(&mut list)?;
+    }
+    Ok(all)
+}
+
+// The rows of the documents of these pages, a list for each page. Each piece is extracted by a thread, which has a scratch of its own.
+fn lists_by_threads<R: Threads + Sync>(
+    rt: &R,
+    alloc: Global,
+    columns: &[Path],
+    runs: &[&[Shared<Document>]],
+) -> Result<Vec<Vec<RowBytes>>, NoMemory>
+    ensures { IfOk result (λ v. flat_map (λ list. list.items) v.items
+        ≡ filter_map (row_of columns.now) (served_docs (lent_elements runs.now))) }
+{
+    let lists: Result<Vec<Vec<RowBytes>>, NoMemory> = runs
+        .par_iter()
+        .with_min_len(LEAST_PIECE)
+        .map_init(
+            || KeyBytes::new(alloc),
+            |scratch: &mut KeyBytes, run: &&[Shared<Document>]| -> Result<Vec<RowBytes>, NoMemory>
+                ensures { IfOk result (λ rows. rows.items ≡ rows_in columns.entry.now run.now.now) }
+            { rows_of_run(alloc, scratch, columns, run) },
+        )
+        .collect(rt, alloc)?;
+    lists
+}
+
+/// The rows of the documents of these pages, of those that are served and have every column, in the order of the documents, extracted by
+/// several threads. There is room for `count` rows.
 ///
 /// Errors: `NoMemory` if an allocation fails. Cost: the bytes of each row, shared among as many threads as there are processors.
 pub(crate) fn rows_by_threads<R: Threads + Sync>(
     rt: &R,
     alloc: Global,
     columns: &[Path],
-    documents: &[&Shared<Document>],
+    runs: &[&[Shared<Document>]],
+    count: usize,
 ) -> Result<Vec<RowBytes>, NoMemory>
     ensures { IfOk result (λ rows. rows.items
-        ≡ filter_map (row_of columns.now) (served_docs (documents_seen documents.now))) }
+        ≡ filter_map (row_of columns.now) (served_docs (lent_elements runs.now))) }
 {
-    let rows: Result<Vec<RowBytes>, NoMemory> = documents
-        .par_iter()
-        .with_min_len(LEAST_PIECE)
-        .map_init(
-            || KeyBytes::new(alloc),
-            |scratch: &mut KeyBytes, document: &&Shared<Document>| -> Given
-                ensures { IsRowOf columns.entry.now document.now.now result }
-            { row_or_refusal(alloc, scratch, columns, document.get()) },
-        )
-        .filter_map(
-            |given: Given| -> Given
-                ensures { result ≡ given }
-            { given },
-        )
-        .collect(rt, alloc)?;
-    rows
+    let lists = lists_by_threads(rt, alloc, columns, runs)?;
+    let rows = joined(alloc, count, lists)?;
+    Ok(rows)
 }
 
 /// The rows sorted by key and id, by several threads. Takes no memory. Cost: as of a sort, shared among as many threads as there are
@@ -99,4 +129,40 @@ pub(crate) fn sorted_by_threads<R: Threads + Sync>(rt: &R, mut rows: Vec<RowByte
 {
     par_sort_unstable(rt, rows.as_mut_slice());
     rows
+}
+
+// The pages of these rows, made by several threads. They are full, but for the last.
+fn new_pages<R: Threads + Sync>(
+    rt: &R,
+    alloc: Global,
+    rows: &[RowBytes],
+) -> Result<Vec<NewPage<RowBytes>>, NoMemory>
+    ensures some { IfOk result (λ v. AllByRecursion (λ (p : List RowValue). 0 < length p) v.items) }
+    ensures rows { IfOk result (λ v. flat_map (λ p. p) v.items ≡ rows.now) }
+{
+    let pages: Result<Vec<NewPage<RowBytes>>, NoMemory> = rows
+        .par_chunks(ELEMENTS)
+        .map(
+            |chunk: &[RowBytes]| -> Result<NewPage<RowBytes>, NoMemory>
+                ensures { IfOk result (λ p. p ≡ chunk.now) }
+            { NewPage::of(alloc, chunk) },
+        )
+        .collect(rt, alloc)?;
+    pages
+}
+
+/// Pages of rows that ascend, made by several threads. They are full, but for the last.
+///
+/// Errors: `NoMemory` if an allocation fails. Cost: a step a row, shared among as many threads as there are processors, and a step a page.
+pub(crate) fn pages_by_threads<R: Threads + Sync>(
+    rt: &R,
+    alloc: Global,
+    rows: &[RowBytes],
+) -> Result<Pages<RowBytes>, NoMemory>
+    requires { Ascends row_value_order rows.now }
+    ensures { IfOk result (λ pages. pages ≡ rows.now) }
+{
+    let pages = new_pages(rt, alloc, rows)?;
+    let pages = Pages::from_pages(alloc, pages)?;
+    Ok(pages)
 }

@@ -75,7 +75,7 @@ fn row_if(
     }
 }
 
-// Whether two parts are seen to be the same: two arrays or objects are not looked into.
+// Whether two parts are known to be the same; `false` for two arrays or objects, which are not looked into.
 fn is_same(part: Part<'_>, other: Part<'_>) -> bool
     ensures { result ≡ true → part.entry ≡ other.entry }
 {
@@ -88,7 +88,7 @@ fn is_same(part: Part<'_>, other: Part<'_>) -> bool
     }
 }
 
-// The same of parts that may be missing.
+// Whether two parts, each of which may be missing, are known to be the same.
 fn are_same(part: Option<Part<'_>>, other: Option<Part<'_>>) -> bool
     ensures { result ≡ true → part.entry ≡ other.entry }
 {
@@ -99,7 +99,7 @@ fn are_same(part: Option<Part<'_>>, other: Option<Part<'_>>) -> bool
     }
 }
 
-// Whether two forms are seen to have the same parts at the columns. Takes no memory.
+// Whether two forms are known to have the same parts at the columns. Takes no memory.
 fn have_same_key(columns: &[Path], form: &Part<'_>, other: &Part<'_>) -> bool
     ensures { result ≡ true → row_key columns.now form.now ≡ row_key columns.now other.now }
 {
@@ -111,7 +111,8 @@ fn have_same_key(columns: &[Path], form: &Part<'_>, other: &Part<'_>) -> bool
     true
 }
 
-// Whether a document that may be deleted has the same row in both forms, or none, told by the parts that are lent. Takes no memory.
+// Whether a document has the same row in both forms, or in neither, as far as the lent parts show; `None` is the form of a deleted
+// document. Takes no memory.
 fn have_same_row(columns: &[Path], form: Option<&Packed>, other: Option<&Packed>) -> bool
     ensures { result ≡ true → HaveSameRow columns.now (option_map (λ v. v.now) form.entry)
         (option_map (λ v. v.now) other.entry) }
@@ -123,7 +124,7 @@ fn have_same_row(columns: &[Path], form: Option<&Packed>, other: Option<&Packed>
     }
 }
 
-// Takes a row out, if there is one to be taken.
+// Takes a row out, if one is given.
 fn take_row(
     alloc: Global,
     rows: &mut Pages<RowBytes>,
@@ -137,7 +138,7 @@ fn take_row(
     Ok(())
 }
 
-// Puts a row in, if there is one to be put.
+// Puts a row in, if one is given.
 fn put_row(alloc: Global, rows: &mut Pages<RowBytes>, row: Option<RowBytes>) -> Result<(), NoMemory>
     ensures { OnOk result (rows.new ≡ with_row row rows.old) }
 {
@@ -147,7 +148,7 @@ fn put_row(alloc: Global, rows: &mut Pages<RowBytes>, row: Option<RowBytes>) -> 
     Ok(())
 }
 
-// Takes a row out and puts one in, where there is one.
+// Takes a row out and puts one in, if they are given.
 fn change_rows(
     alloc: Global,
     rows: &mut Pages<RowBytes>,
@@ -161,7 +162,7 @@ fn change_rows(
     Ok(())
 }
 
-// The same of rows that may be shared: others keep theirs. Where there is neither row, nothing is copied.
+// Makes the change of one row in rows that other shards may share and keep as they are. Without either row nothing is copied.
 fn change_shared(
     alloc: Global,
     rows: &mut Arc<Pages<RowBytes>>,
@@ -184,7 +185,7 @@ fn change_shared(
 }
 
 impl IndexRows {
-    /// The same index, its rows shared. Errors: `NoMemory` where there are too many shares. Takes no memory.
+    /// The index again, with its rows shared. Errors: `NoMemory` if there are too many shares. Takes no memory.
     pub(crate) fn share(&self) -> Result<IndexRows, NoMemory>
         ensures definition { IfOk result (λ x. arc_value x.definition ≡ arc_value self.now.definition) }
         ensures rows { IfOk result (λ x. arc_value x.rows ≡ arc_value self.now.rows) }
@@ -195,12 +196,12 @@ impl IndexRows {
         })
     }
 
-    /// Mends the rows where the document of an id changes, which had a form before and has another after.
+    /// Mends the rows for a change of the document with this id from one form to another.
     ///
-    /// Errors: `NoMemory` if an allocation fails; the index is then of no more use.
-    /// Cost: a look at the parts of both forms at the columns, and where these differ both rows, put together in the scratch that is
-    /// lent, the way to both, and once the top of pages that others share. A row that stays costs no memory, unless an array or an
-    /// object is among its columns.
+    /// Errors: `NoMemory` if an allocation fails; the index is then useless.
+    /// Cost: a look at the parts of both forms at the columns. If these differ: both rows, put together in the lent scratch, the way to
+    /// both, and once the top of pages that others share. A row that stays takes no memory, unless one of its columns holds an array or
+    /// an object.
     pub(crate) fn mend(
         &mut self,
         alloc: Global,
@@ -234,28 +235,14 @@ pub(crate) fn pages_of(alloc: Global, rows: Vec<RowBytes>) -> Result<Pages<RowBy
     requires { (z : RowValue) → times row_value_order z rows.items ≤ 1 }
     ensures { IfOk result (λ pages. pages ≡ sorted row_value_order rows.items) }
 {
-    let rows = sorted_rows(rows)?;
+    let rows = sorted_rows(rows);
     Pages::from_sorted(alloc, &rows)
 }
 
-/// Pages of rows that are in order, each of which stands once among them.
-///
-/// Errors: `NoMemory` if an allocation fails. Cost: a step a row. The pages are full, but for the last.
-pub(crate) fn pages_in_order(
-    alloc: Global,
-    rows: Vec<RowBytes>,
-) -> Result<Pages<RowBytes>, NoMemory>
-    requires once { (z : RowValue) → times row_value_order z rows.items ≤ 1 }
-    requires order { rows.items ≡ sorted row_value_order rows.items }
-    ensures { IfOk result (λ pages. pages ≡ rows.items) }
+// The rows sorted by key and id. Takes no memory. Cost: the number of the rows times its logarithm.
+fn sorted_rows(mut rows: Vec<RowBytes>) -> Vec<RowBytes>
+    ensures { result.items ≡ sorted row_value_order rows.items }
 {
-    Pages::from_sorted(alloc, &rows)
-}
-
-/// The rows sorted by key and id. Errors: `NoMemory` if an allocation fails. Cost: the number of the rows times its logarithm.
-pub(crate) fn sorted_rows(mut rows: Vec<RowBytes>) -> Result<Vec<RowBytes>, NoMemory>
-    ensures { IfOk result (λ v. v.items ≡ sorted row_value_order rows.items) }
-{
-    rows.sort()?;
-    Ok(rows)
+    rows.sort_unstable();
+    rows
 }

@@ -34,7 +34,7 @@ fn is_named(definition: &IndexDef, ddoc: &str, name: &str) -> bool
     ddoc == definition.ddoc() && name == definition.name()
 }
 
-/// The same indexes, their rows shared. Errors: `NoMemory` if an allocation fails. Cost: their number.
+/// A second list of the indexes, with their rows shared. Errors: `NoMemory` if an allocation fails. Cost: their number.
 pub(crate) fn shared(alloc: Global, indexes: &[IndexRows]) -> Result<Vec<IndexRows>, NoMemory>
     ensures { IfOk result (λ v. indexes_seen v.items ≡ indexes_seen indexes.now) }
 {
@@ -103,9 +103,9 @@ fn add_after(
     Ok(())
 }
 
-/// The indexes, their rows shared, with one in its place, instead of one of the same design document and name.
+/// The indexes, with their rows shared, and this one in its place; it replaces one of the same design document and name.
 ///
-/// Errors: `NoMemory` if an allocation fails. Cost: as of `shared`.
+/// Errors: `NoMemory` if an allocation fails. Cost: as for `shared`.
 pub(crate) fn with(
     alloc: Global,
     indexes: &[IndexRows],
@@ -120,9 +120,9 @@ pub(crate) fn with(
     Ok(all)
 }
 
-/// The indexes, their rows shared, but the one of this design document and name.
+/// The indexes, with their rows shared, without the one of this design document and name.
 ///
-/// Errors: `NoMemory` if an allocation fails. Cost: as of `shared`.
+/// Errors: `NoMemory` if an allocation fails. Cost: as for `shared`.
 pub(crate) fn without(
     alloc: Global,
     indexes: &[IndexRows],
@@ -140,7 +140,7 @@ pub(crate) fn without(
     Ok(found)
 }
 
-// The form in which the document of an id is served, if there is one and it is.
+// The form in which the document with this id is served; `None` if there is no such document, or it is deleted.
 fn form_in<'a>(documents: &'a Pages<Shared<Document>>, id: &str) -> Option<&'a Packed>
     ensures { option_map (λ v. v.now) result ≡ form_at (shown documents.now) id.now }
 {
@@ -150,11 +150,11 @@ fn form_in<'a>(documents: &'a Pages<Shared<Document>>, id: &str) -> Option<&'a P
     }
 }
 
-/// Mends the rows of all indexes for a document that comes among others, instead of one of the same id.
+/// Mends the rows of all indexes for a document that is put among others, where it replaces one with the same id.
 ///
-/// Errors: `NoMemory` if an allocation fails; the indexes are then of no more use.
-/// Cost: for each index a look at the parts that the document had and has at its columns, and where these differ both rows, put together
-/// in the scratch that is lent, and the ways to them. An index whose row stays costs no memory.
+/// Errors: `NoMemory` if an allocation fails; the indexes are then useless.
+/// Cost: for each index a look at the parts that the document had and has at its columns; if these differ, both rows, put together
+/// in the lent scratch, and the ways to them. An index whose row stays takes no memory.
 pub(crate) fn mend_all(
     alloc: Global,
     scratch: &mut KeyBytes,

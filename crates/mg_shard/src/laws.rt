@@ -27,17 +27,17 @@ pub fn each_edit_is_decided_there()
     ensures { EachEditIsDecidedThere }
 {}
 
-/// Drafts stand for the histories after an edit where the one of its shard has taken it and the others are as they were.
+/// Drafts stand for the histories after an edit if the draft of its shard has applied it and the others are unchanged.
 pub fn each_edit_is_made_there()
     ensures { EachEditIsMadeThere }
 {}
 
-/// Where each draft stands for what the shard in its place stands for, all drafts stand for what all shards do.
+/// If each draft stands for what the shard at its number stands for, all drafts stand for what all shards do.
 pub fn shards_become_drafts()
     ensures { ShardsBecomeDrafts }
 {}
 
-/// Where each shard stands for what the draft in its place stands for, all shards stand for what all drafts do.
+/// If each shard stands for what the draft at its number stands for, all shards stand for what all drafts do.
 pub fn drafts_become_shards()
     ensures { DraftsBecomeShards }
 {}

@@ -6,6 +6,7 @@ mod document;
 mod draft;
 mod extracted;
 mod index;
+mod indexed;
 mod indexes;
 pub mod laws;
 mod placed;

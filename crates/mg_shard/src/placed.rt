@@ -44,7 +44,8 @@ fn add_documents<'a>(shard: &'a Shard, all: &mut Vec<&'a Shared<Document>>) -> R
     Ok(())
 }
 
-/// The shard of each of these documents, of so many, asked for on the caller's thread: a placement need not be one that threads may share.
+/// The place of each of these documents among the given number of shards. The caller's thread asks the placement, which threads need not
+/// be able to share.
 ///
 /// Errors: `NoMemory` if an allocation fails. Cost: the placement of each document.
 pub(crate) fn places_of<P: Placement>(
@@ -80,7 +81,7 @@ fn put_if(
     Ok(())
 }
 
-/// The documents that are placed on this shard: where several have one id, the last of them.
+/// The documents that are placed on this shard. If several have one id, the last of them is kept.
 ///
 /// Errors: `NoMemory` if an allocation fails. Cost: a step a document, and for each that is placed there the way to its place.
 pub(crate) fn documents_at(

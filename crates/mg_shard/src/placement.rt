@@ -5,7 +5,7 @@ use md5::{Digest, Md5};
 
 /// Which shard a document is kept in, by its id: a function of the id and of the number of shards.
 pub trait Placement {
-    // the shard of an id, of so many
+    // the shard of an id, among this many shards
     ghost place: { Self → List ℕ → ℕ → ℕ };
 
     /// The shard of an id, of `shards`, counted from 0. Takes no memory.

@@ -14,7 +14,7 @@ ghost use Rattle.mg_shard.specs.Shard.{ShardView, shards_seen};
 
 use crate::document::Document;
 use crate::extracted::MANY_DOCUMENTS;
-use crate::index::{IndexRows, pages_in_order};
+use crate::index::IndexRows;
 use crate::placed::{all_documents, documents_at, places_of};
 use crate::placement::Placement;
 use crate::shard::Shard;
@@ -26,12 +26,12 @@ use std::sync::Arc;
 use std::thread;
 use std::thread::Threads;
 
-/// So many shards with the documents of these: the placement says to which of them a document goes, its tree with it, whatever placement
-/// dealt them before, and each has the rows of all indexes that these have. Documents, trees and definitions are shared with the shards
-/// that are lent, not copied.
+/// Deals the documents of these shards to a new number of shards: each document goes, with its tree, to the shard that the placement
+/// gives, whatever placement dealt it before. Each new shard has the rows of all indexes that these shards have. Documents, trees and
+/// definitions are shared with the lent shards, not copied.
 ///
-/// The shards are the same for every number of workers. One worker starts no thread, and nor do fewer than 1,000 documents; otherwise a thread
-/// for each shard makes it. Where there are twice as many workers as shards, further threads extract and sort the rows of each.
+/// The shards are the same for every number of workers. No thread is started with one worker, or for fewer than 1,000 documents; otherwise a thread
+/// for each shard makes it. If there are twice as many workers as shards, further threads extract and sort the rows of each.
 ///
 /// Errors: `NoMemory` if an allocation fails. Cost: for each document its placement and the way to its place, and for each index the
 /// bytes of its row, and each shard's rows sorted.
@@ -78,7 +78,7 @@ fn first_indexes(shards: &[Arc<Shard>]) -> &[IndexRows]
     }
 }
 
-// An index of a shard's documents, whose definition is shared. So many workers extract its rows.
+// An index of a shard's documents, whose definition is shared. That many workers extract its rows.
 fn index_over<R: Threads + Sync>(
     rt: &R,
     alloc: Global,
@@ -90,8 +90,7 @@ fn index_over<R: Threads + Sync>(
     ensures rows { IfOk result (λ x. HasRows shard.now.documents (index_seen x)) }
 {
     let rows = shard.rows_for(rt, alloc, definition, workers)?;
-    let pages = pages_in_order(alloc, rows)?;
-    let rows = Arc::new(alloc, pages)?;
+    let rows = Arc::new(alloc, rows)?;
     let definition = definition.clone()?;
     Ok(IndexRows { definition, rows })
 }
@@ -152,7 +151,7 @@ fn made<R: Threads + Sync>(
     indexed(rt, alloc, there, indexes, workers)
 }
 
-// The new shards one after the other, each by so many workers.
+// The new shards one after the other, each made by this many workers.
 fn made_in_turn<R: Threads + Sync>(
     rt: &R,
     alloc: Global,
@@ -185,7 +184,7 @@ fn all_of(alloc: Global, results: Vec<Result<Shard, NoMemory>>) -> Result<Vec<Sh
     Ok(shards)
 }
 
-// The new shards, made by a thread for each, which has so many workers.
+// The new shards, each made by a thread of its own with this many workers.
 fn made_at_once<R: Threads + Sync>(
     rt: &R,
     alloc: Global,

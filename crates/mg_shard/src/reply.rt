@@ -8,7 +8,7 @@ use mg_revtree::Rev;
 pub enum EditReply {
     /// The revision that the edit brought.
     Done(Rev),
-    /// The edited revision is no leaf, or the document is there and none was named, or the revision that the edit makes
+    /// The edited revision is not a leaf, or the document is there and none was named, or the revision that the edit makes
     /// is known.
     Conflict,
     /// The path gives a known revision another parent, or no position is left.

@@ -1,6 +1,5 @@
 //! A shard: documents by their ids, and the rows of indexes over them.
 ghost use Rattle.std.specs.Prelude.{◌≡◌, ℕ, List, [], Some, length, map, option_map, reverse, unwrap_or, IfOk, IfSome};
-ghost use Rattle.std.specs.Arc.{arc_value};
 ghost use Rattle.std.specs.FinMap as finite;
 ghost use Rattle.std.specs.FinMap.{entries, get};
 ghost use Rattle.std.specs.declared.cmp.Ordering.{Ordering};
@@ -12,35 +11,28 @@ ghost use Rattle.mg_shard.specs.declared.document.Document.{Document};
 ghost use Rattle.mg_value.specs.Value.{Value};
 ghost use Rattle.mg_shard.specs.Edits.{after_edits, outcome_seen, outcomes};
 ghost use Rattle.mg_shard.specs.Histories.{Histories};
-ghost use Rattle.mg_shard.specs.Rows.{row_of, rows_of};
 ghost use Rattle.mg_shard.specs.Shard.{rows_at};
 ghost use Rattle.mg_collate.specs.Row.{row_value_order};
-ghost use Rattle.mg_index.specs.Catalog.{IsCatalog, with_definition, without_definition};
+ghost use Rattle.mg_index.specs.Catalog.{IsCatalog};
 ghost use Rattle.mg_shard.specs.Index.{definitions_of, indexes_seen};
-ghost use Rattle.std.specs.List.{filter_map};
 
 use crate::docs::Docs;
 use crate::document::Document;
 use crate::draft::Draft;
-use crate::extracted::{MANY_DOCUMENTS, listed, rows_by_threads, sorted_by_threads};
-use crate::index::{IndexRows, pages_in_order, pages_of, row_in, sorted_rows};
-use crate::indexes::{rows_there, shared, with, without};
+use crate::index::IndexRows;
+use crate::indexes::{rows_there, shared};
 use crate::reply::EditReply;
 use crate::walk::{Documents, Rows, Walk, count_beyond};
 use mg_collate::Direction;
 use mg_doc::Edit;
-use mg_index::IndexDef;
 use mg_packed::Part;
 use mg_pages::{Pages, Probe, Shared};
-use mg_path::Path;
 use mg_revtree::RevTree;
-use mg_rows::{KeyBytes, RowBytes};
+use mg_rows::RowBytes;
 use mg_value::NoMemory;
 use std::alloc::Global;
 use std::cmp::Ordering;
 use std::marker::Model;
-use std::sync::Arc;
-use std::thread::Threads;
 
 /// Documents by their ids and the rows of indexes, in shared pages: a share of a shard costs its tops alone, and an edit copies a
 /// document, a row or two for each index, and the ways to them.
@@ -142,7 +134,7 @@ impl Shard {
         Docs::over(documents)
     }
 
-    /// The served documents from the last id to the first. Takes no memory. Cost: as of `docs`.
+    /// The served documents from the last id to the first. Takes no memory. Cost: as for `docs`.
     pub fn docs_back(&self) -> Docs<'_>
         ensures { result ≡ reverse (docs_of self.now.documents) }
     {
@@ -151,8 +143,8 @@ impl Shard {
         Docs::over(documents)
     }
 
-    /// The documents that come after a place in a direction, deleted ones too: ascending those above it, descending those below it from
-    /// the last to the first. A place need be no document. Takes no memory. Cost: one look-up, and then a step a document.
+    /// The documents that come after a place in a direction, deleted ones too: ascending those above it; descending those below it, from
+    /// the last to the first. A place need not be a document. Takes no memory. Cost: one look-up, and then a step a document.
     pub fn documents_beyond<Q: Probe<Shared<Document>>>(
         &self,
         place: &Q,
@@ -165,7 +157,7 @@ impl Shard {
         Documents::beyond(&self.documents, place, direction)
     }
 
-    /// How many documents, deleted ones too, `documents_beyond` gives of a place in a direction. No document is passed over one by one.
+    /// How many documents, deleted ones too, `documents_beyond` lists after a place in a direction. They are not read one by one.
     /// Takes no memory. Cost: one look-up, and a read of the count of each part before the place, at most 64 a level.
     pub fn count_documents_beyond<Q: Probe<Shared<Document>>>(
         &self,
@@ -194,7 +186,7 @@ impl Shard {
         &self.indexes
     }
 
-    // The next shard, or a share of this one where there is none.
+    // The next shard; a share of this one if there is no next one.
     fn or_shared(&self, alloc: Global, next: Option<Shard>) -> Result<Shard, NoMemory>
         ensures { IfOk result (λ s. s ≡ unwrap_or next self.now) }
     {
@@ -207,8 +199,8 @@ impl Shard {
     /// The shard after edits that have ids, applied in order, and what became of each. A refusal of memory leaves this shard.
     ///
     /// Errors: `NoMemory` if an allocation fails. Cost: a copy of each edit, whose body is moved into its document's tree; and for
-    /// each document that they touch a copy of its tree and its body, its text, and the pages on the way to it. A bulk that touches
-    /// none copies no page but the top. A draft takes edits by value, without these copies.
+    /// each document that they touch a copy of its tree, its form and text, and the pages on the way to it. A bulk that touches
+    /// none copies only the top level. A draft takes edits by value, without a copy of each.
     pub fn apply(&self, alloc: Global, edits: &[Edit]) -> Result<(Shard, Vec<EditReply>), NoMemory>
         ensures stands { IfOk result (λ r. (hs : Histories) → StandFor self.now.documents hs → StandFor r.0.documents (after_edits hs edits.now)) }
         ensures indexes { IfOk result (λ r. r.0.definitions ≡ self.now.definitions) }
@@ -220,8 +212,8 @@ impl Shard {
         Ok((self.or_shared(alloc, next)?, replies))
     }
 
-    /// The rows of the index of this design document and name, by key and id, and none where there is no such index. They are those
-    /// of the served documents from scratch. Takes no memory. Cost: each definition once, and then a step a row.
+    /// The rows of the index of this design document and name, by key and id; `None` if there is no such index. They are the rows
+    /// that the served documents have, as if made from scratch. Takes no memory. Cost: each definition once, and then a step a row.
     pub fn rows(&self, ddoc: &str, name: &str) -> Option<Rows<'_>>
         ensures { result ≡ rows_at ddoc.now name.now self.now }
     {
@@ -231,8 +223,8 @@ impl Shard {
         }
     }
 
-    /// The rows of the index of this design document and name from the last to the first, and none where there is no such index.
-    /// Takes no memory. Cost: as of `rows`.
+    /// The rows of the index of this design document and name from the last to the first; `None` if there is no such index.
+    /// Takes no memory. Cost: as for `rows`.
     pub fn rows_back(&self, ddoc: &str, name: &str) -> Option<Rows<'_>>
         ensures { result ≡ option_map reverse (rows_at ddoc.now name.now self.now) }
     {
@@ -242,9 +234,9 @@ impl Shard {
         }
     }
 
-    /// The rows that come after a place in a direction, in the index of this design document and name, and none where there is no such
-    /// index: ascending those above it, descending those below it from the last to the first. A place need be no row: the begin of a
-    /// range of keys is one. Takes no memory. Cost: each definition once, one look-up, and then a step a row.
+    /// The rows that come after a place in a direction, in the index of this design document and name; `None` if there is no such
+    /// index. Ascending they are those above the place, descending those below it, from the last to the first. A place need not be a
+    /// row: the beginning of a range of keys is one too. Takes no memory. Cost: each definition once, one look-up, and then a step a row.
     pub fn rows_beyond<Q: Probe<RowBytes>>(
         &self,
         ddoc: &str,
@@ -261,7 +253,7 @@ impl Shard {
         }
     }
 
-    /// How many rows `rows_beyond` gives of a place in a direction, and none where there is no such index. No row is passed over one by
+    /// How many rows `rows_beyond` lists after a place in a direction; `None` if there is no such index. The rows are not read one by
     /// one. Takes no memory. Cost: each definition once, one look-up, and a read of the count of each part before the place, at most 64 a
     /// level.
     pub fn count_rows_beyond<Q: Probe<RowBytes>>(
@@ -280,8 +272,8 @@ impl Shard {
         }
     }
 
-    /// The rows strictly after a row in a direction, in the index of this design document and name, and none where there is no such
-    /// index. The row need not stand there. Takes no memory. Cost: as of `rows_beyond`.
+    /// The rows strictly after a row in a direction, in the index of this design document and name; `None` if there is no such
+    /// index. The index need not have that row. Takes no memory. Cost: as for `rows_beyond`.
     pub fn rows_after(
         &self,
         ddoc: &str,
@@ -293,104 +285,5 @@ impl Shard {
             ≡ option_map (beyond direction (row_value_order row.now)) (rows_at ddoc.now name.now self.now) }
     {
         self.rows_beyond(ddoc, name, row, direction)
-    }
-
-    // The rows that an index with these columns has, in the order of the documents.
-    pub(crate) fn unsorted(
-        &self,
-        alloc: Global,
-        columns: &[Path],
-    ) -> Result<Vec<RowBytes>, NoMemory>
-        ensures { IfOk result (λ rows. rows.items ≡ filter_map (row_of columns.now) (docs_of self.now.documents)) }
-    {
-        let mut rows = Vec::new(alloc);
-        let mut scratch = KeyBytes::new(alloc);
-        for (id, form) in self.docs() {
-            if let Some(row) = row_in(alloc, &mut scratch, columns, id, &form)? {
-                rows.push(row)?;
-            }
-        }
-        Ok(rows)
-    }
-
-    /// The rows that an index of this definition has in this shard, by key and id: what `with_rows` asks for, the same for every number
-    /// of workers. One worker starts no thread, and nor does a shard of fewer than 1,000 documents; otherwise as many threads
-    /// extract the rows and sort them as there are processors.
-    ///
-    /// Errors: `NoMemory` if an allocation fails. Cost: each document once, the bytes of its row, and the rows sorted. A row takes
-    /// memory of its own only where it is too long to stand in its own value.
-    pub fn rows_for<R: Threads + Sync>(
-        &self,
-        rt: &R,
-        alloc: Global,
-        definition: &IndexDef,
-        workers: usize,
-    ) -> Result<Vec<RowBytes>, NoMemory>
-        ensures { IfOk result (λ rows. rows.items ≡ rows_of definition.now.columns (docs_of self.now.documents)) }
-    {
-        if workers < 2 || self.documents.len() < MANY_DOCUMENTS {
-            let rows = self.unsorted(alloc, definition.columns())?;
-            return Ok(sorted_rows(rows)?);
-        }
-        self.documents.ascends();
-        let documents = listed(alloc, &self.documents)?;
-        let rows = rows_by_threads(rt, alloc, definition.columns(), &documents)?;
-        Ok(sorted_by_threads(rt, rows))
-    }
-
-    // The shard with an index of these rows, instead of one of its design document and name.
-    fn with(
-        &self,
-        alloc: Global,
-        definition: Arc<IndexDef>,
-        rows: Pages<RowBytes>,
-    ) -> Result<Shard, NoMemory>
-        requires { rows ≡ rows_of (arc_value definition).columns (docs_of self.now.documents) }
-        ensures { IfOk result (λ s. s ≡ record self.now { definitions = with_definition (arc_value definition) self.now.definitions }) }
-    {
-        let rows = Arc::new(alloc, rows)?;
-        let indexes = with(alloc, &self.indexes, IndexRows { definition, rows })?;
-        let documents = self.documents.share(alloc)?;
-        Ok(Shard { documents, indexes })
-    }
-
-    /// The shard with an index of this definition, instead of one of its design document and name.
-    ///
-    /// Errors: `NoMemory` if an allocation fails. Cost: each document once, the bytes of its row, and the rows sorted.
-    pub fn with_index(&self, alloc: Global, definition: &IndexDef) -> Result<Shard, NoMemory>
-        ensures { IfOk result (λ s. s ≡ record self.now { definitions = with_definition definition.now self.now.definitions }) }
-    {
-        let rows = self.unsorted(alloc, definition.columns())?;
-        let pages = pages_of(alloc, rows)?;
-        let definition = Arc::new(alloc, definition.copy(alloc)?)?;
-        self.with(alloc, definition, pages)
-    }
-
-    /// The shard with an index, as of `with_index`, whose rows the caller brings: those that `rows_for` gives. The definition is shared,
-    /// not copied.
-    ///
-    /// Errors: `NoMemory` if an allocation fails. Cost: a step a row.
-    pub fn with_rows(
-        &self,
-        alloc: Global,
-        definition: &Arc<IndexDef>,
-        rows: Vec<RowBytes>,
-    ) -> Result<Shard, NoMemory>
-        requires { rows.items ≡ rows_of (arc_value definition.now).columns (docs_of self.now.documents) }
-        ensures { IfOk result (λ s. s ≡ record self.now { definitions = with_definition (arc_value definition.now) self.now.definitions }) }
-    {
-        let pages = pages_in_order(alloc, rows)?;
-        self.with(alloc, definition.clone()?, pages)
-    }
-
-    /// The shard without the index of this design document and name, if there is one.
-    ///
-    /// Errors: `NoMemory` if an allocation fails. Cost: as of `share`.
-    pub fn without_index(&self, alloc: Global, ddoc: &str, name: &str) -> Result<Shard, NoMemory>
-        ensures { IfOk result (λ s. s ≡ record self.now { definitions = without_definition ddoc.now name.now self.now.definitions }) }
-    {
-        let documents = self.documents.share(alloc)?;
-        let indexes = without(alloc, &self.indexes, ddoc, name)?;
-        Ok(Shard { documents, indexes })
     }
 }

@@ -64,7 +64,7 @@ impl<'a, T: Keyed> Walk<'a, T> {
         Walk { way }
     }
 
-    /// Passes over so many things. Cost: none within a page of 64, and else one look-up and a read of the count of each part before the
+    /// Passes over `count` elements. Cost: constant within a page of 64; else one look-up and a read of the count of each part before the
     /// place, at most 64 a level. Takes no memory.
     pub fn advance(&mut self, count: usize)
         ensures { self.new ≡ drop count self.old }
@@ -148,7 +148,7 @@ impl<'a> Documents<'a> {
         Documents { documents }
     }
 
-    /// Passes over so many documents. Cost: as of `Walk::advance`. Takes no memory.
+    /// Passes over `count` documents. Cost: as for `Walk::advance`. Takes no memory.
     pub fn advance(&mut self, count: usize)
         ensures { self.new ≡ drop count self.old }
     {

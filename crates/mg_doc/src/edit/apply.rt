@@ -21,7 +21,7 @@ use std::alloc::Global;
 
 impl Edit {
     /// Foresees what the edit does to the tree of its document, without changing the tree. Returns the newest revision of a
-    /// path that is known whole, because that changes nothing; `None` if the edit is to be applied.
+    /// replica's path that is known whole, since such an edit changes nothing; `None` if the edit has to be applied.
     ///
     /// Errors: those of `apply`, except the `Conflict` of a made revision that is already known, which only `apply` finds. No
     /// refusal needs memory. Cost: the look-ups of a path, or one look-up among the leaves.
@@ -61,7 +61,7 @@ impl Edit {
     }
 
     /// Does what `apply` does, without a copy of the edit. Cost: that of `RevTree::extend` or `RevTree::merge`, and the length of
-    /// the body's text if the edit extends a deleted winner that it does not name.
+    /// the body's text if the id of the revision was not made ahead, or was made ahead over nothing and a deleted winner is extended.
     pub fn bring(self, alloc: Global, tree: &mut RevTree) -> Result<Rev, EditError>
         ensures applied { (h : Paths) → StandsFor tree.old h → Applied h self result tree.new }
         ensures unchanged { OnErr result (tree.new ≡ tree.old) }
@@ -96,7 +96,7 @@ fn look_for(tree: &RevTree, path: &History) -> Result<Option<Rev>, EditError>
     Ok(None)
 }
 
-// Merges the path of a replica.
+// Merges the path of a replica, and returns its newest revision.
 fn merge(tree: &mut RevTree, path: &History, deleted: bool, body: Json) -> Result<Rev, EditError>
     ensures brings { (h : Paths) → StandsFor tree.old h → Brings h deleted (view body) (replicated h path.now) result tree.new }
     ensures unchanged { OnErr result (tree.new ≡ tree.old) }
@@ -106,7 +106,7 @@ fn merge(tree: &mut RevTree, path: &History, deleted: bool, body: Json) -> Resul
     Ok(rev)
 }
 
-// Checks whether a revision may be made over the named one, or without a name. Does not check whether it is already known.
+// Checks whether a new edit that names this revision, or none, may make one. Does not check whether the made one is already known.
 fn check_base(tree: &RevTree, named: Option<&Rev>) -> Result<(), Refused>
     ensures ok { OnOk result ((h : Paths) → StandsFor tree.now h → first_refusal h (New (option_copied named.entry)) ≡ None) }
     ensures err { IfErr result (λ e. (h : Paths) → StandsFor tree.now h → first_refusal h (New (option_copied named.entry)) ≡ Some e) }

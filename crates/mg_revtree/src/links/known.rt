@@ -36,8 +36,9 @@ fn are_few(newer: usize, older: usize) -> bool {
 /// They are kept in two lists: an older one, which copies share, and a newer one, which is copied. The newer list holds at
 /// most 64 revisions, or about four times the square root of the number of older ones. Before it grows beyond that limit, it
 /// is folded into a copy of the older list, and that copy becomes the older list. So a copy of the tree never copies more
-/// revisions than the limit, and a fold comes at most once in so many revisions of joined runs, known ones included. The
-/// parent of a revision is the one in the older list; if that list has none, the one in the newer list.
+/// revisions than the limit, and after a fold the next one comes only when the runs joined since then have more revisions than
+/// the limit, known ones included. The parent of a revision is the one in the older list; if that list has none, the one in the
+/// newer list.
 #[derive(Drop)]
 pub struct Known {
     older: Older,
@@ -106,8 +107,9 @@ impl Known {
         all_held(self, start, ids)
     }
 
-    /// Adds a run, given by its start and its ids, newest first. If memory runs out, nothing changes. Cost: while the newer
-    /// list stays small, that of `Links::join` in it; else those of `Older::with`, and of `Links::join` in all revisions.
+    /// Adds a run, given by its start and its ids, newest first. If memory runs out, nothing changes. Cost: if the newer list
+    /// stays within its limit, that of `Links::join` in that list; else that of `Older::with`, and of `Links::join` in the list
+    /// of all revisions.
     pub fn join(&mut self, start: u32, ids: &[String]) -> Result<(), NoMemory>
         requires { length ids.now ≤ start + 1 }
         ensures nodes { OnOk result ((ls : List Link) → AreNodes self.old ls → AreNodes self.new (ls ++ links (run_from start (map string_bytes ids.now)))) }

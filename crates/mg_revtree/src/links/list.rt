@@ -14,9 +14,10 @@ use mg_value::NoMemory;
 use std::alloc::Global;
 use std::marker::Model;
 
-// The spare capacity of a copy, so that an edit of the copy does not reallocate it.
+// The spare capacity of a copy for the texts of ids, so that an edit of the copy does not reallocate them.
 const SPARE_BYTES: usize = 64;
 
+/// The spare capacity of a copy for nodes, for the same reason.
 pub const SPARE_NODES: usize = 2;
 
 // A copy of the items, with capacity for `more` items.

@@ -9,7 +9,7 @@ ghost use Rattle.mg_revtree.specs.Room.{AreFrom, Joins, used};
 use crate::links::lookup::place;
 use crate::links::node::{Node, Part};
 
-/// The unused places among the nodes, from `till` up to but not including `from`.
+/// A gap of unused places among the nodes: nodes stand before place `till`, and from place `from` on.
 #[derive(Clone, Copy, Debug)]
 pub struct Room {
     pub till: usize,
@@ -35,8 +35,8 @@ fn put(nodes: &mut [Node], room: Room, at: usize, node: Node) -> Room
     }
 }
 
-// Gives the node's parent to the known node of its revision, or inserts the node at its place. The nodes after the room are at
-// higher positions.
+// If the node's revision is known, its known node gets the parent, unless it has one; else the node is inserted at its place.
+// The nodes after the room are at higher positions.
 fn join(texts: &[u8], nodes: &mut [Node], room: Room, node: Node) -> Room
     requires room { room.till < room.from }
     requires within { room.from ≤ length nodes.old }
@@ -55,7 +55,7 @@ fn join(texts: &[u8], nodes: &mut [Node], room: Room, node: Node) -> Room
 }
 
 // Joins a run, given by the parts of its ids, newest first, to the known nodes. All places after the known nodes are unused,
-// and they are enough for the run.
+// and there are enough of them for the run.
 fn join_each(texts: &[u8], nodes: &mut [Node], known: usize, start: u32, parts: &[Part]) -> Room
     requires room { known + length parts.now ≤ length nodes.old }
     requires run { length parts.now ≤ start + 1 }
@@ -99,7 +99,7 @@ const UNUSED: Node = Node {
     parent: None,
 };
 
-/// Joins a run, given by the parts of its ids, newest first. The vector has the capacity for it. Cost: for each revision of
+/// Joins a run, given by the parts of its ids, newest first. The vector must have capacity for the run. Cost: for each revision of
 /// the run the logarithm of the known ones, and two moves of each node that is above the run's lowest unknown revision.
 pub fn join_all(texts: &[u8], nodes: &mut Vec<Node>, start: u32, parts: &[Part])
     requires room { vec_len nodes.old + length parts.now ≤ vec_capacity nodes.old }

@@ -2,6 +2,7 @@ use denote.Param.Send.{sendable}
 use Rattle.std.proofs.Common.{sym, ◌∙◌}
 use Rattle.std.proofs.Crossing.{crosses}
 use Rattle.std.proofs.MapsCrossing.{crosses as maps}
+use Rattle.mg_pages.proofs.pages.Pages.TheSendSync as pages
 use Rattle.mg_rows.proofs.row.RowBytes.TheSendSync as rows
 use Rattle.mg_shard.specs.Shard.{shards_seen}
 use Rattle.mg_scan.proofs.Builds.{rows-called}
@@ -10,7 +11,7 @@ use Rattle.mg_scan.proofs.building.extracted_at_once.Goals as goal
 
 -- the rows that threads hand over, and what they look at, may cross
 pub map_indices-requires-send-X : goal.map_indices-requires-send-X
-map_indices-requires-send-X g c κs within = search (sendable, crosses, maps, rows.the_send) depth 40
+map_indices-requires-send-X g c κs within = search (sendable, crosses, maps, pages.the_send, pages.the_sync, rows.the_send, rows.the_sync) depth 40
 
 pub map_indices-requires-sync-F : goal.map_indices-requires-sync-F
 map_indices-requires-sync-F g c κs within = record { shared = (build_sync _ _ _ _ _ _ c.type_bounds.sync-R c.type_bounds.sync-G).shared }

@@ -7,4 +7,4 @@ use Rattle.mg_shard.proofs.index.pages_of.Goals as goal
 pub from_sorted-requires : goal.from_sorted-requires
 from_sorted-requires c =
     subst (λ (rows : List RowValue). Ascends row_value_order rows) (sym c.deref.ensures.value)
-    (sorted_ascends c.args.rows.items c.in_ok-rows.rows.items c.in_ok-rows.ensures c.requires)
+    (sorted_ascends c.args.rows.items c.sorted_rows-rows.result.items c.sorted_rows-rows.ensures c.requires)

@@ -1,0 +1,16 @@
+use Rattle.std.proofs.Common.{◌++◌, ap, ◌∙◌}
+use Rattle.std.specs.List.{flat_map}
+use Rattle.mg_pages.specs.Parts.{children, child_seen, node_value, high_seen, level_seen, page_seen}
+use Rattle.mg_pages.specs.Runs.{lent_elements}
+use Rattle.mg_pages.proofs.Built.{lent_more}
+use Rattle.mg_pages.proofs.Children.{part_at, within_children}
+use Rattle.mg_pages.proofs.runs.add_highs.Goals as goal
+
+pub loop-child-preserved : goal.loop-child-preserved
+loop-child-preserved g c =
+    let xs = c.args.highs.now in
+    let i = c.loop-child.child-index in
+    let node = c.deref-node.result.now in
+    let at = part_at xs i c.child-item.result node c.loop-child-test.true c.child-item.is c.deref-node.ensures in
+    lent_more (child_seen high_seen) (children xs) i (node_value node) (lent_elements c.args.runs.now.items) (lent_elements c.loop-child.runs.items) _ (within_children xs i c.loop-child-test.true) at c.loop-child.invariant (
+    c.in_ok-add_lows.ensures ∙ ap (λ us. lent_elements c.loop-child.runs.items ++ flat_map (child_seen (level_seen page_seen)) (children us)) c.deref.ensures.value)

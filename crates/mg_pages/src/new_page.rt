@@ -1,0 +1,97 @@
+//! Collections of pages that are made one by one, so that several threads can make the pages of one collection.
+ghost use Rattle.std.specs.Prelude.{◌≡◌, ◌<◌, ◌^◌, IfOk, List, length};
+ghost use Rattle.std.specs.List.{AllByRecursion, flat_map};
+ghost use Rattle.mg_pages.specs.Order.{Ascends};
+ghost use Rattle.mg_pages.specs.Parts.{AreWhole, child_seen, child_value, child_whole, children, page_seen, page_whole};
+
+use crate::build::grouped;
+use crate::child::{Child, child_of};
+use crate::keyed::Keyed;
+use crate::level::{Level, count_of};
+use crate::page::{Page, page_of};
+use crate::pages::Pages;
+use crate::part::LIMIT;
+use mg_value::NoMemory;
+use std::alloc::{AllocError, Global};
+use std::marker::Model;
+
+/// How many elements a full page has.
+pub const ELEMENTS: usize = LIMIT;
+
+/// A page that is part of no collection yet. A clause sees the list of its elements.
+#[derive(Drop)]
+pub struct NewPage<T: Keyed> {
+    page: Page<T>,
+}
+
+impl<T: Keyed> Model for NewPage<T> {
+    ghost use Rattle.std.specs.Prelude.{List};
+
+    ghost Value = { List T };
+
+    ghost use Rattle.mg_pages.specs.Parts.{page_seen};
+
+    ghost view = { λ p. page_seen p.page };
+}
+
+impl<T: Keyed> NewPage<T> {
+    /// A page of duplicates of these elements. A page of a collection has at most `ELEMENTS`: with more of them its collection is slower.
+    ///
+    /// Errors: `NoMemory` if an allocation fails. Cost: a step for each element.
+    pub fn of(alloc: Global, elements: &[T]) -> Result<NewPage<T>, NoMemory>
+        ensures { IfOk result (λ p. p ≡ elements.now) }
+    {
+        let page = page_of(alloc, elements)?;
+        Ok(NewPage { page })
+    }
+
+    // The page as a part of a level.
+    fn child(self, alloc: Global) -> Result<Child<T, Page<T>>, AllocError>
+        requires { 0 < length self }
+        ensures whole { IfOk result (λ c. child_whole page_whole page_seen (child_value c)) }
+        ensures seen { IfOk result (λ c. child_seen page_seen (child_value c) ≡ self) }
+    {
+        let NewPage { page } = self;
+        child_of::<T, Page<T>>(alloc, page)
+    }
+}
+
+// The pages as the parts of a level.
+fn parts_of<T: Keyed>(
+    alloc: Global,
+    pages: Vec<NewPage<T>>,
+) -> Result<Vec<Child<T, Page<T>>>, AllocError>
+    requires { AllByRecursion (λ (p : List T). 0 < length p) pages.items }
+    ensures whole { IfOk result (λ v. AreWhole (child_whole page_whole page_seen) (children v.items)) }
+    ensures seen { IfOk result (λ v. flat_map (child_seen page_seen) (children v.items) ≡ flat_map (λ p. p) pages.items) }
+{
+    let mut parts = Vec::with_capacity(alloc, pages.len())?;
+    for page in pages {
+        let part = page.child(alloc)?;
+        parts.push(part)?;
+    }
+    Ok(parts)
+}
+
+impl<T: Keyed> Pages<T> {
+    /// Builds a collection of pages, in their order. None of them is empty, and all their elements ascend.
+    ///
+    /// Errors: `NoMemory` if an allocation fails. Cost: a step for each page.
+    pub fn from_pages(alloc: Global, pages: Vec<NewPage<T>>) -> Result<Pages<T>, NoMemory>
+        requires some { AllByRecursion (λ (p : List T). 0 < length p) pages.items }
+        requires ascends { Ascends T.order (flat_map (λ p. p) pages.items) }
+        requires few { length (flat_map (λ p. p) pages.items) < 2 ^ 64 }
+        ensures { IfOk result (λ p. p ≡ flat_map (λ p. p) pages.items) }
+    {
+        let parts = parts_of(alloc, pages)?;
+        let lows = grouped::<T, Page<T>>(alloc, &parts)?;
+        let highs = grouped::<T, Level<T, Page<T>>>(alloc, &lows)?;
+        let count = count_of::<T, Level<T, Level<T, Page<T>>>>(&highs);
+        Ok(Pages {
+            root: Level {
+                parts: highs,
+                count,
+            },
+        })
+    }
+}

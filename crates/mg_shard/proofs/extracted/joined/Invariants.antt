@@ -1,0 +1,15 @@
+use Rattle.std.proofs.Common.{◌≡◌, ◌++◌, List}
+use Rattle.std.specs.List.{flat_map}
+use Rattle.std.specs.Vec.Iter.{into_iter_items}
+use Rattle.std.specs.declared.alloc.Global.{Global}
+use Rattle.std.specs.declared.vec.Vec.{Vec}
+use Rattle.mg_collate.specs.Row.{RowValue}
+use Rattle.mg_shard.proofs.extracted.joined.Given as goal
+
+-- what is left decides
+abbrev pub invariant-loop-list : goal.invariant-loop-list
+invariant-loop-list l = record {
+  can_next : (goal.iterator-loop-list).can_next l.list-iterator;
+  is_finite : (goal.iterator-loop-list).is_finite l.list-iterator;
+  left : l.all.items ++ flat_map (λ (list : Vec RowValue Global). list.items) (into_iter_items l.list-iterator) ≡ flat_map (λ (list : Vec RowValue Global). list.items) l.fn.lists.items;
+}

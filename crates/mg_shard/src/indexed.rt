@@ -1,0 +1,137 @@
+//! The indexes of a shard: the rows that an index has, and shards with an index more or less.
+ghost use Rattle.std.specs.Prelude.{◌≡◌, IfOk};
+ghost use Rattle.std.specs.Arc.{arc_value};
+ghost use Rattle.std.specs.List.{filter_map};
+ghost use Rattle.mg_index.specs.Catalog.{with_definition, without_definition};
+ghost use Rattle.mg_shard.specs.Documents.{docs_of};
+ghost use Rattle.mg_shard.specs.Rows.{row_of, rows_of};
+
+use crate::extracted::{MANY_DOCUMENTS, pages_by_threads, rows_by_threads, sorted_by_threads};
+use crate::index::{IndexRows, pages_of, row_in};
+use crate::indexes::{with, without};
+use crate::shard::Shard;
+use mg_index::IndexDef;
+use mg_pages::Pages;
+use mg_path::Path;
+use mg_rows::{KeyBytes, RowBytes};
+use mg_value::NoMemory;
+use std::alloc::Global;
+use std::sync::Arc;
+use std::thread::Threads;
+
+impl Shard {
+    // The rows that an index with these columns has, in the order of the documents.
+    fn unsorted(&self, alloc: Global, columns: &[Path]) -> Result<Vec<RowBytes>, NoMemory>
+        ensures { IfOk result (λ rows. rows.items ≡ filter_map (row_of columns.now) (docs_of self.now.documents)) }
+    {
+        let mut rows = Vec::new(alloc);
+        let mut scratch = KeyBytes::new(alloc);
+        for (id, form) in self.docs() {
+            if let Some(row) = row_in(alloc, &mut scratch, columns, id, &form)? {
+                rows.push(row)?;
+            }
+        }
+        Ok(rows)
+    }
+
+    // The rows that an index with these columns has, by key and id, by the caller's thread alone.
+    fn rows_alone(&self, alloc: Global, columns: &[Path]) -> Result<Pages<RowBytes>, NoMemory>
+        ensures { IfOk result (λ rows. rows ≡ rows_of columns.now (docs_of self.now.documents)) }
+    {
+        let rows = self.unsorted(alloc, columns)?;
+        let pages = pages_of(alloc, rows)?;
+        Ok(pages)
+    }
+
+    // The same rows, extracted, sorted and put into pages by several threads.
+    fn rows_together<R: Threads + Sync>(
+        &self,
+        rt: &R,
+        alloc: Global,
+        columns: &[Path],
+    ) -> Result<Pages<RowBytes>, NoMemory>
+        ensures { IfOk result (λ rows. rows ≡ rows_of columns.now (docs_of self.now.documents)) }
+    {
+        self.documents.ascends();
+        let runs = self.documents.runs(alloc)?;
+        let rows = rows_by_threads(rt, alloc, columns, &runs, self.documents.len())?;
+        let rows = sorted_by_threads(rt, rows);
+        let pages = pages_by_threads(rt, alloc, &rows)?;
+        Ok(pages)
+    }
+
+    /// The rows that an index of this definition has in this shard, by key and id: what `with_rows` asks for, the same for every number
+    /// of workers. One worker starts no thread, and nor does a shard of fewer than 1,000 documents; otherwise as many threads
+    /// extract the rows, sort them and put them into pages as there are processors.
+    ///
+    /// Errors: `NoMemory` if an allocation fails. Cost: each document once, the bytes of its row, the rows sorted, and a step a row. A row
+    /// takes memory of its own only where it is too long to stand in its own value.
+    pub fn rows_for<R: Threads + Sync>(
+        &self,
+        rt: &R,
+        alloc: Global,
+        definition: &IndexDef,
+        workers: usize,
+    ) -> Result<Pages<RowBytes>, NoMemory>
+        ensures { IfOk result (λ rows. rows ≡ rows_of definition.now.columns (docs_of self.now.documents)) }
+    {
+        if workers < 2 || self.documents.len() < MANY_DOCUMENTS {
+            return Ok(self.rows_alone(alloc, definition.columns())?);
+        }
+        Ok(self.rows_together(rt, alloc, definition.columns())?)
+    }
+
+    // The shard with an index of these rows, which replaces one of its design document and name.
+    fn with(
+        &self,
+        alloc: Global,
+        definition: Arc<IndexDef>,
+        rows: Pages<RowBytes>,
+    ) -> Result<Shard, NoMemory>
+        requires { rows ≡ rows_of (arc_value definition).columns (docs_of self.now.documents) }
+        ensures { IfOk result (λ s. s ≡ record self.now { definitions = with_definition (arc_value definition) self.now.definitions }) }
+    {
+        let rows = Arc::new(alloc, rows)?;
+        let indexes = with(alloc, &self.indexes, IndexRows { definition, rows })?;
+        let documents = self.documents.share(alloc)?;
+        Ok(Shard { documents, indexes })
+    }
+
+    /// The shard with an index of this definition, which replaces one of its design document and name.
+    ///
+    /// Errors: `NoMemory` if an allocation fails. Cost: each document once, the bytes of its row, and the rows sorted.
+    pub fn with_index(&self, alloc: Global, definition: &IndexDef) -> Result<Shard, NoMemory>
+        ensures { IfOk result (λ s. s ≡ record self.now { definitions = with_definition definition.now self.now.definitions }) }
+    {
+        let rows = self.rows_alone(alloc, definition.columns())?;
+        let definition = Arc::new(alloc, definition.copy(alloc)?)?;
+        self.with(alloc, definition, rows)
+    }
+
+    /// The shard with an index, as for `with_index`, whose rows the caller brings: those that `rows_for` gives. The definition is shared,
+    /// not copied.
+    ///
+    /// Errors: `NoMemory` if an allocation fails. Cost: as for `share`.
+    pub fn with_rows(
+        &self,
+        alloc: Global,
+        definition: &Arc<IndexDef>,
+        rows: Pages<RowBytes>,
+    ) -> Result<Shard, NoMemory>
+        requires { rows ≡ rows_of (arc_value definition.now).columns (docs_of self.now.documents) }
+        ensures { IfOk result (λ s. s ≡ record self.now { definitions = with_definition (arc_value definition.now) self.now.definitions }) }
+    {
+        self.with(alloc, definition.clone()?, rows)
+    }
+
+    /// The shard without the index of this design document and name, if there is one.
+    ///
+    /// Errors: `NoMemory` if an allocation fails. Cost: as for `share`.
+    pub fn without_index(&self, alloc: Global, ddoc: &str, name: &str) -> Result<Shard, NoMemory>
+        ensures { IfOk result (λ s. s ≡ record self.now { definitions = without_definition ddoc.now name.now self.now.definitions }) }
+    {
+        let documents = self.documents.share(alloc)?;
+        let indexes = without(alloc, &self.indexes, ddoc, name)?;
+        Ok(Shard { documents, indexes })
+    }
+}
