@@ -35,8 +35,8 @@ NAMES = ["first-write-and-query", "type-order", "comparison-across-types", "miss
          "limit-and-skip", "choice-of-index", "bad-documents", "bad-queries", "refused-queries", "arrays", "bookmark-spelling",
          "five-shards-of-all-docs", "work", "conflicts", "paths", "sixty-five-rows", "resharding",
          "what-is-dealt"]
-TOO_LARGE = [(queries.atoms_under_a_path, 3_000, 1), (writes.tiny_documents, 60_000, 1), (values.deep_arrays, 8_000, 3),
-             (writes.documents_without_an_id, 50_000, 1)]
+TOO_LARGE = [(queries.atoms_under_a_path, 3_000, 1), (writes.tiny_documents, 90_000, 1), (values.deep_arrays, 8_000, 3),
+             (writes.documents_without_an_id, 120_000, 1)]
 GRANTED = 60 << 20
 SETTINGS = [(1, 1), (7, 1), (1, 2), (7, 2)]
 EACH = ["first-write-and-query", "new-edits"]
