@@ -26,6 +26,10 @@ class Answer:
     first: str
     last: str
 
+    def fits(self, ids):
+        """Whether these are the ids of a right reply."""
+        return len(ids) == self.count and ids[0] == self.first and ids[-1] == self.last
+
 
 @dataclass(frozen=True)
 class Request:

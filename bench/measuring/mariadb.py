@@ -9,10 +9,9 @@ import shutil
 import socket
 import subprocess
 import tempfile
-import time
 
-from . import processes
 from .documents import INDEXES, PAGE, compact
+from .server import Server
 
 SETTINGS = [
     "innodb-buffer-pool-size=2G", "innodb-log-file-size=2G", "innodb-flush-log-at-trx-commit=0", "innodb-flush-method=nosync",
@@ -147,14 +146,13 @@ class Connection:
         else:
             # a row: a byte 0, a byte of flags, and the id after its length
             ids = [row[3 : 3 + row[2]].decode() for row in rows]
-            right = len(ids) == answer.count and ids[0] == answer.first and ids[-1] == answer.last
+            right = answer.fits(ids)
         if not right:
             raise ValueError(f"{message[:300]!r} was answered by {str(rows)[:300]}, wanted {answer}")
 
 
-class MariaDB:
+class MariaDB(Server):
     name = "MariaDB"
-    in_process = False
 
     def __init__(self, corpus):
         self.corpus, self.columns, self.bulks = corpus, set(), {}
@@ -171,29 +169,18 @@ class MariaDB:
         self.connection.query("CREATE TABLE bench.docs (id VARCHAR(64) PRIMARY KEY, body JSON) COLLATE utf8mb4_bin")
         self.connection.query("USE bench")
 
-    def connected(self):
-        """A connection, as soon as the server accepts one."""
-        for _ in range(600):
-            time.sleep(0.05)
-            try:
-                return Connection(self.socket, {})
-            except OSError:
-                if self.process.poll() is not None:
-                    break
+    def first_client(self):
+        return Connection(self.socket, {})
+
+    def last_words(self):
         with open(self.log.name) as file:
-            raise SystemExit(f"MariaDB does not start: {file.read()[-1000:]}")
+            return file.read()[-1000:]
 
     def client(self):
-        client = Connection(self.socket, {})
+        client = self.first_client()
         client.query("USE bench")
         client.asked = {kind: client.prepared(statement) for kind, statement in asked_of(self.corpus).items()}
         return client
-
-    def processor(self):
-        return processes.processor(self.process.pid)
-
-    def size(self):
-        return processes.memory(self.process.pid)
 
     def pages(self):
         """The size of the file of the table and its indexes in bytes."""
@@ -231,11 +218,7 @@ class MariaDB:
         if not ("PRIMARY" in plan if kind == "get" else "by_" in plan) or "filesort" in plan:
             raise SystemExit(f"MariaDB does not read {kind} by an index:\n{plan!r}")
 
-    def share(self):
-        """Nothing to do before several clients connect."""
-
     def close(self):
-        self.process.kill()
-        self.process.wait()
+        super().close()
         self.log.close()
         shutil.rmtree(self.folder)

@@ -100,7 +100,7 @@ class Connection:
             right = any(kind == b"C" and text == b"INSERT 0 1\0" for kind, text in parts)
         else:
             ids = [text[6 : 6 + int.from_bytes(text[2:6], "big")].decode() for kind, text in parts if kind == b"D"]
-            right = len(ids) == answer.count and ids[0] == answer.first and ids[-1] == answer.last
+            right = answer.fits(ids)
         if not right:
             raise ValueError(f"{message[:300]!r} was answered by {str(parts)[:300]}, wanted {answer}")
 

@@ -4,8 +4,8 @@ import os
 import socket
 import subprocess
 
-from . import processes
 from .documents import PAGE, compact
+from .server import Server
 
 # the settings of the C library that suit large databases best: docs/PERFORMANCE.md says what each does
 TUNABLES = "glibc.malloc.hugetlb=1:glibc.malloc.arena_max=1"
@@ -97,10 +97,9 @@ def tuned(tunables):
     return {**os.environ, "GLIBC_TUNABLES": tunables}
 
 
-class Program:
+class Program(Server):
     """The program with a database for the documents, and a pair of shards and workers."""
 
-    in_process = False
     called = "mangod"
 
     def __init__(self, path, corpus, setting=(1, 1), sessions=8, tunables=TUNABLES):
@@ -114,12 +113,6 @@ class Program:
 
     def client(self):
         return Connection(self.port, self.corpus)
-
-    def processor(self):
-        return processes.processor(self.process.pid)
-
-    def size(self):
-        return processes.memory(self.process.pid)
 
     def prepare_bulk(self, numbers):
         return message("POST", "_bulk_docs", {"docs": [{"_id": self.corpus.name(i), **self.corpus.body(i)} for i in numbers]})
@@ -136,13 +129,6 @@ class Program:
         if status != b"200" or json.loads(body)["result"] != "created":
             raise SystemExit(f"an index was answered by {status} {body}")
 
-    def settle(self):
-        """Nothing to do after a load."""
-
     def share(self):
         """Frees its own session for the clients."""
         self.connection.socket.close()
-
-    def close(self):
-        self.process.kill()
-        self.process.wait()

@@ -2,11 +2,10 @@
 import shutil
 import socket
 import subprocess
-import time
 
-from . import processes
 from .documents import compact
 from .program import free_port
+from .server import Server
 
 
 def program():
@@ -46,33 +45,18 @@ class Connection:
             raise ValueError(f"{text[:300]!r} was answered by {data[:300]!r}, wanted {answer}")
 
 
-class Redis:
+class Redis(Server):
     name = "Redis"
-    in_process = False
     kinds = ("get", "commit", "mixture")
 
     def __init__(self, corpus):
         self.corpus, self.port = corpus, free_port()
         words = [program(), "--bind", "127.0.0.1", "--port", str(self.port), "--save", "", "--appendonly", "no"]
         self.process = subprocess.Popen(words, stdin=subprocess.DEVNULL, stdout=subprocess.DEVNULL)
-        for turn in range(200):
-            time.sleep(0.05)
-            try:
-                self.connection = self.client()
-                return
-            except OSError:
-                if self.process.poll() is not None:
-                    break
-        raise SystemExit("Redis does not start")
+        self.connection = self.connected()
 
     def client(self):
         return Connection(self.port)
-
-    def processor(self):
-        return processes.processor(self.process.pid)
-
-    def size(self):
-        return processes.memory(self.process.pid)
 
     def prepare_bulk(self, numbers):
         documents = ((self.corpus.name(i), compact({"_id": self.corpus.name(i), **self.corpus.body(i)})) for i in numbers)
@@ -81,13 +65,3 @@ class Redis:
     def send_bulk(self, text, count):
         if self.connection.exchange(text) != b"+OK\r\n":
             raise SystemExit("Redis has not taken a bulk")
-
-    def settle(self):
-        """Nothing to do after a load."""
-
-    def share(self):
-        """Nothing to do before several clients connect."""
-
-    def close(self):
-        self.process.kill()
-        self.process.wait()

@@ -7,11 +7,10 @@ import shutil
 import socket
 import subprocess
 import tempfile
-import time
 
-from . import processes
 from .documents import PAGE
 from .program import free_port
+from .server import Server
 
 SCRIPT = """
 local port, text = arg[1], arg[2]
@@ -122,9 +121,8 @@ class Connection:
                 raise ValueError(f"{text!r} was answered by {data[:300]!r}, wanted {answer}")
 
 
-class Tarantool:
+class Tarantool(Server):
     name = "Tarantool"
-    in_process = False
 
     def __init__(self, corpus):
         self.corpus, self.port = corpus, free_port()
@@ -135,27 +133,14 @@ class Tarantool:
         self.process = subprocess.Popen(words, cwd=self.folder, stdin=subprocess.DEVNULL, stdout=subprocess.DEVNULL, stderr=subprocess.DEVNULL)
         self.connection = self.connected()
 
-    def connected(self):
-        """A connection, as soon as the program accepts one."""
-        for _ in range(200):
-            time.sleep(0.05)
-            try:
-                connection = self.client()
-                connection.exchange(selection(0, EQUAL, ["none"]))
-                return connection
-            except OSError:
-                if self.process.poll() is not None:
-                    break
-        raise SystemExit("Tarantool does not start")
+    def first_client(self):
+        """A connection, if there is a space already."""
+        connection = self.client()
+        connection.exchange(selection(0, EQUAL, ["none"]))
+        return connection
 
     def client(self):
         return Connection(self.port, self.corpus)
-
-    def processor(self):
-        return processes.processor(self.process.pid)
-
-    def size(self):
-        return processes.memory(self.process.pid)
 
     def prepare_bulk(self, numbers):
         rows = [message(INSERT, {0x10: SPACE, 0x21: [self.corpus.name(i), self.corpus.body(i)]}) for i in numbers]
@@ -167,13 +152,6 @@ class Tarantool:
     def index(self, which):
         self.connection.exchange(message(CALL, {0x22: "index", 0x21: [INDEXES[which], which, *self.corpus.columns(which)]}))
 
-    def settle(self):
-        """Nothing to do after a load."""
-
-    def share(self):
-        """Nothing to do before several clients connect."""
-
     def close(self):
-        self.process.kill()
-        self.process.wait()
+        super().close()
         shutil.rmtree(self.folder)
