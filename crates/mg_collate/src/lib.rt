@@ -1,4 +1,4 @@
-//! The order of values, keys and index rows, after CouchDB's view collation.
+//! The order of values, keys and index rows: CouchDB's view collation, but strings by code point.
 #![tactic(auto)]
 
 mod direction;

@@ -104,7 +104,7 @@ fn compare_member<L: LentValue>(name: &str, value: L, other_name: &str, other: &
     }
 }
 
-// The place of the value's type in the order of types.
+// The rank of the value: null, false, true, numbers, strings, arrays, objects.
 fn rank_of<L: LentValue>(value: &L) -> u8
     ensures { result ≡ rank (L.value value.now) }
 {
@@ -119,7 +119,8 @@ fn rank_of<L: LentValue>(value: &L) -> u8
     }
 }
 
-/// Compares a text, as a JSON string, with a value. Takes no memory. Cost: the text, up to the first difference.
+/// Compares a text, as a JSON string, with a value. Takes no memory. Cost: the text, up to the first
+/// difference.
 pub fn compare_text(text: &str, value: &Json) -> Ordering
     ensures { result ≡ value_order (string text.now) (view value.now) }
 {

@@ -9,8 +9,8 @@ use Rattle.mg_revtree.specs.Changes.{Decides, extension, may_extend, next_positi
 use Rattle.mg_revtree.specs.Tree.{Tree, StandsFor}
 use Rattle.mg_revtree.specs.declared.error.MergeError.{MergeError}
 use Rattle.mg_revtree.specs.declared.error.MergeError.TheVariants.{BadHistory as misfit, NoMemory as merge_refused}
-use Rattle.mg_revtree.specs.declared.error.Refusal.{Refusal}
-use Rattle.mg_revtree.specs.declared.error.Refusal.TheVariants.{NotLeaf, Full, Known}
+use Rattle.mg_revtree.specs.declared.error.TreeRefusal.{TreeRefusal}
+use Rattle.mg_revtree.specs.declared.error.TreeRefusal.TheVariants.{NotLeaf, Full, Known}
 use Rattle.mg_revtree.specs.declared.error.TreeError.{TreeError}
 use Rattle.mg_revtree.specs.declared.error.TreeError.TheVariants.{NotLeaf as not_leaf, Full as full, Known as known, NoMemory as tree_refused}
 use Rattle.mg_revtree.proofs.Extend.{refused_position}
@@ -63,7 +63,7 @@ not_merged h run merge_refused f = tt
 
 -- ---- a new edit
 
-pub not_made : (o : Option Refusal) (x : TreeError) (a : Accepted) → Decides o (Err x) → Missing (unless (option_map refused_by o) a) (refusal_told (error_of_tree x))
+pub not_made : (o : Option TreeRefusal) (x : TreeError) (a : Accepted) → Decides o (Err x) → Missing (unless (option_map refused_by o) a) (refusal_told (error_of_tree x))
 not_made None not_leaf a d = absurd (let e : not_leaf ≡ tree_refused = d in cc)
 not_made None full a d = absurd (let e : full ≡ tree_refused = d in cc)
 not_made None known a d = absurd (let e : known ≡ tree_refused = d in cc)
@@ -81,7 +81,7 @@ not_made (Some Known) full a d = absurd cc
 not_made (Some Known) known a d = refl
 not_made (Some Known) tree_refused a d = tt
 
-pub no_refusal : (o : Option Refusal) (u : Unit {0}) → Decides o (Ok u) → o ≡ None
+pub no_refusal : (o : Option TreeRefusal) (u : Unit {0}) → Decides o (Ok u) → o ≡ None
 no_refusal None u d = refl
 no_refusal (Some refusal) u d = absurd cc
 
@@ -138,14 +138,14 @@ first_is h named = elim (two (is_unnamed h named)) [ inl t ↦ rw t refl | inr f
 pub base_refused : (h : History) (named : Option Revision) (refused : Refused) → base_found h named ≡ Err refused → first_refusal h (New named) ≡ Some refused
 base_refused h named refused e = sym (first_is h named) ∙ ap (unplaced h) e
 
-pub place_refused : (h : History) (named base : Option Revision) (refusal : Refusal) → base_found h named ≡ Ok base → Err refusal ≡ next_position h base → first_refusal h (New named) ≡ Some (refused_by refusal)
+pub place_refused : (h : History) (named base : Option Revision) (refusal : TreeRefusal) → base_found h named ≡ Ok base → Err refusal ≡ next_position h base → first_refusal h (New named) ≡ Some (refused_by refusal)
 place_refused h named base refusal e k = sym (first_is h named) ∙ ap (unplaced h) e ∙ ap (λ o. option_map refused_by (result_err o)) (sym k)
 
 pub not_refused_yet : (h : History) (named base : Option Revision) (n : ℕ) → base_found h named ≡ Ok base → Ok n ≡ next_position h base → first_refusal h (New named) ≡ None
 not_refused_yet h named base n e k = sym (first_is h named) ∙ ap (unplaced h) e ∙ ap (λ o. option_map refused_by (result_err o)) (sym k)
 
 -- what is refused before a revision is made is refused
-unplaced_over : (h : History) (d : Bool) (b : Value) (base : Option Revision) (o : Result ℕ Refusal) (refused : Refused) → next_position h base ≡ o → option_map refused_by (result_err o) ≡ Some refused → made_on h d b base ≡ Err refused
+unplaced_over : (h : History) (d : Bool) (b : Value) (base : Option Revision) (o : Result ℕ TreeRefusal) (refused : Refused) → next_position h base ≡ o → option_map refused_by (result_err o) ≡ Some refused → made_on h d b base ≡ Err refused
 unplaced_over h d b base (Ok n) refused e k = absurd cc
 unplaced_over h d b base (Err refusal) refused e k =
     let id = digest_of d base b in

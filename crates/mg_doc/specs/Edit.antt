@@ -6,8 +6,8 @@ use Rattle.mg_value.specs.Value.{Value}
 use Rattle.mg_revtree.specs.Revision.{Revision}
 use Rattle.mg_revtree.specs.History.{History, Leaf, winner_of, fits}
 use Rattle.mg_revtree.specs.Changes.{path_of, with_path, next_position, next_revision, refusal_of}
-use Rattle.mg_revtree.specs.declared.error.Refusal.{Refusal}
-use Rattle.mg_revtree.specs.declared.error.Refusal.TheVariants.{NotLeaf, Full, Known}
+use Rattle.mg_revtree.specs.declared.error.TreeRefusal.{TreeRefusal}
+use Rattle.mg_revtree.specs.declared.error.TreeRefusal.TheVariants.{NotLeaf, Full, Known}
 use Rattle.mg_doc.specs.Document.{Edit}
 use Rattle.mg_doc.specs.declared.change.Change.{Change}
 use Rattle.mg_doc.specs.declared.change.Change.TheVariants.{New, Replica}
@@ -36,7 +36,7 @@ base_of h None = option_map (λ l. l.rev) (winner_of h)
 base_of h (Some r) = Some r
 
 -- the refusal of an edit for the refusal of its revision
-abbrev pub refused_by : Refusal → Refused
+abbrev pub refused_by : TreeRefusal → Refused
 refused_by NotLeaf = Conflict
 refused_by Full = BadHistory
 refused_by Known = Conflict

@@ -19,14 +19,14 @@ impl Change {
         ensures { IfOk result (λ change. change ≡ self.now) }
     {
         match self {
-            Change::New(named) => Ok(Change::New(copied(alloc, named.as_ref())?)),
+            Change::New(named) => Ok(Change::New(copy_named(alloc, named.as_ref())?)),
             Change::Replica(path) => Ok(Change::Replica(path.copy(alloc)?)),
         }
     }
 }
 
 // A copy of the named revision, if there is one.
-fn copied(alloc: Global, named: Option<&Rev>) -> Result<Option<Rev>, NoMemory>
+fn copy_named(alloc: Global, named: Option<&Rev>) -> Result<Option<Rev>, NoMemory>
     ensures { IfOk result (λ copy. copy ≡ option_copied named.entry) }
 {
     match named {

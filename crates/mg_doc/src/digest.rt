@@ -42,7 +42,8 @@ pub(crate) fn id_ahead(
     deleted: bool,
     body: &Json,
 ) -> Result<Option<String>, NoMemory>
-    ensures { IfOk result (λ o. IfSome o (λ id. string_bytes id ≡ digest_of deleted (named_in change.now) (view body.now))) }
+    ensures { IfOk result
+        (λ o. IfSome o (λ id. string_bytes id ≡ digest_of deleted (named_in change.now) (view body.now))) }
 {
     match change {
         Change::New(named) => Ok(Some(rev_id(alloc, deleted, named.as_ref(), body)?)),
@@ -59,7 +60,8 @@ pub(crate) fn id_over(
     body: &Json,
 ) -> Result<String, NoMemory>
     requires { IfSome ahead (λ id. string_bytes id ≡ digest_of deleted (option_copied base) (view body.now)) }
-    ensures { IfOk result (λ id. string_bytes id ≡ digest_of deleted (option_copied base.entry) (view body.now)) }
+    ensures { IfOk result
+        (λ id. string_bytes id ≡ digest_of deleted (option_copied base.entry) (view body.now)) }
 {
     match ahead {
         Some(id) => Ok(id),

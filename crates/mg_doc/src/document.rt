@@ -62,7 +62,8 @@ pub fn served_packed(alloc: Global, id: &str, tree: &mut RevTree) -> Result<Opti
 fn winner_form(alloc: Global, id: &str, tree: &RevTree) -> Result<Option<Form>, NoMemory>
     ensures served { IfOk result (λ o. (h : Paths) → StandsFor tree.now h → o ≡ served_of id.now h) }
     ensures form { IfOk result (λ o. IfSome o (λ form. (l : Winner) × (form ≡ form_of id.now l))) }
-    ensures first { IfOk result (λ o. IfSome o (λ form. IfSome (first_of tree.now.leaves) (λ l. form ≡ form_of id.now l))) }
+    ensures first { IfOk result
+        (λ o. IfSome o (λ form. IfSome (first_of tree.now.leaves) (λ l. form ≡ form_of id.now l))) }
     ensures none { (h : Paths) → StandsFor tree.now h → served_of id.now h ≡ None → IsOk result }
 {
     match tree.winner() {

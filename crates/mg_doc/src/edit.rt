@@ -45,7 +45,8 @@ impl Model for Edit {
       body = json_view e.body;
     } };
 
-    ghost invariant = { λ e. IfSome e.ahead (λ id. string_bytes id ≡ digest_of e.deleted (named_in e.change) (json_view e.body)) };
+    ghost invariant = { λ e. IfSome e.ahead
+        (λ id. string_bytes id ≡ digest_of e.deleted (named_in e.change) (json_view e.body)) };
 }
 
 impl Edit {
@@ -134,7 +135,8 @@ fn edit_in(
     new_edit: bool,
 ) -> Result<Edit, DocError>
     ensures edit { Gives (members_read new_edit (members_view members.entries)) result }
-    ensures refused { (e : DocError) → members_read new_edit (members_view members.entries) ≡ Err e → result ≡ Err e }
+    ensures refused { (e : DocError) → members_read new_edit (members_view members.entries) ≡ Err e
+        → result ≡ Err e }
 {
     let deleted = checked_mark(&members)?;
     let Some(id) = take_id(&mut members) else {

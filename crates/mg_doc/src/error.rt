@@ -1,4 +1,4 @@
-use mg_revtree::{MergeError, Refusal, RevError, TreeError};
+use mg_revtree::{MergeError, RevError, TreeError, TreeRefusal};
 use mg_value::NoMemory;
 use std::alloc::{AllocError, AllocFailed};
 use thiserror::Error;
@@ -105,16 +105,16 @@ impl From<AllocError> for EditError {
     }
 }
 
-impl From<Refusal> for Refused {
+impl From<TreeRefusal> for Refused {
     ghost use Rattle.std.specs.Prelude.{◌≡◌};
     ghost use Rattle.mg_doc.specs.Edit.{refused_by};
 
     ghost from_gives = { λ refusal refused. refused ≡ refused_by refusal };
 
-    fn from(refusal: Refusal) -> Refused {
+    fn from(refusal: TreeRefusal) -> Refused {
         match refusal {
-            Refusal::NotLeaf | Refusal::Known => Refused::Conflict,
-            Refusal::Full => Refused::BadHistory,
+            TreeRefusal::NotLeaf | TreeRefusal::Known => Refused::Conflict,
+            TreeRefusal::Full => Refused::BadHistory,
         }
     }
 }

@@ -78,7 +78,9 @@ fn is_path(members: &BTreeMap<String, Json>) -> bool
 }
 
 fn is_path_from(start: Option<&Json>, ids: Option<&Json>) -> bool
-    ensures { result ≡ is_some (run_at (option_map (λ v. view v.now) start.entry) (option_map (λ v. view v.now) ids.entry)) }
+    ensures { result
+        ≡ is_some (run_at (option_map (λ v. view v.now) start.entry) (option_map
+        (λ v. view v.now) ids.entry)) }
 {
     match position(start) {
         Some(start) => is_path_at(start, ids),

@@ -62,7 +62,8 @@ fn change_of(alloc: Global, rev: Option<Rev>, new_edit: bool) -> Result<Change, 
 
 // The revision that `_rev` gives, if it is there.
 fn rev_in(alloc: Global, member: Option<&Json>) -> Result<Option<Rev>, DocError>
-    ensures rev { Gives (or_fault DocError.BadRev (rev_of (option_map (λ v. view v.now) member.entry))) result }
+    ensures rev { Gives
+        (or_fault DocError.BadRev (rev_of (option_map (λ v. view v.now) member.entry))) result }
     ensures revision { IfOk result (λ o. IfSome o IsRevision) }
 {
     match member {

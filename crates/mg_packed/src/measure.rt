@@ -5,8 +5,9 @@ ghost use Rattle.mg_value.specs.Value.{whole, text as string, list, object};
 ghost use Rattle.mg_value.specs.View.{view, items_view, members_view};
 ghost use Rattle.mg_packed.specs.Packed.{packed};
 ghost use Rattle.mg_value.specs.Stored.{IsStored, AreStored, MembersAreStored};
-ghost use Rattle.mg_packed.specs.Sizes.{items_size, members_size};
+ghost use Rattle.mg_packed.specs.Sizes.{items_size, members_size, size_len};
 
+use crate::read::LONG;
 use mg_value::{Json, NoMemory};
 use std::collections::BTreeMap;
 
@@ -30,11 +31,18 @@ fn add(a: u32, b: u32) -> Result<u32, NoMemory>
     a.checked_add(b).ok_or(NoMemory)
 }
 
-// The size of a text, its length in four bytes, and `more` bytes.
-pub(crate) fn named_len(name: &str, more: u32) -> Result<u32, NoMemory>
-    ensures { IfOk result (λ n. n ≡ 4 + length name.now + more) }
+// How many bytes the length of a text takes.
+fn size_len(len: usize) -> u32
+    ensures { result ≡ size_len len }
 {
-    add(add(4, as_word(name.len())?)?, more)
+    if len < LONG as usize { 1 } else { 5 }
+}
+
+// The size of a text, of its length, and of `more` bytes.
+pub(crate) fn named_len(name: &str, more: u32) -> Result<u32, NoMemory>
+    ensures { IfOk result (λ n. n ≡ size_len (length name.now) + length name.now + more) }
+{
+    add(add(size_len(name.len()), as_word(name.len())?)?, more)
 }
 
 pub(crate) fn text_len(text: &str) -> Result<u32, NoMemory>

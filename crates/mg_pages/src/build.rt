@@ -3,7 +3,7 @@ ghost use Rattle.std.specs.Prelude.{◌≡◌, ◌<◌, ◌^◌, length, IfOk};
 ghost use Rattle.std.specs.List.{flat_map};
 ghost use Rattle.mg_pages.specs.Parts.{children, child_seen, child_whole, page_seen, page_whole, level_seen, level_whole, AreWhole};
 
-use crate::child::{Child, child_of, copied_children};
+use crate::child::{Child, child_of, copy_children};
 use crate::keyed::Keyed;
 use crate::level::{Level, count_of};
 use crate::page::{Page, page_of};
@@ -11,7 +11,10 @@ use crate::part::{LIMIT, Part};
 use std::alloc::{AllocError, Global};
 
 /// Groups the elements into pages. All pages but the last are full.
-pub fn paged<T: Keyed>(alloc: Global, elements: &[T]) -> Result<Vec<Child<T, Page<T>>>, AllocError>
+pub fn make_pages<T: Keyed>(
+    alloc: Global,
+    elements: &[T],
+) -> Result<Vec<Child<T, Page<T>>>, AllocError>
     ensures whole { IfOk result (λ v. AreWhole (child_whole page_whole page_seen) (children v.items)) }
     ensures seen { IfOk result (λ v. flat_map (child_seen page_seen) (children v.items) ≡ elements.now) }
 {
@@ -28,21 +31,24 @@ pub fn paged<T: Keyed>(alloc: Global, elements: &[T]) -> Result<Vec<Child<T, Pag
 }
 
 /// Groups the parts into levels. All levels but the last are full.
-pub fn grouped<T: Keyed, P: Part<T>>(
+pub fn group<T: Keyed, P: Part<T>>(
     alloc: Global,
     parts: &[Child<T, P>],
 ) -> Result<Vec<Child<T, Level<T, P>>>, AllocError>
     requires whole { AreWhole (child_whole P.is_whole P.seen) (children parts.now) }
     requires few { length (flat_map (child_seen P.seen) (children parts.now)) < 2 ^ 64 }
-    ensures whole { IfOk result (λ v. AreWhole (child_whole (level_whole P.is_whole P.seen) (level_seen P.seen)) (children v.items)) }
-    ensures seen { IfOk result (λ v. flat_map (child_seen (level_seen P.seen)) (children v.items) ≡ flat_map (child_seen P.seen) (children parts.now)) }
+    ensures whole { IfOk result
+        (λ v. AreWhole (child_whole (level_whole P.is_whole P.seen) (level_seen P.seen)) (children v.items)) }
+    ensures seen { IfOk result
+        (λ v. flat_map (child_seen (level_seen P.seen)) (children v.items)
+        ≡ flat_map (child_seen P.seen) (children parts.now)) }
 {
     let mut levels = Vec::new(alloc);
     let mut rest = parts;
     while rest.len() > 0 {
         let (chunk, others) = rest.split_at(rest.len().min(LIMIT));
         let count = count_of::<T, P>(chunk);
-        let parts = copied_children(alloc, chunk)?;
+        let parts = copy_children(alloc, chunk)?;
         let level = child_of::<T, Level<T, P>>(alloc, Level { parts, count })?;
         levels.push(level)?;
         rest = others;

@@ -5,6 +5,7 @@ ghost use Rattle.std.specs.Arc.{arc_value};
 ghost use Rattle.mg_pages.specs.Order.{Ascends, found, inserted, removed};
 ghost use Rattle.mg_pages.specs.Parts.{IsLast, node_value, child_value, child_seen, child_whole, children};
 
+use crate::element::room_for;
 use crate::hint::number_of;
 use crate::keyed::{Keyed, Probe};
 use crate::part::Part;
@@ -66,17 +67,17 @@ pub fn owners_of_nodes<T: Drop, P: Drop>(parts: &[Child<T, P>]) -> usize {
 }
 
 /// Copies the children, which share their parts, into a list with room for one more.
-pub fn copied_children<T: Drop, P: Drop>(
+pub fn copy_children<T: Drop, P: Drop>(
     alloc: Global,
     parts: &[Child<T, P>],
 ) -> Result<Vec<Child<T, P>>, AllocError>
     ensures { IfOk result (λ v. children v.items ≡ children parts.now) }
 {
-    let mut copies = Vec::with_capacity(alloc, parts.len().saturating_add(1))?;
+    let mut copies = Vec::with_capacity(alloc, room_for(parts.len()))?;
     let _ = owners_of_nodes(parts);
     for child in parts {
         let own = copy(child)?;
-        copies.push(own)?;
+        copies.push_reserved(own);
     }
     Ok(copies)
 }
@@ -127,7 +128,8 @@ fn own_node<T: Keyed, P: Part<T>>(
 ) -> Result<Node<T, P>, AllocError>
     requires { child_whole P.is_whole P.seen (node_value node.now) }
     ensures whole { IfOk result (λ n. child_whole P.is_whole P.seen (node_value n)) }
-    ensures seen { IfOk result (λ n. child_seen P.seen (node_value n) ≡ child_seen P.seen (node_value node.now)) }
+    ensures seen { IfOk result
+        (λ n. child_seen P.seen (node_value n) ≡ child_seen P.seen (node_value node.now)) }
 {
     let part = node.part.copy(alloc)?;
     let last = node.last.again()?;
@@ -143,9 +145,12 @@ fn put_in_node<T: Keyed, P: Part<T>>(
     requires whole { child_whole P.is_whole P.seen (node_value node.old) }
     requires sorted { Ascends T.order (child_seen P.seen (node_value node.old)) }
     ensures whole { child_whole P.is_whole P.seen (node_value node.new) }
-    ensures had { IfOk result (λ had. had ≡ is_some (found (T.order element) (child_seen P.seen (node_value node.old)))) }
-    ensures ok { OnOk result (child_seen P.seen (node_value node.new) ≡ inserted T.order element (child_seen P.seen (node_value node.old))) }
-    ensures err { OnErr result (child_seen P.seen (node_value node.new) ≡ child_seen P.seen (node_value node.old)) }
+    ensures had { IfOk result
+        (λ had. had ≡ is_some (found (T.order element) (child_seen P.seen (node_value node.old)))) }
+    ensures ok { OnOk result (child_seen P.seen (node_value node.new)
+        ≡ inserted T.order element (child_seen P.seen (node_value node.old))) }
+    ensures err { OnErr result (child_seen P.seen (node_value node.new)
+        ≡ child_seen P.seen (node_value node.old)) }
 {
     let last = last_with(&node.last, &element)?;
     let had = node.part.put(alloc, element)?;
@@ -162,10 +167,13 @@ fn take_out_of_node<T: Keyed, P: Part<T>, Q: Probe<T>>(
     requires whole { child_whole P.is_whole P.seen (node_value node.old) }
     requires sorted { Ascends T.order (child_seen P.seen (node_value node.old)) }
     requires there { IsSome (found (Q.against key.now) (child_seen P.seen (node_value node.old))) }
-    ensures whole { IfOk result (λ emptied. emptied ≡ false → child_whole P.is_whole P.seen (node_value node.new)) }
+    ensures whole { IfOk result
+        (λ emptied. emptied ≡ false → child_whole P.is_whole P.seen (node_value node.new)) }
     ensures emptied { IfOk result (λ emptied. emptied ≡ true → child_seen P.seen (node_value node.new) ≡ []) }
-    ensures ok { OnOk result (child_seen P.seen (node_value node.new) ≡ removed (Q.against key.now) (child_seen P.seen (node_value node.old))) }
-    ensures err { OnErr result (child_seen P.seen (node_value node.new) ≡ child_seen P.seen (node_value node.old)) }
+    ensures ok { OnOk result (child_seen P.seen (node_value node.new)
+        ≡ removed (Q.against key.now) (child_seen P.seen (node_value node.old))) }
+    ensures err { OnErr result (child_seen P.seen (node_value node.new)
+        ≡ child_seen P.seen (node_value node.old)) }
     ensures err_whole { OnErr result (child_whole P.is_whole P.seen (node_value node.new)) }
 {
     let last = last_without::<T, P, Q>(&node.part, &node.last, key)?;
@@ -183,9 +191,13 @@ fn put_shared<T: Keyed, P: Part<T>>(
     requires whole { child_whole P.is_whole P.seen (node_value (arc_value node.old)) }
     requires sorted { Ascends T.order (child_seen P.seen (node_value (arc_value node.old))) }
     ensures whole { child_whole P.is_whole P.seen (node_value (arc_value node.new)) }
-    ensures had { IfOk result (λ had. had ≡ is_some (found (T.order element) (child_seen P.seen (node_value (arc_value node.old))))) }
-    ensures ok { OnOk result (child_seen P.seen (node_value (arc_value node.new)) ≡ inserted T.order element (child_seen P.seen (node_value (arc_value node.old)))) }
-    ensures err { OnErr result (child_seen P.seen (node_value (arc_value node.new)) ≡ child_seen P.seen (node_value (arc_value node.old))) }
+    ensures had { IfOk result
+        (λ had. had ≡ is_some
+        (found (T.order element) (child_seen P.seen (node_value (arc_value node.old))))) }
+    ensures ok { OnOk result (child_seen P.seen (node_value (arc_value node.new))
+        ≡ inserted T.order element (child_seen P.seen (node_value (arc_value node.old)))) }
+    ensures err { OnErr result (child_seen P.seen (node_value (arc_value node.new))
+        ≡ child_seen P.seen (node_value (arc_value node.old))) }
 {
     if let Some(own) = Arc::get_mut(node) {
         return put_in_node::<T, P>(alloc, own, element);
@@ -205,10 +217,14 @@ fn take_out_shared<T: Keyed, P: Part<T>, Q: Probe<T>>(
     requires whole { child_whole P.is_whole P.seen (node_value (arc_value node.old)) }
     requires sorted { Ascends T.order (child_seen P.seen (node_value (arc_value node.old))) }
     requires there { IsSome (found (Q.against key.now) (child_seen P.seen (node_value (arc_value node.old)))) }
-    ensures whole { IfOk result (λ emptied. emptied ≡ false → child_whole P.is_whole P.seen (node_value (arc_value node.new))) }
-    ensures emptied { IfOk result (λ emptied. emptied ≡ true → child_seen P.seen (node_value (arc_value node.new)) ≡ []) }
-    ensures ok { OnOk result (child_seen P.seen (node_value (arc_value node.new)) ≡ removed (Q.against key.now) (child_seen P.seen (node_value (arc_value node.old)))) }
-    ensures err { OnErr result (child_seen P.seen (node_value (arc_value node.new)) ≡ child_seen P.seen (node_value (arc_value node.old))) }
+    ensures whole { IfOk result
+        (λ emptied. emptied ≡ false → child_whole P.is_whole P.seen (node_value (arc_value node.new))) }
+    ensures emptied { IfOk result
+        (λ emptied. emptied ≡ true → child_seen P.seen (node_value (arc_value node.new)) ≡ []) }
+    ensures ok { OnOk result (child_seen P.seen (node_value (arc_value node.new))
+        ≡ removed (Q.against key.now) (child_seen P.seen (node_value (arc_value node.old)))) }
+    ensures err { OnErr result (child_seen P.seen (node_value (arc_value node.new))
+        ≡ child_seen P.seen (node_value (arc_value node.old))) }
     ensures err_whole { OnErr result (child_whole P.is_whole P.seen (node_value (arc_value node.new))) }
 {
     if let Some(own) = Arc::get_mut(node) {
@@ -229,9 +245,12 @@ pub fn put_into<T: Keyed, P: Part<T>>(
     requires whole { child_whole P.is_whole P.seen (child_value child.old) }
     requires sorted { Ascends T.order (child_seen P.seen (child_value child.old)) }
     ensures whole { child_whole P.is_whole P.seen (child_value child.new) }
-    ensures had { IfOk result (λ had. had ≡ is_some (found (T.order element) (child_seen P.seen (child_value child.old)))) }
-    ensures ok { OnOk result (child_seen P.seen (child_value child.new) ≡ inserted T.order element (child_seen P.seen (child_value child.old))) }
-    ensures err { OnErr result (child_seen P.seen (child_value child.new) ≡ child_seen P.seen (child_value child.old)) }
+    ensures had { IfOk result
+        (λ had. had ≡ is_some (found (T.order element) (child_seen P.seen (child_value child.old)))) }
+    ensures ok { OnOk result (child_seen P.seen (child_value child.new)
+        ≡ inserted T.order element (child_seen P.seen (child_value child.old))) }
+    ensures err { OnErr result (child_seen P.seen (child_value child.new)
+        ≡ child_seen P.seen (child_value child.old)) }
 {
     let had = put_shared::<T, P>(alloc, &mut child.node, element)?;
     child.hint = number_of(&child.node.last);
@@ -248,10 +267,14 @@ pub fn take_out_of<T: Keyed, P: Part<T>, Q: Probe<T>>(
     requires whole { child_whole P.is_whole P.seen (child_value child.old) }
     requires sorted { Ascends T.order (child_seen P.seen (child_value child.old)) }
     requires there { IsSome (found (Q.against key.now) (child_seen P.seen (child_value child.old))) }
-    ensures whole { IfOk result (λ emptied. emptied ≡ false → child_whole P.is_whole P.seen (child_value child.new)) }
-    ensures emptied { IfOk result (λ emptied. emptied ≡ true → child_seen P.seen (child_value child.new) ≡ []) }
-    ensures ok { OnOk result (child_seen P.seen (child_value child.new) ≡ removed (Q.against key.now) (child_seen P.seen (child_value child.old))) }
-    ensures err { OnErr result (child_seen P.seen (child_value child.new) ≡ child_seen P.seen (child_value child.old)) }
+    ensures whole { IfOk result
+        (λ emptied. emptied ≡ false → child_whole P.is_whole P.seen (child_value child.new)) }
+    ensures emptied { IfOk result
+        (λ emptied. emptied ≡ true → child_seen P.seen (child_value child.new) ≡ []) }
+    ensures ok { OnOk result (child_seen P.seen (child_value child.new)
+        ≡ removed (Q.against key.now) (child_seen P.seen (child_value child.old))) }
+    ensures err { OnErr result (child_seen P.seen (child_value child.new)
+        ≡ child_seen P.seen (child_value child.old)) }
     ensures err_whole { OnErr result (child_whole P.is_whole P.seen (child_value child.new)) }
 {
     let emptied = take_out_shared::<T, P, Q>(alloc, &mut child.node, key)?;

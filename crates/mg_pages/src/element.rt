@@ -1,5 +1,5 @@
 //! The elements of pages: values that are stored in the page, or blocks of memory that several pages share.
-ghost use Rattle.std.specs.Prelude.{◌≡◌, IfOk};
+ghost use Rattle.std.specs.Prelude.{◌≡◌, ◌≤◌, IfOk};
 ghost use Rattle.std.specs.Arc.{arc_value};
 
 use mg_value::NoMemory;
@@ -14,9 +14,9 @@ pub trait Element: Drop + Sized {
     fn again(&self) -> Result<Self, AllocError>
         ensures { IfOk result (λ e. e ≡ self.now) };
 
-    /// How many owners its block has, read from the block; 1 for an element that has no block.
+    /// How many owners its block has, read from the block; 0 for an element that has no block.
     fn owners(&self) -> usize {
-        1
+        0
     }
 }
 
@@ -74,25 +74,37 @@ impl<X: Drop> Deref for Shared<X> {
     }
 }
 
-/// Prefetch: reads the reference count of each element, and returns their sum, wrapped at 64 bits. Cache misses of reads overlap,
-/// but those of updates follow one another; so this runs before elements are copied or dropped.
+/// Prefetch: reads the reference count of each element up to the first that has no block, and returns their sum, wrapped at 64 bits.
+/// Cache misses of reads overlap, but those of updates follow one another; so this runs before elements are copied or dropped.
+/// Where an element has no block, its neighbours mostly have none either.
 pub fn owners_of<T: Element>(elements: &[T]) -> usize {
     let mut owners = 0usize;
     for element in elements {
-        owners = owners.wrapping_add(element.owners());
+        let count = element.owners();
+        if count == 0 {
+            return owners;
+        }
+        owners = owners.wrapping_add(count);
     }
     owners
 }
 
+/// The room of a copy of a list: for one more.
+pub fn room_for(count: usize) -> usize
+    ensures { count ≤ result }
+{
+    if count < usize::MAX { count + 1 } else { count }
+}
+
 /// Duplicates the elements, in a list with room for one more.
-pub fn copied<T: Element>(alloc: Global, elements: &[T]) -> Result<Vec<T>, AllocError>
+pub fn copy_elements<T: Element>(alloc: Global, elements: &[T]) -> Result<Vec<T>, AllocError>
     ensures { IfOk result (λ v. v.items ≡ elements.now) }
 {
-    let mut copies = Vec::with_capacity(alloc, elements.len().saturating_add(1))?;
+    let mut copies = Vec::with_capacity(alloc, room_for(elements.len()))?;
     let _ = owners_of(elements);
     for element in elements {
         let own = element.again()?;
-        copies.push(own)?;
+        copies.push_reserved(own);
     }
     Ok(copies)
 }

@@ -59,7 +59,7 @@ impl Hints {
     }
 
     /// A copy of the hints, with room for one more.
-    pub fn copied(&self, alloc: Global) -> Result<Hints, AllocError> {
+    pub fn copy(&self, alloc: Global) -> Result<Hints, AllocError> {
         hints_of(alloc, &self.numbers)
     }
 

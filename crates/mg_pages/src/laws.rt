@@ -13,7 +13,8 @@ use crate::identified::Identified;
 /// removal are those of the map.
 pub fn ids_make_a_map<T: Identified, X>()
     ensures get { (value : T → X) (xs : List T) (id : List ℕ) → Ascends (id_order T.id) xs
-        → get (finite (slice_cmp nat_cmp) T.id value xs) id ≡ option_map value (found (id_against T.id id) xs) }
+        → get (finite (slice_cmp nat_cmp) T.id value xs) id
+        ≡ option_map value (found (id_against T.id id) xs) }
     ensures insert { (value : T → X) (xs : List T) (x : T) → Ascends (id_order T.id) xs
         → finite (slice_cmp nat_cmp) T.id value (inserted (id_order T.id) x xs)
         ≡ insert (finite (slice_cmp nat_cmp) T.id value xs) (T.id x) (value x) }

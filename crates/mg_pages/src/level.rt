@@ -6,9 +6,7 @@ ghost use Rattle.mg_pages.specs.Search.{AllBelow, AllAbove};
 ghost use Rattle.mg_pages.specs.Runs.{IsRun, IsEndRun, IsPageAt};
 ghost use Rattle.mg_pages.specs.Parts.{children, child_seen, child_value, child_whole, level_whole, AreWhole};
 
-use crate::child::{
-    Child, Node, child_of, copied_children, owners_of_nodes, put_into, take_out_of,
-};
+use crate::child::{Child, Node, child_of, copy_children, owners_of_nodes, put_into, take_out_of};
 use crate::hint::next_guess;
 use crate::keyed::{Keyed, Probe};
 use crate::part::{LIMIT, Part};
@@ -156,8 +154,10 @@ pub fn take_out_of_parts<T: Keyed, P: Part<T>, Q: Probe<T>>(
     requires sorted { Ascends T.order (flat_map (child_seen P.seen) (children parts.old.items)) }
     requires there { IsSome (found (Q.against key.now) (flat_map (child_seen P.seen) (children parts.old.items))) }
     ensures whole { AreWhole (child_whole P.is_whole P.seen) (children parts.new.items) }
-    ensures ok { OnOk result (flat_map (child_seen P.seen) (children parts.new.items) ≡ removed (Q.against key.now) (flat_map (child_seen P.seen) (children parts.old.items))) }
-    ensures err { OnErr result (flat_map (child_seen P.seen) (children parts.new.items) ≡ flat_map (child_seen P.seen) (children parts.old.items)) }
+    ensures ok { OnOk result (flat_map (child_seen P.seen) (children parts.new.items)
+        ≡ removed (Q.against key.now) (flat_map (child_seen P.seen) (children parts.old.items))) }
+    ensures err { OnErr result (flat_map (child_seen P.seen) (children parts.new.items)
+        ≡ flat_map (child_seen P.seen) (children parts.old.items)) }
     ensures err_some { OnErr result (0 < length parts.new.items) }
 {
     let i = place::<T, P, Q>(parts, key);
@@ -198,7 +198,8 @@ fn make_room<T: Keyed, P: Part<T>>(
     requires sorted { Ascends T.order (flat_map (child_seen P.seen) (children parts.old.items)) }
     ensures some { 0 < length parts.new.items }
     ensures whole { AreWhole (child_whole P.is_whole P.seen) (children parts.new.items) }
-    ensures seen { flat_map (child_seen P.seen) (children parts.new.items) ≡ flat_map (child_seen P.seen) (children parts.old.items) }
+    ensures seen { flat_map (child_seen P.seen) (children parts.new.items)
+        ≡ flat_map (child_seen P.seen) (children parts.old.items) }
     ensures kept { IfOk result (λ split. split ≡ false → parts.new.items ≡ parts.old.items) }
 {
     let child = &parts[i];
@@ -225,10 +226,15 @@ fn with_room<T: Keyed, P: Part<T>>(
     requires sorted { Ascends T.order (flat_map (child_seen P.seen) (children parts.old.items)) }
     ensures some { 0 < length parts.new.items }
     ensures whole { AreWhole (child_whole P.is_whole P.seen) (children parts.new.items) }
-    ensures seen { flat_map (child_seen P.seen) (children parts.new.items) ≡ flat_map (child_seen P.seen) (children parts.old.items) }
+    ensures seen { flat_map (child_seen P.seen) (children parts.new.items)
+        ≡ flat_map (child_seen P.seen) (children parts.old.items) }
     ensures within { IfOk result (λ i. i < length parts.new.items) }
-    ensures below { IfOk result (λ i. AllBelow (T.order element.now) (flat_map (child_seen P.seen) (take i (children parts.new.items)))) }
-    ensures above { IfOk result (λ i. AllAbove (T.order element.now) (flat_map (child_seen P.seen) (drop (i + 1) (children parts.new.items)))) }
+    ensures below { IfOk result
+        (λ i. AllBelow (T.order element.now)
+        (flat_map (child_seen P.seen) (take i (children parts.new.items)))) }
+    ensures above { IfOk result
+        (λ i. AllAbove (T.order element.now)
+        (flat_map (child_seen P.seen) (drop (i + 1) (children parts.new.items)))) }
 {
     let i = place::<T, P, T>(parts, element);
     let split = make_room::<T, P>(alloc, parts, i, element)?;
@@ -317,7 +323,7 @@ impl<T: Keyed, P: Part<T>> Part<T> for Level<T, P> {
     }
 
     fn copy(&self, alloc: Global) -> Result<Level<T, P>, AllocError> {
-        let parts = copied_children(alloc, &self.parts)?;
+        let parts = copy_children(alloc, &self.parts)?;
         let count = self.count;
         Ok(Level { parts, count })
     }
@@ -333,8 +339,8 @@ impl<T: Keyed, P: Part<T>> Part<T> for Level<T, P> {
         let all = self.count();
         let (front, back) = self.parts.split_at(self.parts.len() / 2);
         let count = count_of::<T, P>(front);
-        let front = copied_children(alloc, front)?;
-        let back = copied_children(alloc, back)?;
+        let front = copy_children(alloc, front)?;
+        let back = copy_children(alloc, back)?;
         let front = Level {
             parts: front,
             count,
@@ -350,9 +356,13 @@ impl<T: Keyed, P: Part<T>> Part<T> for Level<T, P> {
         requires whole { level_whole P.is_whole P.seen self.old }
         requires sorted { Ascends T.order (flat_map (child_seen P.seen) (children self.old.parts.items)) }
         ensures whole { level_whole P.is_whole P.seen self.new }
-        ensures had { IfOk result (λ had. had ≡ is_some (found (T.order element) (flat_map (child_seen P.seen) (children self.old.parts.items)))) }
-        ensures ok { OnOk result (flat_map (child_seen P.seen) (children self.new.parts.items) ≡ inserted T.order element (flat_map (child_seen P.seen) (children self.old.parts.items))) }
-        ensures err { OnErr result (flat_map (child_seen P.seen) (children self.new.parts.items) ≡ flat_map (child_seen P.seen) (children self.old.parts.items)) }
+        ensures had { IfOk result
+            (λ had. had ≡ is_some
+            (found (T.order element) (flat_map (child_seen P.seen) (children self.old.parts.items)))) }
+        ensures ok { OnOk result (flat_map (child_seen P.seen) (children self.new.parts.items)
+            ≡ inserted T.order element (flat_map (child_seen P.seen) (children self.old.parts.items))) }
+        ensures err { OnErr result (flat_map (child_seen P.seen) (children self.new.parts.items)
+            ≡ flat_map (child_seen P.seen) (children self.old.parts.items)) }
     {
         let Some(more) = self.count.checked_add(1) else {
             return Err(AllocError);
@@ -368,10 +378,15 @@ impl<T: Keyed, P: Part<T>> Part<T> for Level<T, P> {
         requires sorted { Ascends T.order (flat_map (child_seen P.seen) (children self.old.parts.items)) }
         requires there { IsSome (found (Q.against key.now) (flat_map (child_seen P.seen) (children self.old.parts.items))) }
         ensures whole { IfOk result (λ emptied. emptied ≡ false → level_whole P.is_whole P.seen self.new) }
-        ensures some { IfOk result (λ emptied. emptied ≡ false → 0 < length (flat_map (child_seen P.seen) (children self.new.parts.items))) }
-        ensures emptied { IfOk result (λ emptied. emptied ≡ true → flat_map (child_seen P.seen) (children self.new.parts.items) ≡ []) }
-        ensures ok { OnOk result (flat_map (child_seen P.seen) (children self.new.parts.items) ≡ removed (Q.against key.now) (flat_map (child_seen P.seen) (children self.old.parts.items))) }
-        ensures err { OnErr result (flat_map (child_seen P.seen) (children self.new.parts.items) ≡ flat_map (child_seen P.seen) (children self.old.parts.items)) }
+        ensures some { IfOk result
+            (λ emptied. emptied ≡ false
+            → 0 < length (flat_map (child_seen P.seen) (children self.new.parts.items))) }
+        ensures emptied { IfOk result
+            (λ emptied. emptied ≡ true → flat_map (child_seen P.seen) (children self.new.parts.items) ≡ []) }
+        ensures ok { OnOk result (flat_map (child_seen P.seen) (children self.new.parts.items)
+            ≡ removed (Q.against key.now) (flat_map (child_seen P.seen) (children self.old.parts.items))) }
+        ensures err { OnErr result (flat_map (child_seen P.seen) (children self.new.parts.items)
+            ≡ flat_map (child_seen P.seen) (children self.old.parts.items)) }
         ensures err_whole { OnErr result (level_whole P.is_whole P.seen self.new) }
     {
         take_out_of_parts::<T, P, Q>(alloc, &mut self.parts, key)?;

@@ -4,7 +4,7 @@ ghost use Rattle.std.specs.List.{AllByRecursion, flat_map};
 ghost use Rattle.mg_pages.specs.Order.{Ascends};
 ghost use Rattle.mg_pages.specs.Parts.{AreWhole, child_seen, child_value, child_whole, children, page_seen, page_whole};
 
-use crate::build::grouped;
+use crate::build::group;
 use crate::child::{Child, child_of};
 use crate::keyed::Keyed;
 use crate::level::{Level, count_of};
@@ -63,7 +63,8 @@ fn parts_of<T: Keyed>(
 ) -> Result<Vec<Child<T, Page<T>>>, AllocError>
     requires { AllByRecursion (λ (p : List T). 0 < length p) pages.items }
     ensures whole { IfOk result (λ v. AreWhole (child_whole page_whole page_seen) (children v.items)) }
-    ensures seen { IfOk result (λ v. flat_map (child_seen page_seen) (children v.items) ≡ flat_map (λ p. p) pages.items) }
+    ensures seen { IfOk result
+        (λ v. flat_map (child_seen page_seen) (children v.items) ≡ flat_map (λ p. p) pages.items) }
 {
     let mut parts = Vec::with_capacity(alloc, pages.len())?;
     for page in pages {
@@ -84,8 +85,8 @@ impl<T: Keyed> Pages<T> {
         ensures { IfOk result (λ p. p ≡ flat_map (λ p. p) pages.items) }
     {
         let parts = parts_of(alloc, pages)?;
-        let lows = grouped::<T, Page<T>>(alloc, &parts)?;
-        let highs = grouped::<T, Level<T, Page<T>>>(alloc, &lows)?;
+        let lows = group::<T, Page<T>>(alloc, &parts)?;
+        let highs = group::<T, Level<T, Page<T>>>(alloc, &lows)?;
         let count = count_of::<T, Level<T, Level<T, Page<T>>>>(&highs);
         Ok(Pages {
             root: Level {

@@ -3,7 +3,7 @@ ghost use Rattle.std.specs.Prelude.{is_some, ◌≡◌, ◌<◌, [], true, false
 ghost use Rattle.mg_pages.specs.Order.{Ascends, found, inserted, removed};
 ghost use Rattle.mg_pages.specs.Search.{IsTie, IsGap};
 
-use crate::element::{Element, copied, owners_of};
+use crate::element::{Element, copy_elements, owners_of};
 use crate::hint::{Hints, next_guess, number_of};
 use crate::keyed::{Keyed, Probe};
 use crate::part::{LIMIT, Part};
@@ -52,7 +52,7 @@ pub fn page_of<T: Keyed>(alloc: Global, elements: &[T]) -> Result<Page<T>, Alloc
     for element in elements {
         hints.push(number_of(element))?;
     }
-    let elements = copied(alloc, elements)?;
+    let elements = copy_elements(alloc, elements)?;
     Ok(Page { elements, hints })
 }
 
@@ -120,8 +120,8 @@ impl<T: Keyed> Part<T> for Page<T> {
     }
 
     fn copy(&self, alloc: Global) -> Result<Page<T>, AllocError> {
-        let elements = copied(alloc, &self.elements)?;
-        let hints = self.hints.copied(alloc)?;
+        let elements = copy_elements(alloc, &self.elements)?;
+        let hints = self.hints.copy(alloc)?;
         Ok(Page { elements, hints })
     }
 
@@ -140,11 +140,11 @@ impl<T: Keyed> Part<T> for Page<T> {
         let (front, back) = self.elements.split_at(middle);
         let (front_hints, back_hints) = self.hints.halves(alloc, middle)?;
         let front = Page {
-            elements: copied(alloc, front)?,
+            elements: copy_elements(alloc, front)?,
             hints: front_hints,
         };
         let back = Page {
-            elements: copied(alloc, back)?,
+            elements: copy_elements(alloc, back)?,
             hints: back_hints,
         };
         Ok(Some((front, back)))
@@ -155,7 +155,8 @@ impl<T: Keyed> Part<T> for Page<T> {
         requires sorted { Ascends T.order self.old.elements.items }
         ensures whole { 0 < length self.new.elements.items }
         ensures had { IfOk result (λ had. had ≡ is_some (found (T.order element) self.old.elements.items)) }
-        ensures ok { OnOk result (self.new.elements.items ≡ inserted T.order element self.old.elements.items) }
+        ensures ok { OnOk result (self.new.elements.items
+            ≡ inserted T.order element self.old.elements.items) }
         ensures err { OnErr result (self.new.elements.items ≡ self.old.elements.items) }
     {
         let hint = number_of(&element);
@@ -180,7 +181,8 @@ impl<T: Keyed> Part<T> for Page<T> {
         ensures whole { IfOk result (λ emptied. emptied ≡ false → 0 < length self.new.elements.items) }
         ensures some { IfOk result (λ emptied. emptied ≡ false → 0 < length self.new.elements.items) }
         ensures emptied { IfOk result (λ emptied. emptied ≡ true → self.new.elements.items ≡ []) }
-        ensures ok { OnOk result (self.new.elements.items ≡ removed (Q.against key.now) self.old.elements.items) }
+        ensures ok { OnOk result (self.new.elements.items
+            ≡ removed (Q.against key.now) self.old.elements.items) }
         ensures err { OnErr result (self.new.elements.items ≡ self.old.elements.items) }
         ensures err_whole { OnErr result (0 < length self.new.elements.items) }
     {

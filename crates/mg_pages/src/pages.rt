@@ -5,8 +5,8 @@ ghost use Rattle.mg_pages.specs.Runs.{IsRun, IsEndRun};
 ghost use Rattle.mg_pages.specs.Parts.{level_seen, level_whole, high_seen, high_whole, root_seen, IsSound};
 
 use crate::back::Back;
-use crate::build::{grouped, paged};
-use crate::child::{child_of, copied_children};
+use crate::build::{group, make_pages};
+use crate::child::{child_of, copy_children};
 use crate::hint::{Hints, number_of};
 use crate::iter::Iter;
 use crate::keyed::{Keyed, Probe};
@@ -148,9 +148,9 @@ impl<T: Keyed> Pages<T> {
         requires { Ascends T.order elements.now }
         ensures { IfOk result (λ p. p ≡ elements.now) }
     {
-        let pages = paged(alloc, elements)?;
-        let lows = grouped::<T, Page<T>>(alloc, &pages)?;
-        let parts = grouped::<T, Level<T, Page<T>>>(alloc, &lows)?;
+        let pages = make_pages(alloc, elements)?;
+        let lows = group::<T, Page<T>>(alloc, &pages)?;
+        let parts = group::<T, Level<T, Page<T>>>(alloc, &lows)?;
         let count = elements.len();
         Ok(Pages {
             root: Level { parts, count },
@@ -351,7 +351,7 @@ impl<T: Keyed> Pages<T> {
     pub fn share(&self, alloc: Global) -> Result<Pages<T>, NoMemory>
         ensures { IfOk result (λ p. p ≡ self.now) }
     {
-        let parts = copied_children(alloc, &self.root.parts)?;
+        let parts = copy_children(alloc, &self.root.parts)?;
         let count = self.root.count;
         Ok(Pages {
             root: Level { parts, count },
@@ -379,7 +379,8 @@ impl<T: Keyed> Pages<T> {
     pub fn remove<Q: Probe<T>>(&mut self, alloc: Global, key: &Q) -> Result<bool, NoMemory>
         ensures had { IfOk result (λ had. had ≡ is_some (found (Q.against key.now) self.old)) }
         ensures ok { OnOk result (self.new ≡ removed (Q.against key.now) self.old) }
-        ensures absent { found (Q.against key.now) self.old ≡ None → (result ≡ Ok false) × (self.new ≡ self.old) }
+        ensures absent { found (Q.against key.now) self.old ≡ None → (result ≡ Ok false)
+            × (self.new ≡ self.old) }
         ensures err { OnErr result (self.new ≡ self.old) }
     {
         if self.get(key).is_none() {

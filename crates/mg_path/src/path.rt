@@ -68,8 +68,8 @@ impl Path {
         &self.steps
     }
 
-    /// Finds the part of the value at this path: in an object a step names a member, in an array the
-    /// place of an item, from 0. `None` where the part is missing. The part is borrowed; no memory is taken.
+    /// Finds the part of the value at this path. A step is the name of a member, or in an array the number of
+    /// an item, from 0. `None` if the part is missing. The part is borrowed; no memory is taken.
     ///
     /// Cost: for each step a look-up in an object or an array.
     pub fn get<'a>(&self, value: &'a Json) -> Option<&'a Json>

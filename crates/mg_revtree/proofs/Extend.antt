@@ -5,8 +5,8 @@ use Rattle.std.specs.Result.{IsErrAnd}
 use Rattle.std.proofs.lemmas.Bool.Decides.{nat_tests}
 use Rattle.mg_revtree.specs.declared.error.TreeError.{TreeError}
 use Rattle.mg_revtree.specs.declared.error.TreeError.TheVariants.{NoMemory as no_memory}
-use Rattle.mg_revtree.specs.declared.error.Refusal.{Refusal}
-use Rattle.mg_revtree.specs.declared.error.Refusal.TheVariants.{NotLeaf, Full, Known}
+use Rattle.mg_revtree.specs.declared.error.TreeRefusal.{TreeRefusal}
+use Rattle.mg_revtree.specs.declared.error.TreeRefusal.TheVariants.{NotLeaf, Full, Known}
 use Rattle.mg_revtree.specs.Revision.{Revision, run_from}
 use Rattle.mg_revtree.specs.History.{History, Link, all_links, Leaf, is_known}
 use Rattle.mg_revtree.specs.Tree.{AreLeaves}
@@ -32,7 +32,7 @@ pub position_refused : (h : History) (base : Option Revision) → may_extend h b
 position_refused h base e = rw e refl
 
 -- the position above the one below, or none
-pub position_is : (h : History) (base : Option Revision) (n : ℕ) (o : Option ℕ) (r : Result ℕ Refusal) → may_extend h base ≡ true → n ≡ position_below base → SomeIff o (n + 1 < 2 ^ 32) (n + 1) → n < 2 ^ 32 → r ≡ ok_or o Full → r ≡ next_position h base
+pub position_is : (h : History) (base : Option Revision) (n : ℕ) (o : Option ℕ) (r : Result ℕ TreeRefusal) → may_extend h base ≡ true → n ≡ position_below base → SomeIff o (n + 1 < 2 ^ 32) (n + 1) → n < 2 ^ 32 → r ≡ ok_or o Full → r ≡ next_position h base
 position_is h base n None r e is none fits to =
     let top : n ≡ 4294967295 = omega (arith, none, fits) in
     let t : (position_below base == 4294967295) ≡ true = grind (arith, nat_tests) in
@@ -41,7 +41,7 @@ position_is h base n (Some m) r e is some fits to =
     let t : (position_below base == 4294967295) ≡ false = grind (arith, nat_tests) in
     to ∙ rw (e, t) (ap Ok (some.1 ∙ ap (λ k. k + 1) is))
 
-pub position_ok : (base : Option Revision) (n : ℕ) (o : Option ℕ) (r : Result ℕ Refusal) → n ≡ position_below base → SomeIff o (n + 1 < 2 ^ 32) (n + 1) → r ≡ ok_or o Full → IfOk r (λ m. m ≡ position_below base + 1)
+pub position_ok : (base : Option Revision) (n : ℕ) (o : Option ℕ) (r : Result ℕ TreeRefusal) → n ≡ position_below base → SomeIff o (n + 1 < 2 ^ 32) (n + 1) → r ≡ ok_or o Full → IfOk r (λ m. m ≡ position_below base + 1)
 position_ok base n None (Ok m) is none to = absurd cc
 position_ok base n None (Err e) is none to = tt
 position_ok base n (Some k) (Ok m) is some to = let e : m ≡ k = cc in e ∙ some.1 ∙ ap (λ j. j + 1) is
@@ -50,7 +50,7 @@ position_ok base n (Some k) (Err e) is some to = tt
 -- ---- why a new revision is not made
 
 -- why a revision is not made at its position, if it has one
-abbrev pub refusal_at : Result ℕ Refusal → List ℕ → List Link → Option Refusal
+abbrev pub refusal_at : Result ℕ TreeRefusal → List ℕ → List Link → Option TreeRefusal
 refusal_at (Err refusal) id ls = Some refusal
 refusal_at (Ok n) id ls = if is_known (n, id) ls then Some Known else None
 
@@ -60,7 +60,7 @@ refusal_is h base id = elim (two (may_extend h base)) [
   | inr f ↦ rw f refl
 ]
 
-pub refused_position : (h : History) (base : Option Revision) (id : List ℕ) (refusal : Refusal) → Err refusal ≡ next_position h base → Some refusal ≡ refusal_of h base id
+pub refused_position : (h : History) (base : Option Revision) (id : List ℕ) (refusal : TreeRefusal) → Err refusal ≡ next_position h base → Some refusal ≡ refusal_of h base id
 refused_position h base id refusal e = ap (λ p. refusal_at p id (all_links h)) e ∙ refusal_is h base id
 
 pub refused_known : (h : History) (base : Option Revision) (id : List ℕ) (n : ℕ) → Ok n ≡ next_position h base → is_known (n, id) (all_links h) ≡ true → Some Known ≡ refusal_of h base id
@@ -71,12 +71,12 @@ not_refused h base id n e k = (let t : None ≡ refusal_at (Ok n) id (all_links 
 
 -- ---- the result of an extension
 
-pub decides_refused : (o : Option Refusal) (refusal : Refusal) (r : Result (Unit {0}) TreeError) → Some refusal ≡ o → IsErrAnd r (λ e. e ≡ error_of refusal) → Decides o r
+pub decides_refused : (o : Option TreeRefusal) (refusal : TreeRefusal) (r : Result (Unit {0}) TreeError) → Some refusal ≡ o → IsErrAnd r (λ e. e ≡ error_of refusal) → Decides o r
 decides_refused o refusal (Ok u) is h = absurd h
-decides_refused o refusal (Err e) is h = subst (λ (x : Option Refusal). Decides x (Err e)) is (ap Err h)
+decides_refused o refusal (Err e) is h = subst (λ (x : Option TreeRefusal). Decides x (Err e)) is (ap Err h)
 
-pub decides_made : (o : Option Refusal) (r : Result (Unit {0}) TreeError) → None ≡ o → IsOkUnless r no_memory → Decides o r
-decides_made o r is h = subst (λ (x : Option Refusal). Decides x r) is h
+pub decides_made : (o : Option TreeRefusal) (r : Result (Unit {0}) TreeError) → None ≡ o → IsOkUnless r no_memory → Decides o r
+decides_made o r is h = subst (λ (x : Option TreeRefusal). Decides x r) is h
 
 -- memory runs out
 pub only_memory : (r : Result (Unit {0}) TreeError) → IsErrAnd r (λ e. e ≡ no_memory) → IsOkUnless r no_memory

@@ -11,7 +11,7 @@ use Rattle.mg_revtree.specs.Nodes.{AreWithin, Grows, NodeWithin, link_in, text_o
 use Rattle.mg_revtree.specs.Steps.{IsGap, IsPlace}
 use Rattle.mg_revtree.specs.Known.{AreBelow, with_link, with_links}
 use Rattle.mg_revtree.specs.declared.links.node.Node.{Node}
-use Rattle.mg_revtree.specs.declared.links.node.Part.{Part}
+use Rattle.mg_revtree.specs.declared.links.node.IdPart.{IdPart}
 use Rattle.mg_revtree.proofs.Find.{place_is, sorted_at}
 use Rattle.mg_revtree.proofs.Texts.{grown-length, grown-links, kept_at, node-within, now_is, or_within, within-more}
 use Rattle.mg_revtree.proofs.Kept.{are_below-append, are_below_less, gap_above, gap_with, place_below, place_with, sorted_all, with_more, with_passed}
@@ -95,7 +95,7 @@ module _ (t : List ℕ) (made older : List Node) (i : ℕ) where
 
 -- ---- nodes of other texts
 
-parent_of_text : (n : ℕ) (t : List ℕ) (o : Option Part) → option_map {U = Revision} (λ p. (n, text_of_part t p)) o ≡ option_map {U = Revision} (λ s. (n, s)) (option_map (text_of_part t) o)
+parent_of_text : (n : ℕ) (t : List ℕ) (o : Option IdPart) → option_map {U = Revision} (λ p. (n, text_of_part t p)) o ≡ option_map {U = Revision} (λ s. (n, s)) (option_map (text_of_part t) o)
 parent_of_text n t None = refl
 parent_of_text n t (Some p) = refl
 

@@ -16,7 +16,7 @@ use Rattle.mg_revtree.specs.Steps.{IsGap, IsPlace, put}
 use Rattle.mg_revtree.specs.Nodes.{AreWithin, IsWithin, NodeWithin, ParentWithin, PartsWithin, link_in, links_in, text_of_part}
 use Rattle.mg_revtree.specs.Room.{AreFrom, Joins, used}
 use Rattle.mg_revtree.specs.declared.links.node.Node.{Node}
-use Rattle.mg_revtree.specs.declared.links.node.Part.{Part}
+use Rattle.mg_revtree.specs.declared.links.node.IdPart.{IdPart}
 use Rattle.mg_revtree.proofs.Find.{find-insert, gap_none, sorted-insert}
 use Rattle.mg_revtree.proofs.Joins.{node-put-before}
 use Rattle.mg_revtree.proofs.Texts.{find-joined, map-insert, part-within, sorted-joined, within-joined}
@@ -199,13 +199,13 @@ module _ (t : List ℕ) (x : Node) (ns : List Node) (till from : ℕ) where
 -- ---- a run joined, newest first
 
 -- the links so far, which the nodes stand for, and what is left of the run
-pub record Goes (t : List ℕ) (start : ℕ) (ps : List Part) (i pos : ℕ) (now after : List Node) (ls : List Link) : Type 0 where
+pub record Goes (t : List ℕ) (start : ℕ) (ps : List IdPart) (i pos : ℕ) (now after : List Node) (ls : List Link) : Type 0 where
   pub so_far : List Link
   pub nodes : AreNodes (links_in t now) so_far
   pub rest : ls ++ links (run_from start (map (text_of_part t) ps)) ≡ so_far ++ links (run_from pos (map (text_of_part t) (drop i ps)))
   pub above : AreFrom (start + 1 - i) (links_in t after)
 
-module _ (t : List ℕ) (start : ℕ) (ps : List Part) where
+module _ (t : List ℕ) (start : ℕ) (ps : List IdPart) where
   pub goes_first : (ns : List Node) (known : ℕ) (ls : List Link) → AreNodes (links_in t (take known ns)) ls → Goes t start ps 0 start (used ns known (length ns)) (drop (length ns) ns) ls
   goes_first ns known ls nodes =
       let none : drop (length ns) ns ≡ [] = drop_all (length ns) ns (omega arith) in
@@ -224,11 +224,11 @@ module _ (t : List ℕ) (start : ℕ) (ps : List Part) where
       let rest = run_from (pos - 1) (map (text_of_part t) (drop (i + 1) ps)) in
       let link = λ (n : ℕ) (s : List ℕ) (o : Option Revision). (let l : Link = record { rev = (n, s); parent = o } in l) in
       let head : link pos (text_of_part t (get_or ps i x.id)) (newest_of rest) ≡ link_in t x =
-      ap (λ (p : Part). link pos (text_of_part t p) (newest_of rest)) (sym id)
+      ap (λ (p : IdPart). link pos (text_of_part t p) (newest_of rest)) (sym id)
       ∙ ap (link pos (text_of_part t x.id)) (sym newest)
       ∙ ap (λ (n : ℕ). link n (text_of_part t x.id) (option_map {U = Revision} (λ p. (n - 1, text_of_part t p)) x.parent)) (sym here) in
       let split : links (run_from pos (map (text_of_part t) (drop i ps))) ≡ link_in t x ∷ links rest =
-      ap (λ (qs : List Part). links (run_from pos (map (text_of_part t) qs))) (drop_more ps i x.id lt) ∙ ap (λ (l : Link). l ∷ links rest) head in
+      ap (λ (qs : List IdPart). links (run_from pos (map (text_of_part t) qs))) (drop_more ps i x.id lt) ∙ ap (λ (l : Link). l ∷ links rest) head in
       record {
         so_far = g.so_far ++ link_in t x ∷ [];
         nodes = nodes-put (link_in t x) (links_in t now) (links_in t new) g.so_far g.nodes j.kept j.sorted;
@@ -239,11 +239,11 @@ module _ (t : List ℕ) (start : ℕ) (ps : List Part) where
   pub goes_last : (i pos : ℕ) (now after : List Node) (ls : List Link) → Goes t start ps i pos now after ls → length ps ≤ i → AreNodes (links_in t now) (ls ++ links (run_from start (map (text_of_part t) ps)))
   goes_last i pos now after ls g past =
       let none : drop i ps ≡ [] = drop_all i ps past in
-      let all : ls ++ links (run_from start (map (text_of_part t) ps)) ≡ g.so_far = g.rest ∙ ap (λ (qs : List Part). g.so_far ++ links (run_from pos (map (text_of_part t) qs))) none ∙ append-nil g.so_far in
+      let all : ls ++ links (run_from start (map (text_of_part t) ps)) ≡ g.so_far = g.rest ∙ ap (λ (qs : List IdPart). g.so_far ++ links (run_from pos (map (text_of_part t) qs))) none ∙ append-nil g.so_far in
       subst (AreNodes (links_in t now)) (sym all) g.nodes
 
 -- the parent that is read of a run is within its parts
-pub got_within : (n : ℕ) (ps : List Part) (i : ℕ) (r : Option (Bor Part)) → MatchOption r (length ps ≤ i) (λ x. (i < length ps) × HoldsAt (λ y. x.now ≡ y) ps i) → PartsWithin n ps → ParentWithin n (option_copied r)
+pub got_within : (n : ℕ) (ps : List IdPart) (i : ℕ) (r : Option (Bor IdPart)) → MatchOption r (length ps ≤ i) (λ x. (i < length ps) × HoldsAt (λ y. x.now ≡ y) ps i) → PartsWithin n ps → ParentWithin n (option_copied r)
 got_within n ps i None h w = tt
 got_within n ps i (Some x) h w = subst (IsWithin n) (sym (h.1 x.now)) (part-within n ps i x.now h.0 w)
 

@@ -8,17 +8,17 @@ use Rattle.mg_revtree.specs.Tree.{AreSorted, find}
 use Rattle.mg_revtree.specs.Nodes.{text_of_part, link_in, IsWithin, ParentWithin, NodeWithin, AreWithin, PartsWithin, Grows}
 use Rattle.mg_revtree.specs.Steps.{put, IsPlace}
 use Rattle.mg_revtree.specs.Known.{parent_below}
-use Rattle.mg_revtree.specs.declared.links.node.Part.{Part}
+use Rattle.mg_revtree.specs.declared.links.node.IdPart.{IdPart}
 use Rattle.mg_revtree.specs.declared.links.node.Node.{Node}
 use Rattle.mg_revtree.proofs.Find.{find-set, place_find, place_is, sorted-set}
 
 -- ---- a text that grows
 
 module _ (xs ys : List ℕ) where
-  pub part-grown : (p : Part) → IsWithin (length xs) p → text_of_part (xs ++ ys) p ≡ text_of_part xs p
+  pub part-grown : (p : IdPart) → IsWithin (length xs) p → text_of_part (xs ++ ys) p ≡ text_of_part xs p
   part-grown p h = rw (drop-append-le p.from xs ys (omega arith)) (take-append-le p.len (drop p.from xs) ys (omega (arith, length-drop p.from xs)))
 
-  parent-grown : (n : ℕ) (o : Option Part) → ParentWithin (length xs) o → option_map {U = Revision} (λ p. (n - 1, text_of_part (xs ++ ys) p)) o ≡ option_map {U = Revision} (λ p. (n - 1, text_of_part xs p)) o
+  parent-grown : (n : ℕ) (o : Option IdPart) → ParentWithin (length xs) o → option_map {U = Revision} (λ p. (n - 1, text_of_part (xs ++ ys) p)) o ≡ option_map {U = Revision} (λ p. (n - 1, text_of_part xs p)) o
   parent-grown n None h = refl
   parent-grown n (Some p) h = rw (part-grown p h) refl
 
@@ -29,14 +29,14 @@ module _ (xs ys : List ℕ) where
   links-grown [] h = refl
   links-grown (x ∷ ns) h = rw (link-grown x h.0, links-grown ns h.1) refl
 
-  pub parts-grown : (ps : List Part) → PartsWithin (length xs) ps → map (text_of_part (xs ++ ys)) ps ≡ map (text_of_part xs) ps
+  pub parts-grown : (ps : List IdPart) → PartsWithin (length xs) ps → map (text_of_part (xs ++ ys)) ps ≡ map (text_of_part xs) ps
   parts-grown [] h = refl
   parts-grown (p ∷ ps) h = rw (part-grown p h.0, parts-grown ps h.1) refl
 
 -- ---- what stays within
 
 module _ (m n : ℕ) (le : m ≤ n) where
-  parent-more : (o : Option Part) → ParentWithin m o → ParentWithin n o
+  parent-more : (o : Option IdPart) → ParentWithin m o → ParentWithin n o
   parent-more None h = tt
   parent-more (Some p) h = omega arith
 
@@ -44,15 +44,15 @@ module _ (m n : ℕ) (le : m ≤ n) where
   within-more [] h = tt
   within-more (x ∷ ns) h = ((omega (arith, h.0.0), parent-more x.parent h.0.1), within-more ns h.1)
 
-  pub parts-more : (ps : List Part) → PartsWithin m ps → PartsWithin n ps
+  pub parts-more : (ps : List IdPart) → PartsWithin m ps → PartsWithin n ps
   parts-more [] h = tt
   parts-more (p ∷ ps) h = (omega (arith, h.0), parts-more ps h.1)
 
-pub parts-push : (n : ℕ) (ps : List Part) (p : Part) → PartsWithin n ps → IsWithin n p → PartsWithin n (ps ++ p ∷ [])
+pub parts-push : (n : ℕ) (ps : List IdPart) (p : IdPart) → PartsWithin n ps → IsWithin n p → PartsWithin n (ps ++ p ∷ [])
 parts-push n [] p h w = (w, tt)
 parts-push n (q ∷ ps) p h w = (h.0, parts-push n ps p h.1 w)
 
-pub part-within : (n : ℕ) (ps : List Part) (i : ℕ) (d : Part) → i < length ps → PartsWithin n ps → IsWithin n (get_or ps i d)
+pub part-within : (n : ℕ) (ps : List IdPart) (i : ℕ) (d : IdPart) → i < length ps → PartsWithin n ps → IsWithin n (get_or ps i d)
 part-within n [] i d lt h = absurd (omega arith)
 part-within n (p ∷ ps) zero d lt h = h.0
 part-within n (p ∷ ps) (suc i) d lt h = part-within n ps i d (omega arith) h.1
@@ -76,7 +76,7 @@ within-insert n (y ∷ ns) (suc i) x w h = (h.0, within-insert n ns i x w h.1)
 pub part_at : (t : List ℕ) (r : Revision) (ns : List Node) (i : ℕ) (d : Node) → i < length ns → IsPlace r (map (link_in t) ns) i → text_of_part t (get_or ns i d).id ≡ r.1
 part_at t r ns i d lt place = ap (λ (q : Revision). q.1) (place_is r (map (link_in t) ns) i (link_in t (get_or ns i d)) place (sym (get_or-map (link_in t) ns i d (link_in t (get_or ns i d)) lt)))
 
-pub or_within : (n : ℕ) (a b : Option Part) → ParentWithin n a → ParentWithin n b → ParentWithin n (option_or a b)
+pub or_within : (n : ℕ) (a b : Option IdPart) → ParentWithin n a → ParentWithin n b → ParentWithin n (option_or a b)
 or_within n None b h w = w
 or_within n (Some p) b h w = h
 
@@ -88,12 +88,12 @@ map-insert f [] (suc i) x = refl
 map-insert f (y ∷ xs) (suc i) x = ap (λ zs. f y ∷ zs) (map-insert f xs i x)
 
 -- the first of some parts
-abbrev pub first : List Part → Option Part
+abbrev pub first : List IdPart → Option IdPart
 first [] = None
 first (p ∷ ps) = Some p
 
 module _ (t : List ℕ) where
-  joined_parent : (n : ℕ) (a b : Option Part) → option_map {U = Revision} (λ p. (n - 1, text_of_part t p)) (option_or a b) ≡ option_or (option_map {U = Revision} (λ p. (n - 1, text_of_part t p)) a) (option_map {U = Revision} (λ p. (n - 1, text_of_part t p)) b)
+  joined_parent : (n : ℕ) (a b : Option IdPart) → option_map {U = Revision} (λ p. (n - 1, text_of_part t p)) (option_or a b) ≡ option_or (option_map {U = Revision} (λ p. (n - 1, text_of_part t p)) a) (option_map {U = Revision} (λ p. (n - 1, text_of_part t p)) b)
   joined_parent n None b = refl
   joined_parent n (Some p) b = refl
 
@@ -141,10 +141,10 @@ module _ (xs ys : List ℕ) (g : Grows xs ys) where
   pub grown-links : (ns : List Node) → AreWithin (length xs) ns → map (link_in ys) ns ≡ map (link_in xs) ns
   grown-links ns h = rw (g.is) (links-grown xs g.more ns h)
 
-  pub grown-part : (p : Part) → IsWithin (length xs) p → text_of_part ys p ≡ text_of_part xs p
+  pub grown-part : (p : IdPart) → IsWithin (length xs) p → text_of_part ys p ≡ text_of_part xs p
   grown-part p h = rw (g.is) (part-grown xs g.more p h)
 
-  pub grown-parts : (ps : List Part) → PartsWithin (length xs) ps → map (text_of_part ys) ps ≡ map (text_of_part xs) ps
+  pub grown-parts : (ps : List IdPart) → PartsWithin (length xs) ps → map (text_of_part ys) ps ≡ map (text_of_part xs) ps
   grown-parts ps h = rw (g.is) (parts-grown xs g.more ps h)
 
 pub grown-grown : (xs ys zs : List ℕ) → Grows xs ys → Grows ys zs → Grows xs zs
@@ -154,11 +154,11 @@ grown-grown xs ys zs g k = record {
 }
 
 -- one more part
-pub parts-step : {X : Type 0} (f : X → List ℕ) (t t' : List ℕ) (k : Grows t t') (ps : List Part) (p : Part) (xs : List X) (i : ℕ) (x : X) → PartsWithin (length t) ps → map (text_of_part t) ps ≡ map f (take i xs) → text_of_part t' p ≡ f x → i < length xs → x ≡ get_or xs i x → map (text_of_part t') (ps ++ p ∷ []) ≡ map f (take (i + 1) xs)
+pub parts-step : {X : Type 0} (f : X → List ℕ) (t t' : List ℕ) (k : Grows t t') (ps : List IdPart) (p : IdPart) (xs : List X) (i : ℕ) (x : X) → PartsWithin (length t) ps → map (text_of_part t) ps ≡ map f (take i xs) → text_of_part t' p ≡ f x → i < length xs → x ≡ get_or xs i x → map (text_of_part t') (ps ++ p ∷ []) ≡ map f (take (i + 1) xs)
 parts-step f t t' k ps p xs i x within done new lt is =
     map_push (text_of_part t') ps p ∙ ap (λ ss. ss ++ text_of_part t' p ∷ []) (grown-parts t t' k ps within ∙ done) ∙ ap (λ s. map f (take i xs) ++ s ∷ []) (new ∙ ap f is) ∙ sym (map_more f xs i x lt)
 
-pub first-within : (n : ℕ) (ps : List Part) (i : ℕ) → PartsWithin n ps → ParentWithin n (first (drop i ps))
+pub first-within : (n : ℕ) (ps : List IdPart) (i : ℕ) → PartsWithin n ps → ParentWithin n (first (drop i ps))
 first-within n [] zero h = tt
 first-within n [] (suc i) h = tt
 first-within n (p ∷ ps) zero h = h.0

@@ -1,16 +1,18 @@
--- For private clauses: a body in a block of its own, or in that of a form.
+-- For private clauses: a body in a block of its own, in that of a form, or in none.
 use Rattle.std.specs.Prelude.{⊤}
-use Rattle.mg_value.specs.Value.{Value}
+use Rattle.mg_value.specs.Value.{Value, object, no_members}
 use Rattle.mg_revtree.specs.Body.{IsFormOf, bare}
 use Rattle.mg_revtree.specs.declared.body.Block.{Block}
-use Rattle.mg_revtree.specs.declared.body.Block.TheVariants.{Own, Served}
+use Rattle.mg_revtree.specs.declared.body.Block.TheVariants.{Empty, Own, Served}
 
 -- the body that a block holds
 abbrev pub block_value : Block → Value
+block_value Empty = object no_members
 block_value (Own body) = body
 block_value (Served form) = bare form
 
 -- a block of a form holds the form of a body: of what is left without the id and the revision
 abbrev pub IsSound : Block → Type 0
+IsSound Empty = ⊤
 IsSound (Own body) = ⊤
 IsSound (Served form) = IsFormOf (bare form) form

@@ -5,8 +5,8 @@ use Rattle.mg_revtree.specs.Revision.{Revision}
 use Rattle.mg_revtree.specs.History.{Path, History, all_links, is_known, leaf_at, newest_of, winner_of}
 use Rattle.mg_revtree.specs.declared.error.Merged.{Merged}
 use Rattle.mg_revtree.specs.declared.error.Merged.TheVariants.{New, Known as Known_already}
-use Rattle.mg_revtree.specs.declared.error.Refusal.{Refusal}
-use Rattle.mg_revtree.specs.declared.error.Refusal.TheVariants.{NotLeaf, Full, Known}
+use Rattle.mg_revtree.specs.declared.error.TreeRefusal.{TreeRefusal}
+use Rattle.mg_revtree.specs.declared.error.TreeRefusal.TheVariants.{NotLeaf, Full, Known}
 use Rattle.mg_revtree.specs.declared.error.TreeError.{TreeError}
 use Rattle.mg_revtree.specs.declared.error.TreeError.TheVariants.{NotLeaf as not_leaf, Full as full, Known as known, NoMemory as no_memory}
 
@@ -55,25 +55,25 @@ abbrev pub extension : Option Revision → List ℕ → Bool → Value → Path
 extension base id d b = path_of (run_over (next_revision base id) base) d b
 
 -- the position of a new revision, if it may be made there
-abbrev pub next_position : History → Option Revision → Result ℕ Refusal
+abbrev pub next_position : History → Option Revision → Result ℕ TreeRefusal
 next_position h base =
     if not (may_extend h base) then Err NotLeaf
     else (if position_below base == 4294967295 then Err Full else Ok (position_below base + 1))
 
 -- why a new revision is refused, if it is: there is no such leaf, its parent has the last position, or it is already known
-abbrev pub refusal_of : History → Option Revision → List ℕ → Option Refusal
+abbrev pub refusal_of : History → Option Revision → List ℕ → Option TreeRefusal
 refusal_of h base id =
     if not (may_extend h base) then Some NotLeaf
     else (if position_below base == 4294967295 then Some Full
     else (if is_known (next_revision base id) (all_links h) then Some Known else None))
 
 -- the error that reports a refusal
-abbrev pub error_of : Refusal → TreeError
+abbrev pub error_of : TreeRefusal → TreeError
 error_of NotLeaf = not_leaf
 error_of Full = full
 error_of Known = known
 
 -- the result reports this refusal; without a refusal it succeeds or runs out of memory
-abbrev pub Decides : Option Refusal → Result (Unit {0}) TreeError → Type 0
+abbrev pub Decides : Option TreeRefusal → Result (Unit {0}) TreeError → Type 0
 Decides None result = IsOkUnless result no_memory
 Decides (Some refusal) result = result ≡ Err (error_of refusal)

@@ -1,11 +1,11 @@
 -- How a tree keeps its known revisions: each id once, in one text of all ids, and a revision with its parent as a node.
 use Rattle.std.specs.Prelude.{◌≡◌, ℕ, ◌+◌, ◌-◌, ◌≤◌, List, [], ◌∷◌, ◌++◌, Option, None, Some, map, option_map, take, drop}
 use Rattle.mg_revtree.specs.History.{Link}
-use Rattle.mg_revtree.specs.declared.links.node.Part.{Part}
+use Rattle.mg_revtree.specs.declared.links.node.IdPart.{IdPart}
 use Rattle.mg_revtree.specs.declared.links.node.Node.{Node}
 
 -- the bytes of a part
-abbrev pub text_of_part : List ℕ → Part → List ℕ
+abbrev pub text_of_part : List ℕ → IdPart → List ℕ
 text_of_part texts p = take p.len (drop p.from texts)
 
 -- the link that a node stands for: a parent is at the position below
@@ -17,11 +17,11 @@ abbrev pub links_in : List ℕ → List Node → List Link
 links_in texts ns = map (link_in texts) ns
 
 -- a part that ends within n bytes
-abbrev pub IsWithin : ℕ → Part → Type 0
+abbrev pub IsWithin : ℕ → IdPart → Type 0
 IsWithin n p = p.from + p.len ≤ n
 
 -- a part, if there is one, that ends within n bytes
-abbrev pub ParentWithin : ℕ → Option Part → Type 0
+abbrev pub ParentWithin : ℕ → Option IdPart → Type 0
 ParentWithin n None = Unit {0}
 ParentWithin n (Some p) = IsWithin n p
 
@@ -35,7 +35,7 @@ AreWithin n [] = Unit {0}
 AreWithin n (x ∷ xs) = NodeWithin n x × AreWithin n xs
 
 -- parts that end within n bytes
-abbrev pub PartsWithin : ℕ → List Part → Type 0
+abbrev pub PartsWithin : ℕ → List IdPart → Type 0
 PartsWithin n [] = Unit {0}
 PartsWithin n (p ∷ ps) = IsWithin n p × PartsWithin n ps
 

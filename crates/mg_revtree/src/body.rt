@@ -1,6 +1,7 @@
-// The bodies of revisions. A body stands in a block of its own, or in the block of the form in which its document is served.
+// The bodies of revisions. A body stands in a block of its own, or in the block of the form in which its document is served. The
+// object without members, which is the usual body of a deleted revision, takes no block.
 ghost use Rattle.std.specs.Prelude.{◌≡◌, IfOk, None, Some, true};
-ghost use Rattle.mg_value.specs.Value.{member_of, text as string};
+ghost use Rattle.mg_value.specs.Value.{member_of, no_members, object, text as string};
 ghost use Rattle.mg_value.specs.View.{view};
 ghost use Rattle.mg_revtree.specs.Body.{IsBare, IsFormOf, as_form, bare};
 ghost use Rattle.mg_revtree.specs.Block.{IsSound, block_value};
@@ -13,6 +14,8 @@ use std::marker::Model;
 
 #[derive(Drop)]
 pub(crate) enum Block {
+    // no block: the object without members
+    Empty,
     // a block of its own
     Own(Packed),
     // the block of a form in which the document was served: the body with the document's id and the body's revision
@@ -20,7 +23,7 @@ pub(crate) enum Block {
 }
 
 /// The body of a revision, in one block of memory: a block of its own, or that of a form in which the document was served with
-/// this body. Contracts see the body alone.
+/// this body. The object without members takes no block. Contracts see the body alone.
 #[derive(Drop)]
 pub struct Body {
     block: Block,
@@ -42,10 +45,15 @@ impl Model for Body {
 }
 
 impl Body {
-    // Packs a body into a block of its own.
+    // Packs a body into a block of its own. The object without members takes no memory.
     pub(crate) fn of(alloc: Global, value: &Json) -> Result<Body, NoMemory>
         ensures { IfOk result (λ body. body ≡ view value.now) }
     {
+        if has_no_members(value) {
+            return Ok(Body {
+                block: Block::Empty,
+            });
+        }
         let packed = Packed::of(alloc, value)?;
         Ok(Body {
             block: Block::Own(packed),
@@ -82,15 +90,25 @@ impl Body {
     }
 
     // Moves the body into the block of its form, and gives its own block back. A body stays where it is if it has `_id` or
-    // `_rev` as a member, since the form replaces these, or if it stands in the block of a form already.
+    // `_rev` as a member, since the form replaces these, or if it has no block of its own.
     #[tactic(auto, using(crate::proofs::Bodies::shows))]
     pub(crate) fn move_into(&mut self, form: Form)
         requires { IsFormOf self.old form }
         ensures { self.new ≡ self.old }
     {
-        if is_bare(&self.block) {
+        if is_movable(&self.block) {
             *self = Body::within(form);
         }
+    }
+}
+
+// Whether a value is the object without members.
+fn has_no_members(value: &Json) -> bool
+    ensures { result ≡ true → view value.now ≡ object no_members }
+{
+    match value {
+        Json::Object(members) => members.is_empty(),
+        _ => false,
     }
 }
 
@@ -98,6 +116,7 @@ fn copy_body(alloc: Global, block: &Block) -> Result<Json, NoMemory>
     ensures { IfOk result (λ value. view value ≡ block_value block.now) }
 {
     match block {
+        Block::Empty => Ok(Json::empty_object(alloc)),
         Block::Own(body) => body.part().copy(alloc),
         Block::Served(form) => copy_bare(alloc, form),
     }
@@ -114,10 +133,11 @@ fn copy_bare(alloc: Global, form: &Form) -> Result<Json, NoMemory>
 }
 
 // Whether the block is the body's own, and the body has neither `_id` nor `_rev` as a member.
-fn is_bare(block: &Block) -> bool
+fn is_movable(block: &Block) -> bool
     ensures { result ≡ true → IsBare (block_value block.now) }
 {
     match block {
+        Block::Empty => false,
         Block::Own(body) => lacks(body, "_id") && lacks(body, "_rev"),
         Block::Served(_) => false,
     }
@@ -134,6 +154,7 @@ fn form_of(alloc: Global, block: &Block, id: &str, rev: &str) -> Result<Form, No
     ensures { IfOk result (λ form. form ≡ as_form (string id.now) (string rev.now) (block_value block.now)) }
 {
     match block {
+        Block::Empty => form_of_empty(alloc, id, rev),
         Block::Own(body) => make_form(alloc, body, id, rev),
         Block::Served(form) => share_or_make(alloc, form, id, rev),
     }
@@ -150,6 +171,14 @@ fn share_or_make(alloc: Global, form: &Form, id: &str, rev: &str) -> Result<Form
     }
     let body = copy_bare(alloc, form)?;
     let packed = Packed::of(alloc, &body)?;
+    make_form(alloc, &packed, id, rev)
+}
+
+// The form of the object without members.
+fn form_of_empty(alloc: Global, id: &str, rev: &str) -> Result<Form, NoMemory>
+    ensures { IfOk result (λ form. form ≡ as_form (string id.now) (string rev.now) (object no_members)) }
+{
+    let packed = Packed::of(alloc, &Json::empty_object(alloc))?;
     make_form(alloc, &packed, id, rev)
 }
 

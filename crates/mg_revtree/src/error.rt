@@ -57,7 +57,7 @@ impl From<NoMemory> for MergeError {
 
 /// Why a new revision is not made.
 #[derive(Clone, Copy, PartialEq, Eq, Debug, Drop)]
-pub enum Refusal {
+pub enum TreeRefusal {
     /// The revision to extend is not a leaf; or no revision is named, but the tree has leaves.
     NotLeaf,
     /// That revision has the last position, 4,294,967,295.
@@ -94,17 +94,17 @@ impl From<NoMemory> for TreeError {
     }
 }
 
-impl From<Refusal> for TreeError {
+impl From<TreeRefusal> for TreeError {
     ghost use Rattle.std.specs.Prelude.{◌≡◌};
     ghost use Rattle.mg_revtree.specs.Changes.{error_of};
 
     ghost from_gives = { λ refusal e. e ≡ error_of refusal };
 
-    fn from(refusal: Refusal) -> TreeError {
+    fn from(refusal: TreeRefusal) -> TreeError {
         match refusal {
-            Refusal::NotLeaf => TreeError::NotLeaf,
-            Refusal::Full => TreeError::Full,
-            Refusal::Known => TreeError::Known,
+            TreeRefusal::NotLeaf => TreeError::NotLeaf,
+            TreeRefusal::Full => TreeError::Full,
+            TreeRefusal::Known => TreeError::Known,
         }
     }
 }

@@ -56,11 +56,11 @@ impl Leaf {
 
 /// A leaf that the copies of a tree share. Contracts see the leaf.
 #[derive(Drop)]
-pub(crate) struct Shared {
+pub(crate) struct SharedLeaf {
     leaf: Arc<Leaf>,
 }
 
-impl Model for Shared {
+impl Model for SharedLeaf {
     ghost use Rattle.std.specs.Arc.{arc_value};
     ghost use Rattle.mg_revtree.specs.History.{Leaf as LeafValue};
     ghost use Rattle.mg_revtree.specs.Tree.{leaf_code};
@@ -72,12 +72,12 @@ impl Model for Shared {
     ghost view = { λ s. arc_value s.leaf };
 }
 
-impl Shared {
+impl SharedLeaf {
     /// Puts a leaf where the copies of a tree can share it.
-    pub fn new(alloc: Global, leaf: Leaf) -> Result<Shared, NoMemory>
+    pub fn new(alloc: Global, leaf: Leaf) -> Result<SharedLeaf, NoMemory>
         ensures { IfOk result (λ shared. shared ≡ leaf) }
     {
-        Ok(Shared {
+        Ok(SharedLeaf {
             leaf: Arc::new(alloc, leaf)?,
         })
     }
@@ -100,10 +100,10 @@ impl Shared {
     }
 
     /// Another reference to the leaf. Takes no memory. Errors: `NoMemory` if there are too many references.
-    pub fn share(&self) -> Result<Shared, NoMemory>
+    pub fn share(&self) -> Result<SharedLeaf, NoMemory>
         ensures { IfOk result (λ shared. shared ≡ self.now) }
     {
-        Ok(Shared {
+        Ok(SharedLeaf {
             leaf: self.leaf.clone()?,
         })
     }

@@ -5,21 +5,24 @@ ghost use Rattle.mg_revtree.specs.History.{has_child, links, ranked_with};
 ghost use Rattle.mg_revtree.specs.Tree.{AreApart, AreRanked, leaf_in};
 ghost use Rattle.mg_revtree.specs.Steps.{IsBetween, IsLeafAt, IsTied, marked_as};
 
-use crate::leaf::{Leaf, Shared};
+use crate::leaf::{Leaf, SharedLeaf};
 use crate::revision::Rev;
 use mg_value::NoMemory;
 use std::alloc::Global;
 
 // The place of the leaf with this mark and revision among leaves, best first, or the place where it would go.
-fn place_of(leaves: &[Shared], deleted: bool, pos: u32, id: &[u8]) -> Result<usize, usize>
-    ensures found { IfOk result (λ i. (i < length leaves.now) × IsTied (marked_as deleted (pos, id.now)) leaves.now i) }
-    ensures absent { IfErr result (λ i. (i ≤ length leaves.now) × (AreRanked leaves.now → IsBetween (marked_as deleted (pos, id.now)) leaves.now i)) }
+fn place_of(leaves: &[SharedLeaf], deleted: bool, pos: u32, id: &[u8]) -> Result<usize, usize>
+    ensures found { IfOk result
+        (λ i. (i < length leaves.now) × IsTied (marked_as deleted (pos, id.now)) leaves.now i) }
+    ensures absent { IfErr result
+        (λ i. (i ≤ length leaves.now)
+        × (AreRanked leaves.now → IsBetween (marked_as deleted (pos, id.now)) leaves.now i)) }
 {
     leaves.binary_search_by(|leaf| leaf.leaf().against(deleted, pos, id))
 }
 
 // The place of a revision's leaf. Its mark decides the place and is not given, so both marks are tried.
-fn place_among(leaves: &[Shared], pos: u32, id: &[u8]) -> Option<usize>
+fn place_among(leaves: &[SharedLeaf], pos: u32, id: &[u8]) -> Option<usize>
     ensures found { IfSome result (λ i. (i < length leaves.now) × IsLeafAt (pos, id.now) leaves.now i) }
     ensures absent { IfNone result (AreRanked leaves.now → leaf_in (pos, id.now) leaves.now ≡ None) }
 {
@@ -33,15 +36,16 @@ fn place_among(leaves: &[Shared], pos: u32, id: &[u8]) -> Option<usize>
 }
 
 /// Whether a revision is a leaf. Cost: the logarithm of the leaves.
-pub fn is_leaf(leaves: &[Shared], pos: u32, id: &[u8]) -> bool
+pub fn is_leaf(leaves: &[SharedLeaf], pos: u32, id: &[u8]) -> bool
     ensures { AreRanked leaves.now → result ≡ is_some (leaf_in (pos, id.now) leaves.now) }
 {
     place_among(leaves, pos, id).is_some()
 }
 
 // Removes the leaf of a revision, if there is one.
-fn take_away(leaves: &mut Vec<Shared>, pos: u32, id: &[u8])
-    ensures kept { AreRanked leaves.old.items → AreApart leaves.old.items → leaves.new.items ≡ filter (λ l. not (same_revision l.rev (pos, id.now))) leaves.old.items }
+fn take_away(leaves: &mut Vec<SharedLeaf>, pos: u32, id: &[u8])
+    ensures kept { AreRanked leaves.old.items → AreApart leaves.old.items
+        → leaves.new.items ≡ filter (λ l. not (same_revision l.rev (pos, id.now))) leaves.old.items }
     ensures capacity { vec_capacity leaves.new ≡ vec_capacity leaves.old }
     ensures len { vec_len leaves.new ≤ vec_len leaves.old }
 {
@@ -52,8 +56,10 @@ fn take_away(leaves: &mut Vec<Shared>, pos: u32, id: &[u8])
 
 /// Removes the leaves that are parents in a run. Cost: for each revision of the run the logarithm of the leaves, and a
 /// move of one pointer for each leaf after a removed one.
-pub fn unleaf(leaves: &mut Vec<Shared>, start: u32, ids: &[String])
-    ensures kept { AreRanked leaves.old.items → AreApart leaves.old.items → leaves.new.items ≡ filter (λ l. not (has_child l.rev (links (run_from start (map string_bytes ids.now))))) leaves.old.items }
+pub fn unleaf(leaves: &mut Vec<SharedLeaf>, start: u32, ids: &[String])
+    ensures kept { AreRanked leaves.old.items → AreApart leaves.old.items
+        → leaves.new.items ≡ filter
+        (λ l. not (has_child l.rev (links (run_from start (map string_bytes ids.now))))) leaves.old.items }
     ensures capacity { vec_capacity leaves.new ≡ vec_capacity leaves.old }
     ensures len { vec_len leaves.new ≤ vec_len leaves.old }
 {
@@ -65,17 +71,19 @@ pub fn unleaf(leaves: &mut Vec<Shared>, start: u32, ids: &[String])
 }
 
 // The place of a leaf among leaves, best first, or the place where it would go.
-fn place_for(leaves: &[Shared], leaf: &Leaf) -> Result<usize, usize>
+fn place_for(leaves: &[SharedLeaf], leaf: &Leaf) -> Result<usize, usize>
     ensures found { IfOk result (λ i. (i < length leaves.now) × IsTied leaf.now leaves.now i) }
-    ensures absent { IfErr result (λ i. (i ≤ length leaves.now) × (AreRanked leaves.now → IsBetween leaf.now leaves.now i)) }
+    ensures absent { IfErr result
+        (λ i. (i ≤ length leaves.now) × (AreRanked leaves.now → IsBetween leaf.now leaves.now i)) }
 {
     leaves.binary_search_by(|other| leaf.order(other.leaf()))
 }
 
 // The place where a leaf of another revision goes.
-fn rank(leaves: &[Shared], leaf: &Leaf) -> usize
+fn rank(leaves: &[SharedLeaf], leaf: &Leaf) -> usize
     ensures within { result ≤ length leaves.now }
-    ensures ranked { AreRanked leaves.now → leaf_in leaf.now.rev leaves.now ≡ None → insert leaves.now result leaf.now ≡ ranked_with leaf.now leaves.now }
+    ensures ranked { AreRanked leaves.now → leaf_in leaf.now.rev leaves.now ≡ None
+        → insert leaves.now result leaf.now ≡ ranked_with leaf.now leaves.now }
 {
     match place_for(leaves, leaf) {
         Ok(at) => at,
@@ -85,17 +93,19 @@ fn rank(leaves: &[Shared], leaf: &Leaf) -> usize
 
 /// Adds a leaf whose revision is not among them. The vector has the capacity for it. Cost: the logarithm of the leaves, and
 /// a move of one pointer for each worse leaf.
-pub fn add_leaf(leaves: &mut Vec<Shared>, leaf: Shared)
+pub fn add_leaf(leaves: &mut Vec<SharedLeaf>, leaf: SharedLeaf)
     requires { vec_len leaves.old < vec_capacity leaves.old }
-    ensures { AreRanked leaves.old.items → leaf_in leaf.rev leaves.old.items ≡ None → leaves.new.items ≡ ranked_with leaf leaves.old.items }
+    ensures { AreRanked leaves.old.items → leaf_in leaf.rev leaves.old.items ≡ None
+        → leaves.new.items ≡ ranked_with leaf leaves.old.items }
 {
     let at = rank(leaves, leaf.leaf());
     drop(leaves.insert(at, leaf));
 }
 
 /// The leaves that are not deleted. If there are none, no memory is needed.
-pub fn kept_among(alloc: Global, leaves: &[Shared]) -> Result<Vec<&Leaf>, NoMemory>
-    ensures kept { IfOk result (λ found. map (λ l. l.now) found.items ≡ filter (λ l. not l.deleted) leaves.now) }
+pub fn kept_among(alloc: Global, leaves: &[SharedLeaf]) -> Result<Vec<&Leaf>, NoMemory>
+    ensures kept { IfOk result
+        (λ found. map (λ l. l.now) found.items ≡ filter (λ l. not l.deleted) leaves.now) }
     ensures none { filter (λ l. not l.deleted) leaves.now ≡ [] → IsOk result }
 {
     let mut found = Vec::new(alloc);
@@ -109,7 +119,7 @@ pub fn kept_among(alloc: Global, leaves: &[Shared]) -> Result<Vec<&Leaf>, NoMemo
 }
 
 /// A list that shares the same leaves, with capacity for one more, so that an edit of the copy does not reallocate it.
-pub fn copy_leaves(alloc: Global, leaves: &[Shared]) -> Result<Vec<Shared>, NoMemory>
+pub fn copy_leaves(alloc: Global, leaves: &[SharedLeaf]) -> Result<Vec<SharedLeaf>, NoMemory>
     ensures { IfOk result (λ made. made.items ≡ leaves.now) }
 {
     let mut made = Vec::with_capacity(alloc, leaves.len().saturating_add(1))?;

@@ -14,7 +14,7 @@ mod revision;
 mod tree;
 
 pub use body::Body;
-pub use error::{MergeError, Merged, Refusal, RevError, TreeError};
+pub use error::{MergeError, Merged, RevError, TreeError, TreeRefusal};
 pub use form::Form;
 pub use history::History;
 pub use leaf::Leaf;

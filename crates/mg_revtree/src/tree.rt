@@ -10,10 +10,10 @@ ghost use Rattle.mg_revtree.specs.Steps.{base_in, ids_over};
 
 use crate::body::Body;
 use crate::capacity::reserve;
-use crate::error::{MergeError, Merged, Refusal, TreeError};
+use crate::error::{MergeError, Merged, TreeError, TreeRefusal};
 use crate::form::Form;
 use crate::history::History;
-use crate::leaf::{Leaf, Shared};
+use crate::leaf::{Leaf, SharedLeaf};
 use crate::leaf_list::{add_leaf, copy_leaves, is_leaf, kept_among, unleaf};
 use crate::links::Known;
 use crate::revision::Rev;
@@ -22,7 +22,7 @@ use std::alloc::Global;
 use std::marker::Model;
 
 // The position below a new revision, if the revision may be made: that of its parent, or 0 without one.
-fn position_under(leaves: &[Shared], parent: Option<&Rev>) -> Option<u32>
+fn position_under(leaves: &[SharedLeaf], parent: Option<&Rev>) -> Option<u32>
     ensures asked { AreRanked leaves.now → base_in leaves.now (option_copied parent.entry) ≡ is_some result }
     ensures below { IfSome result (λ n. n ≡ position_below (option_copied parent.entry)) }
 {
@@ -38,7 +38,8 @@ fn position_under(leaves: &[Shared], parent: Option<&Rev>) -> Option<u32>
 
 // The ids of a new revision and of its parent.
 fn ids_over(alloc: Global, id: String, parent: Option<&Rev>) -> Result<Vec<String>, NoMemory>
-    ensures { IfOk result (λ ids. map string_bytes ids.items ≡ ids_over (string_bytes id) (option_copied parent.entry)) }
+    ensures { IfOk result
+        (λ ids. map string_bytes ids.items ≡ ids_over (string_bytes id) (option_copied parent.entry)) }
 {
     let mut ids = Vec::with_capacity(alloc, 2)?;
     ids.push(id)?;
@@ -56,7 +57,7 @@ fn ids_over(alloc: Global, id: String, parent: Option<&Rev>) -> Result<Vec<Strin
 #[derive(Drop)]
 pub struct RevTree {
     links: Known,
-    leaves: Vec<Shared>,
+    leaves: Vec<SharedLeaf>,
 }
 
 impl Model for RevTree {
@@ -107,8 +108,10 @@ impl RevTree {
 
     /// The leaves, best first. Cost: their number.
     pub fn leaves(&self) -> Result<Vec<&Leaf>, NoMemory>
-        ensures each { IfOk result (λ found. (h : Paths) → StandsFor self.now h → AreLeaves h (map (λ l. l.now) found.items)) }
-        ensures list { IfOk result (λ found. (h : Paths) → StandsFor self.now h → map (λ l. l.now) found.items ≡ leaves_of h) }
+        ensures each { IfOk result
+            (λ found. (h : Paths) → StandsFor self.now h → AreLeaves h (map (λ l. l.now) found.items)) }
+        ensures list { IfOk result
+            (λ found. (h : Paths) → StandsFor self.now h → map (λ l. l.now) found.items ≡ leaves_of h) }
     {
         let alloc = *self.leaves.allocator();
         let mut found = Vec::with_capacity(alloc, self.leaves.len())?;
@@ -121,8 +124,10 @@ impl RevTree {
     /// The leaves beside the winner that are not deleted, best first. If there are none, no memory is needed. Cost: the
     /// number of the leaves.
     pub fn losers(&self) -> Result<Vec<&Leaf>, NoMemory>
-        ensures each { IfOk result (λ found. (h : Paths) → StandsFor self.now h → AreLosers h (map (λ l. l.now) found.items)) }
-        ensures list { IfOk result (λ found. (h : Paths) → StandsFor self.now h → map (λ l. l.now) found.items ≡ losers_of h) }
+        ensures each { IfOk result
+            (λ found. (h : Paths) → StandsFor self.now h → AreLosers h (map (λ l. l.now) found.items)) }
+        ensures list { IfOk result
+            (λ found. (h : Paths) → StandsFor self.now h → map (λ l. l.now) found.items ≡ losers_of h) }
         ensures none { (h : Paths) → StandsFor self.now h → losers_of h ≡ [] → IsOk result }
     {
         let alloc = *self.leaves.allocator();
@@ -166,13 +171,14 @@ impl RevTree {
     ///
     /// Errors, in this order: `NotLeaf` if the parent is not a leaf, or if there is no parent but the tree has leaves;
     /// `Full` if the parent's position is 4,294,967,295. Cost: the logarithm of the leaves.
-    pub fn next_position(&self, parent: Option<&Rev>) -> Result<u32, Refusal>
-        ensures position { (h : Paths) → StandsFor self.now h → result ≡ next_position h (option_copied parent.entry) }
+    pub fn next_position(&self, parent: Option<&Rev>) -> Result<u32, TreeRefusal>
+        ensures position { (h : Paths) → StandsFor self.now h
+            → result ≡ next_position h (option_copied parent.entry) }
         ensures above { IfOk result (λ n. n ≡ position_below (option_copied parent.entry) + 1) }
     {
         match position_under(&self.leaves, parent) {
-            Some(below) => below.checked_add(1).ok_or(Refusal::Full),
-            None => Err(Refusal::NotLeaf),
+            Some(below) => below.checked_add(1).ok_or(TreeRefusal::Full),
+            None => Err(TreeRefusal::NotLeaf),
         }
     }
 
@@ -190,11 +196,15 @@ impl RevTree {
     /// those of the path are more than 64, and more than about four times the square root of the number of older ones, all
     /// known revisions are copied too. Source: the replication model of CouchDB.
     pub fn merge(&mut self, path: &History, deleted: bool, body: Json) -> Result<Merged, MergeError>
-        ensures accepted { OnOk result ((h : Paths) → StandsFor self.old h → StandsFor self.new (with_path h (path_of path.now deleted (view body)))) }
+        ensures accepted { OnOk result ((h : Paths) → StandsFor self.old h
+            → StandsFor self.new (with_path h (path_of path.now deleted (view body)))) }
         ensures found { IfOk result (λ m. (h : Paths) → StandsFor self.old h → m ≡ found_of h path.now) }
-        ensures fitting { (h : Paths) → StandsFor self.old h → fits h path.now ≡ true → IsOkUnless result MergeError.NoMemory }
-        ensures refused { (h : Paths) → StandsFor self.old h → fits h path.now ≡ false → result ≡ Err MergeError.BadHistory }
-        ensures whole { (h : Paths) → StandsFor self.old h → is_whole h path.now ≡ true → (result ≡ Ok Merged.Known) × (self.new ≡ self.old) }
+        ensures fitting { (h : Paths) → StandsFor self.old h → fits h path.now ≡ true
+            → IsOkUnless result MergeError.NoMemory }
+        ensures refused { (h : Paths) → StandsFor self.old h → fits h path.now ≡ false
+            → result ≡ Err MergeError.BadHistory }
+        ensures whole { (h : Paths) → StandsFor self.old h → is_whole h path.now ≡ true
+            → (result ≡ Ok Merged.Known) × (self.new ≡ self.old) }
         ensures err { OnErr result (self.new ≡ self.old) }
     {
         let (start, ids) = path.run();
@@ -217,8 +227,12 @@ impl RevTree {
     ) -> Result<Merged, NoMemory>
         requires some { 0 < length ids.now }
         requires run { length ids.now ≤ start + 1 }
-        ensures accepted { OnOk result ((h : Paths) → StandsFor self.old h → StandsFor self.new (with_path h (path_of (run_from start (map string_bytes ids.now)) deleted (view body)))) }
-        ensures found { IfOk result (λ m. (h : Paths) → StandsFor self.old h → m ≡ found_of h (run_from start (map string_bytes ids.now))) }
+        ensures accepted { OnOk result ((h : Paths) → StandsFor self.old h
+            → StandsFor self.new
+            (with_path h (path_of (run_from start (map string_bytes ids.now)) deleted (view body)))) }
+        ensures found { IfOk result
+            (λ m. (h : Paths) → StandsFor self.old h
+            → m ≡ found_of h (run_from start (map string_bytes ids.now))) }
         ensures err { OnErr result (self.new ≡ self.old) }
     {
         let id = &ids[0];
@@ -229,7 +243,7 @@ impl RevTree {
         };
         let alloc = *self.leaves.allocator();
         let body = Body::of(alloc, &body)?;
-        let leaf = Shared::new(alloc, Leaf { rev, deleted, body })?;
+        let leaf = SharedLeaf::new(alloc, Leaf { rev, deleted, body })?;
         reserve(&mut self.leaves, 1)?;
         self.links.join(start, ids)?;
         unleaf(&mut self.leaves, start, ids);
@@ -253,8 +267,11 @@ impl RevTree {
         deleted: bool,
         body: Json,
     ) -> Result<(), TreeError>
-        ensures accepted { OnOk result ((h : Paths) → StandsFor self.old h → StandsFor self.new (with_path h (extension (option_copied parent.entry) (string_bytes id) deleted (view body)))) }
-        ensures decided { (h : Paths) → StandsFor self.old h → Decides (refusal_of h (option_copied parent.entry) (string_bytes id)) result }
+        ensures accepted { OnOk result ((h : Paths) → StandsFor self.old h
+            → StandsFor self.new
+            (with_path h (extension (option_copied parent.entry) (string_bytes id) deleted (view body)))) }
+        ensures decided { (h : Paths) → StandsFor self.old h
+            → Decides (refusal_of h (option_copied parent.entry) (string_bytes id)) result }
         ensures err { OnErr result (self.new ≡ self.old) }
     {
         let pos = self.next_position(parent)?;

@@ -142,7 +142,7 @@ impl RowBytes {
         Ok(Row { key, id })
     }
 
-    // How many copies share the row's block; 1 where it has no block.
+    // How many copies share the row's block; 0 where it has no block.
     #[inline(always)]
     pub(crate) fn sharers(&self) -> usize {
         self.bytes.sharers()

@@ -75,7 +75,7 @@ impl SplitBytes {
         Ok(SplitBytes { held })
     }
 
-    /// How many copies share the block; 1 where there is no block.
+    /// How many copies share the block; 0 where there is no block.
     #[inline(always)]
     pub(crate) fn sharers(&self) -> usize {
         sharers_of(&self.held)
@@ -85,7 +85,7 @@ impl SplitBytes {
 #[inline(always)]
 fn sharers_of(held: &Held) -> usize {
     match held {
-        Held::Inline(_, _, _) => 1,
+        Held::Inline(_, _, _) => 0,
         Held::Shared(all, _) => Arc::strong_count(all),
     }
 }

@@ -1,4 +1,5 @@
-// The fast path of `read`, over a parse tree that borrows its strings. It gives up where any number is not an `i64`.
+// The fast path of `read`, over a parse tree that borrows its strings. It gives up if any number is not an
+// `i64`.
 ghost use Rattle.std.specs.Prelude.{◌≡◌, ◌<◌, ◌==◌, true, false, length, slice_index, Some, IsTrue, IfSome, option_and_then};
 ghost use Rattle.json.specs.Value.{value_view, items_view as tree_items, members_view as tree_members};
 ghost use Rattle.serde_json.specs.Find.{as_i64};
@@ -35,7 +36,7 @@ impl ReadBuffer {
     }
 }
 
-// The value of the text; `None` where it is not JSON, any of its numbers is not an `i64`, or memory ran out.
+// The value of the text; `None` if it is not JSON, any of its numbers is not an `i64`, or memory ran out.
 pub(crate) fn read_whole(alloc: Global, text: &str, buffer: &mut ReadBuffer) -> Option<Json>
     ensures { IfSome result (λ v. Reads text.now (view v)) }
 {
@@ -82,11 +83,11 @@ fn whole(alloc: Global, tree: &Tree<'_>) -> Option<Json>
 fn whole_items(alloc: Global, items: &[Tree<'_>]) -> Option<Vec<Json>>
     ensures { IfSome result (λ vs. AreWholeItems (tree_items items.now) (items_view vs.items)) }
 {
-    let mut found = Vec::with_capacity(alloc, items.len()).ok()?;
+    let mut values = Vec::with_capacity(alloc, items.len()).ok()?;
     for item in items {
-        found.push(whole(alloc, item)?).ok()?;
+        values.push(whole(alloc, item)?).ok()?;
     }
-    Some(found)
+    Some(values)
 }
 
 #[cycle(whole)]
@@ -95,13 +96,13 @@ fn whole_members(alloc: Global, members: &[(&str, Tree<'_>)]) -> Option<BTreeMap
     ensures { IfSome result
         (λ m. AreWholeMembers (tree_members members.now) (members_view m.entries)) }
 {
-    let mut found = BTreeMap::new(alloc);
+    let mut copies = BTreeMap::new(alloc);
     for member in members {
         let name = String::from_str(alloc, member.0).ok()?;
         let value = whole(alloc, &member.1)?;
-        drop(found.insert(name, value).ok()?);
+        drop(copies.insert(name, value).ok()?);
     }
-    Some(found)
+    Some(copies)
 }
 
 fn whole_number(text: &str) -> Option<i64>
@@ -109,9 +110,9 @@ fn whole_number(text: &str) -> Option<i64>
 {
     let bytes = text.as_bytes();
     if has_minus(bytes) {
-        negative(&Numeral::scan(&bytes[1..]))
+        with_minus(&Numeral::scan(&bytes[1..]))
     } else {
-        unsigned(&Numeral::scan(bytes))
+        without_minus(&Numeral::scan(bytes))
     }
 }
 
@@ -122,7 +123,7 @@ fn has_minus(bytes: &[u8]) -> bool
     !bytes.is_empty() && bytes[0] == b'-'
 }
 
-fn unsigned(numeral: &Numeral<'_>) -> Option<i64>
+fn without_minus(numeral: &Numeral<'_>) -> Option<i64>
     ensures { IfSome result
         (λ z. option_and_then as_i64 (number_from false numeral.now) ≡ Some z) }
 {
@@ -130,7 +131,7 @@ fn unsigned(numeral: &Numeral<'_>) -> Option<i64>
 }
 
 // `-0` counts as a float, so it gives `None`.
-fn negative(numeral: &Numeral<'_>) -> Option<i64>
+fn with_minus(numeral: &Numeral<'_>) -> Option<i64>
     ensures { IfSome result
         (λ z. option_and_then as_i64 (number_from true numeral.now) ≡ Some z) }
 {

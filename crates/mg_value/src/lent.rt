@@ -72,7 +72,7 @@ pub trait LentValue: Sized + Drop {
     fn walk(object: &Self::Object) -> Self::Rest
         ensures { rest result ≡ members object.now };
 
-    /// Does nothing: its contract tells proofs that the names of an object's members ascend.
+    /// Does nothing when it runs. Its contract states that the names of an object's members ascend.
     fn ascends(object: &Self::Object)
         ensures { NamesAscend (members object.now) };
 

@@ -98,7 +98,8 @@ fn look_for(tree: &RevTree, path: &History) -> Result<Option<Rev>, EditError>
 
 // Merges the path of a replica, and returns its newest revision.
 fn merge(tree: &mut RevTree, path: &History, deleted: bool, body: Json) -> Result<Rev, EditError>
-    ensures brings { (h : Paths) → StandsFor tree.old h → Brings h deleted (view body) (replicated h path.now) result tree.new }
+    ensures brings { (h : Paths) → StandsFor tree.old h
+        → Brings h deleted (view body) (replicated h path.now) result tree.new }
     ensures unchanged { OnErr result (tree.new ≡ tree.old) }
 {
     let rev = path.newest()?;
@@ -108,8 +109,11 @@ fn merge(tree: &mut RevTree, path: &History, deleted: bool, body: Json) -> Resul
 
 // Checks whether a new edit that names this revision, or none, may make one. Does not check whether the made one is already known.
 fn check_base(tree: &RevTree, named: Option<&Rev>) -> Result<(), Refused>
-    ensures ok { OnOk result ((h : Paths) → StandsFor tree.now h → first_refusal h (New (option_copied named.entry)) ≡ None) }
-    ensures err { IfErr result (λ e. (h : Paths) → StandsFor tree.now h → first_refusal h (New (option_copied named.entry)) ≡ Some e) }
+    ensures ok { OnOk result ((h : Paths) → StandsFor tree.now h
+        → first_refusal h (New (option_copied named.entry)) ≡ None) }
+    ensures err { IfErr result
+        (λ e. (h : Paths) → StandsFor tree.now h
+        → first_refusal h (New (option_copied named.entry)) ≡ Some e) }
 {
     let base = base_over(tree, named)?;
     tree.next_position(base)?;
@@ -118,7 +122,8 @@ fn check_base(tree: &RevTree, named: Option<&Rev>) -> Result<(), Refused>
 
 // The base that is extended: the named revision; if none is named, a deleted winner, or nothing in an empty tree.
 fn base_over<'a>(tree: &'a RevTree, named: Option<&'a Rev>) -> Result<Option<&'a Rev>, Refused>
-    ensures { (h : Paths) → StandsFor tree.now h → base_found h (option_copied named.entry) ≡ result_map_both option_copied (λ e. e) result }
+    ensures { (h : Paths) → StandsFor tree.now h
+        → base_found h (option_copied named.entry) ≡ result_map_both option_copied (λ e. e) result }
 {
     match named {
         Some(rev) => Ok(Some(rev)),
@@ -128,7 +133,8 @@ fn base_over<'a>(tree: &'a RevTree, named: Option<&'a Rev>) -> Result<Option<&'a
 
 // The base that is extended if no revision is named.
 fn base_unnamed(tree: &RevTree) -> Result<Option<&Rev>, Refused>
-    ensures { (h : Paths) → StandsFor tree.now h → base_found h None ≡ result_map_both option_copied (λ e. e) result }
+    ensures { (h : Paths) → StandsFor tree.now h
+        → base_found h None ≡ result_map_both option_copied (λ e. e) result }
 {
     match tree.winner() {
         None => Ok(None),

@@ -7,7 +7,7 @@ ghost use Rattle.std.specs.declared.cmp.Ordering.TheVariants.{Less};
 
 use crate::links::list::SPARE_NODES;
 use crate::links::lookup::place;
-use crate::links::node::{Node, Part};
+use crate::links::node::{IdPart, Node};
 use crate::links::parts::part_for;
 use mg_value::NoMemory;
 use std::alloc::Global;
@@ -19,10 +19,14 @@ fn part_among(
     made: &[Node],
     pos: u32,
     id: &[u8],
-) -> Result<Part, NoMemory>
+) -> Result<IdPart, NoMemory>
     ensures grows { Grows texts.old.items texts.new.items }
-    ensures within { IfOk result (λ p. AreWithin (length texts.old.items) older.now → AreWithin (length texts.old.items) made.now → IsWithin (length texts.new.items) p) }
-    ensures part { IfOk result (λ p. AreSorted (links_in texts.old.items older.now) → AreSorted (links_in texts.old.items made.now) → text_of_part texts.new.items p ≡ id.now) }
+    ensures within { IfOk result
+        (λ p. AreWithin (length texts.old.items) older.now → AreWithin (length texts.old.items) made.now
+        → IsWithin (length texts.new.items) p) }
+    ensures part { IfOk result
+        (λ p. AreSorted (links_in texts.old.items older.now) → AreSorted (links_in texts.old.items made.now)
+        → text_of_part texts.new.items p ≡ id.now) }
 {
     match place(texts, older, pos, id) {
         Ok(at) => Ok(older[at].id),
@@ -37,10 +41,14 @@ fn parent_for(
     made: &[Node],
     other: &[u8],
     node: Node,
-) -> Result<Option<Part>, NoMemory>
+) -> Result<Option<IdPart>, NoMemory>
     ensures grows { Grows texts.old.items texts.new.items }
-    ensures within { IfOk result (λ p. AreWithin (length texts.old.items) older.now → AreWithin (length texts.old.items) made.now → ParentWithin (length texts.new.items) p) }
-    ensures part { IfOk result (λ p. AreSorted (links_in texts.old.items older.now) → AreSorted (links_in texts.old.items made.now) → option_map (text_of_part texts.new.items) p ≡ option_map (text_of_part other.now) node.parent) }
+    ensures within { IfOk result
+        (λ p. AreWithin (length texts.old.items) older.now → AreWithin (length texts.old.items) made.now
+        → ParentWithin (length texts.new.items) p) }
+    ensures part { IfOk result
+        (λ p. AreSorted (links_in texts.old.items older.now) → AreSorted (links_in texts.old.items made.now)
+        → option_map (text_of_part texts.new.items) p ≡ option_map (text_of_part other.now) node.parent) }
 {
     match node.parent {
         Some(parent) => Ok(Some(part_among(
@@ -64,8 +72,13 @@ fn node_for(
     node: Node,
 ) -> Result<Node, NoMemory>
     ensures grows { Grows texts.old.items texts.new.items }
-    ensures within { IfOk result (λ x. AreWithin (length texts.old.items) older.now → AreWithin (length texts.old.items) made.now → NodeWithin (length texts.new.items) x) }
-    ensures link { IfOk result (λ x. AreWithin (length texts.old.items) older.now → AreWithin (length texts.old.items) made.now → AreSorted (links_in texts.old.items older.now) → AreSorted (links_in texts.old.items made.now) → link_in texts.new.items x ≡ link_in other.now node) }
+    ensures within { IfOk result
+        (λ x. AreWithin (length texts.old.items) older.now → AreWithin (length texts.old.items) made.now
+        → NodeWithin (length texts.new.items) x) }
+    ensures link { IfOk result
+        (λ x. AreWithin (length texts.old.items) older.now → AreWithin (length texts.old.items) made.now
+        → AreSorted (links_in texts.old.items older.now) → AreSorted (links_in texts.old.items made.now)
+        → link_in texts.new.items x ≡ link_in other.now node) }
 {
     let id = part_among(texts, older, made, node.pos, node.id.of(other))?;
     let parent = parent_for(texts, older, made, other, node)?;
@@ -85,9 +98,16 @@ fn add_through(
     node: Node,
 ) -> Result<usize, NoMemory>
     ensures inside { IfOk result (λ i. i ≤ length older.now) }
-    ensures within { OnOk result ((n : ℕ) → AreWithin n made.old.items → AreWithin n older.now → NodeWithin n node → AreWithin n made.new.items) }
-    ensures links { IfOk result (λ i. AreSorted (links_in texts.now older.now) → links_in texts.now made.new.items ++ links_in texts.now (drop i older.now) ≡ links_in texts.now made.old.items ++ with_link (link_in texts.now node) (links_in texts.now older.now)) }
-    ensures below { OnOk result ((r : Revision) → AreSorted (links_in texts.now older.now) → revision_order (link_in texts.now node).rev r ≡ Less → AreBelow r (links_in texts.now made.old.items) → AreBelow r (links_in texts.now made.new.items)) }
+    ensures within { OnOk result ((n : ℕ) → AreWithin n made.old.items → AreWithin n older.now
+        → NodeWithin n node → AreWithin n made.new.items) }
+    ensures links { IfOk result
+        (λ i. AreSorted (links_in texts.now older.now)
+        → links_in texts.now made.new.items ++ links_in texts.now (drop i older.now)
+        ≡ links_in texts.now made.old.items ++ with_link (link_in texts.now node)
+        (links_in texts.now older.now)) }
+    ensures below { OnOk result ((r : Revision) → AreSorted (links_in texts.now older.now)
+        → revision_order (link_in texts.now node).rev r ≡ Less
+        → AreBelow r (links_in texts.now made.old.items) → AreBelow r (links_in texts.now made.new.items)) }
 {
     match place(texts, older, node.pos, node.id.of(texts)) {
         Ok(at) => {
@@ -108,15 +128,21 @@ fn add_through(
 /// Merges sorted older nodes over `texts` with newer nodes over `other` into one sorted list over `texts`. The ids of
 /// unknown revisions are added to `texts`. Cost: one pass over all nodes, and a few logarithms of their number for each newer
 /// one.
-pub fn folded(
+pub fn fold_links(
     alloc: Global,
     texts: &mut Vec<u8>,
     older: &[Node],
     other: &[u8],
     newer: &[Node],
 ) -> Result<Vec<Node>, NoMemory>
-    ensures within { IfOk result (λ made. AreWithin (length texts.old.items) older.now → AreWithin (length texts.new.items) made.items) }
-    ensures links { IfOk result (λ made. AreWithin (length texts.old.items) older.now → AreSorted (links_in texts.old.items older.now) → AreSorted (links_in other.now newer.now) → links_in texts.new.items made.items ≡ with_links (links_in texts.old.items older.now) (links_in other.now newer.now)) }
+    ensures within { IfOk result
+        (λ made. AreWithin (length texts.old.items) older.now
+        → AreWithin (length texts.new.items) made.items) }
+    ensures links { IfOk result
+        (λ made. AreWithin (length texts.old.items) older.now
+        → AreSorted (links_in texts.old.items older.now) → AreSorted (links_in other.now newer.now)
+        → links_in texts.new.items made.items
+        ≡ with_links (links_in texts.old.items older.now) (links_in other.now newer.now)) }
 {
     let room = older
         .len()

@@ -94,7 +94,8 @@ impl Known {
     /// Whether no known revision gets another parent from a run, which is given by its start and its ids, newest first.
     /// Cost: the length of the run times the logarithm of the known revisions.
     pub fn fits(&self, start: u32, ids: &[String]) -> bool
-        ensures { (ls : List Link) → AreNodes self.now ls → result ≡ fit ls (links (run_from start (map string_bytes ids.now))) }
+        ensures { (ls : List Link) → AreNodes self.now ls
+            → result ≡ fit ls (links (run_from start (map string_bytes ids.now))) }
     {
         all_agree(self, start, ids)
     }
@@ -102,7 +103,8 @@ impl Known {
     /// Whether all revisions of a run, given by its start and its ids, newest first, are known with the parents that
     /// the run gives them. Cost: as for `fits`.
     pub fn holds(&self, start: u32, ids: &[String]) -> bool
-        ensures { (ls : List Link) → AreNodes self.now ls → result ≡ are_held ls (links (run_from start (map string_bytes ids.now))) }
+        ensures { (ls : List Link) → AreNodes self.now ls
+            → result ≡ are_held ls (links (run_from start (map string_bytes ids.now))) }
     {
         all_held(self, start, ids)
     }
@@ -112,7 +114,8 @@ impl Known {
     /// of all revisions.
     pub fn join(&mut self, start: u32, ids: &[String]) -> Result<(), NoMemory>
         requires { length ids.now ≤ start + 1 }
-        ensures nodes { OnOk result ((ls : List Link) → AreNodes self.old ls → AreNodes self.new (ls ++ links (run_from start (map string_bytes ids.now)))) }
+        ensures nodes { OnOk result ((ls : List Link) → AreNodes self.old ls
+            → AreNodes self.new (ls ++ links (run_from start (map string_bytes ids.now)))) }
         ensures err { OnErr result (self.new ≡ self.old) }
     {
         if are_few(self.newer.len().saturating_add(ids.len()), self.older.len()) {

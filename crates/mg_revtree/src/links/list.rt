@@ -5,7 +5,7 @@ ghost use Rattle.mg_revtree.specs.Tree.{AreNodes, AreSorted, find};
 ghost use Rattle.mg_revtree.specs.Known.{parent_below, with_links};
 
 use crate::capacity::reserve;
-use crate::links::fold::folded;
+use crate::links::fold::fold_links;
 use crate::links::lookup::place;
 use crate::links::node::Node;
 use crate::links::parts::parts_for;
@@ -14,14 +14,14 @@ use mg_value::NoMemory;
 use std::alloc::Global;
 use std::marker::Model;
 
-// The spare capacity of a copy for the texts of ids, so that an edit of the copy does not reallocate them.
-const SPARE_BYTES: usize = 64;
+// The spare capacity of a copy for the texts of ids: for the id of one edit, which has 32 bytes, so that it does not reallocate them.
+const SPARE_BYTES: usize = 32;
 
 /// The spare capacity of a copy for nodes, for the same reason.
 pub const SPARE_NODES: usize = 2;
 
 // A copy of the items, with capacity for `more` items.
-fn copied<T: Copy>(alloc: Global, items: &[T], more: usize) -> Result<Vec<T>, NoMemory>
+fn copy_items<T: Copy>(alloc: Global, items: &[T], more: usize) -> Result<Vec<T>, NoMemory>
     ensures { IfOk result (λ made. made.items ≡ items.now) }
 {
     let mut made = Vec::with_capacity(alloc, items.len().saturating_add(more))?;
@@ -81,7 +81,8 @@ impl Links {
     /// Looks up a revision: the id of its parent, `Some(None)` if it has no known parent, `None` if it is unknown. Cost: the
     /// logarithm of the revisions.
     pub fn kept(&self, pos: u32, id: &[u8]) -> Option<Option<&[u8]>>
-        ensures { AreSorted self.now → option_map (λ p. parent_below pos (option_copied p)) result ≡ find (pos, id.now) self.now }
+        ensures { AreSorted self.now
+            → option_map (λ p. parent_below pos (option_copied p)) result ≡ find (pos, id.now) self.now }
     {
         match place(&self.texts, &self.nodes, pos, id) {
             Ok(at) => Some(self.nodes[at].parent_id(&self.texts)),
@@ -94,7 +95,8 @@ impl Links {
     /// There are no such nodes where the run extends the line with the highest positions.
     pub fn join(&mut self, start: u32, ids: &[String]) -> Result<(), NoMemory>
         requires { length ids.now ≤ start + 1 }
-        ensures nodes { OnOk result ((ls : List Link) → AreNodes self.old ls → AreNodes self.new (ls ++ links (run_from start (map string_bytes ids.now)))) }
+        ensures nodes { OnOk result ((ls : List Link) → AreNodes self.old ls
+            → AreNodes self.new (ls ++ links (run_from start (map string_bytes ids.now)))) }
         ensures err { OnErr result (self.new ≡ self.old) }
     {
         reserve(&mut self.nodes, ids.len())?;
@@ -115,21 +117,22 @@ impl Links {
         ensures { IfOk result (λ links. links ≡ self.now) }
     {
         Ok(Links {
-            texts: copied(alloc, &self.texts, SPARE_BYTES)?,
-            nodes: copied(alloc, &self.nodes, SPARE_NODES)?,
+            texts: copy_items(alloc, &self.texts, SPARE_BYTES)?,
+            nodes: copy_items(alloc, &self.nodes, SPARE_NODES)?,
         })
     }
 
-    /// A list of these links with newer ones joined. Cost: that of `folded`, and a copy of the text of all ids.
+    /// A list of these links with newer ones joined. Cost: that of `fold_links`, and a copy of the text of all ids.
     pub fn with(&self, alloc: Global, newer: &Links) -> Result<Links, NoMemory>
-        ensures { IfOk result (λ links. AreSorted self.now → AreSorted newer.now → links ≡ with_links self.now newer.now) }
+        ensures { IfOk result
+            (λ links. AreSorted self.now → AreSorted newer.now → links ≡ with_links self.now newer.now) }
     {
-        let mut texts = copied(
+        let mut texts = copy_items(
             alloc,
             &self.texts,
             newer.texts.len().saturating_add(SPARE_BYTES),
         )?;
-        let nodes = folded(alloc, &mut texts, &self.nodes, &newer.texts, &newer.nodes)?;
+        let nodes = fold_links(alloc, &mut texts, &self.nodes, &newer.texts, &newer.nodes)?;
         Ok(Links { texts, nodes })
     }
 }

@@ -10,15 +10,22 @@ use crate::links::node::Node;
 
 /// The place of a revision's node, or the place where it would go.
 pub fn place(texts: &[u8], nodes: &[Node], pos: u32, id: &[u8]) -> Result<usize, usize>
-    ensures found { IfOk result (λ i. (i < length nodes.now) × (AreSorted (links_in texts.now nodes.now) → IsPlace (pos, id.now) (links_in texts.now nodes.now) i)) }
-    ensures absent { IfErr result (λ i. (i ≤ length nodes.now) × (AreSorted (links_in texts.now nodes.now) → IsGap (pos, id.now) (links_in texts.now nodes.now) i)) }
+    ensures found { IfOk result
+        (λ i. (i < length nodes.now)
+        × (AreSorted (links_in texts.now nodes.now)
+        → IsPlace (pos, id.now) (links_in texts.now nodes.now) i)) }
+    ensures absent { IfErr result
+        (λ i. (i ≤ length nodes.now)
+        × (AreSorted (links_in texts.now nodes.now) → IsGap (pos, id.now) (links_in texts.now nodes.now) i)) }
 {
     nodes.binary_search_by(|node| node.order(texts, pos, id))
 }
 
 // Whether the parent given for a revision does not contradict the known one.
 fn agrees(known: &Known, pos: u32, id: &String, parent: Option<&String>) -> bool
-    ensures { result ≡ agrees_found (find (pos, string_bytes id.now) known.now) (option_map (λ p. (pos - 1, string_bytes p)) (option_copied parent.entry)) }
+    ensures { result
+        ≡ agrees_found (find (pos, string_bytes id.now) known.now) (option_map
+        (λ p. (pos - 1, string_bytes p)) (option_copied parent.entry)) }
 {
     match (known.kept(pos, id.as_bytes()), parent) {
         (Some(Some(kept)), Some(given)) => kept.cmp(given.as_bytes()).is_eq(),
@@ -28,7 +35,8 @@ fn agrees(known: &Known, pos: u32, id: &String, parent: Option<&String>) -> bool
 
 /// Whether no parent in a run contradicts a known one.
 pub fn all_agree(known: &Known, start: u32, ids: &[String]) -> bool
-    ensures { (ls : List Link) → AreNodes known.now ls → result ≡ fit ls (links (run_from start (map string_bytes ids.now))) }
+    ensures { (ls : List Link) → AreNodes known.now ls
+        → result ≡ fit ls (links (run_from start (map string_bytes ids.now))) }
 {
     let mut pos = start;
     for (i, id) in ids.iter().enumerate() {
@@ -42,7 +50,9 @@ pub fn all_agree(known: &Known, start: u32, ids: &[String]) -> bool
 
 // Whether a revision is known, and with the given parent, if one is given.
 fn holds(known: &Known, pos: u32, id: &String, parent: Option<&String>) -> bool
-    ensures { result ≡ held_found (find (pos, string_bytes id.now) known.now) (option_map (λ p. (pos - 1, string_bytes p)) (option_copied parent.entry)) }
+    ensures { result
+        ≡ held_found (find (pos, string_bytes id.now) known.now) (option_map
+        (λ p. (pos - 1, string_bytes p)) (option_copied parent.entry)) }
 {
     match (known.kept(pos, id.as_bytes()), parent) {
         (Some(Some(kept)), Some(given)) => kept.cmp(given.as_bytes()).is_eq(),
@@ -53,7 +63,8 @@ fn holds(known: &Known, pos: u32, id: &String, parent: Option<&String>) -> bool
 
 /// Whether all revisions of a run are known, with the parents that the run gives them.
 pub fn all_held(known: &Known, start: u32, ids: &[String]) -> bool
-    ensures { (ls : List Link) → AreNodes known.now ls → result ≡ are_held ls (links (run_from start (map string_bytes ids.now))) }
+    ensures { (ls : List Link) → AreNodes known.now ls
+        → result ≡ are_held ls (links (run_from start (map string_bytes ids.now))) }
 {
     let mut pos = start;
     for (i, id) in ids.iter().enumerate() {

@@ -9,12 +9,12 @@ use std::cmp::Ordering;
 /// An id among the texts of all ids: the place of its first byte, and its length. Both have 32 bits, so that a node takes 24
 /// bytes.
 #[derive(Clone, Copy, Debug)]
-pub struct Part {
+pub struct IdPart {
     pub from: u32,
     pub len: u32,
 }
 
-impl Part {
+impl IdPart {
     /// The bytes of the id. What lies beyond the texts is cut off.
     pub fn of(self, texts: &[u8]) -> &[u8]
         ensures { result.now ≡ text_of_part texts.now self }
@@ -29,8 +29,8 @@ impl Part {
 #[derive(Clone, Copy, Debug)]
 pub struct Node {
     pub pos: u32,
-    pub id: Part,
-    pub parent: Option<Part>,
+    pub id: IdPart,
+    pub parent: Option<IdPart>,
 }
 
 impl Node {
@@ -42,7 +42,7 @@ impl Node {
     }
 
     /// Sets the parent, if none is known.
-    pub fn join(&mut self, parent: Option<Part>)
+    pub fn join(&mut self, parent: Option<IdPart>)
         ensures { self.new ≡ record self.old { parent = option_or self.old.parent parent } }
     {
         if self.parent.is_none() {

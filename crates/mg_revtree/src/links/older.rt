@@ -60,7 +60,8 @@ impl Older {
     /// Looks up a revision: the id of its parent, `Some(None)` if it has no known parent, `None` if it is unknown. Cost: the
     /// logarithm of the revisions.
     pub fn kept(&self, pos: u32, id: &[u8]) -> Option<Option<&[u8]>>
-        ensures { AreSorted self.now → option_map (λ p. parent_below pos (option_copied p)) result ≡ find (pos, id.now) self.now }
+        ensures { AreSorted self.now
+            → option_map (λ p. parent_below pos (option_copied p)) result ≡ find (pos, id.now) self.now }
     {
         match &self.links {
             Some(links) => links.kept(pos, id),
@@ -83,7 +84,8 @@ impl Older {
     /// A list of these links with newer ones joined. Cost: as for `Links::with`; if there are no older links, as for
     /// `Links::copy`.
     pub fn with(&self, alloc: Global, newer: &Links) -> Result<Links, NoMemory>
-        ensures { IfOk result (λ links. AreSorted self.now → AreSorted newer.now → links ≡ with_links self.now newer.now) }
+        ensures { IfOk result
+            (λ links. AreSorted self.now → AreSorted newer.now → links ≡ with_links self.now newer.now) }
     {
         match &self.links {
             Some(older) => older.with(alloc, newer),

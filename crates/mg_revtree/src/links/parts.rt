@@ -3,21 +3,22 @@ ghost use Rattle.mg_revtree.specs.Tree.{AreSorted};
 ghost use Rattle.mg_revtree.specs.Nodes.{AreWithin, Grows, IsWithin, PartsWithin, links_in, text_of_part};
 
 use crate::links::lookup::place;
-use crate::links::node::{Node, Part};
+use crate::links::node::{IdPart, Node};
 use mg_value::NoMemory;
 
 // The texts take at most this many bytes, so that a place in them has 32 bits.
 const MOST_BYTES: usize = 4_294_967_295;
 
 // Adds an id to the texts. `NoMemory` also if they would take more than `MOST_BYTES`.
-fn add(texts: &mut Vec<u8>, id: &[u8]) -> Result<Part, NoMemory>
+fn add(texts: &mut Vec<u8>, id: &[u8]) -> Result<IdPart, NoMemory>
     ensures grows { Grows texts.old.items texts.new.items }
-    ensures part { IfOk result (λ p. IsWithin (length texts.new.items) p × (text_of_part texts.new.items p ≡ id.now)) }
+    ensures part { IfOk result
+        (λ p. IsWithin (length texts.new.items) p × (text_of_part texts.new.items p ≡ id.now)) }
 {
     if texts.len().saturating_add(id.len()) > MOST_BYTES {
         return Err(NoMemory);
     }
-    let part = Part {
+    let part = IdPart {
         from: texts.len() as u32,
         len: id.len() as u32,
     };
@@ -26,10 +27,17 @@ fn add(texts: &mut Vec<u8>, id: &[u8]) -> Result<Part, NoMemory>
 }
 
 /// The part that holds the id of a revision. If the revision is unknown, its id is added to the texts.
-pub fn part_for(texts: &mut Vec<u8>, nodes: &[Node], pos: u32, id: &[u8]) -> Result<Part, NoMemory>
+pub fn part_for(
+    texts: &mut Vec<u8>,
+    nodes: &[Node],
+    pos: u32,
+    id: &[u8],
+) -> Result<IdPart, NoMemory>
     ensures grows { Grows texts.old.items texts.new.items }
-    ensures within { IfOk result (λ p. AreWithin (length texts.old.items) nodes.now → IsWithin (length texts.new.items) p) }
-    ensures part { IfOk result (λ p. AreSorted (links_in texts.old.items nodes.now) → text_of_part texts.new.items p ≡ id.now) }
+    ensures within { IfOk result
+        (λ p. AreWithin (length texts.old.items) nodes.now → IsWithin (length texts.new.items) p) }
+    ensures part { IfOk result
+        (λ p. AreSorted (links_in texts.old.items nodes.now) → text_of_part texts.new.items p ≡ id.now) }
 {
     match place(texts, nodes, pos, id) {
         Ok(at) => Ok(nodes[at].id),
@@ -43,10 +51,13 @@ pub fn parts_for(
     nodes: &[Node],
     start: u32,
     ids: &[String],
-) -> Result<Vec<Part>, NoMemory>
+) -> Result<Vec<IdPart>, NoMemory>
     ensures grows { Grows texts.old.items texts.new.items }
-    ensures within { IfOk result (λ ps. AreWithin (length texts.old.items) nodes.now → PartsWithin (length texts.new.items) ps.items) }
-    ensures parts { IfOk result (λ ps. AreWithin (length texts.old.items) nodes.now → AreSorted (links_in texts.old.items nodes.now) → map (text_of_part texts.new.items) ps.items ≡ map string_bytes ids.now) }
+    ensures within { IfOk result
+        (λ ps. AreWithin (length texts.old.items) nodes.now → PartsWithin (length texts.new.items) ps.items) }
+    ensures parts { IfOk result
+        (λ ps. AreWithin (length texts.old.items) nodes.now → AreSorted (links_in texts.old.items nodes.now)
+        → map (text_of_part texts.new.items) ps.items ≡ map string_bytes ids.now) }
     ensures len { IfOk result (λ ps. length ps.items ≡ length ids.now) }
 {
     let mut parts = Vec::with_capacity(*texts.allocator(), ids.len())?;

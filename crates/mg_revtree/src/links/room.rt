@@ -7,7 +7,7 @@ ghost use Rattle.mg_revtree.specs.Nodes.{AreWithin, PartsWithin, NodeWithin, lin
 ghost use Rattle.mg_revtree.specs.Room.{AreFrom, Joins, used};
 
 use crate::links::lookup::place;
-use crate::links::node::{Node, Part};
+use crate::links::node::{IdPart, Node};
 
 /// A gap of unused places among the nodes: nodes stand before place `till`, and from place `from` on.
 #[derive(Clone, Copy, Debug)]
@@ -21,7 +21,8 @@ fn put(nodes: &mut [Node], room: Room, at: usize, node: Node) -> Room
     requires at { at ≤ room.till }
     requires room { room.till < room.from }
     requires within { room.from ≤ length nodes.old }
-    ensures used { used nodes.new result.till result.from ≡ insert (used nodes.old room.till room.from) at node }
+    ensures used { used nodes.new result.till result.from
+        ≡ insert (used nodes.old room.till room.from) at node }
     ensures after { drop result.from nodes.new ≡ node ∷ drop at (used nodes.old room.till room.from) }
     ensures till { result.till ≡ at }
     ensures left { result.from + 1 ≡ at + (room.from - room.till) }
@@ -40,8 +41,12 @@ fn put(nodes: &mut [Node], room: Room, at: usize, node: Node) -> Room
 fn join(texts: &[u8], nodes: &mut [Node], room: Room, node: Node) -> Room
     requires room { room.till < room.from }
     requires within { room.from ≤ length nodes.old }
-    ensures joins { AreSorted (links_in texts.now (used nodes.old room.till room.from)) → AreFrom (node.pos + 1) (links_in texts.now (drop room.from nodes.old)) → Joins texts.now node (used nodes.old room.till room.from) (used nodes.new result.till result.from) (drop result.from nodes.new) }
-    ensures within { (n : ℕ) → AreWithin n (used nodes.old room.till room.from) → NodeWithin n node → AreWithin n (used nodes.new result.till result.from) }
+    ensures joins { AreSorted (links_in texts.now (used nodes.old room.till room.from))
+        → AreFrom (node.pos + 1) (links_in texts.now (drop room.from nodes.old))
+        → Joins texts.now node (used nodes.old room.till room.from) (used nodes.new result.till result.from)
+        (drop result.from nodes.new) }
+    ensures within { (n : ℕ) → AreWithin n (used nodes.old room.till room.from) → NodeWithin n node
+        → AreWithin n (used nodes.new result.till result.from) }
     ensures left { result.till + (room.from - room.till) ≤ result.from + 1 }
     ensures from { result.from ≤ room.from }
 {
@@ -56,11 +61,14 @@ fn join(texts: &[u8], nodes: &mut [Node], room: Room, node: Node) -> Room
 
 // Joins a run, given by the parts of its ids, newest first, to the known nodes. All places after the known nodes are unused,
 // and there are enough of them for the run.
-fn join_each(texts: &[u8], nodes: &mut [Node], known: usize, start: u32, parts: &[Part]) -> Room
+fn join_each(texts: &[u8], nodes: &mut [Node], known: usize, start: u32, parts: &[IdPart]) -> Room
     requires room { known + length parts.now ≤ length nodes.old }
     requires run { length parts.now ≤ start + 1 }
-    ensures nodes { (ls : List Link) → AreNodes (links_in texts.now (take known nodes.old)) ls → AreNodes (links_in texts.now (used nodes.new result.till result.from)) (ls ++ links (run_from start (map (text_of_part texts.now) parts.now))) }
-    ensures within { (n : ℕ) → AreWithin n (take known nodes.old) → PartsWithin n parts.now → AreWithin n (used nodes.new result.till result.from) }
+    ensures nodes { (ls : List Link) → AreNodes (links_in texts.now (take known nodes.old)) ls
+        → AreNodes (links_in texts.now (used nodes.new result.till result.from))
+        (ls ++ links (run_from start (map (text_of_part texts.now) parts.now))) }
+    ensures within { (n : ℕ) → AreWithin n (take known nodes.old) → PartsWithin n parts.now
+        → AreWithin n (used nodes.new result.till result.from) }
     ensures ordered { result.till ≤ result.from }
     ensures inside { result.from ≤ length nodes.new }
 {
@@ -95,17 +103,20 @@ fn close(nodes: &mut Vec<Node>, room: Room)
 // Fills an unused place.
 const UNUSED: Node = Node {
     pos: 0,
-    id: Part { from: 0, len: 0 },
+    id: IdPart { from: 0, len: 0 },
     parent: None,
 };
 
 /// Joins a run, given by the parts of its ids, newest first. The vector must have capacity for the run. Cost: for each revision of
 /// the run the logarithm of the known ones, and two moves of each node that is above the run's lowest unknown revision.
-pub fn join_all(texts: &[u8], nodes: &mut Vec<Node>, start: u32, parts: &[Part])
+pub fn join_all(texts: &[u8], nodes: &mut Vec<Node>, start: u32, parts: &[IdPart])
     requires room { vec_len nodes.old + length parts.now ≤ vec_capacity nodes.old }
     requires run { length parts.now ≤ start + 1 }
-    ensures nodes { (ls : List Link) → AreNodes (links_in texts.now nodes.old.items) ls → AreNodes (links_in texts.now nodes.new.items) (ls ++ links (run_from start (map (text_of_part texts.now) parts.now))) }
-    ensures within { (n : ℕ) → AreWithin n nodes.old.items → PartsWithin n parts.now → AreWithin n nodes.new.items }
+    ensures nodes { (ls : List Link) → AreNodes (links_in texts.now nodes.old.items) ls
+        → AreNodes (links_in texts.now nodes.new.items)
+        (ls ++ links (run_from start (map (text_of_part texts.now) parts.now))) }
+    ensures within { (n : ℕ) → AreWithin n nodes.old.items → PartsWithin n parts.now
+        → AreWithin n nodes.new.items }
 {
     let known = nodes.len();
     drop(nodes.resize(known + parts.len(), UNUSED));

@@ -2,7 +2,7 @@ use Rattle.std.proofs.Common.{◌≡◌, ◌+◌, ◌∷◌, ◌++◌, string_by
 use Rattle.std.proofs.lemmas.List.{drop_more}
 use Rattle.mg_value.specs.View.{view, items_view, members_view}
 use Rattle.mg_value.proofs.Views.{Entry}
-use Rattle.mg_packed.specs.Packed.{packed, named, word, item_rows, member_rows}
+use Rattle.mg_packed.specs.Packed.{packed, named, size, item_rows, member_rows}
 use Rattle.mg_packed.proofs.Built.{table_pushed, row_pushed, length-item_rows_view, length-member_rows_view}
 use Rattle.mg_packed.proofs.Filling.{IsFilling, filling_begins, filling_next, filling_ends}
 use Rattle.mg_packed.proofs.Walks.{ended}
@@ -70,8 +70,8 @@ push_members-loop-name-preserved t c =
     let step : l.name-iterator ≡ e ∷ left = c.in-Some.ensures.steps in
     let now : IsFilling start c.args.table rows l.out.items l.place c.len-base.result (member_rows (members_view (e ∷ left))) =
     subst (λ es. IsFilling start c.args.table rows l.out.items l.place c.len-base.result (member_rows (members_view es))) step l.invariant in
-    let spelt : c.push_name.new.out.items ≡ c.set_place.new.out.items ++ (word (length (string_bytes e.0)) ++ string_bytes e.0) =
-    c.in_ok-push_name.ensures ∙ ap (λ k. c.set_place.new.out.items ++ (word (length k) ++ k)) c.deref.ensures in
+    let spelt : c.push_name.new.out.items ≡ c.set_place.new.out.items ++ (size (length (string_bytes e.0)) ++ string_bytes e.0) =
+    c.in_ok-push_name.ensures ∙ ap (λ k. c.set_place.new.out.items ++ (size (length k) ++ k)) c.deref.ensures in
     filling_next start c.args.table rows l.out.items l.place c.len-base.result row (member_rows (members_view left)) c.push_value.new.out.items now
     (row_pushed c.set_place.new.out.items _ _ (string_bytes e.0) (packed (view e.1)) spelt c.in_ok-push_value.ensures ∙ ap (λ x. x ++ row) c.in_ok-set_place.ensures)
 

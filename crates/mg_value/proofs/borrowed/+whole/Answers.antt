@@ -52,7 +52,7 @@ whole-returns-in_ok-whole_members-in-Object t c =
 
 pub whole_items-loop-item-init : goal.whole_items-loop-item-init
 whole_items-loop-item-init t c =
-    let empty : c.in_ok-found.found.items ≡ [] = search rules in
+    let empty : c.in_ok-values.values.items ≡ [] = search rules in
     (parsed.no_items, refl, ap (λ vs. Some (items_view vs)) (sym empty))
 
 pub whole_items-loop-item-preserved : goal.whole_items-loop-item-preserved
@@ -63,11 +63,11 @@ whole_items-loop-item-preserved t c =
     let v = c.in_ok-whole.field-0 in
     let w = c.in_ok-whole.ensures in
     let more : take (l.item-index + 1) xs ≡ take l.item-index xs ++ x ∷ [] = take_more _ _ x (omega arith) ∙ ap (λ y. take l.item-index xs ++ y ∷ []) (sym c.item-item.is) in
-    let pushed : c.push.new.self.items ≡ l.found.items ++ v ∷ [] = search rules in
-    rw (more, pushed) (push_whole (take l.item-index xs) x l.found.items v l.invariant.0 w.0 l.invariant.1 l.invariant.2 w.1 w.2)
+    let pushed : c.push.new.self.items ≡ l.values.items ++ v ∷ [] = search rules in
+    rw (more, pushed) (push_whole (take l.item-index xs) x l.values.items v l.invariant.0 w.0 l.invariant.1 l.invariant.2 w.1 w.2)
 
 pub whole_members-loop-member-init : goal.whole_members-loop-member-init
-whole_members-loop-member-init t c = (parsed.no_members, refl, ap (λ es. Some (members_view es)) (sym c.new-found.ensures.empty))
+whole_members-loop-member-init t c = (parsed.no_members, refl, ap (λ es. Some (members_view es)) (sym c.new-copies.ensures.empty))
 
 pub whole_members-loop-member-preserved : goal.whole_members-loop-member-preserved
 whole_members-loop-member-preserved t c =
@@ -79,7 +79,7 @@ whole_members-loop-member-preserved t c =
     let v = c.in_ok-value.value in
     let w = c.in_ok-value.ensures in
     let ds = l.invariant.0 in
-    let old = l.found.entries in
+    let old = l.copies.entries in
     let left = drop (l.member-index + 1) xs in
     let here : drop l.member-index xs ≡ m ∷ left = drop_more xs l.member-index m (omega arith) ∙ ap (λ y. y ∷ left) (sym c.member-item.is) in
     let copied : string_bytes name ≡ k = search rules in

@@ -8,10 +8,10 @@ use Rattle.mg_value.specs.View.{items_view, members_view}
 use Rattle.mg_value.proofs.borrowed.+whole.Given as goal
 
 abbrev pub invariant-whole_items-loop-item : goal.invariant-whole_items-loop-item
-invariant-whole_items-loop-item l = AreWholeItems (tree_items (take l.item-index l.items)) (items_view l.found.items)
+invariant-whole_items-loop-item l = AreWholeItems (tree_items (take l.item-index l.items)) (items_view l.values.items)
 
--- reading all members is reading those that are left, with the data of what was found
+-- reading all members is reading those that are left, with the data of what was read
 abbrev pub invariant-whole_members-loop-member : goal.invariant-whole_members-loop-member
 invariant-whole_members-loop-member l =
     (ds : parsed.Members) × (of_members (tree_members l.members) parsed.no_members ≡ of_members (tree_members (drop l.member-index l.members)) ds)
-    × (whole_members ds ≡ Some (members_view l.found.entries))
+    × (whole_members ds ≡ Some (members_view l.copies.entries))

@@ -13,7 +13,7 @@ returns-then-has_minus c =
     let parts : c.scan.result ≡ scan (drop 1 s) = c.scan.ensures.parts ∙ ap scan (take_all _ (drop 1 s) (omega (arith, length-drop 1 s))) in
     let read : number_from true (scan (drop 1 s)) ≡ number_of s = rw signed in
     let same = ap (number_from true) parts ∙ read ∙ ap number_of c.as_bytes-bytes.ensures.value in
-    subst (λ n. IfSome c.negative.result (λ z. option_and_then as_i64 n ≡ Some z)) same c.negative.ensures
+    subst (λ n. IfSome c.with_minus.result (λ z. option_and_then as_i64 n ≡ Some z)) same c.with_minus.ensures
 
 pub returns-else-has_minus : goal.returns-else-has_minus
 unfolding number_of
@@ -22,4 +22,4 @@ returns-else-has_minus c =
     let plain : (get_or s 0 0 == 45) ≡ false = sym c.if-has_minus.ensures.value in
     let read : number_from false (scan s) ≡ number_of s = rw plain in
     let same = ap (number_from false) c.scan-else-has_minus.ensures.parts ∙ read ∙ ap number_of c.as_bytes-bytes.ensures.value in
-    subst (λ n. IfSome c.unsigned.result (λ z. option_and_then as_i64 n ≡ Some z)) same c.unsigned.ensures
+    subst (λ n. IfSome c.without_minus.result (λ z. option_and_then as_i64 n ≡ Some z)) same c.without_minus.ensures

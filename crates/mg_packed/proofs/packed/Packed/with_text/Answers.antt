@@ -27,8 +27,8 @@ returns-in_ok-object_with_text c =
     let same : c.args.self.now ≡ object (members_in b) = sym c.self.view_is ∙ ap value_in (sym c.as_slice-bytes.ensures.value) ∙ value_is b h.0 h.1.0 ∙ (object_block b h.0 h.1.0 h.1.1 tag).1 in
     value_is _ (object (put k v (members_in b))) c.in_ok-object_with_text.ensures.0 ∙ sym (ap (with_member k v) same)
 
-pub returns-in_ok-copied : goal.returns-in_ok-copied
-returns-in_ok-copied c =
+pub returns-in_ok-copy_bytes : goal.returns-in_ok-copy_bytes
+returns-in_ok-copy_bytes c =
     let b = c.as_slice-bytes.result.now in
     let h : IsBlock b = subst IsBlock (sym c.as_slice-bytes.ensures.value) c.self.invariant in
     let k = c.args.name.now in
@@ -36,4 +36,4 @@ returns-in_ok-copied c =
     let same : value_in b ≡ c.args.self.now = ap value_in c.as_slice-bytes.ensures.value ∙ c.self.view_is in
     let as_it_is : h.0 ≡ with_member k v h.0 = no_object b h.0 k v h.1.0 (λ e. absurd (omega (arith, c.if-bytes-eq-OBJECT.false, e))) in
     let was : h.0 ≡ c.args.self.now = sym (value_is b h.0 h.1.0) ∙ same in
-    ap value_in c.in_ok-copied.ensures ∙ value_is b h.0 h.1.0 ∙ as_it_is ∙ ap (with_member k v) was
+    ap value_in c.in_ok-copy_bytes.ensures ∙ value_is b h.0 h.1.0 ∙ as_it_is ∙ ap (with_member k v) was

@@ -4,7 +4,7 @@ use Rattle.mg_revtree.specs.Nodes.{ParentWithin, text_of_part}
 use Rattle.mg_revtree.specs.Revision.{Revision}
 use Rattle.mg_revtree.specs.Room.{used}
 use Rattle.mg_revtree.specs.declared.links.node.Node.{Node}
-use Rattle.mg_revtree.specs.declared.links.node.Part.{Part}
+use Rattle.mg_revtree.specs.declared.links.node.IdPart.{IdPart}
 use Rattle.mg_revtree.proofs.Rooms.{Goes, goes_first, goes_last, goes_on, got_within}
 use Rattle.mg_revtree.proofs.Runs.{newest_got}
 use Rattle.mg_revtree.proofs.Texts.{part-within}
@@ -26,7 +26,7 @@ loop-i-preserved c =
     let t = c.args.texts.now in
     let ps = c.args.parts.now in
     let i = c.loop-i.i in
-    let d : Part = record { from = 0; len = 0 } in
+    let d : IdPart = record { from = 0; len = 0 } in
     let v = c.loop-i.invariant in
     let lt : i < length ps = c.loop-i-test.true in
     let x : Node = record { pos = c.loop-i.pos; id = get_or ps i d; parent = c.copied.result } in

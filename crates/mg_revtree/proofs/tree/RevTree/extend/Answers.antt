@@ -5,7 +5,7 @@ use Rattle.mg_revtree.specs.History.{all_links, is_known}
 use Rattle.mg_revtree.specs.Tree.{Tree, StandsFor}
 use Rattle.mg_revtree.specs.Changes.{Decides, next_revision, path_of, position_below, run_over, with_path}
 use Rattle.mg_revtree.specs.Steps.{ids_over}
-use Rattle.mg_revtree.specs.declared.error.Refusal.{Refusal}
+use Rattle.mg_revtree.specs.declared.error.TreeRefusal.{TreeRefusal}
 use Rattle.mg_revtree.specs.declared.error.TreeError.TheVariants.{Known}
 use Rattle.mg_revtree.proofs.Step.{found_known}
 use Rattle.mg_revtree.proofs.Extend.{decides_made, decides_refused, not_refused, only_memory, refused_known, refused_position, run_over_is}
@@ -21,7 +21,7 @@ returns-then-knows-clause-decided c = λ h stands.
     let s : StandsFor (record { links = ks; leaves = c.self.inside.leaves.items }) h = subst (λ (t : Tree). StandsFor t h) (sym c.self.view_is) stands in
     let r : Revision = (c.in_ok-pos.pos, string_bytes c.args.id) in
     let k : c.knows.result ≡ is_known r (all_links h) = c.knows.ensures s.nodes.sorted ∙ found_known r (all_links h) ks (s.nodes.same r) in
-    subst (λ (o : Option Refusal). Decides o (Err Known)) (refused_known h (option_copied c.args.parent) (string_bytes c.args.id) c.in_ok-pos.pos (c.in_ok-pos.ensures.position h stands) (sym k ∙ c.if-knows.true)) refl
+    subst (λ (o : Option TreeRefusal). Decides o (Err Known)) (refused_known h (option_copied c.args.parent) (string_bytes c.args.id) c.in_ok-pos.pos (c.in_ok-pos.ensures.position h stands) (sym k ∙ c.if-knows.true)) refl
 
 pub returns-in_err-ids-clause-decided : goal.returns-in_err-ids-clause-decided
 returns-in_err-ids-clause-decided c = λ h stands.

@@ -1,7 +1,7 @@
 use Rattle.std.proofs.Common.{◌≡◌, ◌++◌, length}
 use Rattle.std.specs.List.{flat_map}
 use Rattle.mg_pages.specs.Parts.{children, child_seen, child_whole, level_seen, level_whole, AreWhole}
-use Rattle.mg_pages.proofs.build.grouped.Given as goal
+use Rattle.mg_pages.proofs.build.group.Given as goal
 
 abbrev pub invariant-loop-rest : goal.invariant-loop-rest
 invariant-loop-rest g l = record {

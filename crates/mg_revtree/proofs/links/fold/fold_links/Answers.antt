@@ -8,7 +8,7 @@ use Rattle.mg_revtree.specs.Known.{AreBelow, with_link}
 use Rattle.mg_revtree.specs.declared.links.node.Node.{Node}
 use Rattle.mg_revtree.proofs.Folds.{below_next, links_next, made_sorted, older_sorted, rest_sorted, within-append, within-drop}
 use Rattle.mg_revtree.proofs.Texts.{grown-grown, grown-length, within-more}
-use Rattle.mg_revtree.proofs.links.fold.folded.Goals as goal
+use Rattle.mg_revtree.proofs.links.fold.fold_links.Goals as goal
 
 pub loop-node-preserved : goal.loop-node-preserved
 loop-node-preserved c =

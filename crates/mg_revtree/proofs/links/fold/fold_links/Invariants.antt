@@ -3,7 +3,7 @@ use Rattle.mg_revtree.specs.Tree.{AreSorted}
 use Rattle.mg_revtree.specs.Nodes.{AreWithin, Grows, link_in, links_in}
 use Rattle.mg_revtree.specs.Known.{AreBelow, with_links}
 use Rattle.mg_revtree.specs.declared.links.node.Node.{Node}
-use Rattle.mg_revtree.proofs.links.fold.folded.Given as goal
+use Rattle.mg_revtree.proofs.links.fold.fold_links.Given as goal
 
 abbrev pub invariant-loop-node : goal.invariant-loop-node
 invariant-loop-node l = record {

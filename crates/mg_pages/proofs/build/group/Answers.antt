@@ -6,7 +6,7 @@ use Rattle.mg_pages.specs.Parts.{children, child_seen, child_value, child_whole,
 use Rattle.mg_pages.proofs.Parts.{front_some, front_whole, back_whole, mapped_push, mapped_take, mapped_drop}
 use Rattle.mg_pages.proofs.Counts.{count_cut}
 use Rattle.mg_pages.proofs.Built.{built_whole, built_seen}
-use Rattle.mg_pages.proofs.build.grouped.Goals as goal
+use Rattle.mg_pages.proofs.build.group.Goals as goal
 
 pub count_of-count-requires-clause-whole : goal.count_of-count-requires-clause-whole
 count_of-count-requires-clause-whole g c =

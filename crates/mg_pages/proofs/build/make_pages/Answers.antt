@@ -3,7 +3,7 @@ use Rattle.std.proofs.lemmas.List.{take-append-drop}
 use Rattle.mg_pages.specs.Parts.{children, child_seen, child_value, child_whole, page_seen, page_whole}
 use Rattle.mg_pages.proofs.Parts.{mapped_push}
 use Rattle.mg_pages.proofs.Built.{built_whole, built_seen}
-use Rattle.mg_pages.proofs.build.paged.Goals as goal
+use Rattle.mg_pages.proofs.build.make_pages.Goals as goal
 
 pub loop-rest-preserved : goal.loop-rest-preserved
 loop-rest-preserved g c =
