@@ -4,9 +4,9 @@ use Rattle.mg_value.specs.Value.{Items, item, no_items, text}
 use Rattle.mg_value.specs.View.{items_view}
 use Rattle.mg_bookmark.specs.Bookmark.{Place}
 use Rattle.mg_bookmark.specs.declared.bookmark.Bookmark.{Bookmark}
-use Rattle.mg_bookmark.specs.declared.place.RowKey.{RowKey}
-use Rattle.mg_bookmark.specs.declared.place.RowKey.TheVariants.{Columns, Id}
-use Rattle.mg_bookmark.specs.declared.place.BookmarkParts.{BookmarkParts}
+use Rattle.mg_bookmark.specs.declared.parts.RowKey.{RowKey}
+use Rattle.mg_bookmark.specs.declared.parts.RowKey.TheVariants.{Columns, Id}
+use Rattle.mg_bookmark.specs.declared.parts.BookmarkParts.{BookmarkParts}
 
 -- the place that the code's bookmark names
 abbrev pub bookmark_place : Bookmark → Place

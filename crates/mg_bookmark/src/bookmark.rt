@@ -1,7 +1,7 @@
 ghost use Rattle.std.specs.Prelude.{◌≡◌, ◌↔◌, codes, None, Some, Ok, Err, IfOk, IfSome, option_map, string_bytes};
 
 use crate::error::BookmarkError;
-use crate::place::{BookmarkParts, RowKey};
+use crate::parts::{BookmarkParts, RowKey};
 use crate::spelling::spelled_by;
 use mg_collate::Direction;
 use mg_value::{Json, NoMemory};

@@ -5,10 +5,10 @@ mod bookmark;
 mod error;
 pub mod laws;
 mod parts;
-mod place;
+mod reader;
 mod spelling;
 mod text;
 
 pub use bookmark::Bookmark;
 pub use error::BookmarkError;
-pub use place::{BookmarkParts, RowKey};
+pub use parts::{BookmarkParts, RowKey};

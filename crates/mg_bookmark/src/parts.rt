@@ -1,122 +1,69 @@
-//! Reads a bookmark's parts from its JSON array.
-ghost use Rattle.std.specs.Prelude.{◌≡◌, ℕ, List, Option, Err, IfOk, option_map, string_bytes};
-ghost use Rattle.mg_value.specs.Value.{list, text, Items};
-ghost use Rattle.mg_value.specs.View.{view, items_view};
-ghost use Rattle.mg_bookmark.specs.Bookmark.{Place, place_value, ddoc_value};
-ghost use Rattle.mg_bookmark.specs.Decoding.{five};
-ghost use Rattle.mg_bookmark.specs.Seen.{bookmark_place};
-ghost use Rattle.mg_collate.specs.Direction.{direction_word};
-ghost use Rattle.mg_collate.specs.declared.direction.Direction.{Direction as DirectionValue};
+ghost use Rattle.std.specs.Prelude.{◌≡◌, IfOk, string_bytes};
+ghost use Rattle.mg_value.specs.Text.{compact};
+ghost use Rattle.mg_bookmark.specs.Bookmark.{place_value, spelled};
+ghost use Rattle.mg_bookmark.specs.Seen.{place_at};
 
-use crate::bookmark::Bookmark;
-use crate::error::BookmarkError;
+use crate::text::{with_ddoc, with_direction, with_key, with_text};
+use base64::engine::general_purpose::URL_SAFE_NO_PAD;
 use mg_collate::Direction;
-use mg_value::{Json, copy_items};
+use mg_value::{Json, NoMemory};
 use std::alloc::Global;
 
-// The bookmark whose array is this value.
-pub(crate) fn bookmark_in(alloc: Global, value: &Json) -> Result<Bookmark, BookmarkError>
-    ensures ok { IfOk result (λ b. view value.now ≡ place_value (bookmark_place b)) }
-    ensures invalid { result ≡ Err BookmarkError.Invalid
-        → (p : Place) → ¬ (view value.now ≡ place_value p) }
-{
-    match value {
-        Json::List(items) => bookmark_of(alloc, items),
-        _ => Err(BookmarkError::Invalid),
+// The first capacity in bytes, in which the array of most rows fits.
+const FIRST_ROOM: usize = 256;
+
+/// The key of a row, lent.
+#[derive(Clone, Copy)]
+pub enum RowKey<'a> {
+    /// The values of an index's columns.
+    Columns(&'a [Json]),
+    /// The document's id as the only value, as in `_all_docs`.
+    Id,
+}
+
+/// The parts of a bookmark, lent: a place in an index that is read in a direction.
+#[derive(Clone, Copy)]
+pub struct BookmarkParts<'a> {
+    /// The design document of the index; `None` for `_all_docs`.
+    pub ddoc: Option<&'a str>,
+    /// The name of the index.
+    pub name: &'a str,
+    /// The direction in which the index is read.
+    pub direction: Direction,
+    /// The row's key.
+    pub key: RowKey<'a>,
+    /// The document's id.
+    pub id: &'a str,
+}
+
+impl BookmarkParts<'_> {
+    /// The text that a client gets for a page that ended with this row, as `Bookmark::encode` gives it
+    /// for a bookmark of these parts. Parts are copied only into the text.
+    ///
+    /// Errors: `NoMemory` if an allocation fails. Cost: the size of the key.
+    pub fn spell(&self, alloc: Global) -> Result<String, NoMemory>
+        ensures { IfOk result (λ t. string_bytes t ≡ spelled (place_at self.now)) }
+    {
+        let text = self.array_text(alloc)?;
+        Ok(URL_SAFE_NO_PAD.encode(alloc, &text)?)
     }
-}
 
-fn bookmark_of(alloc: Global, items: &[Json]) -> Result<Bookmark, BookmarkError>
-    ensures ok { IfOk result (λ b. list (items_view items.now) ≡ place_value (bookmark_place b)) }
-    ensures invalid { result ≡ Err BookmarkError.Invalid
-        → (p : Place) → ¬ (list (items_view items.now) ≡ place_value p) }
-{
-    if items.len() != 5 {
-        return Err(BookmarkError::Invalid);
-    }
-    bookmark_with(alloc, &items[0], &items[1], &items[2], &items[3], &items[4])
-}
-
-fn bookmark_with(
-    alloc: Global,
-    ddoc: &Json,
-    name: &Json,
-    direction: &Json,
-    key: &Json,
-    id: &Json,
-) -> Result<Bookmark, BookmarkError>
-    ensures ok { IfOk result (λ b. five (view ddoc.now) (view name.now) (view direction.now)
-        (view key.now) (view id.now) ≡ place_value (bookmark_place b)) }
-    ensures invalid { result ≡ Err BookmarkError.Invalid → (p : Place)
-        → ¬ (five (view ddoc.now) (view name.now) (view direction.now) (view key.now) (view id.now)
-        ≡ place_value p) }
-{
-    let ddoc = ddoc_in(ddoc)?;
-    let name = text_in(name)?;
-    let direction = direction_in(direction)?;
-    let key = key_in(alloc, key)?;
-    let id = text_in(id)?;
-    Ok(Bookmark {
-        ddoc,
-        name,
-        direction,
-        key,
-        id,
-    })
-}
-
-fn ddoc_in(value: &Json) -> Result<Option<String>, BookmarkError>
-    ensures ok { IfOk result (λ ddoc. view value.now ≡ ddoc_value (option_map string_bytes ddoc)) }
-    ensures invalid { result ≡ Err BookmarkError.Invalid
-        → (ddoc : Option (List ℕ)) → ¬ (view value.now ≡ ddoc_value ddoc) }
-{
-    match value {
-        Json::Null => Ok(None),
-        Json::Text(ddoc) => Ok(Some(ddoc.clone()?)),
-        _ => Err(BookmarkError::Invalid),
-    }
-}
-
-fn text_in(value: &Json) -> Result<String, BookmarkError>
-    ensures ok { IfOk result (λ t. view value.now ≡ text (string_bytes t)) }
-    ensures invalid { result ≡ Err BookmarkError.Invalid
-        → (t : List ℕ) → ¬ (view value.now ≡ text t) }
-{
-    match value {
-        Json::Text(text) => Ok(text.clone()?),
-        _ => Err(BookmarkError::Invalid),
-    }
-}
-
-fn direction_in(value: &Json) -> Result<Direction, BookmarkError>
-    ensures ok { IfOk result (λ direction. view value.now ≡ text (direction_word direction)) }
-    ensures invalid { result ≡ Err BookmarkError.Invalid
-        → (direction : DirectionValue) → ¬ (view value.now ≡ text (direction_word direction)) }
-{
-    match value {
-        Json::Text(word) => direction_named(word.as_str()),
-        _ => Err(BookmarkError::Invalid),
-    }
-}
-
-fn direction_named(word: &str) -> Result<Direction, BookmarkError>
-    ensures ok { IfOk result (λ direction. word.now ≡ direction_word direction) }
-    ensures invalid { result ≡ Err BookmarkError.Invalid
-        → (direction : DirectionValue) → ¬ (word.now ≡ direction_word direction) }
-{
-    match Direction::named(word) {
-        Some(direction) => Ok(direction),
-        None => Err(BookmarkError::Invalid),
-    }
-}
-
-fn key_in(alloc: Global, value: &Json) -> Result<Vec<Json>, BookmarkError>
-    ensures ok { IfOk result (λ key. view value.now ≡ list (items_view key.items)) }
-    ensures invalid { result ≡ Err BookmarkError.Invalid
-        → (key : Items) → ¬ (view value.now ≡ list key) }
-{
-    match value {
-        Json::List(items) => Ok(copy_items(alloc, items)?),
-        _ => Err(BookmarkError::Invalid),
+    // The compact text of the bookmark's array.
+    pub(crate) fn array_text(&self, alloc: Global) -> Result<Vec<u8>, NoMemory>
+        ensures { IfOk result (λ b. b.items ≡ compact (place_value (place_at self.now))) }
+    {
+        let mut text = Vec::with_capacity(alloc, FIRST_ROOM)?;
+        text.push(b'[')?;
+        let mut text = with_ddoc(text, self.ddoc)?;
+        text.push(b',')?;
+        let mut text = with_text(text, self.name)?;
+        text.push(b',')?;
+        let mut text = with_direction(text, self.direction)?;
+        text.push(b',')?;
+        let mut text = with_key(alloc, text, self.key, self.id)?;
+        text.push(b',')?;
+        let mut text = with_text(text, self.id)?;
+        text.push(b']')?;
+        Ok(text)
     }
 }

@@ -11,7 +11,7 @@ ghost use Rattle.mg_bookmark.specs.Decoding.{IsDecoded};
 
 use crate::bookmark::Bookmark;
 use crate::error::BookmarkError;
-use crate::parts::bookmark_in;
+use crate::reader::bookmark_in;
 use base64::DecodeAllocError;
 use base64::engine::general_purpose::URL_SAFE_NO_PAD;
 use mg_value::{Json, NoMemory, ReadError, read};

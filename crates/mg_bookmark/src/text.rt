@@ -1,4 +1,5 @@
-//! The JSON text of a bookmark's array, part by part. Each function appends its part to the buffer, and returns the buffer.
+//! The JSON text of a bookmark's array, part by part. Each function appends its part to the buffer, and
+//! returns the buffer.
 ghost use Rattle.std.specs.Prelude.{◌≡◌, ◌++◌, None, IfOk, option_map};
 ghost use Rattle.json.specs.Print.{quoted};
 ghost use Rattle.mg_value.specs.Text.{compact};
@@ -8,7 +9,7 @@ ghost use Rattle.mg_bookmark.specs.Bookmark.{ddoc_value};
 ghost use Rattle.mg_bookmark.specs.Seen.{key_at};
 ghost use Rattle.mg_collate.specs.Direction.{direction_word};
 
-use crate::place::RowKey;
+use crate::parts::RowKey;
 use json::Writer;
 use mg_collate::Direction;
 use mg_value::{Json, NoMemory, write};

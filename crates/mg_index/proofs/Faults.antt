@@ -118,8 +118,8 @@ directions_fault v vs d there is =
     ∙ ap (λ b. cond b None (Some Mixed)) (all_same d vs)
 
 -- a fault of what was read, or a refusal, is what a reading may return
-pub fault_or_refusal : {A B : Type 0} (seen : A → B) (r : Result B IndexError) → Gives seen (Err (unwrap_or (result_err r) NoMemory)) r
-fault_or_refusal seen (Ok x) = tt
-fault_or_refusal seen (Err Shape) = refl
-fault_or_refusal seen (Err Mixed) = refl
-fault_or_refusal seen (Err NoMemory) = tt
+pub fault_or_no_memory : {A B : Type 0} (seen : A → B) (r : Result B IndexError) → Gives seen (Err (unwrap_or (result_err r) NoMemory)) r
+fault_or_no_memory seen (Ok x) = tt
+fault_or_no_memory seen (Err Shape) = refl
+fault_or_no_memory seen (Err Mixed) = refl
+fault_or_no_memory seen (Err NoMemory) = tt

@@ -1,6 +1,6 @@
 ghost use Rattle.std.specs.Prelude.{◌≡◌, ◌≢◌, List, [], ◌∷◌, IfOk, OnOk, OnErr, Ok, Some, true, option_map, is_some};
 ghost use Rattle.mg_index.specs.Catalog.{IsCatalog, definition_at, with_definition, without_definition};
-ghost use Rattle.mg_index.specs.Places.{IsPlaceAt, IsSlotOf};
+ghost use Rattle.mg_index.specs.Places.{IsPositionOf, IsSlotOf};
 ghost use Rattle.mg_index.specs.Same.{is_there};
 
 use crate::definition::IndexDef;
@@ -58,14 +58,16 @@ impl Catalog {
 
     /// The definition of this design document and name, if there is one. Takes no memory.
     ///
-    /// Cost: each definition once. The design document is compared as it is given.
+    /// Cost: linear in the number of definitions. `ddoc` is compared byte for byte, so it needs its
+    /// `_design/`.
     pub fn find(&self, ddoc: &str, name: &str) -> Option<&IndexDef>
         ensures { option_map (λ d. d.now) result ≡ definition_at ddoc.now name.now self.now }
     {
         definition_at(&self.definitions, ddoc, name)
     }
 
-    /// Whether the same definition is there; then adding it changes nothing. Takes no memory. Cost: each definition once.
+    /// Whether the catalog has a definition equal to this one; if it has, adding it changes nothing. Takes no
+    /// memory. Cost: linear in the number of definitions.
     pub fn has(&self, definition: &IndexDef) -> bool
         ensures there { result ≡ is_there definition.now self.now }
         ensures same { result ≡ true → with_definition definition.now self.now ≡ self.now }
@@ -89,7 +91,8 @@ impl Catalog {
     ///
     /// Returns `Exists` exactly if the same definition was already there, with the same columns, path texts
     /// and direction; then nothing has changed.
-    /// Errors: `NoMemory` if an allocation fails; then nothing has changed. Cost: each definition once.
+    /// Errors: `NoMemory` if an allocation fails; then nothing has changed. Cost: linear in the number of
+    /// definitions.
     pub fn add(&mut self, definition: IndexDef) -> Result<Added, NoMemory>
         ensures ok { OnOk result (self.new ≡ with_definition definition self.old) }
         ensures exists { result ≡ Ok Added.Exists
@@ -98,7 +101,7 @@ impl Catalog {
             → definition_at definition.ddoc definition.name self.old ≢ Some definition }
         ensures err { OnErr result (self.new ≡ self.old) }
     {
-        match place_of(&self.definitions, &definition) {
+        match slot_of(&self.definitions, &definition) {
             Slot::At(place) => {
                 let added = if definition.is_same(&self.definitions[place]) {
                     Added::Exists
@@ -118,12 +121,13 @@ impl Catalog {
     /// Removes the definition of this design document and name, and returns whether there was one. Takes no
     /// memory.
     ///
-    /// Cost: each definition once. The design document is compared as it is given.
+    /// Cost: linear in the number of definitions. `ddoc` is compared byte for byte, so it needs its
+    /// `_design/`.
     pub fn remove(&mut self, ddoc: &str, name: &str) -> bool
         ensures removed { result ≡ is_some (definition_at ddoc.now name.now self.old) }
         ensures rest { self.new ≡ without_definition ddoc.now name.now self.old }
     {
-        match place_at(&self.definitions, ddoc, name) {
+        match position_of(&self.definitions, ddoc, name) {
             Some(place) => {
                 drop(self.definitions.remove(place));
                 true
@@ -149,9 +153,9 @@ fn definition_at<'a>(definitions: &'a [IndexDef], ddoc: &str, name: &str) -> Opt
     definitions.iter().find(|d| d.is_at(ddoc, name))
 }
 
-// The place of the definition of this design document and name.
-fn place_at(definitions: &[IndexDef], ddoc: &str, name: &str) -> Option<usize>
-    ensures { IsPlaceAt ddoc.now name.now definitions.now result }
+// The place of the definition of this design document and name, if there is one.
+fn position_of(definitions: &[IndexDef], ddoc: &str, name: &str) -> Option<usize>
+    ensures { IsPositionOf ddoc.now name.now definitions.now result }
 {
     for (place, definition) in definitions.iter().enumerate() {
         if definition.is_at(ddoc, name) {
@@ -162,7 +166,7 @@ fn place_at(definitions: &[IndexDef], ddoc: &str, name: &str) -> Option<usize>
 }
 
 // The place of a definition in a catalog, or the place where it is to be inserted.
-fn place_of(definitions: &[IndexDef], definition: &IndexDef) -> Slot
+fn slot_of(definitions: &[IndexDef], definition: &IndexDef) -> Slot
     requires { IsCatalog definitions.now }
     ensures { IsSlotOf definition.now definitions.now result }
 {

@@ -36,11 +36,12 @@ pub(crate) struct Candidate<'a> {
 
 /// Chooses the index that serves a query. Takes no memory.
 ///
-/// An index is usable if its first columns are the sort's paths, and if every document that the query finds has all of its
-/// columns. A found document has `_id` and `_rev`, each path of the sort, and each part on which some atom fails if it is
-/// missing. Of the usable indexes, one that the hint names is preferred; then the one with more bounded columns, then with
-/// fewer columns, then with the lesser name, then with the lesser design document. If no index is usable, the index of all
-/// documents serves a query without a sort, or with a sort by `_id` alone.
+/// An index is usable if its first columns are the sort's paths, and if every document that the query finds
+/// has all of its columns. A found document has `_id` and `_rev`, each path of the sort, and each part on
+/// which some atom fails if it is missing. Of the usable indexes, one that the hint names is preferred;
+/// then the one with more bounded columns, then with fewer columns, then with the lesser name, then with
+/// the lesser design document. If no index is usable, the index of all documents serves a query without a
+/// sort, or with a sort by `_id` alone.
 ///
 /// Errors: `NoUsableIndex` if that index cannot serve either.
 /// Cost: for each definition its columns times the atoms. Source: the selection of indexes in CouchDB.

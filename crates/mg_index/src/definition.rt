@@ -47,7 +47,7 @@ impl Model for IndexDef {
 }
 
 impl IndexDef {
-    /// Reads the body of an `_index`, an object:
+    /// Reads the body of `POST _index`, an object with these members:
     ///
     /// - `index`, an object whose `fields` is an array of one or more columns, each `{path: "asc"}`,
     ///   `{path: "desc"}`, or the text of a path, which is ascending.
@@ -65,7 +65,7 @@ impl IndexDef {
         ensures refused { (e : IndexError) → definition_of (json_view body.now) ≡ Err e → result ≡ Err e }
     {
         match reader::read_definition(alloc, body) {
-            Err(IndexError::NoMemory) => Err(fault_or_refusal(body)),
+            Err(IndexError::NoMemory) => Err(fault_or_no_memory(body)),
             read => read,
         }
     }
@@ -142,8 +142,8 @@ impl IndexDef {
         by_ddoc.then(self.name.as_str().cmp(other.name.as_str()))
     }
 
-    /// Whether the definitions are the same: they have the same design document, name, path texts, columns and direction. Takes
-    /// no memory.
+    /// Whether the definitions are the same: they have the same design document, name, path texts, columns
+    /// and direction. Takes no memory.
     pub fn is_same(&self, other: &IndexDef) -> bool
         ensures { result ≡ is_same_definition self.now other.now }
     {
@@ -155,7 +155,7 @@ impl IndexDef {
 }
 
 // After an allocation failed: the fault of the body, or `NoMemory` if it has none.
-fn fault_or_refusal(body: &Json) -> IndexError
+fn fault_or_no_memory(body: &Json) -> IndexError
     ensures { result ≡ unwrap_or (result_err (definition_of (json_view body.now))) IndexError.NoMemory }
 {
     fault_of(body).unwrap_or(IndexError::NoMemory)

@@ -85,7 +85,8 @@ fn direction_fault(fields: &[Json]) -> Option<IndexError>
 
 // `Mixed` if one of the others does not have this direction.
 fn mixed_fault(direction: Direction, others: &[Json]) -> Option<IndexError>
-    ensures { result ≡ (if list_all (gives_direction direction) (map view others.now) then None else Some IndexError.Mixed) }
+    ensures { result ≡ (if list_all (gives_direction direction) (map view others.now)
+        then None else Some IndexError.Mixed) }
 {
     for field in others {
         if !is_directed(direction, field) {

@@ -1,4 +1,5 @@
-//! The fields of an index and of a sort: a text, or an object of one member whose name is the path and whose value is the direction.
+//! The fields of an index and of a sort: a text, which is a path, or an object of one member, whose name is
+//! the path and whose value is the direction.
 ghost use Rattle.std.specs.Prelude.{◌≡◌, option_map};
 ghost use Rattle.std.specs.List.{list_all};
 ghost use Rattle.mg_value.specs.View.{view, members_view};
@@ -20,7 +21,8 @@ pub fn are_all(direction: Direction, others: &[Direction]) -> bool
     true
 }
 
-/// The text of a field's path, if it has one. Takes no memory. Source: `fields` and `sort` in CouchDB's API reference.
+/// The text of a field's path, if it has one. Takes no memory. Source: `fields` and `sort` in CouchDB's API
+/// reference.
 pub fn field_path(field: &Json) -> Option<&str>
     ensures { option_map (λ t. t.now) result ≡ path_text (view field.now) }
 {
@@ -34,7 +36,8 @@ pub fn field_path(field: &Json) -> Option<&str>
     }
 }
 
-/// A field's direction, if it has one: ascending if the field is a text. Takes no memory. Source: as for `field_path`.
+/// A field's direction, if it has one: ascending if the field is a text. Takes no memory. Source: as for
+/// `field_path`.
 pub fn field_direction(field: &Json) -> Option<Direction>
     ensures { result ≡ direction_given (view field.now) }
 {

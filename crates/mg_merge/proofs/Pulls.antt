@@ -1,4 +1,4 @@
--- Pulling the first thing from sources that are in order.
+-- Pulling the first item from sources that are in order.
 use Rattle.std.proofs.Common.{◌≡◌, ℕ, zero, suc, ◌+◌, ◌<◌, ◌≤◌, List, [], ◌∷◌, ◌++◌, length, get_or, set, map, take, All, Option, None, Some, option_map, IfSome, IfNone, Ordering, Bool, true, false, if◌then◌else◌, append_assoc, refl, sym, ap, ap₂, ◌∙◌, subst, arith}
 use Rattle.std.specs.Ordering.{is_gt}
 use Rattle.std.proofs.lemmas.List.{get_or-map, length-map, length-set, map-append, map-set, length-append}
@@ -8,7 +8,7 @@ use Rattle.mg_collate.specs.Row.{RowValue, directed_order}
 use Rattle.mg_collate.specs.Sorted.{IsInOrder, sorted, sorted_with}
 use Rattle.mg_collate.proofs.Directed.{directed_total}
 use Rattle.mg_merge.specs.Merged.{joined, order_by}
-use Rattle.mg_merge.specs.Pulled.{AreFrom, IsAhead, IsGivenBy, coming, comings, firsts_of}
+use Rattle.mg_merge.specs.Pulled.{AreFrom, IsAhead, IsGivenBy, remaining, all_remaining, firsts_of}
 use Rattle.mg_merge.specs.Rests.{AreInTurn, BeginsFirst, begin_order, turn_order}
 use Rattle.mg_merge.proofs.Heads.{first_taken, none_left, order_kept}
 use Rattle.mg_merge.proofs.Queues.{begins_first, first_enters, others_climb}
@@ -16,32 +16,32 @@ use Rattle.mg_merge.proofs.Rows.{by_total}
 
 -- ---- what each source has left
 
-pub comings_size : {X : Type 0} (heads : List (Option X)) (rests : List (List X)) → length heads ≡ length rests → length (comings heads rests) ≡ length heads
-comings_size [] rests h = sym h
-comings_size (head ∷ heads) [] h = absurd (omega (arith, h))
-comings_size (head ∷ heads) (rest ∷ rests) h = ap suc (comings_size heads rests (omega (arith, h)))
+pub all_remaining_size : {X : Type 0} (heads : List (Option X)) (rests : List (List X)) → length heads ≡ length rests → length (all_remaining heads rests) ≡ length heads
+all_remaining_size [] rests h = sym h
+all_remaining_size (head ∷ heads) [] h = absurd (omega (arith, h))
+all_remaining_size (head ∷ heads) (rest ∷ rests) h = ap suc (all_remaining_size heads rests (omega (arith, h)))
 
-pub comings_at : {X : Type 0} (heads : List (Option X)) (rests : List (List X)) (k : ℕ) → length heads ≡ length rests → k < length heads → get_or (comings heads rests) k [] ≡ coming (get_or heads k None) (get_or rests k [])
-comings_at [] rests k h l = absurd (omega arith)
-comings_at (head ∷ heads) [] k h l = absurd (omega (arith, h))
-comings_at (head ∷ heads) (rest ∷ rests) zero h l = refl
-comings_at (head ∷ heads) (rest ∷ rests) (suc k) h l = comings_at heads rests k (omega (arith, h)) (omega arith)
+pub all_remaining_at : {X : Type 0} (heads : List (Option X)) (rests : List (List X)) (k : ℕ) → length heads ≡ length rests → k < length heads → get_or (all_remaining heads rests) k [] ≡ remaining (get_or heads k None) (get_or rests k [])
+all_remaining_at [] rests k h l = absurd (omega arith)
+all_remaining_at (head ∷ heads) [] k h l = absurd (omega (arith, h))
+all_remaining_at (head ∷ heads) (rest ∷ rests) zero h l = refl
+all_remaining_at (head ∷ heads) (rest ∷ rests) (suc k) h l = all_remaining_at heads rests k (omega (arith, h)) (omega arith)
 
-pub comings_set : {X : Type 0} (heads : List (Option X)) (rests : List (List X)) (k : ℕ) (head : Option X) (rest : List X) → length heads ≡ length rests → comings (set heads k head) (set rests k rest) ≡ set (comings heads rests) k (coming head rest)
-comings_set [] [] k head rest h = refl
-comings_set [] (r ∷ rests) k head rest h = absurd (omega (arith, h))
-comings_set (x ∷ heads) [] k head rest h = absurd (omega (arith, h))
-comings_set (x ∷ heads) (r ∷ rests) zero head rest h = refl
-comings_set (x ∷ heads) (r ∷ rests) (suc k) head rest h = ap (λ ls. coming x r ∷ ls) (comings_set heads rests k head rest (omega (arith, h)))
+pub all_remaining_set : {X : Type 0} (heads : List (Option X)) (rests : List (List X)) (k : ℕ) (head : Option X) (rest : List X) → length heads ≡ length rests → all_remaining (set heads k head) (set rests k rest) ≡ set (all_remaining heads rests) k (remaining head rest)
+all_remaining_set [] [] k head rest h = refl
+all_remaining_set [] (r ∷ rests) k head rest h = absurd (omega (arith, h))
+all_remaining_set (x ∷ heads) [] k head rest h = absurd (omega (arith, h))
+all_remaining_set (x ∷ heads) (r ∷ rests) zero head rest h = refl
+all_remaining_set (x ∷ heads) (r ∷ rests) (suc k) head rest h = ap (λ ls. remaining x r ∷ ls) (all_remaining_set heads rests k head rest (omega (arith, h)))
 
 -- what the sources have left stays the same when the head of one more is pulled
-pub comings_next : {X : Type 0} (heads : List (Option X)) (rests : List (List X)) (head : Option X) (rest : List X) → length heads < length rests → get_or rests (length heads) [] ≡ coming head rest
-    → comings (heads ++ head ∷ []) (set rests (length heads) rest) ≡ comings heads rests
-comings_next heads [] head rest h e = absurd (omega arith)
-comings_next [] (r ∷ rests) head rest h e = ap (λ l. l ∷ rests) (sym e)
-comings_next (x ∷ heads) (r ∷ rests) head rest h e = ap (λ ls. coming x r ∷ ls) (comings_next heads rests head rest (omega arith) e)
+pub all_remaining_next : {X : Type 0} (heads : List (Option X)) (rests : List (List X)) (head : Option X) (rest : List X) → length heads < length rests → get_or rests (length heads) [] ≡ remaining head rest
+    → all_remaining (heads ++ head ∷ []) (set rests (length heads) rest) ≡ all_remaining heads rests
+all_remaining_next heads [] head rest h e = absurd (omega arith)
+all_remaining_next [] (r ∷ rests) head rest h e = ap (λ l. l ∷ rests) (sym e)
+all_remaining_next (x ∷ heads) (r ∷ rests) head rest h e = ap (λ ls. remaining x r ∷ ls) (all_remaining_next heads rests head rest (omega arith) e)
 
-firsts_at : {X : Type 0} (heads : List (Option X)) (k : ℕ) → get_or (firsts_of heads) k [] ≡ coming (get_or heads k None) []
+firsts_at : {X : Type 0} (heads : List (Option X)) (k : ℕ) → get_or (firsts_of heads) k [] ≡ remaining (get_or heads k None) []
 firsts_at [] k = refl
 firsts_at (head ∷ heads) zero = refl
 firsts_at (head ∷ heads) (suc k) = firsts_at heads k
@@ -52,36 +52,36 @@ rows_at row (head ∷ heads) zero = refl
 rows_at row (head ∷ heads) (suc k) = rows_at row heads k
 
 -- what was left before is what was pulled, and then what is left now
-pub was_coming : {X : Type 0} (row : X → RowValue) (pulled : Option X) (old new : List RowValue) → IfSome pulled (λ x. old ≡ row x ∷ new) → IfNone pulled (old ≡ []) → old ≡ coming (option_map row pulled) new
-was_coming row None old new h k = k
-was_coming row (Some x) old new h k = h
+pub was_remaining : {X : Type 0} (row : X → RowValue) (pulled : Option X) (old new : List RowValue) → IfSome pulled (λ x. old ≡ row x ∷ new) → IfNone pulled (old ≡ []) → old ≡ remaining (option_map row pulled) new
+was_remaining row None old new h k = k
+was_remaining row (Some x) old new h k = h
 
 -- ---- which source begins first
 
 begins_alike : {X : Type 0} (row : X → RowValue) (direction : Direction) (head other : Option X) (rest others : List RowValue)
-    → begin_order (order_by row direction) (coming head []) (coming other []) ≡ begin_order (directed_order direction) (coming (option_map row head) rest) (coming (option_map row other) others)
+    → begin_order (order_by row direction) (remaining head []) (remaining other []) ≡ begin_order (directed_order direction) (remaining (option_map row head) rest) (remaining (option_map row other) others)
 begins_alike row direction None None rest others = refl
 begins_alike row direction None (Some y) rest others = refl
 begins_alike row direction (Some x) None rest others = refl
 begins_alike row direction (Some x) (Some y) rest others = refl
 
 begins_at : {X : Type 0} (row : X → RowValue) (direction : Direction) (heads : List (Option X)) (rests : List (List RowValue)) (j k : ℕ) → length heads ≡ length rests → j < length heads → k < length heads
-    → begin_order (directed_order direction) (get_or (comings (map (option_map row) heads) rests) j []) (get_or (comings (map (option_map row) heads) rests) k [])
+    → begin_order (directed_order direction) (get_or (all_remaining (map (option_map row) heads) rests) j []) (get_or (all_remaining (map (option_map row) heads) rests) k [])
     ≡ begin_order (order_by row direction) (get_or (firsts_of heads) j []) (get_or (firsts_of heads) k [])
 begins_at row direction heads rests j k h l m =
     let size = length-map heads (option_map row) in
-    let at : (i : ℕ) → i < length heads → get_or (comings (map (option_map row) heads) rests) i [] ≡ coming (option_map row (get_or heads i None)) (get_or rests i []) = λ i n. comings_at (map (option_map row) heads) rests i (size ∙ h) (omega (arith, size, n)) ∙ ap (λ o. coming o (get_or rests i [])) (rows_at row heads i) in
+    let at : (i : ℕ) → i < length heads → get_or (all_remaining (map (option_map row) heads) rests) i [] ≡ remaining (option_map row (get_or heads i None)) (get_or rests i []) = λ i n. all_remaining_at (map (option_map row) heads) rests i (size ∙ h) (omega (arith, size, n)) ∙ ap (λ o. remaining o (get_or rests i [])) (rows_at row heads i) in
     ap₂ (begin_order (directed_order direction)) (at j l) (at k m)
     ∙ sym (begins_alike row direction (get_or heads j None) (get_or heads k None) (get_or rests j []) (get_or rests k []))
     ∙ sym (ap₂ (begin_order (order_by row direction)) (firsts_at heads j) (firsts_at heads k))
 
 pub rows_begin : {X : Type 0} (row : X → RowValue) (direction : Direction) (heads : List (Option X)) (rests : List (List RowValue)) (p : ℕ) → length heads ≡ length rests → p < length heads
     → BeginsFirst (order_by row direction) (firsts_of heads) (length (firsts_of heads)) p
-    → BeginsFirst (directed_order direction) (comings (map (option_map row) heads) rests) (length (comings (map (option_map row) heads) rests)) p
+    → BeginsFirst (directed_order direction) (all_remaining (map (option_map row) heads) rests) (length (all_remaining (map (option_map row) heads) rests)) p
 rows_begin row direction heads rests p h l first =
     let mapped = length-map heads (option_map row) in
-    let size = comings_size (map (option_map row) heads) rests (mapped ∙ h) in
-    let fronts = length-map heads (λ head. coming head []) in
+    let size = all_remaining_size (map (option_map row) heads) rests (mapped ∙ h) in
+    let fronts = length-map heads (λ head. remaining head []) in
     record {
       least = λ k m. ap is_gt (begins_at row direction heads rests p k h l (omega (arith, m, size, mapped))) ∙ first.least k (omega (arith, m, size, mapped, fronts));
       before = λ k m. begins_at row direction heads rests p k h l (omega (arith, m, l)) ∙ first.before k m;
@@ -90,25 +90,25 @@ rows_begin row direction heads rests p h l first =
 -- ---- one step
 
 front : {X : Type 0} (row : X → RowValue) (heads : List (Option X)) (rests : List (List RowValue)) (p : ℕ) → length heads ≡ length rests → p < length heads
-    → get_or (comings (map (option_map row) heads) rests) p [] ≡ coming (option_map row (get_or heads p None)) (get_or rests p [])
+    → get_or (all_remaining (map (option_map row) heads) rests) p [] ≡ remaining (option_map row (get_or heads p None)) (get_or rests p [])
 front row heads rests p h l =
     let size = length-map heads (option_map row) in
-    comings_at (map (option_map row) heads) rests p (size ∙ h) (omega (arith, size, l)) ∙ ap (λ o. coming o (get_or rests p [])) (rows_at row heads p)
+    all_remaining_at (map (option_map row) heads) rests p (size ∙ h) (omega (arith, size, l)) ∙ ap (λ o. remaining o (get_or rests p [])) (rows_at row heads p)
 
 -- where the first source of the queue has nothing left, no source has
 pub all_ended : {X : Type 0} (row : X → RowValue) (direction : Direction) (heads : List (Option X)) (rests : List (List RowValue)) (p : ℕ) (queue : List ℕ) → length heads ≡ length rests
-    → AreInTurn (order_by row direction) (firsts_of heads) (length (firsts_of heads)) (p ∷ queue) → get_or heads p None ≡ None → joined (comings (map (option_map row) heads) rests) ≡ []
+    → AreInTurn (order_by row direction) (firsts_of heads) (length (firsts_of heads)) (p ∷ queue) → get_or heads p None ≡ None → joined (all_remaining (map (option_map row) heads) rests) ≡ []
 all_ended row direction heads rests p queue h turns e =
-    let fronts = length-map heads (λ head. coming head []) in
+    let fronts = length-map heads (λ head. remaining head []) in
     let low = turns.within.0 in
     let l : p < length heads = omega (arith, fronts, low) in
     let first = rows_begin row direction heads rests p h l (begins_first (order_by row direction) (by_total row direction) (firsts_of heads) (length (firsts_of heads)) p queue turns) in
-    let empty = front row heads rests p h l ∙ ap (λ o. coming (option_map row o) (get_or rests p [])) e in
-    let all = comings (map (option_map row) heads) rests in
+    let empty = front row heads rests p h l ∙ ap (λ o. remaining (option_map row o) (get_or rests p [])) e in
+    let all = all_remaining (map (option_map row) heads) rests in
     none_left (directed_order direction) all (λ k m. subst (λ ys. is_gt (begin_order (directed_order direction) ys (get_or all k [])) ≡ false) empty (first.least k m))
 
 pub none_in_turn : {X : Type 0} (row : X → RowValue) (order : X → X → Ordering) (heads : List (Option X)) (rests : List (List RowValue)) (queue : List ℕ) → length heads ≡ length rests
-    → AreInTurn order (firsts_of heads) (length (firsts_of heads)) queue → length queue ≡ 0 → joined (comings (map (option_map row) heads) rests) ≡ []
+    → AreInTurn order (firsts_of heads) (length (firsts_of heads)) queue → length queue ≡ 0 → joined (all_remaining (map (option_map row) heads) rests) ≡ []
 none_in_turn row order [] [] queue h turns e = refl
 none_in_turn row order [] (rest ∷ rests) queue h turns e = absurd (omega (arith, h))
 none_in_turn row order (head ∷ heads) rests [] h turns e = absurd (let there = turns.each 0 (omega arith) in cc)
@@ -116,52 +116,52 @@ none_in_turn row order (head ∷ heads) rests (n ∷ queue) h turns e = absurd (
 
 -- what the sources have left, after a pull from one of them
 pulled_set : {X : Type 0} (row : X → RowValue) (heads : List (Option X)) (rests : List (List RowValue)) (p : ℕ) (pulled : Option X) (new : List RowValue) → length heads ≡ length rests
-    → comings (map (option_map row) (set heads p pulled)) (set rests p new) ≡ set (comings (map (option_map row) heads) rests) p (coming (option_map row pulled) new)
+    → all_remaining (map (option_map row) (set heads p pulled)) (set rests p new) ≡ set (all_remaining (map (option_map row) heads) rests) p (remaining (option_map row pulled) new)
 pulled_set row heads rests p pulled new h =
-    ap (λ hs. comings hs (set rests p new)) (map-set (option_map row) heads p pulled) ∙ comings_set (map (option_map row) heads) rests p (option_map row pulled) new (length-map heads (option_map row) ∙ h)
+    ap (λ hs. all_remaining hs (set rests p new)) (map-set (option_map row) heads p pulled) ∙ all_remaining_set (map (option_map row) heads) rests p (option_map row pulled) new (length-map heads (option_map row) ∙ h)
 
 pub pulled_first : {X : Type 0} (row : X → RowValue) (direction : Direction) (heads : List (Option X)) (rests : List (List RowValue)) (p : ℕ) (queue : List ℕ) (x : X) (pulled : Option X) (new : List RowValue)
-    → length heads ≡ length rests → All (IsInOrder direction) (comings (map (option_map row) heads) rests)
-    → AreInTurn (order_by row direction) (firsts_of heads) (length (firsts_of heads)) (p ∷ queue) → get_or heads p None ≡ Some x → get_or rests p [] ≡ coming (option_map row pulled) new
-    → sorted (directed_order direction) (joined (comings (map (option_map row) heads) rests)) ≡ row x ∷ sorted (directed_order direction) (joined (comings (map (option_map row) (set heads p pulled)) (set rests p new)))
+    → length heads ≡ length rests → All (IsInOrder direction) (all_remaining (map (option_map row) heads) rests)
+    → AreInTurn (order_by row direction) (firsts_of heads) (length (firsts_of heads)) (p ∷ queue) → get_or heads p None ≡ Some x → get_or rests p [] ≡ remaining (option_map row pulled) new
+    → sorted (directed_order direction) (joined (all_remaining (map (option_map row) heads) rests)) ≡ row x ∷ sorted (directed_order direction) (joined (all_remaining (map (option_map row) (set heads p pulled)) (set rests p new)))
 pulled_first row direction heads rests p queue x pulled new h order turns e r =
-    let fronts = length-map heads (λ head. coming head []) in
+    let fronts = length-map heads (λ head. remaining head []) in
     let low = turns.within.0 in
     let l : p < length heads = omega (arith, fronts, low) in
-    let all = comings (map (option_map row) heads) rests in
+    let all = all_remaining (map (option_map row) heads) rests in
     let mapped = length-map heads (option_map row) in
-    let size = comings_size (map (option_map row) heads) rests (mapped ∙ h) in
+    let size = all_remaining_size (map (option_map row) heads) rests (mapped ∙ h) in
     let first = rows_begin row direction heads rests p h l (begins_first (order_by row direction) (by_total row direction) (firsts_of heads) (length (firsts_of heads)) p queue turns) in
-    let here : get_or all p [] ≡ row x ∷ coming (option_map row pulled) new = front row heads rests p h l ∙ ap (λ o. coming (option_map row o) (get_or rests p [])) e ∙ ap (λ ys. row x ∷ ys) r in
-    first_taken (directed_order direction) (directed_total direction) all p (row x) (coming (option_map row pulled) new) order (omega (arith, l, size, mapped)) here first
+    let here : get_or all p [] ≡ row x ∷ remaining (option_map row pulled) new = front row heads rests p h l ∙ ap (λ o. remaining (option_map row o) (get_or rests p [])) e ∙ ap (λ ys. row x ∷ ys) r in
+    first_taken (directed_order direction) (directed_total direction) all p (row x) (remaining (option_map row pulled) new) order (omega (arith, l, size, mapped)) here first
     ∙ ap (λ ls. row x ∷ sorted (directed_order direction) (joined ls)) (sym (pulled_set row heads rests p pulled new h))
 
 pub pulled_ahead : {X : Type 0} (row : X → RowValue) (direction : Direction) (heads : List (Option X)) (rests : List (List RowValue)) (p : ℕ) (queue : List ℕ) (x : X) (pulled : Option X) (new : List RowValue)
-    → length heads ≡ length rests → All (IsInOrder direction) (comings (map (option_map row) heads) rests)
-    → AreInTurn (order_by row direction) (firsts_of heads) (length (firsts_of heads)) (p ∷ queue) → get_or heads p None ≡ Some x → get_or rests p [] ≡ coming (option_map row pulled) new
+    → length heads ≡ length rests → All (IsInOrder direction) (all_remaining (map (option_map row) heads) rests)
+    → AreInTurn (order_by row direction) (firsts_of heads) (length (firsts_of heads)) (p ∷ queue) → get_or heads p None ≡ Some x → get_or rests p [] ≡ remaining (option_map row pulled) new
     → IsAhead row direction (set heads p pulled) (set rests p new) (sorted_with (turn_order (order_by row direction) (firsts_of (set heads p pulled))) p queue)
 pulled_ahead row direction heads rests p queue x pulled new h order turns e r =
-    let fronts = length-map heads (λ head. coming head []) in
+    let fronts = length-map heads (λ head. remaining head []) in
     let low = turns.within.0 in
     let l : p < length heads = omega (arith, fronts, low) in
-    let all = comings (map (option_map row) heads) rests in
+    let all = all_remaining (map (option_map row) heads) rests in
     let mapped = length-map heads (option_map row) in
-    let size = comings_size (map (option_map row) heads) rests (mapped ∙ h) in
-    let here : get_or all p [] ≡ row x ∷ coming (option_map row pulled) new = front row heads rests p h l ∙ ap (λ o. coming (option_map row o) (get_or rests p [])) e ∙ ap (λ ys. row x ∷ ys) r in
+    let size = all_remaining_size (map (option_map row) heads) rests (mapped ∙ h) in
+    let here : get_or all p [] ≡ row x ∷ remaining (option_map row pulled) new = front row heads rests p h l ∙ ap (λ o. remaining (option_map row o) (get_or rests p [])) e ∙ ap (λ ys. row x ∷ ys) r in
     let ordered = order_by row direction in
     record {
       size = length-set heads p pulled ∙ h ∙ sym (length-set rests p new);
-      order = subst (All (IsInOrder direction)) (sym (pulled_set row heads rests p pulled new h)) (order_kept (directed_order direction) (directed_total direction) all p (row x) (coming (option_map row pulled) new) order (omega (arith, l, size, mapped)) here);
-      turns = subst (λ lists. AreInTurn ordered lists (length lists) (sorted_with (turn_order ordered lists) p queue)) (sym (map-set (λ head. coming head []) heads p pulled))
-          (subst (λ n. AreInTurn ordered (set (firsts_of heads) p (coming pulled [])) n (sorted_with (turn_order ordered (set (firsts_of heads) p (coming pulled []))) p queue)) (sym (length-set (firsts_of heads) p (coming pulled [])))
-          (first_enters ordered (by_total row direction) (firsts_of heads) (length (firsts_of heads)) p queue (coming pulled []) turns));
+      order = subst (All (IsInOrder direction)) (sym (pulled_set row heads rests p pulled new h)) (order_kept (directed_order direction) (directed_total direction) all p (row x) (remaining (option_map row pulled) new) order (omega (arith, l, size, mapped)) here);
+      turns = subst (λ lists. AreInTurn ordered lists (length lists) (sorted_with (turn_order ordered lists) p queue)) (sym (map-set (λ head. remaining head []) heads p pulled))
+          (subst (λ n. AreInTurn ordered (set (firsts_of heads) p (remaining pulled [])) n (sorted_with (turn_order ordered (set (firsts_of heads) p (remaining pulled []))) p queue)) (sym (length-set (firsts_of heads) p (remaining pulled [])))
+          (first_enters ordered (by_total row direction) (firsts_of heads) (length (firsts_of heads)) p queue (remaining pulled []) turns));
     }
 
 pub pulled_climb : {X : Type 0} (row : X → RowValue) (direction : Direction) (heads : List (Option X)) (p : ℕ) (queue : List ℕ) (pulled : Option X)
     → AreInTurn (order_by row direction) (firsts_of heads) (length (firsts_of heads)) (p ∷ queue) → IsStrictlySortedBy (turn_order (order_by row direction) (firsts_of (set heads p pulled))) queue
 pulled_climb row direction heads p queue pulled turns =
-    subst (λ lists. IsStrictlySortedBy (turn_order (order_by row direction) lists) queue) (sym (map-set (λ head. coming head []) heads p pulled))
-    (others_climb (order_by row direction) (by_total row direction) (firsts_of heads) (length (firsts_of heads)) p queue (coming pulled []) turns)
+    subst (λ lists. IsStrictlySortedBy (turn_order (order_by row direction) lists) queue) (sym (map-set (λ head. remaining head []) heads p pulled))
+    (others_climb (order_by row direction) (by_total row direction) (firsts_of heads) (length (firsts_of heads)) p queue (remaining pulled []) turns)
 
 -- ---- a pull from the code's sources
 
@@ -174,23 +174,23 @@ pub source_at : {S : Type 0} (rest : S → List RowValue) (sources : List S) (p 
 source_at rest sources p s all l e h = get_or-map rest sources p s [] l ∙ ap rest (sym e) ∙ h
 
 pub source_first : {T S : Type 0} (row : T → RowValue) (rest : S → List RowValue) (direction : Direction) (heads : List (Option T)) (sources : List S) (p : ℕ) (queue : List ℕ) (x : T) (pulled : Option T) (s new : S)
-    → length heads ≡ length (map rest sources) → All (IsInOrder direction) (comings (map (option_map row) heads) (map rest sources))
-    → AreInTurn (order_by row direction) (firsts_of heads) (length (firsts_of heads)) (p ∷ queue) → get_or heads p None ≡ Some x → p < length sources → s ≡ get_or sources p s → rest s ≡ coming (option_map row pulled) (rest new)
-    → sorted (directed_order direction) (joined (comings (map (option_map row) heads) (map rest sources)))
-    ≡ row x ∷ sorted (directed_order direction) (joined (comings (map (option_map row) (set heads p pulled)) (map rest (set sources p new))))
+    → length heads ≡ length (map rest sources) → All (IsInOrder direction) (all_remaining (map (option_map row) heads) (map rest sources))
+    → AreInTurn (order_by row direction) (firsts_of heads) (length (firsts_of heads)) (p ∷ queue) → get_or heads p None ≡ Some x → p < length sources → s ≡ get_or sources p s → rest s ≡ remaining (option_map row pulled) (rest new)
+    → sorted (directed_order direction) (joined (all_remaining (map (option_map row) heads) (map rest sources)))
+    ≡ row x ∷ sorted (directed_order direction) (joined (all_remaining (map (option_map row) (set heads p pulled)) (map rest (set sources p new))))
 source_first row rest direction heads sources p queue x pulled s new h order turns e l at was =
-    pulled_first row direction heads (map rest sources) p queue x pulled (rest new) h order turns e (source_at rest sources p s (coming (option_map row pulled) (rest new)) l at was)
-    ∙ ap (λ rs. row x ∷ sorted (directed_order direction) (joined (comings (map (option_map row) (set heads p pulled)) rs))) (sym (map-set rest sources p new))
+    pulled_first row direction heads (map rest sources) p queue x pulled (rest new) h order turns e (source_at rest sources p s (remaining (option_map row pulled) (rest new)) l at was)
+    ∙ ap (λ rs. row x ∷ sorted (directed_order direction) (joined (all_remaining (map (option_map row) (set heads p pulled)) rs))) (sym (map-set rest sources p new))
 
 pub source_ahead : {T S : Type 0} (row : T → RowValue) (rest : S → List RowValue) (direction : Direction) (heads : List (Option T)) (sources : List S) (p : ℕ) (queue : List ℕ) (x : T) (pulled : Option T) (s new : S)
-    → length heads ≡ length (map rest sources) → All (IsInOrder direction) (comings (map (option_map row) heads) (map rest sources))
-    → AreInTurn (order_by row direction) (firsts_of heads) (length (firsts_of heads)) (p ∷ queue) → get_or heads p None ≡ Some x → p < length sources → s ≡ get_or sources p s → rest s ≡ coming (option_map row pulled) (rest new)
+    → length heads ≡ length (map rest sources) → All (IsInOrder direction) (all_remaining (map (option_map row) heads) (map rest sources))
+    → AreInTurn (order_by row direction) (firsts_of heads) (length (firsts_of heads)) (p ∷ queue) → get_or heads p None ≡ Some x → p < length sources → s ≡ get_or sources p s → rest s ≡ remaining (option_map row pulled) (rest new)
     → IsAhead row direction (set heads p pulled) (map rest (set sources p new)) (sorted_with (turn_order (order_by row direction) (firsts_of (set heads p pulled))) p queue)
 source_ahead row rest direction heads sources p queue x pulled s new h order turns e l at was =
     subst (λ rs. IsAhead row direction (set heads p pulled) rs (sorted_with (turn_order (order_by row direction) (firsts_of (set heads p pulled))) p queue)) (sym (map-set rest sources p new))
-    (pulled_ahead row direction heads (map rest sources) p queue x pulled (rest new) h order turns e (source_at rest sources p s (coming (option_map row pulled) (rest new)) l at was))
+    (pulled_ahead row direction heads (map rest sources) p queue x pulled (rest new) h order turns e (source_at rest sources p s (remaining (option_map row pulled) (rest new)) l at was))
 
--- ---- of what kind the things are
+-- ---- of what kind the items are
 
 at_set : {X : Type 0} (P : X → Type 0) (xs : List X) (p : ℕ) (y d : X) → P y → ((k : ℕ) → k < length xs → P (get_or xs k d)) → (k : ℕ) → k < length (set xs p y) → P (get_or (set xs p y) k d)
 at_set P [] p y d py h k l = absurd (omega arith)
@@ -246,14 +246,14 @@ from_start gives sources = record {
 }
 
 pub source_next : {T S : Type 0} (row : T → RowValue) (rest : S → List RowValue) (heads : List (Option T)) (sources : List S) (pulled : Option T) (s new : S) → length heads < length sources → s ≡ get_or sources (length heads) s
-    → rest s ≡ coming (option_map row pulled) (rest new)
-    → comings (map (option_map row) (heads ++ pulled ∷ [])) (map rest (set sources (length heads) new)) ≡ comings (map (option_map row) heads) (map rest sources)
+    → rest s ≡ remaining (option_map row pulled) (rest new)
+    → all_remaining (map (option_map row) (heads ++ pulled ∷ [])) (map rest (set sources (length heads) new)) ≡ all_remaining (map (option_map row) heads) (map rest sources)
 source_next row rest heads sources pulled s new l e was =
     let mapped = length-map heads (option_map row) in
     let same = length-map sources rest in
-    let here = source_at rest sources (length heads) s (coming (option_map row pulled) (rest new)) l e was in
-    ap₂ comings (map-append (option_map row) heads (pulled ∷ [])) (map-set rest sources (length heads) new ∙ ap (λ n. set (map rest sources) n (rest new)) (sym mapped))
-    ∙ comings_next (map (option_map row) heads) (map rest sources) (option_map row pulled) (rest new) (omega (arith, mapped, same, l)) (ap (λ n. get_or (map rest sources) n []) mapped ∙ here)
+    let here = source_at rest sources (length heads) s (remaining (option_map row pulled) (rest new)) l e was in
+    ap₂ all_remaining (map-append (option_map row) heads (pulled ∷ [])) (map-set rest sources (length heads) new ∙ ap (λ n. set (map rest sources) n (rest new)) (sym mapped))
+    ∙ all_remaining_next (map (option_map row) heads) (map rest sources) (option_map row pulled) (rest new) (omega (arith, mapped, same, l)) (ap (λ n. get_or (map rest sources) n []) mapped ∙ here)
 
 -- ---- how many were pulled
 
@@ -269,22 +269,22 @@ length_sorted : {X : Type 0} (order : X → X → Ordering) (xs : List X) → le
 length_sorted order [] = refl
 length_sorted order (x ∷ xs) = length_inserted order x (sorted order xs) ∙ ap suc (length_sorted order xs)
 
-still_coming : {T : Type 0} (row : T → RowValue) (heads : List (Option T)) (rests : List (List RowValue)) → length (joined (comings (map (option_map row) heads) rests)) ≤ length (joined (firsts_of heads)) + length (joined rests)
-still_coming row [] rests = omega arith
-still_coming row (head ∷ heads) [] = omega arith
-still_coming row (None ∷ heads) (rest ∷ rests) = let more = still_coming row heads rests in let all = length-append rest (joined rests) in omega (arith, more, all)
-still_coming row (Some x ∷ heads) (rest ∷ rests) =
-    let more = still_coming row heads rests in let all = length-append rest (joined rests) in let now = length-append rest (joined (comings (map (option_map row) heads) rests)) in omega (arith, more, all, now)
+still_remaining : {T : Type 0} (row : T → RowValue) (heads : List (Option T)) (rests : List (List RowValue)) → length (joined (all_remaining (map (option_map row) heads) rests)) ≤ length (joined (firsts_of heads)) + length (joined rests)
+still_remaining row [] rests = omega arith
+still_remaining row (head ∷ heads) [] = omega arith
+still_remaining row (None ∷ heads) (rest ∷ rests) = let more = still_remaining row heads rests in let all = length-append rest (joined rests) in omega (arith, more, all)
+still_remaining row (Some x ∷ heads) (rest ∷ rests) =
+    let more = still_remaining row heads rests in let all = length-append rest (joined rests) in let now = length-append rest (joined (all_remaining (map (option_map row) heads) rests)) in omega (arith, more, all, now)
 
 pub pulled_count : {T : Type 0} (row : T → RowValue) (order : RowValue → RowValue → Ordering) (heads start : List (Option T)) (rests before : List (List RowValue)) (all : List (List RowValue)) (items : List T) (count waits : ℕ)
-    → comings (map (option_map row) start) before ≡ all → sorted order (joined (comings (map (option_map row) start) before)) ≡ map row items ++ sorted order (joined (comings (map (option_map row) heads) rests))
+    → all_remaining (map (option_map row) start) before ≡ all → sorted order (joined (all_remaining (map (option_map row) start) before)) ≡ map row items ++ sorted order (joined (all_remaining (map (option_map row) heads) rests))
     → waits ≡ length (joined (firsts_of heads)) → count ≡ length items + waits → length (joined all) ≤ count + length (joined rests)
 pulled_count row order heads start rests before all items count waits same e w n =
-    let now = comings (map (option_map row) heads) rests in
+    let now = all_remaining (map (option_map row) heads) rests in
     let total : length (joined all) ≡ length items + length (joined now) =
-    ap (λ ls. length (joined ls)) (sym same) ∙ sym (length_sorted order (joined (comings (map (option_map row) start) before))) ∙ ap length e ∙ length-append (map row items) (sorted order (joined now))
+    ap (λ ls. length (joined ls)) (sym same) ∙ sym (length_sorted order (joined (all_remaining (map (option_map row) start) before))) ∙ ap length e ∙ length-append (map row items) (sorted order (joined now))
     ∙ ap₂ (λ i j. i + j) (length-map items row) (length_sorted order (joined now)) in
-    let more = still_coming row heads rests in
+    let more = still_remaining row heads rests in
     omega (arith, total, more, w, n)
 
 -- ---- the first of what was taken and what is left

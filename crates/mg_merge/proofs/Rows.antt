@@ -11,7 +11,7 @@ use Rattle.mg_collate.specs.Sorted.{IsInOrder, sorted_with, sorted, sorted_rows}
 use Rattle.mg_collate.proofs.Directed.{directed_total}
 use Rattle.mg_merge.specs.Merged.{IsInOrderBy, contents_of, joined, lists_view, merged, merged_by, order_by}
 
--- the order of things by their rows is total
+-- the order of items by their rows is total
 pub by_total : {X : Type 0} (row : X → RowValue) (direction : Direction) → IsTotalOrder (order_by row direction)
 by_total row direction = on_total row (directed_total direction)
 
@@ -40,7 +40,7 @@ pub rows_of_merged : {X : Type 0} (row : X → RowValue) (direction : Direction)
 rows_of_merged row direction count lists =
     sym (take-map row count (sorted (order_by row direction) (joined lists))) ∙ ap (take count) (map_sorted row direction (joined lists) ∙ ap (sorted_rows direction) (map_joined row lists))
 
--- ---- lists of things are in order where those of their rows are
+-- ---- lists of items are in order where those of their rows are
 
 pub by_rows : {X : Type 0} (row : X → RowValue) (direction : Direction) (xs : List X) → IsInOrder direction (map row xs) → IsInOrderBy row direction xs
 by_rows row direction xs h = λ k d lo hi.

@@ -25,17 +25,17 @@ joined lists = flat_map (λ list. list) lists
 abbrev pub merged : Direction → ℕ → List (List RowValue) → List RowValue
 merged direction count lists = take count (sorted_rows direction (joined lists))
 
--- ---- the merge of things that have rows: `row` gives the row of each thing
+-- ---- the merge of items that have rows: `row` gives the row of each item
 
--- the order of things in a direction: that of their rows
+-- the order of items in a direction: that of their rows
 abbrev pub order_by : {X : Type 0} → (X → RowValue) → Direction → X → X → Ordering
 order_by row direction a b = directed_order direction (row a) (row b)
 
--- no thing stands after one whose row the direction lists later
+-- no item stands after one whose row the direction lists later
 abbrev pub IsInOrderBy : {X : Type 0} → (X → RowValue) → Direction → List X → Type 0
 IsInOrderBy row direction = IsSorted (order_by row direction)
 
--- the first `count` things of all lists, in the order of their rows; of things with equal rows those of an earlier list
+-- the first `count` items of all lists, in the order of their rows; of items with equal rows those of an earlier list
 -- come first, and those of one list in the order of the list
 abbrev pub merged_by : {X : Type 0} → (X → RowValue) → Direction → ℕ → List (List X) → List X
 merged_by row direction count lists = take count (sorted (order_by row direction) (joined lists))

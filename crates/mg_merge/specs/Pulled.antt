@@ -1,4 +1,4 @@
--- Sources that things are pulled from: the head of each, which is pulled and not yet taken, and what is still to come.
+-- Sources that items are pulled from: the head of each, which is pulled and not yet taken, and what remains.
 use Rattle.std.specs.Prelude.{◌≡◌, ℕ, ◌<◌, List, [], ◌∷◌, Option, None, Some, IfSome, All, get_or, length, map, option_map}
 use Rattle.std.specs.Borrow.{Bor}
 use Rattle.mg_collate.specs.declared.direction.Direction.{Direction}
@@ -7,26 +7,26 @@ use Rattle.mg_collate.specs.Sorted.{IsInOrder}
 use Rattle.mg_merge.specs.Merged.{order_by}
 use Rattle.mg_merge.specs.Rests.{AreInTurn}
 
--- what a source has left: its head and its rest; without a head nothing is left
-abbrev pub coming : {X : Type 0} → Option X → List X → List X
-coming None rest = []
-coming (Some x) rest = x ∷ rest
+-- what remains of a source: its head and its rest; without a head nothing remains
+abbrev pub remaining : {X : Type 0} → Option X → List X → List X
+remaining None rest = []
+remaining (Some x) rest = x ∷ rest
 
--- the head of each source, as a list of at most one thing
+-- the head of each source, as a list of at most one item
 abbrev pub firsts_of : {X : Type 0} → List (Option X) → List (List X)
-firsts_of heads = map (λ head. coming head []) heads
+firsts_of heads = map (λ head. remaining head []) heads
 
--- a borrowed head, as a list of at most one thing
+-- a borrowed head, as a list of at most one item
 abbrev pub lent_first : {X : Type 0} → Option (Bor X) → List X
-lent_first head = coming (option_map (λ x. x.now) head) []
+lent_first head = remaining (option_map (λ x. x.now) head) []
 
--- what each source has left: its head and its rest; from the sources after the last head nothing was pulled yet
-abbrev pub comings : {X : Type 0} → List (Option X) → List (List X) → List (List X)
-comings [] rests = rests
-comings (head ∷ heads) [] = []
-comings (head ∷ heads) (rest ∷ rests) = coming head rest ∷ comings heads rests
+-- what remains of each source: its head and its rest; from the sources after the last head nothing was pulled yet
+abbrev pub all_remaining : {X : Type 0} → List (Option X) → List (List X) → List (List X)
+all_remaining [] rests = rests
+all_remaining (head ∷ heads) [] = []
+all_remaining (head ∷ heads) (rest ∷ rests) = remaining head rest ∷ all_remaining heads rests
 
--- a thing is of the kind that one of the sources gives
+-- an item is of the kind that one of the sources gives
 abbrev pub IsGivenBy : {S T : Type 0} → (S → T → Type 0) → List S → T → Type 0
 IsGivenBy {S} gives sources x = (k : ℕ) × (k < length sources) × ((d : S) → gives (get_or sources k d) x)
 
@@ -35,8 +35,8 @@ pub record AreFrom {S T : Type 0} (gives : S → T → Type 0) (start : List S) 
   pub fronts : (k : ℕ) → k < length heads → IfSome (get_or heads k None) (IsGivenBy gives start)
   pub later : (k : ℕ) → k < length sources → (d : S) (x : T) → gives (get_or sources k d) x → IsGivenBy gives start x
 
--- a merge is under way: the head of each source was pulled, what it has left is in order, and the queue has the sources in turn
+-- a merge is under way: the head of each source was pulled, what remains of it is in order, and the queue has the sources in turn
 pub record IsAhead {T : Type 0} (row : T → RowValue) (direction : Direction) (heads : List (Option T)) (rests : List (List RowValue)) (queue : List ℕ) : Type 0 where
   pub size : length heads ≡ length rests
-  pub order : All (IsInOrder direction) (comings (map (option_map row) heads) rests)
+  pub order : All (IsInOrder direction) (all_remaining (map (option_map row) heads) rests)
   pub turns : AreInTurn (order_by row direction) (firsts_of heads) (length (firsts_of heads)) queue

@@ -11,18 +11,18 @@ use Rattle.std.specs.Ordering.{is_gt, nat_cmp, on, then_cmp}
 abbrev pub rests_of : {X : Type 0} → List (Bor (List X)) → List (List X)
 rests_of rests = map (λ rest. rest.now) rests
 
--- the borrowed things
+-- the borrowed items
 abbrev pub lent_of : {X : Type 0} → List (Bor X) → List X
 lent_of lent = map (λ x. x.now) lent
 
--- which of two lists begins earlier in an order; a list at its end begins after all others
+-- compares lists by their first elements; the empty list is greatest
 abbrev pub begin_order : {X : Type 0} → (X → X → Ordering) → List X → List X → Ordering
 begin_order order [] [] = Equal
 begin_order order [] (y ∷ ys) = Greater
 begin_order order (x ∷ xs) [] = Less
 begin_order order (x ∷ xs) (y ∷ ys) = order x y
 
--- which of two lists is taken from first, by their numbers: the one that begins earlier, otherwise the lower number
+-- compares two lists, given by number: by begin_order, then by number
 abbrev pub turn_order : {X : Type 0} → (X → X → Ordering) → List (List X) → ℕ → ℕ → Ordering
 turn_order order lists = then_cmp (on (λ k. get_or lists k []) (begin_order order)) nat_cmp
 
@@ -37,7 +37,7 @@ pub record AreInTurn {X : Type 0} (order : X → X → Ordering) (lists : List (
   pub within : AllByRecursion (λ k. k < size) queue
   pub each : (k : ℕ) → k < size → is_in k queue ≡ true
 
--- no list of the first `size` begins before the one at `first`, and those before that one begin later
+-- list `first` is the least of the first `size` lists in begin_order, and the earliest of equals
 pub record BeginsFirst {X : Type 0} (order : X → X → Ordering) (lists : List (List X)) (size first : ℕ) : Type 0 where
   pub least : (k : ℕ) → k < size → is_gt (begin_order order (get_or lists first []) (get_or lists k [])) ≡ false
   pub before : (k : ℕ) → k < first → begin_order order (get_or lists first []) (get_or lists k []) ≡ Less

@@ -1,4 +1,4 @@
-//! The first things of lists, which are all that a merge compares.
+//! The first items of lists, which are all that a merge compares.
 ghost use Rattle.std.specs.Prelude.{◌≡◌, ◌<◌, List, [], get_or, length};
 ghost use Rattle.mg_merge.specs.Merged.{order_by};
 ghost use Rattle.mg_merge.specs.Pulled.{firsts_of, lent_first};
@@ -8,9 +8,9 @@ use crate::ranked::Ranked;
 use mg_collate::Direction;
 use std::cmp::Ordering;
 
-// Lists of ranked things, of which only the first thing of each list is seen.
+// Lists of ranked items, of which only the first item of each list is seen.
 pub(crate) trait Begins<T: Ranked> {
-    // the lists, of which only the first thing of each matters
+    // the lists, of which only the first item of each matters
     ghost lists: { Self → List (List T) };
 
     // How many lists there are.
@@ -50,7 +50,7 @@ impl<T: Ranked> Begins<T> for Vec<Option<T>> {
     }
 }
 
-// Compares the first things of two lists, in the direction's order; `None` is after all others.
+// Compares the first items of two lists, in the direction's order; `None` is after all others.
 fn begin<T: Ranked>(item: Option<&T>, other: Option<&T>, direction: Direction) -> Ordering
     ensures { result ≡ begin_order (order_by T.row_of direction)
         (lent_first item.entry) (lent_first other.entry) }

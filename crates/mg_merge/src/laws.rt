@@ -1,5 +1,5 @@
-//! The laws of the merge: its result does not depend on how documents are distributed over lists, nor on what follows the
-//! first rows of each list.
+//! The laws of the merge: its result does not depend on how documents are distributed over lists, nor on what
+//! follows the first rows of each list.
 ghost use Rattle.std.specs.Prelude.{◌≡◌, ℕ, List, All, map, take};
 ghost use Rattle.std.specs.List.Sorted.{IsPermutation};
 ghost use Rattle.mg_collate.specs.Row.{RowValue};

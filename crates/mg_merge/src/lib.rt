@@ -1,4 +1,5 @@
-//! The ordered merge of rows, as CouchDB's coordinator merges the lists of its shards: the first rows of all lists.
+//! The ordered merge of rows: the first rows of all lists, as CouchDB's coordinator merges the lists of its
+//! shards.
 #![tactic(auto)]
 
 mod begins;

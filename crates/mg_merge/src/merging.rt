@@ -12,7 +12,7 @@ use mg_collate::{Direction, Row};
 use mg_value::NoMemory;
 use std::alloc::Global;
 
-/// Merges the lists, and returns their first `take` rows in the direction's order (fewer only where
+/// Merges the lists, and returns their first `take` rows in the direction's order (fewer only if
 /// the lists have fewer, and none lost or repeated), and the lengths of the lists and of the result.
 /// Each list must be in that order, which `are_in_order` tests; it may be empty.
 ///
@@ -38,13 +38,13 @@ pub fn merge(
     Ok((rows, work))
 }
 
-/// Merges the lists, and returns their first `take` things in the direction's order of their rows
-/// (fewer only where the lists have fewer, and each as often as in the lists), and the lengths of the
-/// lists and of the result. Of things with equal rows, those of an earlier list come first. Each list
+/// Merges the lists, and returns their first `take` items in the direction's order of their rows
+/// (fewer only if the lists have fewer, and each as often as in the lists), and the lengths of the
+/// lists and of the result. Of items with equal rows, those of an earlier list come first. Each list
 /// must be in that order, which `all_are_in_order` tests; it may be empty.
 ///
 /// Errors: `NoMemory` if an allocation fails.
-/// Cost: for each thing of the result, and for each list, a number of comparisons that grows with the
+/// Cost: for each item of the result, and for each list, a number of comparisons that grows with the
 /// logarithm of the number of lists, and none with one list. No row is copied. Takes memory for the
 /// result, however large `take` is, and for a slice and a number for each list.
 pub fn merge_all<T: Ranked + Copy>(
@@ -65,7 +65,7 @@ pub fn merge_all<T: Ranked + Copy>(
     Ok((items, work))
 }
 
-// The first `take` things, borrowed from the lists.
+// The first `take` items, borrowed from the lists.
 fn first_lent<'a, T: Ranked>(
     alloc: Global,
     lists: &'a [Vec<T>],
@@ -91,7 +91,7 @@ fn first_lent<'a, T: Ranked>(
     Ok(lent)
 }
 
-// The first things of a single list: there is nothing to compare.
+// The first items of a single list: there is nothing to compare.
 fn first_of_one<'a, T>(alloc: Global, list: &'a [T], count: usize) -> Result<Vec<&'a T>, NoMemory>
     ensures { IfOk result (λ lent. lent_of lent.items ≡ take count list.now) }
 {

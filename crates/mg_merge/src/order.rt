@@ -17,7 +17,7 @@ pub fn are_in_order(lists: &[Vec<Row>], direction: Direction) -> bool
 
 /// Whether each list is in the direction's order, as `merge_all` requires.
 ///
-/// Cost: a comparison for each thing. Takes no memory.
+/// Cost: a comparison for each item. Takes no memory.
 pub fn all_are_in_order<T: Ranked>(lists: &[Vec<T>], direction: Direction) -> bool
     ensures { IsTrue result ↔ All (IsInOrderBy T.row_of direction) (contents_of lists.now) }
 {

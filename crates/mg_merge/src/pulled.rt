@@ -1,9 +1,9 @@
-//! The merge that pulls from its sources only what it needs: the first thing of each, and then one for each that it takes.
+//! A merge that pulls from its sources only what it needs: one item from each, then one for each item taken.
 ghost use Rattle.std.specs.Prelude.{◌≡◌, ◌≤◌, ◌+◌, ◌∷◌, ◌++◌, [], List, Option, All, IfOk, IfSome, IfNone, OnOk, length, map, option_map, take};
 ghost use Rattle.mg_collate.specs.Row.{directed_order};
 ghost use Rattle.mg_collate.specs.Sorted.{IsInOrder, sorted};
 ghost use Rattle.mg_merge.specs.Merged.{joined, merged};
-ghost use Rattle.mg_merge.specs.Pulled.{AreFrom, IsAhead, IsGivenBy, comings, firsts_of};
+ghost use Rattle.mg_merge.specs.Pulled.{AreFrom, IsAhead, IsGivenBy, all_remaining, firsts_of};
 
 use crate::queue::{enter, queue_of};
 use crate::ranked::Ranked;
@@ -15,13 +15,12 @@ use std::alloc::Global;
 // The first capacity of the result.
 const FIRST_ROOM: usize = 64;
 
-/// Merges the sources, and returns their first `take` things in the direction's order of their rows
-/// (fewer only where the sources have fewer, and none lost or repeated), and how many things were
-/// pulled from the sources: at most `take`, and one more for each source. Each source must be in that
-/// order; it may be empty.
+/// Merges the sources. Returns their first `take` items by row in the direction (fewer only if the sources
+/// have fewer; none lost or repeated), and how many items were pulled: at most `take`, and one more for each
+/// source. Each source must be in that order, or empty.
 ///
 /// Errors: `NoMemory` if an allocation fails.
-/// Cost: what the sources need for the things that are pulled, and for each of these a number of
+/// Cost: what the sources need for the items that are pulled, and for each of these a number of
 /// comparisons that grows with the logarithm of the number of sources, and none with one source.
 pub fn merge_pulled<T: Ranked + Copy, S: RowSource<T>>(
     alloc: Global,
@@ -40,17 +39,17 @@ pub fn merge_pulled<T: Ranked + Copy, S: RowSource<T>>(
     let mut heads = first_heads(alloc, sources)?;
     let mut queue = queue_of(alloc, &heads, direction)?;
     let items = merge_ahead(alloc, &mut heads, sources, &mut queue, direction, take)?;
-    let pulled = (items.len() + waiting(&heads)) as u64;
+    let pulled = (items.len() + count_heads(&heads)) as u64;
     Ok((items, pulled))
 }
 
-// Pulls the first thing of each source; `None` for a source that has nothing.
+// Pulls the first item of each source; `None` for a source that has nothing.
 fn first_heads<T: Ranked + Copy, S: RowSource<T>>(
     alloc: Global,
     sources: &mut [S],
 ) -> Result<Vec<Option<T>>, NoMemory>
     ensures size { IfOk result (λ heads. length heads.items ≡ length sources.new) }
-    ensures same { IfOk result (λ heads. comings (map (option_map T.row_of) heads.items)
+    ensures same { IfOk result (λ heads. all_remaining (map (option_map T.row_of) heads.items)
         (map S.rest sources.new) ≡ map S.rest sources.old) }
     ensures given { IfOk result
         (λ heads. AreFrom S.gives sources.old heads.items sources.new) }
@@ -62,7 +61,7 @@ fn first_heads<T: Ranked + Copy, S: RowSource<T>>(
     Ok(heads)
 }
 
-// Takes the first `take` things of all sources, after the first thing of each source was pulled.
+// Takes the first `take` items. `heads` has the first item of each source already.
 fn merge_ahead<T: Ranked + Copy, S: RowSource<T>>(
     alloc: Global,
     heads: &mut Vec<Option<T>>,
@@ -76,11 +75,11 @@ fn merge_ahead<T: Ranked + Copy, S: RowSource<T>>(
     ensures size { OnOk result (length heads.new.items ≡ length heads.old.items) }
     ensures sources { OnOk result (length sources.new ≡ length sources.old) }
     ensures rows { IfOk result (λ items. map T.row_of items.items ≡ merged direction take
-        (comings (map (option_map T.row_of) heads.old.items) (map S.rest sources.old))) }
+        (all_remaining (map (option_map T.row_of) heads.old.items) (map S.rest sources.old))) }
     ensures left { IfOk result (λ items. sorted (directed_order direction) (joined
-        (comings (map (option_map T.row_of) heads.old.items) (map S.rest sources.old)))
+        (all_remaining (map (option_map T.row_of) heads.old.items) (map S.rest sources.old)))
         ≡ map T.row_of items.items ++ sorted (directed_order direction) (joined
-        (comings (map (option_map T.row_of) heads.new.items) (map S.rest sources.new)))) }
+        (all_remaining (map (option_map T.row_of) heads.new.items) (map S.rest sources.new)))) }
     ensures given { IfOk result (λ items. (start : List S)
         → AreFrom S.gives start heads.old.items sources.old
         → All (IsGivenBy S.gives start) items.items) }
@@ -95,8 +94,8 @@ fn merge_ahead<T: Ranked + Copy, S: RowSource<T>>(
     Ok(items)
 }
 
-// Takes the head of the source that is first in the queue, pulls that source's next thing, and puts the
-// source's number back into the queue. `None` where no source has anything left.
+// Takes the head of the source that is first in the queue, pulls that source's next item, and puts the
+// source's number back into the queue. `None` if no source has anything left.
 fn pull_first<T: Ranked + Copy, S: RowSource<T>>(
     heads: &mut Vec<Option<T>>,
     sources: &mut [S],
@@ -107,9 +106,9 @@ fn pull_first<T: Ranked + Copy, S: RowSource<T>>(
     ensures ahead { IfOk result (λ taken. IfSome taken (λ item. IsAhead T.row_of direction
         heads.new.items (map S.rest sources.new) queue.new.items)) }
     ensures first { IfOk result (λ taken. IfSome taken (λ item. sorted (directed_order direction)
-        (joined (comings (map (option_map T.row_of) heads.old.items) (map S.rest sources.old)))
+        (joined (all_remaining (map (option_map T.row_of) heads.old.items) (map S.rest sources.old)))
         ≡ T.row_of item ∷ sorted (directed_order direction)
-        (joined (comings (map (option_map T.row_of) heads.new.items) (map S.rest sources.new))))) }
+        (joined (all_remaining (map (option_map T.row_of) heads.new.items) (map S.rest sources.new))))) }
     ensures given { IfOk result (λ taken. (start : List S)
         → AreFrom S.gives start heads.old.items sources.old
         → IfSome taken (IsGivenBy S.gives start)) }
@@ -118,26 +117,26 @@ fn pull_first<T: Ranked + Copy, S: RowSource<T>>(
         → AreFrom S.gives start heads.new.items sources.new) }
     ensures size { OnOk result (length heads.new.items ≡ length heads.old.items) }
     ensures end { IfOk result (λ taken. IfNone taken
-        (joined (comings (map (option_map T.row_of) heads.old.items) (map S.rest sources.old)) ≡ [])) }
+        (joined (all_remaining (map (option_map T.row_of) heads.old.items) (map S.rest sources.old)) ≡ [])) }
     ensures stays { IfOk result (λ taken. IfNone taken
         ((heads.new.items ≡ heads.old.items) × (sources.new ≡ sources.old))) }
 {
     if queue.is_empty() {
         return Ok(None);
     }
-    let list = queue.remove(0);
-    match heads[list] {
+    let source = queue.remove(0);
+    match heads[source] {
         None => Ok(None),
         Some(item) => {
-            heads[list] = sources[list].next();
-            enter(queue, heads, list, direction)?;
+            heads[source] = sources[source].next();
+            enter(queue, heads, source, direction)?;
             Ok(Some(item))
         }
     }
 }
 
-// How many things were pulled and not taken.
-fn waiting<T: Ranked + Copy>(heads: &[Option<T>]) -> usize
+// How many items were pulled but not taken.
+fn count_heads<T: Ranked + Copy>(heads: &[Option<T>]) -> usize
     ensures count { result ≡ length (joined (firsts_of heads.now)) }
     ensures within { result ≤ length heads.now }
 {

@@ -80,7 +80,7 @@ fn place_of<T: Ranked, B: Begins<T>>(
     low
 }
 
-// The order of two lists in the queue: by their first rows, and where these are equal by number.
+// The order of two lists in the queue: by their first rows, then by number.
 fn turn<T: Ranked, B: Begins<T>>(
     lists: &B,
     list: usize,

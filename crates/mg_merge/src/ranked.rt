@@ -4,12 +4,12 @@ ghost use Rattle.mg_collate.specs.Row.{RowValue, row_view, row_value_order};
 use mg_collate::Row;
 use std::cmp::Ordering;
 
-/// A thing that has a row of an index: a row, or a borrowed row with what it was found by.
+/// An item that has a row of an index: a row, or a borrowed row with what it was found by.
 pub trait Ranked {
     // its row
     ghost row_of: { Self → RowValue };
 
-    /// Compares the rows of two things. Takes no memory.
+    /// Compares the rows of two items. Takes no memory.
     fn order(&self, other: &Self) -> Ordering
         ensures { result ≡ row_value_order (row_of self.now) (row_of other.now) };
 }

@@ -24,8 +24,8 @@ pub(crate) fn whole_lists<'a, T>(
     Ok(rests)
 }
 
-// Takes the first thing off the rest whose number is first in the queue, and puts that number back
-// into the queue. `None` where nothing is left.
+// Takes the first item off the rest whose number is first in the queue, and puts that number back
+// into the queue. `None` if nothing is left.
 pub(crate) fn take_first<'a, T: Ranked>(
     rests: &mut Vec<&'a [T]>,
     queue: &mut Vec<usize>,

@@ -3,15 +3,15 @@ ghost use Rattle.mg_collate.specs.Row.{RowValue};
 
 use crate::ranked::Ranked;
 
-/// A source of things in a direction's order of their rows, which finds each thing only when it is asked for it.
+/// A source of items in a direction's order of their rows. It finds each item only when it is asked for it.
 pub trait RowSource<T: Ranked> {
     // the rows that are still to come
     ghost rest: { Self → List RowValue };
 
-    // what holds of each thing that it gives
+    // what holds of each item that it gives
     ghost gives: { Self → T → Type 0 };
 
-    /// The next thing, or `None` once nothing is left. Takes no memory.
+    /// The next item, or `None` once nothing is left. Takes no memory.
     fn next(&mut self) -> Option<T>
         ensures item { IfSome result (λ item. rest self.old ≡ T.row_of item ∷ rest self.new) }
         ensures given { IfSome result (gives self.old) }

@@ -7,7 +7,8 @@ use mg_path::part_at;
 use mg_selector::{Op, Sense};
 use mg_value::LentValue;
 
-/// A condition that a document has to meet for a selector to hold: an operator, in a sense, on the part at a whole path.
+/// A condition that a document has to meet for a selector to hold: an operator, in a sense, on the part at a
+/// whole path.
 #[derive(Debug, Drop)]
 pub struct Atom {
     /// The steps from the top of the document; empty for the document itself.

@@ -65,7 +65,8 @@ impl Normal {
         self.holds_of(value)
     }
 
-    /// Whether the selector holds of the lent document, as for `holds`. No memory is taken. Cost: as for `holds`.
+    /// Whether the selector holds of the lent document, as for `holds`. No memory is taken. Cost: as for
+    /// `holds`.
     #[inline]
     pub fn holds_of<L: LentValue>(&self, value: L) -> bool
         ensures { result ≡ normal_holds self.now (Some (L.value value)) }

@@ -5,6 +5,6 @@ pub mod Bounded
 pub mod Complete
 pub mod Deciding
 pub mod Leading
-pub mod Ends
+pub mod SpanEnds
 pub mod InRows
 pub mod Pushed

@@ -15,7 +15,7 @@ use Rattle.mg_index.specs.Choice.{least, lesser}
 use Rattle.mg_index.specs.declared.bound.Comparison.{Comparison}
 use Rattle.mg_index.specs.declared.bound.Comparison.TheVariants.{Below, AtMost, Exactly, AtLeast, Above}
 use Rattle.mg_range.specs.RangeSide.{admits, is_within}
-use Rattle.mg_range.specs.Edge.{tightened, tighter}
+use Rattle.mg_range.specs.LentLimit.{tightened, tighter}
 use Rattle.mg_range.specs.Range.{Limit, limit_at, order_from, limit_by, limit_of, tightest, tightness}
 
 -- ---- tests

@@ -1,6 +1,6 @@
 -- The values of an end, put together one by one.
 use Rattle.std.proofs.Common.{◌≡◌, ℕ, zero, suc, ◌+◌, ◌<◌, List, [], ◌∷◌, Option, get_or, drop, length, refl, sym, ap, ◌∙◌, arith}
-use Rattle.mg_range.specs.Ends.{end_values}
+use Rattle.mg_range.specs.SpanEnds.{end_values}
 use Rattle.mg_range.specs.Range.{Limit}
 use Rattle.mg_rows.specs.Laws.{joined_items}
 use Rattle.mg_value.specs.Value.{Value, Items, no_items, item}

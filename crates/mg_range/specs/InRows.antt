@@ -1,8 +1,8 @@
 -- For private clauses: the ends of the code's ranges among rows.
 use Rattle.std.specs.Prelude.{◌≡◌, Option, option_map}
-use Rattle.mg_range.specs.Ends.{IsUncrossed, high_end, low_end}
+use Rattle.mg_range.specs.SpanEnds.{IsUncrossed, high_end, low_end}
 use Rattle.mg_range.specs.Range.{Range, Span}
-use Rattle.mg_range.specs.declared.row_range.Ends.{Ends}
+use Rattle.mg_range.specs.declared.row_range.SpanEnds.{SpanEnds}
 use Rattle.mg_rows.specs.declared.edge.Edge.{Edge}
 use Rattle.mg_value.specs.Value.{Items}
 
@@ -15,9 +15,9 @@ abbrev pub ends_of : Span → BothEnds
 ends_of s = (low_end s, high_end s)
 
 -- the ends of the code
-abbrev pub ends_at : Ends → BothEnds
+abbrev pub ends_at : SpanEnds → BothEnds
 ends_at ends = (ends.low, ends.high)
 
 -- these are the ends of the range, whose limits do not cross
-abbrev pub HasEnds : Range → Option Ends → Type 0
+abbrev pub HasEnds : Range → Option SpanEnds → Type 0
 HasEnds range ends = IsUncrossed range × (option_map ends_at ends ≡ option_map ends_of range)

@@ -1,10 +1,10 @@
 pub mod Range
 pub mod RangeSide
 pub mod Enter
-pub mod Ends
+pub mod SpanEnds
 pub mod Decided
 pub mod Listed
 pub mod Laws
 pub mod View
 pub mod InRows
-pub mod Edge
+pub mod LentLimit

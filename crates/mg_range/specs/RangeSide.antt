@@ -45,36 +45,36 @@ abbrev pub place_of : Range → List Value → RangeSide
 place_of None key = Past
 place_of (Some s) key = place_from s.equal s.lower s.upper key
 
--- the place is within
+-- the side is within
 abbrev pub is_place_within : RangeSide → Bool
 is_place_within Within = true
-is_place_within place = false
+is_place_within side = false
 
 -- the range has the key
 abbrev pub has_key : Range → List Value → Bool
 has_key range key = is_place_within (place_of range key)
 
--- the place is before
+-- the side is before
 abbrev pub is_place_before : RangeSide → Bool
 is_place_before Before = true
-is_place_before place = false
+is_place_before side = false
 
--- the place is past
+-- the side is past
 abbrev pub is_place_past : RangeSide → Bool
 is_place_past Past = true
-is_place_past place = false
+is_place_past side = false
 
--- a key of this place comes before the range in a direction
+-- a key on this side comes before the range in a direction
 abbrev pub is_early : Direction → RangeSide → Bool
-is_early Asc place = is_place_before place
-is_early Desc place = is_place_past place
+is_early Asc side = is_place_before side
+is_early Desc side = is_place_past side
 
--- a key of this place comes after the range in a direction
+-- a key on this side comes after the range in a direction
 abbrev pub is_late : Direction → RangeSide → Bool
-is_late Asc place = is_place_past place
-is_late Desc place = is_place_before place
+is_late Asc side = is_place_past side
+is_late Desc side = is_place_before side
 
--- the places in their order
+-- the sides in their order
 abbrev pub place_rank : RangeSide → ℕ
 place_rank Before = 0
 place_rank Within = 1

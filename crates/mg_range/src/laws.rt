@@ -19,9 +19,10 @@ pub fn ranges_stand_together()
     ensures rows { RowsStandTogether }
 {}
 
-/// If a document has a key at the columns, the atoms of a selector hold of it exactly if the key is in their range and the atoms
-/// that the range does not decide hold. So if the range decides all atoms and the selector asks nothing else, the selector holds
-/// exactly if the key is in the range, and no document has to be looked at.
+/// If a document has a key at the columns, the atoms of a selector hold of it exactly if the key is in
+/// their range and the atoms that the range does not decide hold. So if the range decides all atoms and the
+/// selector asks nothing else, the selector holds exactly if the key is in the range, and no document has
+/// to be looked at.
 pub fn range_decides()
     ensures atoms { RangeDecidesAtoms }
     ensures form { RangeDecidesForm }

@@ -2,8 +2,8 @@
 #![tactic(auto)]
 
 mod decided;
-mod edge;
 pub mod laws;
+mod lent_limit;
 mod listed;
 mod place;
 mod range;

@@ -8,7 +8,7 @@ ghost use Rattle.mg_range.specs.Range.{in_range, limit_at, range_of};
 
 use crate::listed::{empty_json, span_json};
 use crate::place::RangeSide;
-use crate::span::{Span, place_in, span_of};
+use crate::span::{Span, side_in, span_of};
 use crate::text;
 use mg_collate::Direction;
 use mg_normal::Normal;
@@ -32,7 +32,7 @@ impl Model for KeyRange {
 
     ghost coded = { range_code };
 
-    ghost use Rattle.mg_range.specs.Ends.{IsUncrossed};
+    ghost use Rattle.mg_range.specs.SpanEnds.{IsUncrossed};
     ghost use Rattle.mg_range.specs.View.{span_seen};
 
     ghost view = { λ r. option_map span_seen r.span };
@@ -63,7 +63,7 @@ impl KeyRange {
         ensures { result ≡ has_key self.now (map json_view key.now) }
     {
         match &self.span {
-            Some(span) => is_within(place_in(span, key)),
+            Some(span) => is_within(side_in(span, key)),
             None => false,
         }
     }
@@ -77,15 +77,17 @@ impl KeyRange {
         ensures { result ≡ place_of self.now (string text.now ∷ []) }
     {
         match &self.span {
-            Some(span) => text::place_in(span, text),
+            Some(span) => text::side_in(span, text),
             None => RangeSide::Past,
         }
     }
 
-    /// The limit on the first column at which a scan in the direction enters the range: the value, and whether keys with that value
-    /// may be in the range. `None` if there is no limit on that side, or if the range is empty. Takes no memory. Cost: constant.
+    /// The limit on the first column at which a scan in the direction enters the range: the value, and
+    /// whether keys with that value may be in the range. `None` if there is no limit on that side, or if
+    /// the range is empty. Takes no memory. Cost: constant.
     pub fn entered_at(&self, direction: Direction) -> Option<(&Json, bool)>
-        ensures { option_map (λ l. limit_at (json_view l.0.now) l.1) result ≡ limit_entered direction self.now }
+        ensures { option_map (λ l. limit_at (json_view l.0.now) l.1) result
+            ≡ limit_entered direction self.now }
     {
         let span = self.span.as_ref()?;
         if let Some(value) = span.equal.first() {
@@ -109,8 +111,8 @@ impl KeyRange {
         }
     }
 
-    /// The range in JSON, as `_explain` shows it: `{"empty":true}`, or `{"equal":[..],"lower":..,"upper":..}`,
-    /// each limit as null or `{"inclusive":..,"value":..}`.
+    /// The range in JSON, as `_explain` shows it: `{"empty":true}`, or
+    /// `{"equal":[..],"lower":..,"upper":..}`, each limit as null or `{"inclusive":..,"value":..}`.
     ///
     /// Errors: `NoMemory` if an allocation fails. Cost: the size of the values.
     pub fn to_json(&self, alloc: Global) -> Result<Json, NoMemory>

@@ -5,7 +5,7 @@ ghost use Rattle.mg_value.specs.Value.{item_list};
 ghost use Rattle.mg_value.specs.View.{items_view, view as json_view};
 ghost use Rattle.mg_rows.specs.Bound.{bound_order};
 ghost use Rattle.mg_rows.specs.Laws.{joined_items};
-ghost use Rattle.mg_range.specs.Ends.{end_values, high_edge as high_side, low_edge as low_side};
+ghost use Rattle.mg_range.specs.SpanEnds.{end_values, high_edge as high_side, low_edge as low_side};
 ghost use Rattle.mg_range.specs.InRows.{ends_at, ends_of as both_ends};
 ghost use Rattle.mg_range.specs.RangeSide.{is_early as stands_early, is_late as stands_late, is_place_before, is_place_past, place_of};
 ghost use Rattle.mg_range.specs.View.{limit_seen, span_seen};
@@ -20,16 +20,17 @@ use std::marker::Model;
 
 // The ends of a span: the rows in it are those after the low end and before the high end.
 #[derive(Drop)]
-pub(crate) struct Ends {
+pub(crate) struct SpanEnds {
     pub(crate) low: Bound,
     pub(crate) high: Bound,
 }
 
-/// A key range with its two ends as bytes, so that rows are compared with them byte by byte. Contracts see the range.
+/// A key range with its two ends as bytes, so that rows are compared with them byte by byte. Contracts see
+/// the range.
 #[derive(Drop)]
 pub struct RowRange<'a> {
     keys: &'a KeyRange,
-    ends: Option<Ends>,
+    ends: Option<SpanEnds>,
 }
 
 impl<'a> Model for RowRange<'a> {
@@ -66,7 +67,8 @@ impl<'a> RowRange<'a> {
         self.keys
     }
 
-    /// Whether the row comes before the range in the direction. Takes no memory. Cost: a comparison of bytes.
+    /// Whether the row comes before the range in the direction. Every row is above an empty range: early in
+    /// `Desc`, late in `Asc`. Takes no memory. Cost: a comparison of bytes.
     pub fn is_early(&self, direction: Direction, row: &RowBytes) -> bool
         ensures { result ≡ stands_early direction (place_of self.now (item_list row.now.0)) }
     {
@@ -76,7 +78,8 @@ impl<'a> RowRange<'a> {
         }
     }
 
-    /// Whether the row comes after the range in the direction. Takes no memory. Cost: a comparison of bytes.
+    /// Whether the row comes after the range in the direction. Every row is above an empty range: early in
+    /// `Desc`, late in `Asc`. Takes no memory. Cost: a comparison of bytes.
     pub fn is_late(&self, direction: Direction, row: &RowBytes) -> bool
         ensures { result ≡ stands_late direction (place_of self.now (item_list row.now.0)) }
     {
@@ -108,22 +111,23 @@ impl<'a> RowRange<'a> {
 }
 
 // Whether the row is before the low end.
-fn is_before(ends: &Ends, row: &RowBytes) -> bool
+fn is_before(ends: &SpanEnds, row: &RowBytes) -> bool
     ensures { result ≡ is_gt (bound_order ends.now.low.0 ends.now.low.1 row.now) }
 {
     ends.low.against(row).is_gt()
 }
 
 // Whether the row is after the high end.
-fn is_past(ends: &Ends, row: &RowBytes) -> bool
+fn is_past(ends: &SpanEnds, row: &RowBytes) -> bool
     ensures { result ≡ is_lt (bound_order ends.now.high.0 ends.now.high.1 row.now) }
 {
     ends.high.against(row).is_lt()
 }
 
 // The ends of a span, if there is one.
-fn ends_if(alloc: Global, span: &Option<Span>) -> Result<Option<Ends>, NoMemory>
-    ensures { IfOk result (λ ends. option_map ends_at ends ≡ option_map (λ s. both_ends (span_seen s)) span.now) }
+fn ends_if(alloc: Global, span: &Option<Span>) -> Result<Option<SpanEnds>, NoMemory>
+    ensures { IfOk result (λ ends. option_map ends_at ends
+        ≡ option_map (λ s. both_ends (span_seen s)) span.now) }
 {
     match span {
         Some(span) => Ok(Some(ends_of(alloc, span)?)),
@@ -131,17 +135,18 @@ fn ends_if(alloc: Global, span: &Option<Span>) -> Result<Option<Ends>, NoMemory>
     }
 }
 
-fn ends_of(alloc: Global, span: &Span) -> Result<Ends, NoMemory>
+fn ends_of(alloc: Global, span: &Span) -> Result<SpanEnds, NoMemory>
     ensures { IfOk result (λ ends. ends_at ends ≡ both_ends (span_seen span.now)) }
 {
     let lower = span.lower.as_ref();
     let upper = span.upper.as_ref();
     let low = end_at(alloc, &span.equal, lower, low_edge(lower))?;
     let high = end_at(alloc, &span.equal, upper, high_edge(upper))?;
-    Ok(Ends { low, high })
+    Ok(SpanEnds { low, high })
 }
 
-// The end before or after all rows whose key begins with these values and then, if there is a limit, the limit's value.
+// The end at this edge of all rows whose key begins with these values, followed by the limit's value if there
+// is one.
 fn end_at(
     alloc: Global,
     equal: &[Json],
@@ -181,7 +186,7 @@ fn push_limit(key: &mut KeyBytes, limit: Option<&Limit>) -> Result<(), NoMemory>
     }
 }
 
-// Whether the low end is before or after the rows that have its values.
+// The edge at which the low end is, of the rows that have its values.
 fn low_edge(limit: Option<&Limit>) -> Edge
     ensures { result ≡ low_side (option_map (λ l. limit_seen l.now) limit.entry) }
 {
@@ -195,7 +200,7 @@ fn low_edge(limit: Option<&Limit>) -> Edge
     }
 }
 
-// Whether the high end is before or after the rows that have its values.
+// The edge at which the high end is, of the rows that have its values.
 fn high_edge(limit: Option<&Limit>) -> Edge
     ensures { result ≡ high_side (option_map (λ l. limit_seen l.now) limit.entry) }
 {

@@ -3,12 +3,12 @@ ghost use Rattle.std.specs.Prelude.{◌≡◌, List, [], Some, IfOk, map, not, o
 ghost use Rattle.mg_value.specs.View.{view};
 ghost use Rattle.mg_normal.specs.View.{atoms_view};
 ghost use Rattle.mg_collate.specs.declared.direction.Direction.TheVariants.{Asc, Desc};
-ghost use Rattle.mg_range.specs.Edge.{edge_seen};
+ghost use Rattle.mg_range.specs.LentLimit.{lent_limit_seen};
 ghost use Rattle.mg_range.specs.Range.{range_of, between, are_crossed as cross, is_crossed as is_cross};
 ghost use Rattle.mg_range.specs.RangeSide.{admits as admits_by, place_from, is_before as stands_before, is_past as stands_past, is_within as stands_within};
 ghost use Rattle.mg_range.specs.View.{limit_seen, span_seen, with_equals};
 
-use crate::edge::{Edge, meets_all, tightest};
+use crate::lent_limit::{LentLimit, meets_all, tightest};
 use crate::place::RangeSide;
 use mg_collate::{Direction, compare};
 use mg_index::fixed_value;
@@ -33,7 +33,8 @@ pub(crate) struct Span {
     pub(crate) upper: Option<Limit>,
 }
 
-// The span of the columns; `None` if a fixed value breaks another bound on its column, or if the limits cross.
+// The span of the columns; `None` if a fixed value breaks another bound on its column, or if the limits
+// cross.
 pub(crate) fn span_of(
     alloc: Global,
     columns: &[Path],
@@ -64,11 +65,11 @@ pub(crate) fn span_of(
 fn span_between(
     alloc: Global,
     equal: Vec<Json>,
-    lower: Option<Edge<'_>>,
-    upper: Option<Edge<'_>>,
+    lower: Option<LentLimit<'_>>,
+    upper: Option<LentLimit<'_>>,
 ) -> Result<Option<Span>, NoMemory>
     ensures { IfOk result (λ s. option_map span_seen s ≡ with_equals (map view equal.items)
-        (between (option_map edge_seen lower.entry) (option_map edge_seen upper.entry))) }
+        (between (option_map lent_limit_seen lower.entry) (option_map lent_limit_seen upper.entry))) }
 {
     if is_crossed(lower, upper) {
         return Ok(None);
@@ -80,9 +81,11 @@ fn span_between(
     }))
 }
 
-// Whether both limits are there and cross: the lower is above the upper, or equal to it while one of them is exclusive.
-fn is_crossed(lower: Option<Edge<'_>>, upper: Option<Edge<'_>>) -> bool
-    ensures { result ≡ is_cross (option_map edge_seen lower.entry) (option_map edge_seen upper.entry) }
+// Whether both limits are there and cross: the lower is above the upper, or equal to it while one of them is
+// exclusive.
+fn is_crossed(lower: Option<LentLimit<'_>>, upper: Option<LentLimit<'_>>) -> bool
+    ensures { result ≡ is_cross (option_map lent_limit_seen lower.entry)
+        (option_map lent_limit_seen upper.entry) }
 {
     match (lower, upper) {
         (Some(lower), Some(upper)) => are_crossed(lower, upper),
@@ -90,8 +93,8 @@ fn is_crossed(lower: Option<Edge<'_>>, upper: Option<Edge<'_>>) -> bool
     }
 }
 
-fn are_crossed(lower: Edge<'_>, upper: Edge<'_>) -> bool
-    ensures { result ≡ cross (edge_seen lower.entry) (edge_seen upper.entry) }
+fn are_crossed(lower: LentLimit<'_>, upper: LentLimit<'_>) -> bool
+    ensures { result ≡ cross (lent_limit_seen lower.entry) (lent_limit_seen upper.entry) }
 {
     match compare(lower.value, upper.value) {
         Ordering::Less => false,
@@ -101,20 +104,20 @@ fn are_crossed(lower: Edge<'_>, upper: Edge<'_>) -> bool
 }
 
 // The limit with a copy of its value.
-fn keep_limit(alloc: Global, edge: Option<Edge<'_>>) -> Result<Option<Limit>, NoMemory>
-    ensures { IfOk result (λ l. option_map limit_seen l ≡ option_map edge_seen edge.entry) }
+fn keep_limit(alloc: Global, limit: Option<LentLimit<'_>>) -> Result<Option<Limit>, NoMemory>
+    ensures { IfOk result (λ l. option_map limit_seen l ≡ option_map lent_limit_seen limit.entry) }
 {
-    match edge {
+    match limit {
         None => Ok(None),
-        Some(edge) => Ok(Some(Limit {
-            value: edge.value.copy(alloc)?,
-            inclusive: edge.inclusive,
+        Some(limit) => Ok(Some(Limit {
+            value: limit.value.copy(alloc)?,
+            inclusive: limit.inclusive,
         })),
     }
 }
 
 // Whether the key is before, within or past the span.
-pub(crate) fn place_in(span: &Span, key: &[Json]) -> RangeSide
+pub(crate) fn side_in(span: &Span, key: &[Json]) -> RangeSide
     ensures { result ≡ place_from (map view span.now.equal.items) (option_map limit_seen span.now.lower)
         (option_map limit_seen span.now.upper) (map view key.now) }
 {
@@ -128,11 +131,11 @@ pub(crate) fn place_in(span: &Span, key: &[Json]) -> RangeSide
             Ordering::Greater => return RangeSide::Past,
         }
     }
-    place_at_limits(&span.lower, &span.upper, &key[span.equal.len()..])
+    side_at_limits(&span.lower, &span.upper, &key[span.equal.len()..])
 }
 
 // Whether the rest of a key is before, within or past the limits.
-pub(crate) fn place_at_limits(
+pub(crate) fn side_at_limits(
     lower: &Option<Limit>,
     upper: &Option<Limit>,
     rest: &[Json],
@@ -180,7 +183,8 @@ fn is_within(direction: Direction, limit: &Limit, value: &Json) -> bool
     admits(limit, direction.apply(compare(value, &limit.value)))
 }
 
-// Whether a value with this order to the limit's value is within the limit.
+// Whether a value is within the limit; `order` is that of the value to the limit's, reversed for an upper
+// limit.
 pub(crate) fn admits(limit: &Limit, order: Ordering) -> bool
     ensures { result ≡ admits_by limit.now.inclusive order }
 {

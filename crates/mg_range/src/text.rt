@@ -6,39 +6,40 @@ ghost use Rattle.mg_range.specs.RangeSide.{place_from, is_before as stands_befor
 ghost use Rattle.mg_range.specs.View.{limit_seen};
 
 use crate::place::RangeSide;
-use crate::span::{Limit, Span, admits, place_at_limits};
+use crate::span::{Limit, Span, admits, side_at_limits};
 use mg_collate::{Direction, compare_text};
 use mg_value::Json;
 use std::cmp::Ordering;
 
 // Whether the key of one text is before, within or past the span.
-pub(crate) fn place_in(span: &Span, text: &str) -> RangeSide
+pub(crate) fn side_in(span: &Span, text: &str) -> RangeSide
     ensures { result ≡ place_from (map view span.now.equal.items) (option_map limit_seen span.now.lower)
         (option_map limit_seen span.now.upper) (string text.now ∷ []) }
 {
     let Some((fixed, others)) = span.equal.split_first() else {
-        return place_of_text(&span.lower, &span.upper, text);
+        return side_of_text(&span.lower, &span.upper, text);
     };
     match compare_text(text, fixed) {
         Ordering::Less => RangeSide::Before,
-        Ordering::Equal => place_of_ended(others, &span.lower, &span.upper),
+        Ordering::Equal => side_of_ended(others, &span.lower, &span.upper),
         Ordering::Greater => RangeSide::Past,
     }
 }
 
-// Whether a key that has no more values is before, within or past the fixed values that are left and the limits.
-fn place_of_ended(equal: &[Json], lower: &Option<Limit>, upper: &Option<Limit>) -> RangeSide
+// Whether a key that has no more values is before, within or past the fixed values that are left and the
+// limits.
+fn side_of_ended(equal: &[Json], lower: &Option<Limit>, upper: &Option<Limit>) -> RangeSide
     ensures { result ≡ place_from (map view equal.now) (option_map limit_seen lower.now)
         (option_map limit_seen upper.now) [] }
 {
     match equal.split_first() {
         Some(_) => RangeSide::Before,
-        None => place_at_limits(lower, upper, &[]),
+        None => side_at_limits(lower, upper, &[]),
     }
 }
 
 // Whether the key of one text is before, within or past the limits.
-fn place_of_text(lower: &Option<Limit>, upper: &Option<Limit>, text: &str) -> RangeSide
+fn side_of_text(lower: &Option<Limit>, upper: &Option<Limit>, text: &str) -> RangeSide
     ensures { result ≡ place_from [] (option_map limit_seen lower.now) (option_map limit_seen upper.now)
         (string text.now ∷ []) }
 {

@@ -24,12 +24,12 @@ fault_here (Ok s) rest fault is some = absurd cc
 fault_here (Err e) rest fault is some = is
 
 -- a fault of what was read, or a refusal, is what a reading may return
-pub fault_or_refusal : {A B : Type 0} (seen : A → B) (r : Result B SelError) → Gives seen (Err (unwrap_or (result_err r) NoMemory)) r
-fault_or_refusal seen (Ok x) = tt
-fault_or_refusal seen (Err InvalidOperator) = refl
-fault_or_refusal seen (Err BadArg) = refl
-fault_or_refusal seen (Err Shape) = refl
-fault_or_refusal seen (Err NoMemory) = tt
+pub fault_or_no_memory : {A B : Type 0} (seen : A → B) (r : Result B SelError) → Gives seen (Err (unwrap_or (result_err r) NoMemory)) r
+fault_or_no_memory seen (Ok x) = tt
+fault_or_no_memory seen (Err InvalidOperator) = refl
+fault_or_no_memory seen (Err BadArg) = refl
+fault_or_no_memory seen (Err Shape) = refl
+fault_or_no_memory seen (Err NoMemory) = tt
 
 -- what is not there is absent
 pub none_unless_some : {A : Type 0} (o : Option A) → is_some o ≡ false → o ≡ None

@@ -1,4 +1,4 @@
--- How the logic stores an operator: as the steps that build it on two stacks, of selectors and of arms.
+-- How the logic stores an operator: as a program for a machine with two stacks, one of selectors and one of arms.
 use Rattle.std.specs.Prelude.{◌≡◌, ◌==◌, ◌⊎◌, ℕ, ℤ, pos, List, [], ◌∷◌, ◌++◌, Bool, false, cond, refl}
 use Rattle.std.proofs.Common.{inl, inr, ap, sym, ◌∙◌, append_assoc, append-nil}
 use Rattle.std.specs.Coded.{Coded, code_by, coded×, coded⊎, coded_ℕ, coded_list}
@@ -8,11 +8,11 @@ use Rattle.mg_selector.specs.Selector.{Selector, members, every, some, none, opp
 use Rattle.mg_selector.specs.contracts.json_type.JsonType as json_type
 use Rattle.mg_selector.specs.declared.json_type.JsonType.{JsonType}
 
--- an operator by a number and its argument, the type of `$type`, the steps of a path, or the number of a joining step
-abbrev pub Step : Type 0
-Step = ((ℕ × Value) ⊎ JsonType) ⊎ (List (List ℕ) ⊎ ℕ)
+-- an instruction: push an operator with an argument (by number), push a `$type`, wrap in a path, or another one (by number)
+abbrev pub Instruction : Type 0
+Instruction = ((ℕ × Value) ⊎ JsonType) ⊎ (List (List ℕ) ⊎ ℕ)
 
--- selectors and arms that wait to be joined
+-- the stack of selectors, and the stack of arms
 abbrev pub Stacks : Type 0
 Stacks = List Selector × List Arms
 
@@ -50,105 +50,105 @@ operator_by n v =
     (cond (n == 8) (not_among (items_in v)) (cond (n == 9) (size (size_in (number_in v))) (cond (n == 10) (containing (items_in v))
     (modulo (number_in (first_in (items_in v))) (number_in (first_in (behind_first (items_in v)))))))))))))))
 
--- ---- the steps
+-- ---- the machine
 
--- the selector on top is replaced by one that is made of it
+-- replaces the selector on top by one that is made of it
 abbrev on_top : (Selector → Selector) → List Selector → List Selector
 on_top f [] = []
 on_top f (x ∷ xs) = f x ∷ xs
 
--- the arms on top become a selector
+-- pops arms, and pushes one selector made of them
 abbrev close : (Arms → Selector) → List Selector → List Arms → Stacks
 close f a [] = (a, [])
 close f a (ss ∷ b) = (f ss ∷ a, b)
 
--- the selector on top becomes the first of the arms on top
+-- pops a selector, and puts it at the front of the arms on top
 abbrev join : List Selector → List Arms → Stacks
 join [] b = ([], b)
 join (x ∷ a) [] = (x ∷ a, [])
 join (x ∷ a) (ss ∷ b) = (a, arm x ss ∷ b)
 
--- one step
-abbrev build : Step → Stacks → Stacks
-build (inl (inl p)) s = (asks (operator_by p.0 p.1) ∷ s.0, s.1)
-build (inl (inr t)) s = (asks (of_type t) ∷ s.0, s.1)
-build (inr (inl path)) s = (on_top (at path) s.0, s.1)
-build (inr (inr n)) s =
+-- runs an instruction
+abbrev run : Instruction → Stacks → Stacks
+run (inl (inl p)) s = (asks (operator_by p.0 p.1) ∷ s.0, s.1)
+run (inl (inr t)) s = (asks (of_type t) ∷ s.0, s.1)
+run (inr (inl path)) s = (on_top (at path) s.0, s.1)
+run (inr (inr n)) s =
     cond (n == 0) (close members s.0 s.1) (cond (n == 1) (close every s.0 s.1) (cond (n == 2) (close some s.0 s.1)
     (cond (n == 3) (close none s.0 s.1) (cond (n == 4) (on_top opposite s.0, s.1) (cond (n == 5) (s.0, no_arms ∷ s.1)
     (cond (n == 6) (join s.0 s.1) (cond (n == 7) (on_top (λ x. asks (some_element x)) s.0, s.1) (on_top (λ x. asks (each_element x)) s.0, s.1))))))))
 
--- the steps in turn
-abbrev built : List Step → Stacks → Stacks
-built [] s = s
-built (x ∷ xs) s = built xs (build x s)
+-- runs instructions in turn
+abbrev run_all : List Instruction → Stacks → Stacks
+run_all [] s = s
+run_all (x ∷ xs) s = run_all xs (run x s)
 
-abbrev numbered : ℕ → Value → List Step
+abbrev numbered : ℕ → Value → List Instruction
 numbered n v = inl (inl (n, v)) ∷ []
 
 abbrev mutual
-  -- the steps that build a selector
-  selector_steps : Selector → List Step
-  selector_steps (members ss) = arms_steps ss ++ inr (inr 0) ∷ []
-  selector_steps (every ss) = arms_steps ss ++ inr (inr 1) ∷ []
-  selector_steps (some ss) = arms_steps ss ++ inr (inr 2) ∷ []
-  selector_steps (none ss) = arms_steps ss ++ inr (inr 3) ∷ []
-  selector_steps (opposite x) = selector_steps x ++ inr (inr 4) ∷ []
-  selector_steps (at path x) = selector_steps x ++ inr (inl path) ∷ []
-  selector_steps (asks o) = operator_steps o
+  -- the instructions that push a selector
+  selector_instructions : Selector → List Instruction
+  selector_instructions (members ss) = arms_instructions ss ++ inr (inr 0) ∷ []
+  selector_instructions (every ss) = arms_instructions ss ++ inr (inr 1) ∷ []
+  selector_instructions (some ss) = arms_instructions ss ++ inr (inr 2) ∷ []
+  selector_instructions (none ss) = arms_instructions ss ++ inr (inr 3) ∷ []
+  selector_instructions (opposite x) = selector_instructions x ++ inr (inr 4) ∷ []
+  selector_instructions (at path x) = selector_instructions x ++ inr (inl path) ∷ []
+  selector_instructions (asks o) = operator_instructions o
 
-  arms_steps : Arms → List Step
-  arms_steps no_arms = inr (inr 5) ∷ []
-  arms_steps (arm x ss) = selector_steps x ++ (arms_steps ss ++ inr (inr 6) ∷ [])
+  arms_instructions : Arms → List Instruction
+  arms_instructions no_arms = inr (inr 5) ∷ []
+  arms_instructions (arm x ss) = selector_instructions x ++ (arms_instructions ss ++ inr (inr 6) ∷ [])
 
-  operator_steps : Operator → List Step
-  operator_steps (less v) = numbered 0 v
-  operator_steps (at_most v) = numbered 1 v
-  operator_steps (equal v) = numbered 2 v
-  operator_steps (unequal v) = numbered 3 v
-  operator_steps (at_least v) = numbered 4 v
-  operator_steps (greater v) = numbered 5 v
-  operator_steps (exists there) = numbered 6 (flag there)
-  operator_steps (of_type t) = inl (inr t) ∷ []
-  operator_steps (among vs) = numbered 7 (list vs)
-  operator_steps (not_among vs) = numbered 8 (list vs)
-  operator_steps (size n) = numbered 9 (whole (pos n))
-  operator_steps (containing vs) = numbered 10 (list vs)
-  operator_steps (modulo d r) = numbered 11 (list (item (whole d) (item (whole r) no_items)))
-  operator_steps (some_element x) = selector_steps x ++ inr (inr 7) ∷ []
-  operator_steps (each_element x) = selector_steps x ++ inr (inr 8) ∷ []
+  operator_instructions : Operator → List Instruction
+  operator_instructions (less v) = numbered 0 v
+  operator_instructions (at_most v) = numbered 1 v
+  operator_instructions (equal v) = numbered 2 v
+  operator_instructions (unequal v) = numbered 3 v
+  operator_instructions (at_least v) = numbered 4 v
+  operator_instructions (greater v) = numbered 5 v
+  operator_instructions (exists there) = numbered 6 (flag there)
+  operator_instructions (of_type t) = inl (inr t) ∷ []
+  operator_instructions (among vs) = numbered 7 (list vs)
+  operator_instructions (not_among vs) = numbered 8 (list vs)
+  operator_instructions (size n) = numbered 9 (whole (pos n))
+  operator_instructions (containing vs) = numbered 10 (list vs)
+  operator_instructions (modulo d r) = numbered 11 (list (item (whole d) (item (whole r) no_items)))
+  operator_instructions (some_element x) = selector_instructions x ++ inr (inr 7) ∷ []
+  operator_instructions (each_element x) = selector_instructions x ++ inr (inr 8) ∷ []
 
 -- the operator on top
 abbrev top : List Selector → Operator
 top (asks o ∷ xs) = o
 top xs = exists false
 
--- the operator that the steps build
-abbrev operator_from : List Step → Operator
-operator_from xs = top (built xs ([], [])).0
+-- the operator that the instructions leave on top
+abbrev operator_from : List Instruction → Operator
+operator_from xs = top (run_all xs ([], [])).0
 
--- where steps lead somewhere, one more step goes on from there
-then_one : (steps : List Step) (last : Step) (xs : List Step) (s t : Stacks) → built (steps ++ last ∷ xs) s ≡ built (last ∷ xs) t → built ((steps ++ last ∷ []) ++ xs) s ≡ built (last ∷ xs) t
-then_one steps last xs s t e = ap (λ ys. built ys s) (append_assoc steps (last ∷ []) xs) ∙ e
+-- one more instruction goes on from where those before it end
+then_one : (instructions : List Instruction) (last : Instruction) (xs : List Instruction) (s t : Stacks) → run_all (instructions ++ last ∷ xs) s ≡ run_all (last ∷ xs) t → run_all ((instructions ++ last ∷ []) ++ xs) s ≡ run_all (last ∷ xs) t
+then_one instructions last xs s t e = ap (λ ys. run_all ys s) (append_assoc instructions (last ∷ []) xs) ∙ e
 
--- the steps of each leave it on top
+-- running a selector's instructions pushes that selector; likewise for arms and operators
 mutual
-  run_selector : (x : Selector) (xs : List Step) (s : Stacks) → built (selector_steps x ++ xs) s ≡ built xs (x ∷ s.0, s.1)
-  run_selector (members ss) xs s = then_one (arms_steps ss) (inr (inr 0)) xs s (s.0, ss ∷ s.1) (run_arms ss (inr (inr 0) ∷ xs) s)
-  run_selector (every ss) xs s = then_one (arms_steps ss) (inr (inr 1)) xs s (s.0, ss ∷ s.1) (run_arms ss (inr (inr 1) ∷ xs) s)
-  run_selector (some ss) xs s = then_one (arms_steps ss) (inr (inr 2)) xs s (s.0, ss ∷ s.1) (run_arms ss (inr (inr 2) ∷ xs) s)
-  run_selector (none ss) xs s = then_one (arms_steps ss) (inr (inr 3)) xs s (s.0, ss ∷ s.1) (run_arms ss (inr (inr 3) ∷ xs) s)
-  run_selector (opposite x) xs s = then_one (selector_steps x) (inr (inr 4)) xs s (x ∷ s.0, s.1) (run_selector x (inr (inr 4) ∷ xs) s)
-  run_selector (at path x) xs s = then_one (selector_steps x) (inr (inl path)) xs s (x ∷ s.0, s.1) (run_selector x (inr (inl path) ∷ xs) s)
+  run_selector : (x : Selector) (xs : List Instruction) (s : Stacks) → run_all (selector_instructions x ++ xs) s ≡ run_all xs (x ∷ s.0, s.1)
+  run_selector (members ss) xs s = then_one (arms_instructions ss) (inr (inr 0)) xs s (s.0, ss ∷ s.1) (run_arms ss (inr (inr 0) ∷ xs) s)
+  run_selector (every ss) xs s = then_one (arms_instructions ss) (inr (inr 1)) xs s (s.0, ss ∷ s.1) (run_arms ss (inr (inr 1) ∷ xs) s)
+  run_selector (some ss) xs s = then_one (arms_instructions ss) (inr (inr 2)) xs s (s.0, ss ∷ s.1) (run_arms ss (inr (inr 2) ∷ xs) s)
+  run_selector (none ss) xs s = then_one (arms_instructions ss) (inr (inr 3)) xs s (s.0, ss ∷ s.1) (run_arms ss (inr (inr 3) ∷ xs) s)
+  run_selector (opposite x) xs s = then_one (selector_instructions x) (inr (inr 4)) xs s (x ∷ s.0, s.1) (run_selector x (inr (inr 4) ∷ xs) s)
+  run_selector (at path x) xs s = then_one (selector_instructions x) (inr (inl path)) xs s (x ∷ s.0, s.1) (run_selector x (inr (inl path) ∷ xs) s)
   run_selector (asks o) xs s = run_operator o xs s
 
-  run_arms : (ss : Arms) (xs : List Step) (s : Stacks) → built (arms_steps ss ++ xs) s ≡ built xs (s.0, ss ∷ s.1)
+  run_arms : (ss : Arms) (xs : List Instruction) (s : Stacks) → run_all (arms_instructions ss ++ xs) s ≡ run_all xs (s.0, ss ∷ s.1)
   run_arms no_arms xs s = refl
   run_arms (arm x ss) xs s =
-      ap (λ ys. built ys s) (append_assoc (selector_steps x) (arms_steps ss ++ inr (inr 6) ∷ []) xs ∙ ap (λ ys. selector_steps x ++ ys) (append_assoc (arms_steps ss) (inr (inr 6) ∷ []) xs))
-      ∙ run_selector x (arms_steps ss ++ inr (inr 6) ∷ xs) s ∙ run_arms ss (inr (inr 6) ∷ xs) (x ∷ s.0, s.1)
+      ap (λ ys. run_all ys s) (append_assoc (selector_instructions x) (arms_instructions ss ++ inr (inr 6) ∷ []) xs ∙ ap (λ ys. selector_instructions x ++ ys) (append_assoc (arms_instructions ss) (inr (inr 6) ∷ []) xs))
+      ∙ run_selector x (arms_instructions ss ++ inr (inr 6) ∷ xs) s ∙ run_arms ss (inr (inr 6) ∷ xs) (x ∷ s.0, s.1)
 
-  run_operator : (o : Operator) (xs : List Step) (s : Stacks) → built (operator_steps o ++ xs) s ≡ built xs (asks o ∷ s.0, s.1)
+  run_operator : (o : Operator) (xs : List Instruction) (s : Stacks) → run_all (operator_instructions o ++ xs) s ≡ run_all xs (asks o ∷ s.0, s.1)
   run_operator (less v) xs s = refl
   run_operator (at_most v) xs s = refl
   run_operator (equal v) xs s = refl
@@ -162,14 +162,14 @@ mutual
   run_operator (size n) xs s = refl
   run_operator (containing vs) xs s = refl
   run_operator (modulo d r) xs s = refl
-  run_operator (some_element x) xs s = then_one (selector_steps x) (inr (inr 7)) xs s (x ∷ s.0, s.1) (run_selector x (inr (inr 7) ∷ xs) s)
-  run_operator (each_element x) xs s = then_one (selector_steps x) (inr (inr 8)) xs s (x ∷ s.0, s.1) (run_selector x (inr (inr 8) ∷ xs) s)
+  run_operator (some_element x) xs s = then_one (selector_instructions x) (inr (inr 7)) xs s (x ∷ s.0, s.1) (run_selector x (inr (inr 7) ∷ xs) s)
+  run_operator (each_element x) xs s = then_one (selector_instructions x) (inr (inr 8)) xs s (x ∷ s.0, s.1) (run_selector x (inr (inr 8) ∷ xs) s)
 
-pub operator_from-steps : (o : Operator) → operator_from (operator_steps o) ≡ o
-operator_from-steps o = ap (λ xs. top (built xs ([], [])).0) (sym (append-nil (operator_steps o))) ∙ ap (λ s. top s.0) (run_operator o [] ([], []))
+pub operator_from-instructions : (o : Operator) → operator_from (operator_instructions o) ≡ o
+operator_from-instructions o = ap (λ xs. top (run_all xs ([], [])).0) (sym (append-nil (operator_instructions o))) ∙ ap (λ s. top s.0) (run_operator o [] ([], []))
 
 -- the code of an operator
 abbrev pub operator_code : Coded Operator
 operator_code =
-    code_by (List Step) (coded_list (coded⊎ (coded⊎ (coded× coded_ℕ value_code) json_type.the_row.coded) (coded⊎ (coded_list (coded_list coded_ℕ)) coded_ℕ)))
-    operator_steps operator_from operator_from-steps
+    code_by (List Instruction) (coded_list (coded⊎ (coded⊎ (coded× coded_ℕ value_code) json_type.the_row.coded) (coded⊎ (coded_list (coded_list coded_ℕ)) coded_ℕ)))
+    operator_instructions operator_from operator_from-instructions

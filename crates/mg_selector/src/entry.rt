@@ -37,7 +37,8 @@ pub(crate) fn has_remainder<L: LentValue>(divisor: NonZeroI64, remainder: i64, v
     }
 }
 
-/// Whether the value is an array that has every argument, of which there is at least one, or that equals the only argument.
+/// Whether the value is an array that has every argument, of which there is at least one, or that equals the
+/// only argument.
 pub(crate) fn contains_all<L: LentValue>(arguments: &[Json], value: L) -> bool
     ensures { result ≡ contains_all (items_view arguments.now) (L.value value) }
 {

@@ -11,8 +11,8 @@ use mg_path::is_path;
 use mg_value::Json;
 use std::collections::BTreeMap;
 
-/// The first fault of a value as a selector, as `Sel::read` reports it, if it has one. Takes no memory, so it finds the fault
-/// also after an allocation failed. Cost: the size of the value.
+/// The error that `Sel::read` returns for the value if memory suffices; `None` if the value is a selector.
+/// Takes no memory. Cost: the size of the value.
 pub fn fault_of(value: &Json) -> Option<SelError>
     ensures { result ≡ result_err (reading (view value.now)) }
 {

@@ -10,7 +10,7 @@ use crate::sense::Sense;
 use mg_collate::compare_of;
 use mg_value::{Kind, LentValue, lend_part};
 
-/// Whether the selector holds, in the sense, of the part, which may be missing.
+/// Whether the selector holds of `part` in this sense. `None`: the part is missing.
 #[cycle(holds)]
 pub(crate) fn holds_in<L: LentValue>(sel: &Sel, sense: Sense, part: Option<L>) -> bool
     ensures { result ≡ holds_in (selector_of sel.now) sense (option_map L.value part) }
@@ -18,15 +18,15 @@ pub(crate) fn holds_in<L: LentValue>(sel: &Sel, sense: Sense, part: Option<L>) -
     match sel {
         Sel::Members(arms) | Sel::And(arms) => match sense {
             Sense::Plain => every_arm(arms, sense, part),
-            Sense::Negated => some_arm(arms, sense, part),
+            Sense::Negated => some_arm_if_any(arms, sense, part),
         },
         Sel::Or(arms) => match sense {
-            Sense::Plain => some_arm(arms, sense, part),
+            Sense::Plain => some_arm_if_any(arms, sense, part),
             Sense::Negated => every_arm(arms, sense, part),
         },
         Sel::Nor(arms) => match sense {
             Sense::Plain => every_arm(arms, Sense::Negated, part),
-            Sense::Negated => some_arm(arms, Sense::Plain, part),
+            Sense::Negated => some_arm_if_any(arms, Sense::Plain, part),
         },
         Sel::Not(inner) => holds_in(inner, sense.flip(), part),
         Sel::At(path, inner) => holds_in(inner, sense, path.get_in(part)),
@@ -46,9 +46,9 @@ fn every_arm<L: LentValue>(arms: &[Sel], sense: Sense, part: Option<L>) -> bool
     true
 }
 
-// True also for an empty list.
+// Whether some arm holds, or there is no arm.
 #[cycle(holds)]
-fn some_arm<L: LentValue>(arms: &[Sel], sense: Sense, part: Option<L>) -> bool
+fn some_arm_if_any<L: LentValue>(arms: &[Sel], sense: Sense, part: Option<L>) -> bool
     ensures { result ≡ (is_no_arms (arms_view arms.now)
         || some_arm (arms_view arms.now) sense (option_map L.value part)) }
 {
@@ -60,7 +60,7 @@ fn some_arm<L: LentValue>(arms: &[Sel], sense: Sense, part: Option<L>) -> bool
     arms.is_empty()
 }
 
-/// Whether the operator holds, in the sense, of the part, which may be missing.
+/// Whether the operator holds of `part` in this sense. `None`: the part is missing.
 #[cycle(holds)]
 pub(crate) fn operator_holds<L: LentValue>(op: &Op, sense: Sense, part: Option<L>) -> bool
     ensures { result ≡ operator_holds (operator_of op.now) sense
@@ -113,7 +113,8 @@ fn holds_on<L: LentValue>(op: &Op, value: L) -> bool
 
 #[cycle(holds)]
 fn some_element<L: LentValue>(inner: &Sel, items: L::List) -> bool
-    ensures { result ≡ some_item (λ v. holds_in (selector_of inner.now) Sense.Plain (Some v)) (L.items items) }
+    ensures { result ≡ some_item (λ v. holds_in (selector_of inner.now) Sense.Plain (Some v))
+        (L.items items) }
 {
     for place in 0..L::len(&items) {
         if holds_in(inner, Sense::Plain, Some(L::item(&items, place))) {

@@ -9,7 +9,8 @@ use mg_value::{Json, LentValue, NoMemory};
 use std::alloc::Global;
 use std::num::NonZeroI64;
 
-/// An operator with its argument. The combinators are not here but in `Sel`. Each variant says of which parts it holds.
+/// An operator with its argument. The combinators are not here but in `Sel`. Each variant says of which
+/// parts it holds.
 #[cycle(selector)]
 #[derive(Debug, Drop)]
 pub enum Op {
@@ -35,9 +36,11 @@ pub enum Op {
     Nin(Vec<Json>),
     /// `$size`: an array of that length.
     Size(u64),
-    /// `$mod`: a number whose remainder by the first value is the second. The remainder has the number's own sign.
+    /// `$mod`: a number whose remainder by the first value is the second. The remainder has the number's own
+    /// sign.
     Mod(NonZeroI64, i64),
-    /// `$all`: an array that has every argument, of which there is at least one, or that equals the only argument.
+    /// `$all`: an array that has every argument, of which there is at least one, or that equals the only
+    /// argument.
     All(Vec<Json>),
     /// `$elemMatch`: an array with an element that the selector holds of.
     ElemMatch(Box<Sel>),

@@ -52,7 +52,7 @@ impl Sel {
         ensures refused { (e : SelError) → reading (view value.now) ≡ Err e → result ≡ Err e }
     {
         match reader::read(alloc, value) {
-            Err(SelError::NoMemory) => Err(fault_or_refusal(value)),
+            Err(SelError::NoMemory) => Err(fault_or_no_memory(value)),
             read => read,
         }
     }
@@ -68,7 +68,8 @@ impl Sel {
         self.holds_of(value)
     }
 
-    /// Whether the selector holds of the lent document, as for `holds`. No memory is taken. Cost: as for `holds`.
+    /// Whether the selector holds of the lent document, as for `holds`. No memory is taken. Cost: as for
+    /// `holds`.
     #[inline]
     pub fn holds_of<L: LentValue>(&self, value: L) -> bool
         ensures { result ≡ holds_in (selector_of self.now) Sense.Plain (Some (L.value value)) }
@@ -85,7 +86,7 @@ impl Sel {
 }
 
 // After an allocation failed: the fault of the value, or `NoMemory` if it has none.
-fn fault_or_refusal(value: &Json) -> SelError
+fn fault_or_no_memory(value: &Json) -> SelError
     ensures { result ≡ unwrap_or (result_err (reading (view value.now))) SelError.NoMemory }
 {
     fault_of(value).unwrap_or(SelError::NoMemory)

@@ -2,7 +2,7 @@ use Rattle.std.proofs.Common.{◌≡◌, ◌∷◌, IfSome, map, option_map, ari
 use Rattle.mg_collate.specs.Row.{directed_order}
 use Rattle.mg_collate.specs.Sorted.{sorted}
 use Rattle.mg_merge.specs.Merged.{joined}
-use Rattle.mg_merge.specs.Pulled.{IsAhead, IsGivenBy, comings}
+use Rattle.mg_merge.specs.Pulled.{IsAhead, IsGivenBy, all_remaining}
 use Rattle.mg_merge.proofs.Pulls.{all_more, one_more}
 use Rattle.mg_merge.proofs.pulled.merge_ahead.Goals as goal
 
@@ -13,9 +13,9 @@ loop-direction-preserved g c =
     let order = directed_order c.args.direction in
     let items = c.loop-direction.items.items in
     let invariant = c.loop-direction.invariant in
-    let before = sorted order (joined (comings (map (option_map row) c.loop-direction.heads.items) (map rest c.loop-direction.sources))) in
-    let after = sorted order (joined (comings (map (option_map row) c.pull_first.new.heads.items) (map rest c.pull_first.new.sources))) in
-    let all = sorted order (joined (comings (map (option_map row) c.args.heads.now.items) (map rest c.args.sources.now))) in
+    let before = sorted order (joined (all_remaining (map (option_map row) c.loop-direction.heads.items) (map rest c.loop-direction.sources))) in
+    let after = sorted order (joined (all_remaining (map (option_map row) c.pull_first.new.heads.items) (map rest c.pull_first.new.sources))) in
+    let all = sorted order (joined (all_remaining (map (option_map row) c.args.heads.now.items) (map rest c.args.sources.now))) in
     let first = subst (λ taken. IfSome taken (λ item. before ≡ row item ∷ after)) c.in-Some.is c.in_ok-item.ensures.first in
     record {
       within = omega arith;

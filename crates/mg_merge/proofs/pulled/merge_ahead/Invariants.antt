@@ -2,7 +2,7 @@ use Rattle.std.proofs.Common.{◌≡◌, ◌-◌, ◌≤◌, ◌++◌, All, List
 use Rattle.mg_collate.specs.Row.{directed_order}
 use Rattle.mg_collate.specs.Sorted.{sorted}
 use Rattle.mg_merge.specs.Merged.{joined}
-use Rattle.mg_merge.specs.Pulled.{AreFrom, IsAhead, IsGivenBy, comings}
+use Rattle.mg_merge.specs.Pulled.{AreFrom, IsAhead, IsGivenBy, all_remaining}
 use Rattle.mg_merge.proofs.pulled.merge_ahead.Given as goal
 
 abbrev pub invariant-loop-direction : goal.invariant-loop-direction
@@ -11,8 +11,8 @@ invariant-loop-direction g l = record {
   ahead : IsAhead g.T.Ranked.row_of l.direction l.heads.items (map g.S.RowSource.rest l.sources) l.queue.items;
   size : length l.heads.items ≡ length l.fn.heads.items;
   sources : length l.sources ≡ length l.fn.sources;
-  left : sorted (directed_order l.direction) (joined (comings (map (option_map g.T.Ranked.row_of) l.fn.heads.items) (map g.S.RowSource.rest l.fn.sources)))
-      ≡ map g.T.Ranked.row_of l.items.items ++ sorted (directed_order l.direction) (joined (comings (map (option_map g.T.Ranked.row_of) l.heads.items) (map g.S.RowSource.rest l.sources)));
+  left : sorted (directed_order l.direction) (joined (all_remaining (map (option_map g.T.Ranked.row_of) l.fn.heads.items) (map g.S.RowSource.rest l.fn.sources)))
+      ≡ map g.T.Ranked.row_of l.items.items ++ sorted (directed_order l.direction) (joined (all_remaining (map (option_map g.T.Ranked.row_of) l.heads.items) (map g.S.RowSource.rest l.sources)));
   given : (start : List g.row.S.Denot) → AreFrom g.S.RowSource.gives start l.fn.heads.items l.fn.sources → AreFrom g.S.RowSource.gives start l.heads.items l.sources × All (IsGivenBy g.S.RowSource.gives start) l.items.items;
 }
 

@@ -1,7 +1,7 @@
 use Rattle.std.proofs.Common.{◌≡◌, [], map, option_map, ap, ◌∙◌}
 use Rattle.mg_value.specs.Value.{Items}
 use Rattle.mg_value.specs.View.{items_view, view}
-use Rattle.mg_range.specs.Ends.{end_values}
+use Rattle.mg_range.specs.SpanEnds.{end_values}
 use Rattle.mg_range.specs.View.{limit_seen}
 use Rattle.mg_rows.specs.Laws.{joined_items}
 use Rattle.mg_range.proofs.Pushed.{end_joined}

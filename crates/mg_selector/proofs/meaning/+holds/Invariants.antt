@@ -14,8 +14,8 @@ invariant-every_arm-loop-arm g l =
     let y = option_map g.L.LentValue.value l.part in
     every_arm (arms_view l.arms) l.sense x ≡ every_arm (arms_view (drop l.arm-index l.arms)) l.sense y
 
-abbrev pub invariant-some_arm-loop-arm : goal.invariant-some_arm-loop-arm
-invariant-some_arm-loop-arm g l =
+abbrev pub invariant-some_arm_if_any-loop-arm : goal.invariant-some_arm_if_any-loop-arm
+invariant-some_arm_if_any-loop-arm g l =
     let x = option_map g.L.LentValue.value l.fn.part in
     let y = option_map g.L.LentValue.value l.part in
     some_arm (arms_view l.arms) l.sense x ≡ some_arm (arms_view (drop l.arm-index l.arms)) l.sense y

@@ -1,8 +1,8 @@
 use Rattle.std.proofs.Common.{ap, subst, sym, ◌∙◌}
 use Rattle.mg_normal.specs.View.{atoms_view}
 use Rattle.mg_range.proofs.Contained.{contained}
-use Rattle.mg_range.proofs.Ends.{range_uncrossed}
-use Rattle.mg_range.specs.Ends.{IsUncrossed}
+use Rattle.mg_range.proofs.SpanEnds.{range_uncrossed}
+use Rattle.mg_range.specs.SpanEnds.{IsUncrossed}
 use Rattle.mg_range.specs.RangeSide.{has_key}
 use Rattle.mg_range.specs.Range.{Range, range_of}
 use Rattle.mg_range.proofs.range.KeyRange.of.Goals as goal

@@ -11,7 +11,7 @@ use Rattle.mg_range.proofs.Limits.{above, same_value}
 use Rattle.mg_index.specs.Bound.{Bound, bounds_on, is_exact, meets_all}
 use Rattle.mg_index.specs.Definition.{Steps}
 use Rattle.mg_normal.specs.Atoms.{Atom}
-use Rattle.mg_range.specs.Ends.{IsUncrossed, end_values, high_edge, low_edge}
+use Rattle.mg_range.specs.SpanEnds.{IsUncrossed, end_values, high_edge, low_edge}
 use Rattle.mg_range.specs.RangeSide.{admits, is_before, is_past}
 use Rattle.mg_range.specs.Range.{Limit, Range, is_crossed, range_from, range_of, span_of, tightest, with_equal}
 use Rattle.mg_collate.specs.declared.direction.Direction.TheVariants.{Asc, Desc}

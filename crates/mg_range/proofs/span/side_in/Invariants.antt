@@ -2,7 +2,7 @@ use Rattle.std.proofs.Common.{◌≡◌, ◌≤◌, drop, length, map, option_ma
 use Rattle.mg_value.specs.View.{view}
 use Rattle.mg_range.specs.RangeSide.{place_from}
 use Rattle.mg_range.specs.View.{limit_seen}
-use Rattle.mg_range.proofs.span.place_in.Given as goal
+use Rattle.mg_range.proofs.span.side_in.Given as goal
 
 -- the values so far are equal
 abbrev pub invariant-loop-place : goal.invariant-loop-place

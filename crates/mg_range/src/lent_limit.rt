@@ -5,7 +5,7 @@ ghost use Rattle.mg_value.specs.View.{view};
 ghost use Rattle.mg_normal.specs.View.{atom_view, atoms_view};
 ghost use Rattle.mg_index.specs.Bound.{Bound as BoundValue, bound_on, bounds_on, meets_all as meets_each};
 ghost use Rattle.mg_range.specs.Range.{inclusive_from as inclusive_given, limit_by, limit_of, tightest as tightest_of};
-ghost use Rattle.mg_range.specs.Edge.{edge_seen, tightened, tighter as tighter_of};
+ghost use Rattle.mg_range.specs.LentLimit.{lent_limit_seen, tightened, tighter as tighter_of};
 
 use mg_collate::{Direction, compare};
 use mg_index::{Bound, Comparison};
@@ -16,24 +16,25 @@ use std::cmp::Ordering;
 
 // A limit on the values of a column.
 #[derive(Clone, Copy, Debug)]
-pub(crate) struct Edge<'a> {
+pub(crate) struct LentLimit<'a> {
     pub(crate) value: &'a Json,
     pub(crate) inclusive: bool,
 }
 
 // The limit that the bound gives from below (`Asc`) or from above (`Desc`), if it gives one.
-fn edge_of(direction: Direction, bound: Bound<'_>) -> Option<Edge<'_>>
-    ensures { option_map edge_seen result
+fn find_limit(direction: Direction, bound: Bound<'_>) -> Option<LentLimit<'_>>
+    ensures { option_map lent_limit_seen result
         ≡ limit_by direction bound.entry.comparison (view bound.entry.value.now) }
 {
     let inclusive = inclusive_from(direction, bound.comparison)?;
-    Some(Edge {
+    Some(LentLimit {
         value: bound.value,
         inclusive,
     })
 }
 
-// Whether the comparison allows the value itself. `None` if it gives no limit from below (`Asc`) or from above (`Desc`).
+// Whether the comparison allows the value itself. `None` if it gives no limit from below (`Asc`) or from
+// above (`Desc`).
 fn inclusive_from(direction: Direction, comparison: Comparison) -> Option<bool>
     ensures { result ≡ inclusive_given direction comparison }
 {
@@ -56,8 +57,9 @@ fn inclusive_from(direction: Direction, comparison: Comparison) -> Option<bool>
 }
 
 // The tighter of two limits.
-fn tighter<'a>(direction: Direction, a: Edge<'a>, b: Edge<'a>) -> Edge<'a>
-    ensures { edge_seen result ≡ tighter_of direction (edge_seen a.entry) (edge_seen b.entry) }
+fn tighter<'a>(direction: Direction, a: LentLimit<'a>, b: LentLimit<'a>) -> LentLimit<'a>
+    ensures { lent_limit_seen result
+        ≡ tighter_of direction (lent_limit_seen a.entry) (lent_limit_seen b.entry) }
 {
     match direction.apply(compare(a.value, b.value)) {
         Ordering::Less => b,
@@ -69,24 +71,25 @@ fn tighter<'a>(direction: Direction, a: Edge<'a>, b: Edge<'a>) -> Edge<'a>
 // The tightest limit so far, after one more atom.
 fn tighten<'a>(
     direction: Direction,
-    best: Option<Edge<'a>>,
+    best: Option<LentLimit<'a>>,
     column: &Path,
     atom: &'a Atom,
-) -> Option<Edge<'a>>
+) -> Option<LentLimit<'a>>
     ensures { (rest : List BoundValue)
-        → fold (tightened direction) (option_map edge_seen result) (filter_map (limit_of direction) rest)
-        ≡ fold (tightened direction) (option_map edge_seen best.entry)
+        → fold (tightened direction) (option_map lent_limit_seen result)
+        (filter_map (limit_of direction) rest)
+        ≡ fold (tightened direction) (option_map lent_limit_seen best.entry)
         (filter_map (limit_of direction) (cons_option (bound_on column.now (atom_view atom.now)) rest)) }
 {
     let Some(bound) = Bound::on(column, atom) else {
         return best;
     };
-    let Some(edge) = edge_of(direction, bound) else {
+    let Some(limit) = find_limit(direction, bound) else {
         return best;
     };
     match best {
-        None => Some(edge),
-        Some(best) => Some(tighter(direction, best, edge)),
+        None => Some(limit),
+        Some(best) => Some(tighter(direction, best, limit)),
     }
 }
 
@@ -95,8 +98,8 @@ pub(crate) fn tightest<'a>(
     direction: Direction,
     column: &Path,
     atoms: &'a [Atom],
-) -> Option<Edge<'a>>
-    ensures { option_map edge_seen result
+) -> Option<LentLimit<'a>>
+    ensures { option_map lent_limit_seen result
         ≡ tightest_of direction (bounds_on (atoms_view atoms.now) column.now) }
 {
     let mut best = None;

@@ -1,13 +1,13 @@
--- For private clauses: the limit that an `Edge` of the code stands for, and how the code finds the tightest limit.
+-- For private clauses: the limit that a `LentLimit` of the code stands for, and how the code finds the tightest limit.
 use Rattle.std.specs.Prelude.{Option, Some, None, if◌then◌else◌}
 use Rattle.std.specs.Ordering.{match_ordering}
 use Rattle.mg_value.specs.View.{view}
 use Rattle.mg_collate.specs.declared.direction.Direction.{Direction}
 use Rattle.mg_range.specs.Range.{Limit, limit_at, order_from}
-use Rattle.mg_range.specs.declared.edge.Edge.{Edge}
+use Rattle.mg_range.specs.declared.lent_limit.LentLimit.{LentLimit}
 
-abbrev pub edge_seen : Edge → Limit
-edge_seen e = limit_at (view e.value.now) e.inclusive
+abbrev pub lent_limit_seen : LentLimit → Limit
+lent_limit_seen e = limit_at (view e.value.now) e.inclusive
 
 -- the tighter of two limits: the one whose value is within the other; of equal values the exclusive one
 abbrev pub tighter : Direction → Limit → Limit → Limit

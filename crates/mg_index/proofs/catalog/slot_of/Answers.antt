@@ -2,7 +2,7 @@ use Rattle.std.proofs.Common.{◌≡◌, Less, Equal, length, get_or, sym, ap, �
 use Rattle.std.proofs.lemmas.List.{get_or_read}
 use Rattle.mg_index.specs.Catalog.{definition_order}
 use Rattle.mg_index.proofs.Catalogs.{goes_before, goes_at}
-use Rattle.mg_index.proofs.catalog.place_of.Goals as goal
+use Rattle.mg_index.proofs.catalog.slot_of.Goals as goal
 
 pub returns-in-Less : goal.returns-in-Less
 returns-in-Less c =

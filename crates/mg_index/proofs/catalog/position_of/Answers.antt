@@ -1,7 +1,7 @@
 use Rattle.std.proofs.Common.{sym, ap, ◌∙◌, arith}
 use Rattle.mg_index.specs.Catalog.{is_at}
 use Rattle.mg_index.proofs.Catalogs.{stands_at, stands_nowhere}
-use Rattle.mg_index.proofs.catalog.place_at.Goals as goal
+use Rattle.mg_index.proofs.catalog.position_of.Goals as goal
 
 pub returns-then-is_at : goal.returns-then-is_at
 returns-then-is_at c =

@@ -1,7 +1,7 @@
 use Rattle.std.proofs.Common.{◌≡◌, ℕ, ◌<◌, false, get_or}
 use Rattle.mg_index.specs.Catalog.{is_at}
 use Rattle.mg_index.specs.Definition.{IndexDefinition}
-use Rattle.mg_index.proofs.catalog.place_at.Given as goal
+use Rattle.mg_index.proofs.catalog.position_of.Given as goal
 
 -- none so far has this design document and name
 abbrev pub invariant-loop-place : goal.invariant-loop-place

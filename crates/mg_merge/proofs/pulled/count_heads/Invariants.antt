@@ -1,7 +1,7 @@
 use Rattle.std.proofs.Common.{◌≡◌, ◌≤◌, length, take}
 use Rattle.mg_merge.specs.Merged.{joined}
 use Rattle.mg_merge.specs.Pulled.{firsts_of}
-use Rattle.mg_merge.proofs.pulled.waiting.Given as goal
+use Rattle.mg_merge.proofs.pulled.count_heads.Given as goal
 
 abbrev pub invariant-loop-head : goal.invariant-loop-head
 invariant-loop-head g l = record {

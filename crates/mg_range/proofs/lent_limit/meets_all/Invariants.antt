@@ -2,7 +2,7 @@ use Rattle.std.proofs.Common.{◌≡◌, drop}
 use Rattle.mg_value.specs.View.{view}
 use Rattle.mg_normal.specs.View.{atoms_view}
 use Rattle.mg_index.specs.Bound.{bounds_on, meets_all}
-use Rattle.mg_range.proofs.edge.meets_all.Given as goal
+use Rattle.mg_range.proofs.lent_limit.meets_all.Given as goal
 
 -- the result for all atoms is the result for those that are left
 abbrev pub invariant-loop-atom : goal.invariant-loop-atom
