@@ -1,9 +1,8 @@
 -- Indexes in the order of their definitions: one that is put among them or left out, and one after another that is mended.
 use Rattle.std.proofs.Common.{IfSome, None}
-use Rattle.std.proofs.Common.{◌≡◌, ℕ, zero, suc, ◌+◌, ◌<◌, ◌≤◌, Bool, true, false, cond, not, ◌&&◌, List, [], ◌∷◌, ◌++◌, Option, Some, option_map, Ordering, Less, Equal, Greater, is_gt, is_lt, length, slice_get, set, unwrap_or, refl, sym, ap, ap₂, ◌∙◌, subst, arith}
-use Rattle.std.proofs.lemmas.Cmp.{nat_list_cmp_total, on_total, then_total, tied_itself}
+use Rattle.std.proofs.Common.{◌≡◌, ℕ, zero, suc, ◌+◌, ◌<◌, ◌≤◌, Bool, true, false, cond, not, ◌&&◌, List, [], ◌∷◌, ◌++◌, Option, Some, option_map, Ordering, Less, Equal, Greater, is_eq, is_gt, is_lt, length, slice_get, set, unwrap_or, refl, sym, ap, ap₂, ◌∙◌, subst, arith}
+use Rattle.std.proofs.lemmas.Cmp.{nat_list_cmp_total, tied_itself}
 use Rattle.std.proofs.lemmas.Map.Text.{is_eq-slice_cmp}
-use Rattle.std.specs.Arc.{arc_value}
 use Rattle.std.specs.Cmp.{IsTotalOrder}
 use Rattle.std.specs.List.{AllByRecursion, filter, find}
 use Rattle.std.specs.Cmp.Lexicographic.{slice_cmp}
@@ -12,25 +11,19 @@ use Rattle.std.specs.Str.{bytes_eq}
 use Rattle.mg_index.specs.Catalog.{IsCatalog, definition_at, definition_order, is_at, with_definition, without_definition}
 use Rattle.mg_index.specs.Definition.{IndexDefinition}
 use Rattle.mg_index.proofs.Catalogs.{IsCatalog-with, IsCatalog-without}
-use Rattle.mg_pages.specs.Order.{above, below, inserted}
-use Rattle.mg_pages.proofs.Sorted.{above_of_above, below_of_above}
+use Rattle.mg_pages.specs.Order.{Ascends, IsProbe, above, below, first_of_list, found, inserted, removed}
+use Rattle.mg_pages.specs.Search.{AllAbove as AllAboveKey}
+use Rattle.mg_pages.proofs.Sorted.{above_of_above, all_weaker, below_of_above}
 use Rattle.mg_shard.specs.Documents.{KeptDocuments, docs_of}
 use Rattle.mg_shard.specs.Rows.{rows_of}
 use Rattle.mg_shard.proofs.Shown.{bytes_cmp, bytes_exact}
 use Rattle.mg_shard.proofs.Standing.{tied}
-use Rattle.mg_shard.specs.Index.{AreIndexes, HasRows, Index, definitions_of, index_seen, indexes_seen}
-use Rattle.mg_shard.specs.declared.index.IndexRows.{IndexRows}
-
-pub total : IsTotalOrder definition_order
-total = then_total (on_total (λ (d : IndexDefinition). d.ddoc) nat_list_cmp_total) (on_total (λ (d : IndexDefinition). d.name) nat_list_cmp_total)
+use Rattle.mg_shard.specs.Index.{AreIndexes, HasRows, Index, definition_order_total, definitions_of, index_order, name_against, name_probes}
 
 abbrev AllAbove : IndexDefinition → List IndexDefinition → Type 0
 AllAbove d ds = AllByRecursion (λ e. definition_order d e ≡ Less) ds
 
 -- ---- one that is put among them
-
-abbrev pub index_order : Index → Index → Ordering
-index_order x y = definition_order x.0 y.0
 
 filtered : (b : Bool) (x : Index) (xs : List Index) → definitions_of (cond b (x ∷ xs) xs) ≡ cond b (x.0 ∷ definitions_of xs) (definitions_of xs)
 filtered true x xs = refl
@@ -51,11 +44,11 @@ definitions-inserted x xs =
 
 above_all : (d e : IndexDefinition) (es : List IndexDefinition) → definition_order d e ≡ Less → AllAbove e es → AllAbove d es
 above_all d e [] h t = tt
-above_all d e (x ∷ xs) h t = (total.trans d e x h t.0, above_all d e xs h t.1)
+above_all d e (x ∷ xs) h t = (definition_order_total.trans d e x h t.0, above_all d e xs h t.1)
 
 alike_all : (d e : IndexDefinition) (es : List IndexDefinition) → definition_order d e ≡ Equal → AllAbove e es → AllAbove d es
 alike_all d e [] h t = tt
-alike_all d e (x ∷ xs) h t = (total.congr d e x h ∙ t.0, alike_all d e xs h t.1)
+alike_all d e (x ∷ xs) h t = (definition_order_total.congr d e x h ∙ t.0, alike_all d e xs h t.1)
 
 with_step : (d e : IndexDefinition) (es : List IndexDefinition) (o : Ordering) → definition_order d e ≡ o → IsCatalog (e ∷ es) → inserted definition_order d es ≡ with_definition d es
     → cond (is_gt o) (e ∷ below (definition_order d) es) (below (definition_order d) es) ++ d ∷ cond (is_lt o) (e ∷ above (definition_order d) es) (above (definition_order d) es)
@@ -111,8 +104,8 @@ all_from P [] h = tt
 all_from P (y ∷ xs) h = (h 0 y refl, all_from P xs (λ j x e. h (suc j) x e))
 
 -- those before a place have the rows of the new documents, and the others those of the old
-abbrev pub MendedBelow : KeptDocuments → KeptDocuments → ℕ → List IndexRows → Type 0
-MendedBelow old new i xs = (j : ℕ) (x : IndexRows) → slice_get xs j ≡ Some x → (j < i → HasRows new (index_seen x)) × (i ≤ j → HasRows old (index_seen x))
+abbrev pub MendedBelow : KeptDocuments → KeptDocuments → ℕ → List Index → Type 0
+MendedBelow old new i xs = (j : ℕ) (x : Index) → slice_get xs j ≡ Some x → (j < i → HasRows new x) × (i ≤ j → HasRows old x)
 
 same_some : {X : Type 0} (x y : X) → Some x ≡ Some y → x ≡ y
 same_some x y e = ap (λ o. unwrap_or o x) e
@@ -136,12 +129,12 @@ split (suc a) zero f g = g (λ e. absurd cc)
 split (suc a) (suc b) f g = split a b (λ e. f (ap suc e)) (λ n. g (λ e. n (omega (arith, e))))
 
 -- one more that is mended
-pub mended_more : (old new : KeptDocuments) (xs : List IndexRows) (i : ℕ) (x y : IndexRows) → slice_get xs i ≡ Some x → i < length xs → (HasRows old (index_seen x) → HasRows new (index_seen y))
+pub mended_more : (old new : KeptDocuments) (xs : List Index) (i : ℕ) (x y : Index) → slice_get xs i ≡ Some x → i < length xs → (HasRows old x → HasRows new y)
     → MendedBelow old new i xs → MendedBelow old new (i + 1) (set xs i y)
 mended_more old new xs i x y at l did h j z e = split j i
     (λ here.
     let is : y ≡ z = same_some y z (sym (get-set xs i y l) ∙ ap (slice_get (set xs i y)) (sym here) ∙ e) in
-    (λ k. subst (λ v. HasRows new (index_seen v)) is (did ((h i x at).1 (omega arith))), λ k. absurd (omega (arith, here, k))))
+    (λ k. subst (λ v. HasRows new v) is (did ((h i x at).1 (omega arith))), λ k. absurd (omega (arith, here, k))))
     (λ apart.
     let before = h j z (sym (get-set_other xs i j y apart) ∙ e) in
     (λ k. before.0 (below_other j i k apart), λ k. before.1 (omega (arith, k))))
@@ -152,36 +145,23 @@ mended_more old new xs i x y at l did h j z e = split j i
     below_other (suc j) zero k apart = absurd (omega (arith, k))
     below_other (suc j) (suc i) k apart = let less = below_other j i (omega (arith, k)) (λ e. apart (ap suc e)) in omega (arith, less)
 
-seen_get : (xs : List IndexRows) (j : ℕ) → slice_get (indexes_seen xs) j ≡ option_map index_seen (slice_get xs j)
-seen_get [] j = refl
-seen_get (x ∷ xs) zero = refl
-seen_get (x ∷ xs) (suc j) = seen_get xs j
-
-from_seen : (P : Index → Type 0) (xs : List IndexRows) → AllByRecursion (λ x. P (index_seen x)) xs → AllByRecursion P (indexes_seen xs)
-from_seen P [] h = tt
-from_seen P (x ∷ xs) h = (h.0, from_seen P xs h.1)
-
-to_seen : (P : Index → Type 0) (xs : List IndexRows) → AllByRecursion P (indexes_seen xs) → AllByRecursion (λ x. P (index_seen x)) xs
-to_seen P [] h = tt
-to_seen P (x ∷ xs) h = (h.0, to_seen P xs h.1)
-
-pub mended_first : (old new : KeptDocuments) (xs : List IndexRows) → AllByRecursion (HasRows old) (indexes_seen xs) → MendedBelow old new 0 xs
-mended_first old new xs h j x e = (λ k. absurd (omega (arith, k)), λ k. all_get (λ y. HasRows old (index_seen y)) xs j x (to_seen (HasRows old) xs h) e)
+pub mended_first : (old new : KeptDocuments) (xs : List Index) → AllByRecursion (HasRows old) xs → MendedBelow old new 0 xs
+mended_first old new xs h j x e = (λ k. absurd (omega (arith, k)), λ k. all_get (HasRows old) xs j x h e)
 
 get_within : {X : Type 0} (xs : List X) (j : ℕ) (x : X) → slice_get xs j ≡ Some x → j < length xs
 get_within [] j x e = absurd cc
 get_within (y ∷ xs) zero x e = omega arith
 get_within (y ∷ xs) (suc j) x e = let less = get_within xs j x e in omega (arith, less)
 
-pub mended_last : (old new : KeptDocuments) (xs : List IndexRows) (i : ℕ) → length xs ≤ i → MendedBelow old new i xs → AllByRecursion (HasRows new) (indexes_seen xs)
+pub mended_last : (old new : KeptDocuments) (xs : List Index) (i : ℕ) → length xs ≤ i → MendedBelow old new i xs → AllByRecursion (HasRows new) xs
 mended_last old new xs i l h =
-    from_seen (HasRows new) xs (all_from (λ y. HasRows new (index_seen y)) xs (λ j x e. let within = get_within xs j x e in (h j x e).0 (omega (arith, within, l))))
+    all_from (HasRows new) xs (λ j x e. let within = get_within xs j x e in (h j x e).0 (omega (arith, within, l)))
 
 -- the definitions stay where one of them does
-pub same_definitions : (xs : List IndexRows) (i : ℕ) (x y : IndexRows) → slice_get xs i ≡ Some x → y.definition ≡ x.definition → definitions_of (indexes_seen (set xs i y)) ≡ definitions_of (indexes_seen xs)
+pub same_definitions : (xs : List Index) (i : ℕ) (x y : Index) → slice_get xs i ≡ Some x → y.0 ≡ x.0 → definitions_of (set xs i y) ≡ definitions_of xs
 same_definitions [] i x y at e = refl
-same_definitions (z ∷ xs) zero x y at e = ap (λ d. arc_value d ∷ definitions_of (indexes_seen xs)) (e ∙ sym (ap (λ o. (unwrap_or o z).definition) at))
-same_definitions (z ∷ xs) (suc i) x y at e = ap (λ ds. arc_value z.definition ∷ ds) (same_definitions xs i x y at e)
+same_definitions (z ∷ xs) zero x y at e = ap (λ d. d ∷ definitions_of xs) (e ∙ sym (ap (λ o. (unwrap_or o z).0) at))
+same_definitions (z ∷ xs) (suc i) x y at e = ap (λ ds. z.0 ∷ ds) (same_definitions xs i x y at e)
 
 -- ---- left out by name
 
@@ -243,32 +223,58 @@ pub rows_found : (ds : KeptDocuments) (ddoc name : List ℕ) (xs : List Index) �
 rows_found ds ddoc name [] h = refl
 rows_found ds ddoc name (x ∷ xs) h = found_here ds (is_at ddoc name x.0) x _ _ h.0 (rows_found ds ddoc name xs h.1)
 
-found_seen : (b : Bool) (x : IndexRows) (o : Option IndexRows) (p : Option Index) → option_map (λ y. arc_value y.rows) o ≡ option_map (λ y. y.1) p
-    → option_map (λ y. arc_value y.rows) (cond b (Some x) o) ≡ option_map (λ y. y.1) (cond b (Some (index_seen x)) p)
-found_seen true x o p e = refl
-found_seen false x o p e = e
+tied_then : (a b : Ordering) → is_eq (ordering_then a b) ≡ (is_eq a && is_eq b)
+tied_then Less b = refl
+tied_then Equal b = refl
+tied_then Greater b = refl
 
--- what is found among the indexes of the code
-pub rows_seen : (ddoc name : List ℕ) (xs : List IndexRows)
-    → option_map (λ x. arc_value x.rows) (find (λ x. is_at ddoc name (arc_value x.definition)) xs) ≡ option_map (λ x. x.1) (find (λ x. is_at ddoc name x.0) (indexes_seen xs))
-rows_seen ddoc name [] = refl
-rows_seen ddoc name (x ∷ xs) = found_seen (is_at ddoc name (arc_value x.definition)) x _ _ (rows_seen ddoc name xs)
+-- a design document and a name tie with an index where it has both
+pub ties-named : (ddoc name : List ℕ) (x : Index) → is_eq (name_against ddoc name x) ≡ is_at ddoc name x.0
+ties-named ddoc name x =
+    tied_then (slice_cmp nat_cmp ddoc x.0.ddoc) (slice_cmp nat_cmp name x.0.name) ∙ ap₂ (λ a b. a && b) (is_eq-slice_cmp ddoc x.0.ddoc) (is_eq-slice_cmp name x.0.name)
 
--- ---- put together
+first_where : (b : Bool) (x : Index) (ys : List Index) (o : Option Index) → first_of_list ys ≡ o → first_of_list (cond b (x ∷ ys) ys) ≡ cond b (Some x) o
+first_where true x ys o e = refl
+first_where false x ys o e = e
 
-seen-push : (xs : List IndexRows) (x : IndexRows) (ys : List Index) → indexes_seen (xs ++ x ∷ []) ++ ys ≡ indexes_seen xs ++ index_seen x ∷ ys
-seen-push [] x ys = refl
-seen-push (z ∷ xs) x ys = ap (λ zs. index_seen z ∷ zs) (seen-push xs x ys)
+first_found : (p : Index → Bool) (xs : List Index) → first_of_list (filter p xs) ≡ find p xs
+first_found p [] = refl
+first_found p (x ∷ xs) = first_where (p x) x (filter p xs) (find p xs) (first_found p xs)
 
--- those before an index, the index, and those after it
-pub put_between : (xs : List Index) (x : IndexRows) (front made : List IndexRows) (new : List Index) (d e : IndexDefinition) → d ≡ arc_value x.definition → e ≡ arc_value x.definition
-    → indexes_seen front ≡ filter (λ y. is_gt (definition_order d y.0)) xs → made ≡ front ++ x ∷ [] → new ≡ indexes_seen made ++ filter (λ y. is_lt (definition_order e y.0)) xs
-    → new ≡ inserted index_order (index_seen x) xs
-put_between xs x front made new d e same also first then last =
-    last ∙ ap (λ (zs : List IndexRows). indexes_seen zs ++ filter (λ y. is_lt (definition_order e y.0)) xs) then
-    ∙ seen-push front x (filter (λ y. is_lt (definition_order e y.0)) xs)
-    ∙ ap (λ zs. zs ++ index_seen x ∷ filter (λ y. is_lt (definition_order e y.0)) xs) first
-    ∙ ap₂ (λ a b. filter (λ y. is_gt (definition_order a y.0)) xs ++ index_seen x ∷ filter (λ y. is_lt (definition_order b y.0)) xs) same also
+-- what ties with a design document and a name is the index that has both
+pub found-named : (ddoc name : List ℕ) (xs : List Index) → found (name_against ddoc name) xs ≡ find (λ x. is_at ddoc name x.0) xs
+found-named ddoc name xs = first_found (λ x. is_eq (name_against ddoc name x)) xs ∙ (λ i. find (λ x. ties-named ddoc name x i) xs)
+
+-- ---- taken out
+
+removed_step : (against : Index → Ordering) (x : Index) (xs rest : List Index) (r : Ordering) → (is_gt r ≡ false → AllAboveKey against xs) → removed against xs ≡ rest
+    → cond (is_gt r) (x ∷ below against xs) (below against xs) ++ cond (is_lt r) (x ∷ above against xs) (above against xs) ≡ cond (not (is_eq r)) (x ∷ rest) rest
+removed_step against x xs rest Less all e =
+    let none = below_of_above against xs (all refl) in
+    ap (λ ys. ys ++ x ∷ above against xs) none ∙ ap (λ ys. x ∷ ys) (sym (ap (λ ys. ys ++ above against xs) none) ∙ e)
+removed_step against x xs rest Equal all e = e
+removed_step against x xs rest Greater all e = ap (λ ys. x ∷ ys) e
+
+removed_where : (against : Index → Ordering) (xs : List Index) → IsProbe index_order against → Ascends index_order xs → removed against xs ≡ filter (λ x. not (is_eq (against x))) xs
+removed_where against [] p a = refl
+removed_where against (x ∷ xs) p a =
+    removed_step against x xs (filter (λ y. not (is_eq (against y))) xs) (against x)
+    (λ n. all_weaker (λ y. index_order x y ≡ Less) (λ y. against y ≡ Less) (λ y l. p x y l n) xs a.0) (removed_where against xs p a.1)
+
+-- without what ties with a design document and a name, the indexes that do not have both are left
+pub removed-named : (ddoc name : List ℕ) (xs : List Index) → Ascends index_order xs → removed (name_against ddoc name) xs ≡ filter (λ x. not (is_at ddoc name x.0)) xs
+removed-named ddoc name xs a = removed_where (name_against ddoc name) xs (name_probes ddoc name) a ∙ (λ i. filter (λ x. not (ties-named ddoc name x i)) xs)
+
+-- ---- in order
+
+above_those : (d : IndexDefinition) (xs : List Index) → AllAbove d (definitions_of xs) → AllByRecursion (λ (y : Index). definition_order d y.0 ≡ Less) xs
+above_those d [] h = tt
+above_those d (x ∷ xs) h = (h.0, above_those d xs h.1)
+
+-- indexes whose definitions are a catalog ascend
+pub catalog_ascends : (xs : List Index) → IsCatalog (definitions_of xs) → Ascends index_order xs
+catalog_ascends [] c = tt
+catalog_ascends (x ∷ xs) c = (above_those x.0 xs c.0, catalog_ascends xs c.1)
 
 -- what is said of what may be there
 pub if_some_map : {A : Type 0} (o : Option A) (P Q : A → Type 0) → ((x : A) → P x → Q x) → IfSome o P → IfSome o Q
@@ -279,10 +285,3 @@ if_some_map (Some x) P Q f h = f x h
 pub twice_mapped : {A B C : Type 0} (f : A → B) (g : B → C) (o : Option A) → option_map (λ x. g (f x)) o ≡ option_map g (option_map f o)
 twice_mapped f g None = refl
 twice_mapped f g (Some x) = refl
-
--- the rows of the index of a name that is found among those of the code
-pub rows_named : (ds : KeptDocuments) (ddoc name : List ℕ) (xs ys : List IndexRows) → ys ≡ xs → AllByRecursion (HasRows ds) (indexes_seen xs)
-    → option_map (λ x. arc_value x.rows) (find (λ x. is_at ddoc name (arc_value x.definition)) ys) ≡ option_map (λ d. rows_of d.columns (docs_of ds)) (definition_at ddoc name (definitions_of (indexes_seen xs)))
-rows_named ds ddoc name xs ys same has =
-    ap (λ (zs : List IndexRows). option_map (λ (x : IndexRows). arc_value x.rows) (find (λ x. is_at ddoc name (arc_value x.definition)) zs)) same
-    ∙ rows_seen ddoc name xs ∙ rows_found ds ddoc name (indexes_seen xs) has

@@ -10,13 +10,13 @@ use Rattle.mg_revtree.specs.contracts.body.Block as Block
 use Rattle.mg_revtree.specs.contracts.body.Body as Body
 use Rattle.mg_revtree.specs.contracts.form.Form as Form
 use Rattle.mg_revtree.specs.contracts.leaf.Leaf as Leaf
-use Rattle.mg_revtree.specs.contracts.leaf.Shared as Shared
+use Rattle.mg_revtree.specs.contracts.leaf.SharedLeaf as Shared
 use Rattle.mg_revtree.specs.contracts.tree.RevTree as RevTree
 use Rattle.mg_revtree.proofs.links.list.Links.TheSendSync as links
 use Rattle.mg_revtree.proofs.revision.Rev.TheSendSync as revision
 use Rattle.mg_rows.proofs.row.RowBytes.TheSendSync as row
 use Rattle.mg_shard.specs.contracts.document.Document as Document
-use Rattle.mg_shard.specs.contracts.index.IndexRows as IndexRows
+use Rattle.mg_shard.specs.contracts.entry.IndexEntry as IndexEntry
 use Rattle.mg_shard.specs.contracts.served.Served as Served
 use Rattle.mg_shard.specs.contracts.shard.Shard as Shard
 
@@ -68,10 +68,10 @@ document_send = search (sendable, crosses, maps, tree_send, tree_sync, served_se
 pub document_sync : IsSync Document.the_row
 document_sync = search (sendable, crosses, maps, tree_send, tree_sync, served_send, served_sync) depth 40
 
-pub index_send : IsSend IndexRows.the_row
+pub index_send : IsSend IndexEntry.the_row
 index_send = search (sendable, crosses, maps, row.the_send, row.the_sync, definition.the_send, definition.the_sync, pages.the_send, pages.the_sync) depth 40
 
-pub index_sync : IsSync IndexRows.the_row
+pub index_sync : IsSync IndexEntry.the_row
 index_sync = search (sendable, crosses, maps, row.the_send, row.the_sync, definition.the_send, definition.the_sync, pages.the_send, pages.the_sync) depth 40
 
 pub shard_send : IsSend Shard.the_row

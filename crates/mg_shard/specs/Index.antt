@@ -1,27 +1,29 @@
 -- What clauses see of the indexes of a shard.
-use Rattle.std.specs.Prelude.{◌≡◌, List, map}
-use Rattle.std.specs.Arc.{arc_value}
+use Rattle.std.specs.Prelude.{◌≡◌, ℕ, List, map}
+use Rattle.std.proofs.lemmas.Cmp.{nat_list_cmp_total, on_total, then_total}
+use Rattle.std.specs.Cmp.{IsTotalOrder}
+use Rattle.std.specs.Cmp.Lexicographic.{slice_cmp}
+use Rattle.std.specs.Coded.{Coded, coded×, coded_list}
 use Rattle.std.specs.List.{AllByRecursion}
+use Rattle.std.specs.Ordering.{nat_cmp, on, ordering_then, then_cmp}
+use Rattle.std.specs.declared.cmp.Ordering.{Ordering}
 use Rattle.mg_collate.specs.Row.{RowValue}
-use Rattle.mg_index.specs.Catalog.{IsCatalog}
-use Rattle.mg_index.specs.Definition.{IndexDefinition}
+use Rattle.mg_index.specs.Catalog.{IsCatalog, definition_order}
+use Rattle.mg_index.specs.Definition.{IndexDefinition, definition_code}
+use Rattle.mg_pages.specs.Order.{IsProbe, probe_through}
+use Rattle.mg_rows.specs.Code.{row_code}
 use Rattle.mg_shard.specs.Documents.{KeptDocuments, docs_of}
 use Rattle.mg_shard.specs.Rows.{rows_of}
-use Rattle.mg_shard.specs.declared.index.IndexRows.{IndexRows}
 
 -- an index: its definition, and the rows that are kept
 abbrev pub Index : Type 0
 Index = IndexDefinition × List RowValue
 
--- an index of the code
-abbrev pub index_seen : IndexRows → Index
-index_seen x = (arc_value x.definition, arc_value x.rows)
+-- how the logic stores an index
+abbrev pub index_code : Coded Index
+index_code = coded× definition_code (coded_list row_code)
 
--- the indexes of the code
-abbrev pub indexes_seen : List IndexRows → List Index
-indexes_seen xs = map index_seen xs
-
--- their definitions
+-- the definitions of indexes
 abbrev pub definitions_of : List Index → List IndexDefinition
 definitions_of xs = map (λ x. x.0) xs
 
@@ -33,3 +35,29 @@ HasRows ds x = x.1 ≡ rows_of x.0.columns (docs_of ds)
 pub record AreIndexes (ds : KeptDocuments) (xs : List Index) : Type 0 where
   pub catalog : IsCatalog (definitions_of xs)
   pub rows : AllByRecursion (HasRows ds) xs
+
+-- ---- the order of indexes: by design document, then name
+
+abbrev pub index_order : Index → Index → Ordering
+index_order x y = definition_order x.0 y.0
+
+-- the order of a design document and a name against those of an index
+abbrev pub name_against : List ℕ → List ℕ → Index → Ordering
+name_against ddoc name x = ordering_then (slice_cmp nat_cmp ddoc x.0.ddoc) (slice_cmp nat_cmp name x.0.name)
+
+-- the order is total
+pub definition_order_total : IsTotalOrder definition_order
+definition_order_total = then_total (on_total (λ (d : IndexDefinition). d.ddoc) nat_list_cmp_total) (on_total (λ (d : IndexDefinition). d.name) nat_list_cmp_total)
+
+pub index_order_total : IsTotalOrder index_order
+index_order_total = on_total (λ (x : Index). x.0) definition_order_total
+
+abbrev names_order : List ℕ × List ℕ → List ℕ × List ℕ → Ordering
+names_order = then_cmp (on (λ p. p.0) (slice_cmp nat_cmp)) (on (λ p. p.1) (slice_cmp nat_cmp))
+
+names_order_total : IsTotalOrder names_order
+names_order_total = then_total (on_total (λ (p : List ℕ × List ℕ). p.0) nat_list_cmp_total) (on_total (λ (p : List ℕ × List ℕ). p.1) nat_list_cmp_total)
+
+-- a design document and a name are a key
+pub name_probes : (ddoc name : List ℕ) → IsProbe index_order (name_against ddoc name)
+name_probes ddoc name = probe_through names_order_total (λ (x : Index). (x.0.ddoc, x.0.name)) (ddoc, name)

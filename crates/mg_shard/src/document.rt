@@ -36,7 +36,9 @@ impl Identified for Document {
 // into the form's block, as for `served_packed`.
 fn served_in(alloc: Global, id: &str, tree: &mut RevTree) -> Result<Option<Served>, NoMemory>
     ensures own { IfOk result (λ served. IsServedOwn id.now served) }
-    ensures served { IfOk result (λ served. (h : History) → StandsFor tree.old h → option_map (λ s. s.form) served ≡ served_of id.now h) }
+    ensures served { IfOk result
+        (λ served. (h : History) → StandsFor tree.old h
+        → option_map (λ s. s.form) served ≡ served_of id.now h) }
     ensures tree { tree.new ≡ tree.old }
 {
     match served_packed(alloc, id, tree)? {
@@ -63,7 +65,8 @@ impl Document {
     pub(crate) fn of(alloc: Global, id: String, mut tree: RevTree) -> Result<Document, NoMemory>
         ensures id { IfOk result (λ d. string_bytes d.id ≡ string_bytes id) }
         ensures tree { IfOk result (λ d. d.tree ≡ tree) }
-        ensures served { IfOk result (λ d. (h : History) → StandsFor tree h → form_of d ≡ served_of (string_bytes id) h) }
+        ensures served { IfOk result
+            (λ d. (h : History) → StandsFor tree h → form_of d ≡ served_of (string_bytes id) h) }
     {
         let served = served_in(alloc, &id, &mut tree)?;
         Ok(Document { id, tree, served })
@@ -126,7 +129,8 @@ impl Document {
     /// The key of its row in the list of all documents: its id, if it is served with an `_id`, which is then this id; else
     /// `None`. Takes no memory. Cost: constant.
     pub fn id_key(&self) -> Option<&str>
-        ensures key { option_map (λ id. item (text id.now) no_items) result ≡ option_and_then (row_key all_columns) (form_of self.now) }
+        ensures key { option_map (λ id. item (text id.now) no_items) result
+            ≡ option_and_then (row_key all_columns) (form_of self.now) }
         ensures own { IfSome result (λ id. id.now ≡ id_of self.now) }
     {
         if self.has_id() { Some(&self.id) } else { None }

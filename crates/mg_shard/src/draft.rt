@@ -8,13 +8,13 @@ ghost use Rattle.mg_doc.specs.Edit.{edited, outcome_of};
 ghost use Rattle.mg_shard.specs.Documents.{KeptDocuments, StandFor, StandsAt, shown, tree_at};
 ghost use Rattle.mg_shard.specs.Draft.{DraftStandsFor, TouchedStandFor, touched_of};
 ghost use Rattle.std.specs.List.{AllByRecursion};
-ghost use Rattle.mg_shard.specs.Index.{HasRows, definitions_of, indexes_seen};
+ghost use Rattle.mg_shard.specs.Index.{HasRows, definitions_of};
 ghost use Rattle.mg_shard.specs.Edits.{after_edit, after_edits, id_in, outcome_in, outcome_seen, outcomes};
 ghost use Rattle.mg_shard.specs.Histories.{Histories, history_at};
 
 use crate::document::Document;
-use crate::index::IndexRows;
-use crate::indexes::{mend_all, shared};
+use crate::entry::IndexEntry;
+use crate::indexes::{listed, mend_all, paged};
 use crate::reply::EditReply;
 use crate::shard::Shard;
 use mg_doc::{Edit, EditError};
@@ -71,8 +71,10 @@ impl<'a> Draft<'a> {
     /// Errors: `NoMemory` if an allocation fails; the draft is then useless.
     /// Cost: that of `Edit::bring`, and a copy of the document's tree if the draft has not touched the document yet. No copy of the body.
     pub fn edit(&mut self, alloc: Global, edit: Edit) -> Result<EditReply, NoMemory>
-        ensures outcome { IfOk result (λ r. (hs : Histories) → DraftStandsFor self.old hs → outcome_seen r ≡ outcome_in hs edit) }
-        ensures stands { OnOk result ((hs : Histories) → DraftStandsFor self.old hs → DraftStandsFor self.new (after_edit hs edit)) }
+        ensures outcome { IfOk result
+            (λ r. (hs : Histories) → DraftStandsFor self.old hs → outcome_seen r ≡ outcome_in hs edit) }
+        ensures stands { OnOk result ((hs : Histories) → DraftStandsFor self.old hs
+            → DraftStandsFor self.new (after_edit hs edit)) }
         ensures shard { OnOk result (self.new.shard ≡ self.old.shard) }
     {
         match self.touched.remove_entry(id_in(&edit)) {
@@ -85,8 +87,11 @@ impl<'a> Draft<'a> {
     ///
     /// Errors: those of `edit`. Cost: that of `edit`, and a copy of each edit, with its body.
     pub fn edit_all(&mut self, alloc: Global, edits: &[Edit]) -> Result<Vec<EditReply>, NoMemory>
-        ensures outcomes { IfOk result (λ rs. (hs : Histories) → DraftStandsFor self.old hs → map outcome_seen rs.items ≡ outcomes hs edits.now) }
-        ensures stands { OnOk result ((hs : Histories) → DraftStandsFor self.old hs → DraftStandsFor self.new (after_edits hs edits.now)) }
+        ensures outcomes { IfOk result
+            (λ rs. (hs : Histories) → DraftStandsFor self.old hs
+            → map outcome_seen rs.items ≡ outcomes hs edits.now) }
+        ensures stands { OnOk result ((hs : Histories) → DraftStandsFor self.old hs
+            → DraftStandsFor self.new (after_edits hs edits.now)) }
         ensures shard { OnOk result (self.new.shard ≡ self.old.shard) }
     {
         let mut replies = Vec::with_capacity(alloc, edits.len())?;
@@ -104,8 +109,11 @@ impl<'a> Draft<'a> {
     /// Errors: `NoMemory` if an allocation fails. Cost: for each touched document its form and text, as for `Document::of`, and
     /// the pages on the way to it and to its rows.
     pub fn finish(self, alloc: Global) -> Result<Option<Shard>, NoMemory>
-        ensures stands { IfOk result (λ s. (hs : Histories) → DraftStandsFor self.entry hs → StandFor (unwrap_or s self.entry.shard).documents hs) }
-        ensures indexes { IfOk result (λ s. (unwrap_or s self.entry.shard).definitions ≡ self.entry.shard.definitions) }
+        ensures stands { IfOk result
+            (λ s. (hs : Histories) → DraftStandsFor self.entry hs
+            → StandFor (unwrap_or s self.entry.shard).documents hs) }
+        ensures indexes { IfOk result
+            (λ s. (unwrap_or s self.entry.shard).definitions ≡ self.entry.shard.definitions) }
     {
         if self.touched.is_empty() {
             return Ok(None);
@@ -130,8 +138,11 @@ fn looked(edit: &Edit, tree: &RevTree) -> Result<Option<EditReply>, NoMemory>
 
 // What `looked` finds for an edit of the document with this tree; `None` if there is no such document yet.
 fn looked_at(edit: &Edit, tree: Option<&RevTree>) -> Result<Option<EditReply>, NoMemory>
-    ensures { IfOk result (λ o. (ds : KeptDocuments) (hs : Histories) (id : List ℕ) → option_map (λ t. t.now) tree.entry ≡ tree_at ds id → StandsAt id (get ds id) (get hs id)
-        → IfSome o (λ r. (outcome_seen r ≡ outcome_of (history_at hs id) edit.now) × StandsAt id (get ds id) (Some (edited (history_at hs id) edit.now)))) }
+    ensures { IfOk result
+        (λ o. (ds : KeptDocuments) (hs : Histories) (id : List ℕ)
+        → option_map (λ t. t.now) tree.entry ≡ tree_at ds id → StandsAt id (get ds id) (get hs id)
+        → IfSome o (λ r. (outcome_seen r ≡ outcome_of (history_at hs id) edit.now)
+        × StandsAt id (get ds id) (Some (edited (history_at hs id) edit.now)))) }
 {
     match tree {
         Some(tree) => Ok(looked(edit, tree)?),
@@ -141,7 +152,9 @@ fn looked_at(edit: &Edit, tree: Option<&RevTree>) -> Result<Option<EditReply>, N
 
 // A copy of the document's tree; an empty tree if there is no such document yet.
 fn copied(alloc: Global, tree: Option<&RevTree>) -> Result<RevTree, NoMemory>
-    ensures { IfOk result (λ t. (ds : KeptDocuments) (hs : Histories) (id : List ℕ) → option_map (λ t. t.now) tree.entry ≡ tree_at ds id → StandsAt id (get ds id) (get hs id)
+    ensures { IfOk result
+        (λ t. (ds : KeptDocuments) (hs : Histories) (id : List ℕ)
+        → option_map (λ t. t.now) tree.entry ≡ tree_at ds id → StandsAt id (get ds id) (get hs id)
         → StandsFor t (history_at hs id)) }
 {
     match tree {
@@ -152,7 +165,9 @@ fn copied(alloc: Global, tree: Option<&RevTree>) -> Result<RevTree, NoMemory>
 
 // What becomes of an edit, and the tree that it leaves, into which its body is moved.
 fn applied(alloc: Global, edit: Edit, mut tree: RevTree) -> Result<(EditReply, RevTree), NoMemory>
-    ensures { IfOk result (λ r. (h : History) → StandsFor tree h → (outcome_seen r.0 ≡ outcome_of h edit) × StandsFor r.1 (edited h edit)) }
+    ensures { IfOk result
+        (λ r. (h : History) → StandsFor tree h → (outcome_seen r.0 ≡ outcome_of h edit)
+        × StandsFor r.1 (edited h edit)) }
 {
     match edit.bring(alloc, &mut tree) {
         Ok(rev) => Ok((EditReply::Done(rev), tree)),
@@ -170,9 +185,11 @@ fn edit_touched(
     tree: RevTree,
     edit: Edit,
 ) -> Result<EditReply, NoMemory>
-    ensures outcome { IfOk result (λ r. (h : History) → StandsFor tree h → outcome_seen r ≡ outcome_of h edit) }
+    ensures outcome { IfOk result
+        (λ r. (h : History) → StandsFor tree h → outcome_seen r ≡ outcome_of h edit) }
     ensures touched { OnOk result ((h : History) → StandsFor tree h
-        → (t : Tree) × StandsFor t (edited h edit) × (touched_of touched.new.entries ≡ insert (touched_of touched.old.entries) (string_bytes id) t)) }
+        → (t : Tree) × StandsFor t (edited h edit)
+        × (touched_of touched.new.entries ≡ insert (touched_of touched.old.entries) (string_bytes id) t)) }
 {
     let (reply, tree) = applied(alloc, edit, tree)?;
     drop(touched.insert(id, tree)?);
@@ -187,9 +204,11 @@ fn edit_first(
     edit: Edit,
 ) -> Result<EditReply, NoMemory>
     requires { get (touched_of touched.old.entries) (id_in edit) ≡ None }
-    ensures outcome { IfOk result (λ r. (hs : Histories) → TouchedStandFor shard.now.documents (touched_of touched.old.entries) hs
+    ensures outcome { IfOk result
+        (λ r. (hs : Histories) → TouchedStandFor shard.now.documents (touched_of touched.old.entries) hs
         → outcome_seen r ≡ outcome_in hs edit) }
-    ensures stands { OnOk result ((hs : Histories) → TouchedStandFor shard.now.documents (touched_of touched.old.entries) hs
+    ensures stands { OnOk result ((hs : Histories)
+        → TouchedStandFor shard.now.documents (touched_of touched.old.entries) hs
         → TouchedStandFor shard.now.documents (touched_of touched.new.entries) (after_edit hs edit)) }
 {
     let id = id_in(&edit);
@@ -210,12 +229,15 @@ fn edit_first(
 
 // A shard with each of these trees under its id.
 fn kept(alloc: Global, shard: &Shard, touched: BTreeMap<String, RevTree>) -> Result<Shard, NoMemory>
-    ensures stands { IfOk result (λ s. (hs : Histories) → TouchedStandFor shard.now.documents (touched_of touched.entries) hs → StandFor s.documents hs) }
+    ensures stands { IfOk result
+        (λ s. (hs : Histories) → TouchedStandFor shard.now.documents (touched_of touched.entries) hs
+        → StandFor s.documents hs) }
     ensures indexes { IfOk result (λ s. s.definitions ≡ shard.now.definitions) }
 {
     let documents = shard.documents.share(alloc)?;
-    let indexes = shared(alloc, &shard.indexes)?;
-    let (documents, indexes) = keep_all(alloc, documents, indexes, touched)?;
+    let own = listed(alloc, &shard.indexes)?;
+    let (documents, mended) = keep_all(alloc, documents, own, touched)?;
+    let indexes = paged(alloc, &mended)?;
     Ok(Shard { documents, indexes })
 }
 
@@ -223,12 +245,16 @@ fn kept(alloc: Global, shard: &Shard, touched: BTreeMap<String, RevTree>) -> Res
 fn keep_all(
     alloc: Global,
     mut documents: Pages<Shared<Document>>,
-    mut indexes: Vec<IndexRows>,
+    mut indexes: Vec<IndexEntry>,
     mut touched: BTreeMap<String, RevTree>,
-) -> Result<(Pages<Shared<Document>>, Vec<IndexRows>), NoMemory>
-    ensures stands { IfOk result (λ r. (hs : Histories) → TouchedStandFor (shown documents) (touched_of touched.entries) hs → StandFor (shown r.0) hs) }
-    ensures definitions { IfOk result (λ r. definitions_of (indexes_seen r.1.items) ≡ definitions_of (indexes_seen indexes.items)) }
-    ensures rows { IfOk result (λ r. AllByRecursion (HasRows (shown documents)) (indexes_seen indexes.items) → AllByRecursion (HasRows (shown r.0)) (indexes_seen r.1.items)) }
+) -> Result<(Pages<Shared<Document>>, Vec<IndexEntry>), NoMemory>
+    ensures stands { IfOk result
+        (λ r. (hs : Histories) → TouchedStandFor (shown documents) (touched_of touched.entries) hs
+        → StandFor (shown r.0) hs) }
+    ensures definitions { IfOk result (λ r. definitions_of r.1.items ≡ definitions_of indexes.items) }
+    ensures rows { IfOk result
+        (λ r. AllByRecursion (HasRows (shown documents)) indexes.items
+        → AllByRecursion (HasRows (shown r.0)) r.1.items) }
 {
     let mut scratch = KeyBytes::new(alloc);
     while let Some((id, tree)) = touched.pop_first() {

@@ -18,13 +18,6 @@ use mg_value::NoMemory;
 use std::alloc::Global;
 use std::sync::Arc;
 
-/// An index of a shard: its definition, and its rows by key and id.
-#[derive(Drop)]
-pub(crate) struct IndexRows {
-    pub(crate) definition: Arc<IndexDef>,
-    pub(crate) rows: Arc<Pages<RowBytes>>,
-}
-
 // Puts the parts of a document at the columns together in the scratch that is lent, and says whether each of them is there.
 fn key_in(scratch: &mut KeyBytes, columns: &[Path], form: &Part<'_>) -> Result<bool, NoMemory>
     ensures { IfOk result (λ all. cond all (Some scratch.new) None ≡ row_key columns.now form.now) }
@@ -184,48 +177,35 @@ fn change_shared(
     Ok(())
 }
 
-impl IndexRows {
-    /// The index again, with its rows shared. Errors: `NoMemory` if there are too many shares. Takes no memory.
-    pub(crate) fn share(&self) -> Result<IndexRows, NoMemory>
-        ensures definition { IfOk result (λ x. arc_value x.definition ≡ arc_value self.now.definition) }
-        ensures rows { IfOk result (λ x. arc_value x.rows ≡ arc_value self.now.rows) }
-    {
-        Ok(IndexRows {
-            definition: self.definition.clone()?,
-            rows: self.rows.clone()?,
-        })
+/// Mends the rows of an index for a change of the document with this id from one form to another.
+///
+/// Errors: `NoMemory` if an allocation fails; the rows are then useless.
+/// Cost: a look at the parts of both forms at the columns. If these differ: both rows, put together in the lent scratch, the way to
+/// both, and once the top of pages that others share. A row that stays takes no memory, unless one of its columns holds an array or
+/// an object.
+pub(crate) fn mend_rows(
+    alloc: Global,
+    scratch: &mut KeyBytes,
+    definition: &IndexDef,
+    rows: &mut Arc<Pages<RowBytes>>,
+    id: &str,
+    before: Option<&Packed>,
+    after: Option<&Packed>,
+) -> Result<(), NoMemory>
+    ensures { OnOk result ((ds : KeptDocuments) (d : Kept)
+        → option_map (λ v. v.now) before.entry ≡ form_at ds id.now → option_map (λ v. v.now) after.entry ≡ d.1
+        → arc_value rows.old ≡ rows_of definition.now.columns (docs_of ds)
+        → arc_value rows.new ≡ rows_of definition.now.columns (docs_of (insert ds id.now d))) }
+{
+    if have_same_row(definition.columns(), before, after) {
+        return Ok(());
     }
-
-    /// Mends the rows for a change of the document with this id from one form to another.
-    ///
-    /// Errors: `NoMemory` if an allocation fails; the index is then useless.
-    /// Cost: a look at the parts of both forms at the columns. If these differ: both rows, put together in the lent scratch, the way to
-    /// both, and once the top of pages that others share. A row that stays takes no memory, unless one of its columns holds an array or
-    /// an object.
-    pub(crate) fn mend(
-        &mut self,
-        alloc: Global,
-        scratch: &mut KeyBytes,
-        id: &str,
-        before: Option<&Packed>,
-        after: Option<&Packed>,
-    ) -> Result<(), NoMemory>
-        ensures definition { OnOk result (self.new.definition ≡ self.old.definition) }
-        ensures rows { OnOk result ((ds : KeptDocuments) (d : Kept) → option_map (λ v. v.now) before.entry ≡ form_at ds id.now → option_map (λ v. v.now) after.entry ≡ d.1
-            → arc_value self.old.rows ≡ rows_of (arc_value self.old.definition).columns (docs_of ds)
-            → arc_value self.new.rows ≡ rows_of (arc_value self.old.definition).columns (docs_of (insert ds id.now d))) }
-    {
-        let definition: &IndexDef = &self.definition;
-        if have_same_row(definition.columns(), before, after) {
-            return Ok(());
-        }
-        let gone = row_if(alloc, scratch, definition.columns(), id, before)?;
-        let come = row_if(alloc, scratch, definition.columns(), id, after)?;
-        change_shared(alloc, &mut self.rows, gone, come)?;
-        let rows: &Pages<RowBytes> = &self.rows;
-        rows.ascends();
-        Ok(())
-    }
+    let gone = row_if(alloc, scratch, definition.columns(), id, before)?;
+    let come = row_if(alloc, scratch, definition.columns(), id, after)?;
+    change_shared(alloc, rows, gone, come)?;
+    let rows: &Pages<RowBytes> = rows;
+    rows.ascends();
+    Ok(())
 }
 
 /// Pages of rows, each of which stands once among them.

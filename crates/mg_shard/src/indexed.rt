@@ -6,8 +6,9 @@ ghost use Rattle.mg_index.specs.Catalog.{with_definition, without_definition};
 ghost use Rattle.mg_shard.specs.Documents.{docs_of};
 ghost use Rattle.mg_shard.specs.Rows.{row_of, rows_of};
 
+use crate::entry::IndexEntry;
 use crate::extracted::{MANY_DOCUMENTS, pages_by_threads, rows_by_threads, sorted_by_threads};
-use crate::index::{IndexRows, pages_of, row_in};
+use crate::index::{pages_of, row_in};
 use crate::indexes::{with, without};
 use crate::shard::Shard;
 use mg_index::IndexDef;
@@ -22,7 +23,8 @@ use std::thread::Threads;
 impl Shard {
     // The rows that an index with these columns has, in the order of the documents.
     fn unsorted(&self, alloc: Global, columns: &[Path]) -> Result<Vec<RowBytes>, NoMemory>
-        ensures { IfOk result (λ rows. rows.items ≡ filter_map (row_of columns.now) (docs_of self.now.documents)) }
+        ensures { IfOk result
+            (λ rows. rows.items ≡ filter_map (row_of columns.now) (docs_of self.now.documents)) }
     {
         let mut rows = Vec::new(alloc);
         let mut scratch = KeyBytes::new(alloc);
@@ -89,10 +91,14 @@ impl Shard {
         rows: Pages<RowBytes>,
     ) -> Result<Shard, NoMemory>
         requires { rows ≡ rows_of (arc_value definition).columns (docs_of self.now.documents) }
-        ensures { IfOk result (λ s. s ≡ record self.now { definitions = with_definition (arc_value definition) self.now.definitions }) }
+        ensures { IfOk result
+            (λ s. s ≡ record self.now {
+              definitions = with_definition
+                  (arc_value definition) self.now.definitions;
+            }) }
     {
-        let rows = Arc::new(alloc, rows)?;
-        let indexes = with(alloc, &self.indexes, IndexRows { definition, rows })?;
+        let index = IndexEntry::of(alloc, definition, rows)?;
+        let indexes = with(alloc, &self.indexes, index)?;
         let documents = self.documents.share(alloc)?;
         Ok(Shard { documents, indexes })
     }
@@ -101,7 +107,8 @@ impl Shard {
     ///
     /// Errors: `NoMemory` if an allocation fails. Cost: each document once, the bytes of its row, and the rows sorted.
     pub fn with_index(&self, alloc: Global, definition: &IndexDef) -> Result<Shard, NoMemory>
-        ensures { IfOk result (λ s. s ≡ record self.now { definitions = with_definition definition.now self.now.definitions }) }
+        ensures { IfOk result
+            (λ s. s ≡ record self.now { definitions = with_definition definition.now self.now.definitions }) }
     {
         let rows = self.rows_alone(alloc, definition.columns())?;
         let definition = Arc::new(alloc, definition.copy(alloc)?)?;
@@ -111,7 +118,7 @@ impl Shard {
     /// The shard with an index, as for `with_index`, whose rows the caller brings: those that `rows_for` gives. The definition is shared,
     /// not copied.
     ///
-    /// Errors: `NoMemory` if an allocation fails. Cost: as for `share`.
+    /// Errors: `NoMemory` if an allocation fails. Cost: that of `share`, a look-up, and a copy of one page of the list of indexes.
     pub fn with_rows(
         &self,
         alloc: Global,
@@ -119,16 +126,23 @@ impl Shard {
         rows: Pages<RowBytes>,
     ) -> Result<Shard, NoMemory>
         requires { rows ≡ rows_of (arc_value definition.now).columns (docs_of self.now.documents) }
-        ensures { IfOk result (λ s. s ≡ record self.now { definitions = with_definition (arc_value definition.now) self.now.definitions }) }
+        ensures { IfOk result
+            (λ s. s ≡ record self.now {
+              definitions = with_definition
+                  (arc_value definition.now) self.now.definitions;
+            }) }
     {
         self.with(alloc, definition.clone()?, rows)
     }
 
     /// The shard without the index of this design document and name, if there is one.
     ///
-    /// Errors: `NoMemory` if an allocation fails. Cost: as for `share`.
+    /// Errors: `NoMemory` if an allocation fails. Cost: that of `share`, a look-up, and a copy of one page of the list of indexes.
     pub fn without_index(&self, alloc: Global, ddoc: &str, name: &str) -> Result<Shard, NoMemory>
-        ensures { IfOk result (λ s. s ≡ record self.now { definitions = without_definition ddoc.now name.now self.now.definitions }) }
+        ensures { IfOk result
+            (λ s. s ≡ record self.now {
+              definitions = without_definition ddoc.now name.now self.now.definitions;
+            }) }
     {
         let documents = self.documents.share(alloc)?;
         let indexes = without(alloc, &self.indexes, ddoc, name)?;

@@ -1,143 +1,92 @@
-//! The indexes of a shard, by design document and name.
-ghost use Rattle.std.specs.Prelude.{◌≡◌, ◌++◌, not, IfOk, OnOk, option_map, string_bytes};
-ghost use Rattle.std.specs.Arc.{arc_value};
+//! The list of the indexes of a shard, in the order of design document and name.
+ghost use Rattle.std.specs.Prelude.{◌≡◌, not, IfOk, OnOk, option_map, string_bytes};
 ghost use Rattle.std.specs.FinMap.{insert};
 ghost use Rattle.std.specs.List.{filter, find, AllByRecursion};
-ghost use Rattle.std.specs.Ordering.{is_gt, is_lt};
-ghost use Rattle.mg_index.specs.Catalog.{definition_order, is_at};
+ghost use Rattle.mg_index.specs.Catalog.{IsCatalog, is_at};
 ghost use Rattle.mg_shard.specs.Documents.{form_at, kept_of, shown};
-ghost use Rattle.mg_shard.specs.Index.{HasRows, definitions_of, index_seen, indexes_seen};
+ghost use Rattle.mg_shard.specs.Index.{HasRows, definitions_of, index_order};
 ghost use Rattle.mg_pages.specs.Order.{inserted};
 
 use crate::document::Document;
-use crate::index::IndexRows;
-use mg_index::IndexDef;
+use crate::entry::{IndexEntry, IndexName};
 use mg_packed::Packed;
-use mg_pages::{Pages, Shared};
+use mg_pages::{Element, Pages, Shared};
 use mg_rows::{KeyBytes, RowBytes};
 use mg_value::NoMemory;
 use std::alloc::Global;
-use std::cmp::Ordering;
 
-// The order of two definitions, by design document, then name.
-fn order(definition: &IndexDef, other: &IndexDef) -> Ordering
-    ensures { result ≡ definition_order definition.now other.now }
-{
-    let by_ddoc = definition.ddoc().cmp(other.ddoc());
-    by_ddoc.then(definition.name().cmp(other.name()))
-}
-
-// Whether a definition has this design document and name.
-fn is_named(definition: &IndexDef, ddoc: &str, name: &str) -> bool
-    ensures { result ≡ is_at ddoc.now name.now definition.now }
-{
-    ddoc == definition.ddoc() && name == definition.name()
-}
-
-/// A second list of the indexes, with their rows shared. Errors: `NoMemory` if an allocation fails. Cost: their number.
-pub(crate) fn shared(alloc: Global, indexes: &[IndexRows]) -> Result<Vec<IndexRows>, NoMemory>
-    ensures { IfOk result (λ v. indexes_seen v.items ≡ indexes_seen indexes.now) }
+/// The indexes in a list that its owner can change, with their rows shared.
+///
+/// Errors: `NoMemory` if an allocation fails. Cost: their number.
+pub(crate) fn listed(
+    alloc: Global,
+    indexes: &Pages<IndexEntry>,
+) -> Result<Vec<IndexEntry>, NoMemory>
+    ensures { IfOk result (λ v. v.items ≡ indexes.now) }
 {
     let mut all = Vec::with_capacity(alloc, indexes.len())?;
-    for index in indexes {
-        all.push(index.share()?)?;
+    for index in indexes.iter() {
+        all.push(index.again()?)?;
     }
     Ok(all)
 }
 
-// The index of this design document and name, if there is one.
-fn index_at<'a>(indexes: &'a [IndexRows], ddoc: &str, name: &str) -> Option<&'a IndexRows>
-    ensures { option_map (λ x. x.now) result ≡ find (λ x. is_at ddoc.now name.now (arc_value x.definition)) indexes.now }
+/// Pages of these indexes, which are a catalog: the list of a shard.
+///
+/// Errors: `NoMemory` if an allocation fails. Cost: their number.
+pub(crate) fn paged(alloc: Global, indexes: &[IndexEntry]) -> Result<Pages<IndexEntry>, NoMemory>
+    requires { IsCatalog (definitions_of indexes.now) }
+    ensures { IfOk result (λ p. p ≡ indexes.now) }
 {
-    indexes
-        .iter()
-        .find(|index| is_named(&index.definition, ddoc, name))
+    Pages::from_sorted(alloc, indexes)
 }
 
-/// The rows of the index of this design document and name, if there is one. Takes no memory. Cost: each index once.
+/// The rows of the index of this design document and name, if there is one. Takes no memory. Cost: one look-up.
 pub(crate) fn rows_there<'a>(
-    indexes: &'a [IndexRows],
+    indexes: &'a Pages<IndexEntry>,
     ddoc: &str,
     name: &str,
 ) -> Option<&'a Pages<RowBytes>>
     ensures { option_map (λ rows. rows.now) result
-        ≡ option_map (λ x. arc_value x.rows) (find (λ x. is_at ddoc.now name.now (arc_value x.definition)) indexes.now) }
+        ≡ option_map (λ x. x.1) (find (λ x. is_at ddoc.now name.now x.0) indexes.now) }
 {
-    match index_at(indexes, ddoc, name) {
-        Some(index) => Some(&index.rows),
+    match indexes.get(&IndexName { ddoc, name }) {
+        Some(index) => Some(index.rows()),
         None => None,
     }
 }
 
-// Shares of the indexes that come before a definition.
-fn before(
-    alloc: Global,
-    indexes: &[IndexRows],
-    definition: &IndexDef,
-) -> Result<Vec<IndexRows>, NoMemory>
-    ensures { IfOk result (λ v. indexes_seen v.items ≡ filter (λ x. is_gt (definition_order definition.now x.0)) (indexes_seen indexes.now)) }
-{
-    let mut found = Vec::with_capacity(alloc, indexes.len())?;
-    for index in indexes {
-        if order(definition, &index.definition).is_gt() {
-            found.push(index.share()?)?;
-        }
-    }
-    Ok(found)
-}
-
-// Adds shares of the indexes that come after a definition.
-fn add_after(
-    alloc: Global,
-    found: &mut Vec<IndexRows>,
-    indexes: &[IndexRows],
-    definition: &IndexDef,
-) -> Result<(), NoMemory>
-    ensures { OnOk result (indexes_seen found.new.items ≡ indexes_seen found.old.items ++ filter (λ x. is_lt (definition_order definition.now x.0)) (indexes_seen indexes.now)) }
-{
-    for index in indexes {
-        if order(definition, &index.definition).is_lt() {
-            found.push(index.share()?)?;
-        }
-    }
-    Ok(())
-}
-
-/// The indexes, with their rows shared, and this one in its place; it replaces one of the same design document and name.
+/// The indexes and this one in its place; it replaces one of the same design document and name. All pages but those on the way to
+/// its place are shared.
 ///
-/// Errors: `NoMemory` if an allocation fails. Cost: as for `shared`.
+/// Errors: `NoMemory` if an allocation fails. Cost: one look-up, and a copy of the page of the list where the index belongs.
 pub(crate) fn with(
     alloc: Global,
-    indexes: &[IndexRows],
-    index: IndexRows,
-) -> Result<Vec<IndexRows>, NoMemory>
-    ensures { IfOk result (λ v. indexes_seen v.items ≡ inserted (λ x y. definition_order x.0 y.0) (index_seen index) (indexes_seen indexes.now)) }
+    indexes: &Pages<IndexEntry>,
+    index: IndexEntry,
+) -> Result<Pages<IndexEntry>, NoMemory>
+    ensures { IfOk result (λ v. v ≡ inserted index_order index indexes.now) }
 {
-    let definition = index.definition.clone()?;
-    let mut all = before(alloc, indexes, &definition)?;
-    all.push(index)?;
-    add_after(alloc, &mut all, indexes, &definition)?;
+    let mut all = indexes.share(alloc)?;
+    all.insert(alloc, index)?;
     Ok(all)
 }
 
-/// The indexes, with their rows shared, without the one of this design document and name.
+/// The indexes without the one of this design document and name. All pages but those on the way to its place are shared.
 ///
-/// Errors: `NoMemory` if an allocation fails. Cost: as for `shared`.
+/// Errors: `NoMemory` if an allocation fails. Cost: as for `with`.
 pub(crate) fn without(
     alloc: Global,
-    indexes: &[IndexRows],
+    indexes: &Pages<IndexEntry>,
     ddoc: &str,
     name: &str,
-) -> Result<Vec<IndexRows>, NoMemory>
-    ensures { IfOk result (λ v. indexes_seen v.items ≡ filter (λ x. not (is_at ddoc.now name.now x.0)) (indexes_seen indexes.now)) }
+) -> Result<Pages<IndexEntry>, NoMemory>
+    ensures { IfOk result (λ v. v ≡ filter (λ x. not (is_at ddoc.now name.now x.0)) indexes.now) }
 {
-    let mut found = Vec::with_capacity(alloc, indexes.len())?;
-    for index in indexes {
-        if !is_named(&index.definition, ddoc, name) {
-            found.push(index.share()?)?;
-        }
-    }
-    Ok(found)
+    indexes.ascends();
+    let mut left = indexes.share(alloc)?;
+    left.remove(alloc, &IndexName { ddoc, name })?;
+    Ok(left)
 }
 
 // The form in which the document with this id is served; `None` if there is no such document, or it is deleted.
@@ -158,13 +107,15 @@ fn form_in<'a>(documents: &'a Pages<Shared<Document>>, id: &str) -> Option<&'a P
 pub(crate) fn mend_all(
     alloc: Global,
     scratch: &mut KeyBytes,
-    indexes: &mut [IndexRows],
+    indexes: &mut [IndexEntry],
     documents: &Pages<Shared<Document>>,
     document: &Document,
 ) -> Result<(), NoMemory>
-    ensures definitions { OnOk result (definitions_of (indexes_seen indexes.new) ≡ definitions_of (indexes_seen indexes.old)) }
-    ensures rows { OnOk result (AllByRecursion (HasRows (shown documents.now)) (indexes_seen indexes.old)
-        → AllByRecursion (HasRows (insert (shown documents.now) (string_bytes document.now.id) (kept_of document.now))) (indexes_seen indexes.new)) }
+    ensures definitions { OnOk result (definitions_of indexes.new ≡ definitions_of indexes.old) }
+    ensures rows { OnOk result (AllByRecursion (HasRows (shown documents.now)) indexes.old
+        → AllByRecursion
+        (HasRows (insert (shown documents.now) (string_bytes document.now.id)
+        (kept_of document.now))) indexes.new) }
 {
     let before = form_in(documents, &document.id);
     let after = document.packed();

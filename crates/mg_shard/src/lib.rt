@@ -4,6 +4,7 @@
 mod docs;
 mod document;
 mod draft;
+mod entry;
 mod extracted;
 mod index;
 mod indexed;

@@ -23,7 +23,9 @@ pub(crate) fn all_documents<'a>(
     alloc: Global,
     shards: &'a [Arc<Shard>],
 ) -> Result<Vec<&'a Shared<Document>>, NoMemory>
-    ensures { IfOk result (λ v. (id : List ℕ) → last_kept (documents_seen v.items) id ≡ kept_in (documents_in (shards_seen shards.now)) id) }
+    ensures { IfOk result
+        (λ v. (id : List ℕ)
+        → last_kept (documents_seen v.items) id ≡ kept_in (documents_in (shards_seen shards.now)) id) }
 {
     let mut all = Vec::new(alloc);
     for shard in shards {
@@ -55,7 +57,8 @@ pub(crate) fn places_of<P: Placement>(
     count: usize,
 ) -> Result<Vec<usize>, NoMemory>
     requires { 0 < count }
-    ensures { IfOk result (λ v. ArePlaces (P.place placement.now) count (documents_seen documents.now) v.items) }
+    ensures { IfOk result
+        (λ v. ArePlaces (P.place placement.now) count (documents_seen documents.now) v.items) }
 {
     let mut places = Vec::with_capacity(alloc, documents.len())?;
     for document in documents {
@@ -72,7 +75,8 @@ fn put_if(
     own: usize,
     place: usize,
 ) -> Result<(), NoMemory>
-    ensures here { OnOk result ((own == place) ≡ true → there.new ≡ inserted (id_order id_of) document.now there.old) }
+    ensures here { OnOk result ((own == place) ≡ true
+        → there.new ≡ inserted (id_order id_of) document.now there.old) }
     ensures elsewhere { OnOk result ((own == place) ≡ false → there.new ≡ there.old) }
 {
     if own == place {

@@ -8,13 +8,14 @@ ghost use Rattle.mg_index.specs.Definition.{IndexDefinition};
 ghost use Rattle.mg_shard.specs.Dealt.{Placing, ShardsStandFor};
 ghost use Rattle.mg_shard.specs.Documents.{shown};
 ghost use Rattle.mg_shard.specs.Histories.{Histories};
-ghost use Rattle.mg_shard.specs.Index.{HasRows, definitions_of, index_seen, indexes_seen};
+ghost use Rattle.mg_shard.specs.Index.{HasRows, definitions_of};
 ghost use Rattle.mg_shard.specs.Redealt.{AreMade, AreRedealt, IsMade, documents_in, documents_seen};
 ghost use Rattle.mg_shard.specs.Shard.{ShardView, shards_seen};
 
 use crate::document::Document;
+use crate::entry::IndexEntry;
 use crate::extracted::MANY_DOCUMENTS;
-use crate::index::IndexRows;
+use crate::indexes::{listed, paged};
 use crate::placed::{all_documents, documents_at, places_of};
 use crate::placement::Placement;
 use crate::shard::Shard;
@@ -47,8 +48,11 @@ pub fn redeal<P: Placement, R: Threads + Sync>(
     ensures number { IfOk result (λ v. length v.items ≡ count) }
 
     // Each document is kept where it is placed, and nowhere else: where several of the former shards keep one id, the last of them gives it.
-    ensures documents { IfOk result (λ v. AreRedealt (P.place placement.now) (documents_in (shards_seen shards.now)) (documents_in v.items)) }
-    ensures stands { IfOk result (λ v. (from : Placing) (hs : Histories) → ShardsStandFor from (shards_seen shards.now) hs
+    ensures documents { IfOk result
+        (λ v. AreRedealt (P.place placement.now) (documents_in (shards_seen shards.now))
+        (documents_in v.items)) }
+    ensures stands { IfOk result
+        (λ v. (from : Placing) (hs : Histories) → ShardsStandFor from (shards_seen shards.now) hs
         → ShardsStandFor (P.place placement.now) v.items hs) }
     ensures indexes { IfOk result (λ v. (ds : List IndexDefinition) → 0 < length shards.now
         → All (λ s. s.definitions ≡ ds) (shards_seen shards.now) → All (λ s. s.definitions ≡ ds) v.items) }
@@ -62,19 +66,22 @@ pub fn redeal<P: Placement, R: Threads + Sync>(
     };
     let found = places_of(alloc, placement, documents, count)?;
     let places: &[usize] = &found;
-    let indexes = first_indexes(shards);
+    let first = first_indexes(alloc, shards)?;
+    let indexes: &[IndexEntry] = &first;
     let made = all_made(rt, alloc, documents, places, indexes, count, workers)?;
     Ok(made)
 }
 
-// The indexes of the first shard, if there is one. Takes no memory.
-fn first_indexes(shards: &[Arc<Shard>]) -> &[IndexRows]
-    ensures catalog { IsCatalog (definitions_of (indexes_seen result.now)) }
-    ensures first { (s : ShardView) → slice_get (shards_seen shards.now) 0 ≡ Some s → definitions_of (indexes_seen result.now) ≡ s.definitions }
+// The indexes of the first shard, if there is one, in a list, with their rows shared.
+fn first_indexes(alloc: Global, shards: &[Arc<Shard>]) -> Result<Vec<IndexEntry>, NoMemory>
+    ensures catalog { IfOk result (λ v. IsCatalog (definitions_of v.items)) }
+    ensures first { IfOk result
+        (λ v. (s : ShardView) → slice_get (shards_seen shards.now) 0 ≡ Some s
+        → definitions_of v.items ≡ s.definitions) }
 {
     match shards.first() {
-        Some(shard) => shard.indexes(),
-        None => &[],
+        Some(shard) => Ok(listed(alloc, shard.indexes())?),
+        None => Ok(Vec::new(alloc)),
     }
 }
 
@@ -85,14 +92,13 @@ fn index_over<R: Threads + Sync>(
     shard: &Shard,
     definition: &Arc<IndexDef>,
     workers: usize,
-) -> Result<IndexRows, NoMemory>
-    ensures definition { IfOk result (λ x. arc_value x.definition ≡ arc_value definition.now) }
-    ensures rows { IfOk result (λ x. HasRows shard.now.documents (index_seen x)) }
+) -> Result<IndexEntry, NoMemory>
+    ensures definition { IfOk result (λ x. x.0 ≡ arc_value definition.now) }
+    ensures rows { IfOk result (λ x. HasRows shard.now.documents x) }
 {
     let rows = shard.rows_for(rt, alloc, definition, workers)?;
-    let rows = Arc::new(alloc, rows)?;
-    let definition = definition.clone()?;
-    Ok(IndexRows { definition, rows })
+    let index = IndexEntry::of(alloc, definition.clone()?, rows)?;
+    Ok(index)
 }
 
 // Indexes of a shard's documents, of the definitions that these have.
@@ -100,15 +106,15 @@ fn indexes_over<R: Threads + Sync>(
     rt: &R,
     alloc: Global,
     shard: &Shard,
-    indexes: &[IndexRows],
+    indexes: &[IndexEntry],
     workers: usize,
-) -> Result<Vec<IndexRows>, NoMemory>
-    ensures definitions { IfOk result (λ v. definitions_of (indexes_seen v.items) ≡ definitions_of (indexes_seen indexes.now)) }
-    ensures rows { IfOk result (λ v. AllByRecursion (HasRows shard.now.documents) (indexes_seen v.items)) }
+) -> Result<Vec<IndexEntry>, NoMemory>
+    ensures definitions { IfOk result (λ v. definitions_of v.items ≡ definitions_of indexes.now) }
+    ensures rows { IfOk result (λ v. AllByRecursion (HasRows shard.now.documents) v.items) }
 {
     let mut all = Vec::with_capacity(alloc, indexes.len())?;
     for index in indexes {
-        all.push(index_over(rt, alloc, shard, &index.definition, workers)?)?;
+        all.push(index_over(rt, alloc, shard, index.definition(), workers)?)?;
     }
     Ok(all)
 }
@@ -118,18 +124,19 @@ fn indexed<R: Threads + Sync>(
     rt: &R,
     alloc: Global,
     documents: Pages<Shared<Document>>,
-    indexes: &[IndexRows],
+    indexes: &[IndexEntry],
     workers: usize,
 ) -> Result<Shard, NoMemory>
-    requires { IsCatalog (definitions_of (indexes_seen indexes.now)) }
+    requires { IsCatalog (definitions_of indexes.now) }
     ensures documents { IfOk result (λ s. s.documents ≡ shown documents) }
-    ensures definitions { IfOk result (λ s. s.definitions ≡ definitions_of (indexes_seen indexes.now)) }
+    ensures definitions { IfOk result (λ s. s.definitions ≡ definitions_of indexes.now) }
 {
     let bare = Shard {
         documents: documents.share(alloc)?,
-        indexes: Vec::new(alloc),
+        indexes: Pages::new(alloc),
     };
-    let indexes = indexes_over(rt, alloc, &bare, indexes, workers)?;
+    let own = indexes_over(rt, alloc, &bare, indexes, workers)?;
+    let indexes = paged(alloc, &own)?;
     Ok(Shard { documents, indexes })
 }
 
@@ -139,13 +146,13 @@ fn made<R: Threads + Sync>(
     alloc: Global,
     documents: &[&Shared<Document>],
     places: &[usize],
-    indexes: &[IndexRows],
+    indexes: &[IndexEntry],
     place: usize,
     workers: usize,
 ) -> Result<Shard, NoMemory>
     requires number { length places.now ≡ length documents.now }
-    requires catalog { IsCatalog (definitions_of (indexes_seen indexes.now)) }
-    ensures { IfOk result (IsMade (documents_seen documents.now) places.now (definitions_of (indexes_seen indexes.now)) place) }
+    requires catalog { IsCatalog (definitions_of indexes.now) }
+    ensures { IfOk result (IsMade (documents_seen documents.now) places.now (definitions_of indexes.now) place) }
 {
     let there = documents_at(alloc, documents, places, place)?;
     indexed(rt, alloc, there, indexes, workers)
@@ -157,14 +164,15 @@ fn made_in_turn<R: Threads + Sync>(
     alloc: Global,
     documents: &[&Shared<Document>],
     places: &[usize],
-    indexes: &[IndexRows],
+    indexes: &[IndexEntry],
     count: usize,
     workers: usize,
 ) -> Result<Vec<Shard>, NoMemory>
     requires number { length places.now ≡ length documents.now }
-    requires catalog { IsCatalog (definitions_of (indexes_seen indexes.now)) }
+    requires catalog { IsCatalog (definitions_of indexes.now) }
     ensures number { IfOk result (λ v. length v.items ≡ count) }
-    ensures made { IfOk result (λ v. AreMade (documents_seen documents.now) places.now (definitions_of (indexes_seen indexes.now)) v.items) }
+    ensures made { IfOk result
+        (λ v. AreMade (documents_seen documents.now) places.now (definitions_of indexes.now) v.items) }
 {
     let mut shards = Vec::with_capacity(alloc, count)?;
     for i in 0..count {
@@ -190,22 +198,24 @@ fn made_at_once<R: Threads + Sync>(
     alloc: Global,
     documents: &[&Shared<Document>],
     places: &[usize],
-    indexes: &[IndexRows],
+    indexes: &[IndexEntry],
     count: usize,
     workers: usize,
 ) -> Result<Vec<Shard>, NoMemory>
     requires number { length places.now ≡ length documents.now }
-    requires catalog { IsCatalog (definitions_of (indexes_seen indexes.now)) }
+    requires catalog { IsCatalog (definitions_of indexes.now) }
     ensures number { IfOk result (λ v. length v.items ≡ count) }
-    ensures made { IfOk result (λ v. AreMade (documents_seen documents.now) places.now (definitions_of (indexes_seen indexes.now)) v.items) }
+    ensures made { IfOk result
+        (λ v. AreMade (documents_seen documents.now) places.now (definitions_of indexes.now) v.items) }
 {
     let results = thread::map_indices(
         rt,
         alloc,
         count,
         &|place: usize| -> Result<Shard, NoMemory>
-            requires { IsSync R.row × (length places.now ≡ length documents.now) × IsCatalog (definitions_of (indexes_seen indexes.now)) }
-            ensures { IfOk result (IsMade (documents_seen documents.entry.now) places.entry.now (definitions_of (indexes_seen indexes.entry.now)) place) }
+            requires { IsSync R.row × (length places.now ≡ length documents.now)
+                × IsCatalog (definitions_of indexes.now) }
+            ensures { IfOk result (IsMade (documents_seen documents.entry.now) places.entry.now (definitions_of indexes.entry.now) place) }
         { made(rt, alloc, documents, places, indexes, place, workers) },
     )?;
     let shards = all_of(alloc, results)?;
@@ -218,15 +228,16 @@ fn all_made<R: Threads + Sync>(
     alloc: Global,
     documents: &[&Shared<Document>],
     places: &[usize],
-    indexes: &[IndexRows],
+    indexes: &[IndexEntry],
     count: usize,
     workers: usize,
 ) -> Result<Vec<Shard>, NoMemory>
     requires some { 0 < count }
     requires number { length places.now ≡ length documents.now }
-    requires catalog { IsCatalog (definitions_of (indexes_seen indexes.now)) }
+    requires catalog { IsCatalog (definitions_of indexes.now) }
     ensures number { IfOk result (λ v. length v.items ≡ count) }
-    ensures made { IfOk result (λ v. AreMade (documents_seen documents.now) places.now (definitions_of (indexes_seen indexes.now)) v.items) }
+    ensures made { IfOk result
+        (λ v. AreMade (documents_seen documents.now) places.now (definitions_of indexes.now) v.items) }
 {
     if workers < 2 {
         return made_in_turn(rt, alloc, documents, places, indexes, count, workers);

@@ -14,13 +14,13 @@ ghost use Rattle.mg_shard.specs.Histories.{Histories};
 ghost use Rattle.mg_shard.specs.Shard.{rows_at};
 ghost use Rattle.mg_collate.specs.Row.{row_value_order};
 ghost use Rattle.mg_index.specs.Catalog.{IsCatalog};
-ghost use Rattle.mg_shard.specs.Index.{definitions_of, indexes_seen};
+ghost use Rattle.mg_shard.specs.Index.{definitions_of};
 
 use crate::docs::Docs;
 use crate::document::Document;
 use crate::draft::Draft;
-use crate::index::IndexRows;
-use crate::indexes::{rows_there, shared};
+use crate::entry::IndexEntry;
+use crate::indexes::rows_there;
 use crate::reply::EditReply;
 use crate::walk::{Documents, Rows, Walk, count_beyond};
 use mg_collate::Direction;
@@ -41,7 +41,7 @@ use std::marker::Model;
 #[derive(Drop)]
 pub struct Shard {
     pub(crate) documents: Pages<Shared<Document>>,
-    pub(crate) indexes: Vec<IndexRows>,
+    pub(crate) indexes: Pages<IndexEntry>,
 }
 
 impl Model for Shard {
@@ -52,11 +52,11 @@ impl Model for Shard {
     ghost coded = { shard_code };
 
     ghost use Rattle.mg_shard.specs.Documents.{shown};
-    ghost use Rattle.mg_shard.specs.Index.{AreIndexes, definitions_of, indexes_seen};
+    ghost use Rattle.mg_shard.specs.Index.{AreIndexes, definitions_of};
 
-    ghost view = { λ s. record { documents = shown s.documents; definitions = definitions_of (indexes_seen s.indexes.items) } };
+    ghost view = { λ s. record { documents = shown s.documents; definitions = definitions_of s.indexes } };
 
-    ghost invariant = { λ s. AreIndexes (shown s.documents) (indexes_seen s.indexes.items) };
+    ghost invariant = { λ s. AreIndexes (shown s.documents) s.indexes };
 }
 
 impl Shard {
@@ -67,18 +67,18 @@ impl Shard {
     {
         Shard {
             documents: Pages::new(alloc),
-            indexes: Vec::new(alloc),
+            indexes: Pages::new(alloc),
         }
     }
 
     /// The same documents and indexes, all of them shared.
     ///
-    /// Errors: `NoMemory` if an allocation fails. Cost: the top level of the documents and of each index, at most 65 parts.
+    /// Errors: `NoMemory` if an allocation fails. Cost: the top levels of the documents and of the list of indexes, at most 65 parts each.
     pub fn share(&self, alloc: Global) -> Result<Shard, NoMemory>
         ensures { IfOk result (λ s. s ≡ self.now) }
     {
         let documents = self.documents.share(alloc)?;
-        let indexes = shared(alloc, &self.indexes)?;
+        let indexes = self.indexes.share(alloc)?;
         Ok(Shard { documents, indexes })
     }
 
@@ -150,7 +150,8 @@ impl Shard {
         place: &Q,
         direction: Direction,
     ) -> Documents<'_>
-        ensures { (order : List ℕ × Kept → Ordering) → ((d : Document) → Q.against place.now d ≡ order (kept_entry d))
+        ensures { (order : List ℕ × Kept → Ordering)
+            → ((d : Document) → Q.against place.now d ≡ order (kept_entry d))
             → map kept_entry result ≡ beyond direction order (entries self.now.documents) }
     {
         self.documents.ascends();
@@ -164,7 +165,8 @@ impl Shard {
         place: &Q,
         direction: Direction,
     ) -> usize
-        ensures { (order : List ℕ × Kept → Ordering) → ((d : Document) → Q.against place.now d ≡ order (kept_entry d))
+        ensures { (order : List ℕ × Kept → Ordering)
+            → ((d : Document) → Q.against place.now d ≡ order (kept_entry d))
             → result ≡ length (beyond direction order (entries self.now.documents)) }
     {
         self.documents.ascends();
@@ -173,15 +175,16 @@ impl Shard {
 
     /// A document that is served with an `_id` is served with its own: for proofs of callers. Does nothing.
     pub fn ids_are_own(&self)
-        ensures { (id : List ℕ) (form : Value) → form_at self.now.documents id ≡ Some form → HasOwnId id form }
+        ensures { (id : List ℕ) (form : Value) → form_at self.now.documents id ≡ Some form
+            → HasOwnId id form }
     {
         let _ = &self.documents;
     }
 
     // Its indexes. Takes no memory.
-    pub(crate) fn indexes(&self) -> &[IndexRows]
+    pub(crate) fn indexes(&self) -> &Pages<IndexEntry>
         ensures catalog { IsCatalog self.now.definitions }
-        ensures definitions { definitions_of (indexes_seen result.now) ≡ self.now.definitions }
+        ensures definitions { definitions_of result.now ≡ self.now.definitions }
     {
         &self.indexes
     }
@@ -202,9 +205,13 @@ impl Shard {
     /// each document that they touch a copy of its tree, its form and text, and the pages on the way to it. A bulk that touches
     /// none copies only the top level. A draft takes edits by value, without a copy of each.
     pub fn apply(&self, alloc: Global, edits: &[Edit]) -> Result<(Shard, Vec<EditReply>), NoMemory>
-        ensures stands { IfOk result (λ r. (hs : Histories) → StandFor self.now.documents hs → StandFor r.0.documents (after_edits hs edits.now)) }
+        ensures stands { IfOk result
+            (λ r. (hs : Histories) → StandFor self.now.documents hs
+            → StandFor r.0.documents (after_edits hs edits.now)) }
         ensures indexes { IfOk result (λ r. r.0.definitions ≡ self.now.definitions) }
-        ensures replies { IfOk result (λ r. (hs : Histories) → StandFor self.now.documents hs → map outcome_seen r.1.items ≡ outcomes hs edits.now) }
+        ensures replies { IfOk result
+            (λ r. (hs : Histories) → StandFor self.now.documents hs
+            → map outcome_seen r.1.items ≡ outcomes hs edits.now) }
     {
         let mut draft = Draft::new(alloc, self);
         let replies = draft.edit_all(alloc, edits)?;
@@ -213,7 +220,7 @@ impl Shard {
     }
 
     /// The rows of the index of this design document and name, by key and id; `None` if there is no such index. They are the rows
-    /// that the served documents have, as if made from scratch. Takes no memory. Cost: each definition once, and then a step a row.
+    /// that the served documents have, as if made from scratch. Takes no memory. Cost: one look-up, and then a step a row.
     pub fn rows(&self, ddoc: &str, name: &str) -> Option<Rows<'_>>
         ensures { result ≡ rows_at ddoc.now name.now self.now }
     {
@@ -236,7 +243,7 @@ impl Shard {
 
     /// The rows that come after a place in a direction, in the index of this design document and name; `None` if there is no such
     /// index. Ascending they are those above the place, descending those below it, from the last to the first. A place need not be a
-    /// row: the beginning of a range of keys is one too. Takes no memory. Cost: each definition once, one look-up, and then a step a row.
+    /// row: the beginning of a range of keys is one too. Takes no memory. Cost: two look-ups, and then a step a row.
     pub fn rows_beyond<Q: Probe<RowBytes>>(
         &self,
         ddoc: &str,
@@ -254,7 +261,7 @@ impl Shard {
     }
 
     /// How many rows `rows_beyond` lists after a place in a direction; `None` if there is no such index. The rows are not read one by
-    /// one. Takes no memory. Cost: each definition once, one look-up, and a read of the count of each part before the place, at most 64 a
+    /// one. Takes no memory. Cost: two look-ups, and a read of the count of each part before the place, at most 64 a
     /// level.
     pub fn count_rows_beyond<Q: Probe<RowBytes>>(
         &self,

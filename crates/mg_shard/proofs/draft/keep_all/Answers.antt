@@ -5,8 +5,7 @@ use Rattle.mg_pages.specs.Identified.{id_order}
 use Rattle.mg_pages.specs.Order.{inserted}
 use Rattle.mg_shard.specs.Documents.{KeptDocuments, id_of, kept_of, shown}
 use Rattle.mg_shard.specs.Draft.{touched_of}
-use Rattle.mg_shard.specs.Index.{HasRows, definitions_of, indexes_seen}
-use Rattle.mg_shard.specs.declared.index.IndexRows.{IndexRows}
+use Rattle.mg_shard.specs.Index.{HasRows, Index, definitions_of}
 use Rattle.mg_shard.proofs.Keys.{written}
 use Rattle.mg_shard.proofs.Shown.{shown-inserted}
 use Rattle.mg_shard.proofs.Touched.{all_kept, get-touched, get-updated, none_left, touched_none, tree_kept}
@@ -29,10 +28,10 @@ loop-id-preserved c =
           (sym (get-touched l.touched id) ∙ c.in-Some.ensures.value) c.in_ok-document.ensures.tree c.in_ok-document.ensures.served
           (inserted_in ∙ ap (λ k. insert (shown l.documents) k (kept_of d)) c.in_ok-document.ensures.id)
           (get-updated l.touched c.pop_first.new.self id None c.in-Some.ensures.updates) (l.invariant.stands hs st);
-      definitions = ap (λ (xs : List IndexRows). definitions_of (indexes_seen xs)) same ∙ c.in_ok-mend_all.ensures.definitions ∙ ap (λ (xs : List IndexRows). definitions_of (indexes_seen xs)) c.deref_mut.ensures.value ∙ l.invariant.definitions;
-      rows = λ h. subst (λ (xs : List IndexRows). AllByRecursion (HasRows (shown c.insert.new.self)) (indexes_seen xs)) (sym same)
-          (subst (λ (ds : KeptDocuments). AllByRecursion (HasRows ds) (indexes_seen made)) (sym inserted_in)
-          (c.in_ok-mend_all.ensures.rows (subst (λ (xs : List IndexRows). AllByRecursion (HasRows (shown l.documents)) (indexes_seen xs)) (sym c.deref_mut.ensures.value) (l.invariant.rows h))));
+      definitions = ap (λ (xs : List Index). definitions_of xs) same ∙ c.in_ok-mend_all.ensures.definitions ∙ ap (λ (xs : List Index). definitions_of xs) c.deref_mut.ensures.value ∙ l.invariant.definitions;
+      rows = λ h. subst (λ (xs : List Index). AllByRecursion (HasRows (shown c.insert.new.self)) xs) (sym same)
+          (subst (λ (ds : KeptDocuments). AllByRecursion (HasRows ds) made) (sym inserted_in)
+          (c.in_ok-mend_all.ensures.rows (subst (λ (xs : List Index). AllByRecursion (HasRows (shown l.documents)) xs) (sym c.deref_mut.ensures.value) (l.invariant.rows h))));
     }
 
 pub returns-clause-stands : goal.returns-clause-stands

@@ -1,8 +1,5 @@
-use Rattle.std.proofs.Common.{◌≡◌, ◌<◌, ◌≤◌, Global, Some, get_or, length, slice_get, string_bytes, arith, refl, sym, ap, ◌∙◌}
+use Rattle.std.proofs.Common.{◌≡◌, ◌<◌, ◌≤◌, Some, get_or, length, slice_get, string_bytes, arith, refl, sym, ap, ◌∙◌}
 use Rattle.std.proofs.lemmas.Option.{slice_get-get_or}
-use Rattle.std.specs.Arc.{arc_value}
-use Rattle.std.specs.declared.sync.Arc.{Arc}
-use Rattle.mg_index.specs.declared.definition.IndexDef.{IndexDef}
 use Rattle.std.specs.FinMap.{insert}
 use Rattle.mg_shard.specs.Documents.{docs_of, form_at, kept_of, shown}
 use Rattle.mg_shard.specs.Rows.{rows_of}
@@ -32,8 +29,7 @@ loop-i-preserved c =
       mended = λ h. mended_more old new xs l.i x y at within
           (λ were.
           c.in_ok-mend.ensures.rows old d (c.form_in-before.ensures ∙ ap (form_at old) (c.deref.ensures ∙ sym c.deref-in-loop-i.ensures)) c.packed-after.ensures were
-          ∙ ap (λ i. rows_of (arc_value x.definition).columns (docs_of (insert old i d))) c.deref-in-loop-i.ensures
-          ∙ ap (λ (a : Arc IndexDef Global). rows_of (arc_value a).columns (docs_of new)) (sym c.in_ok-mend.ensures.definition))
+          ∙ ap (λ i. rows_of y.0.columns (docs_of (insert old i d))) c.deref-in-loop-i.ensures)
           (l.invariant.mended h);
     }
 

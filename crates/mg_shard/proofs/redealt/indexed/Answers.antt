@@ -1,10 +1,16 @@
-use Rattle.std.proofs.Common.{List, sym, subst}
+use Rattle.std.proofs.Common.{List, sym, subst, ◌∙◌}
+use Rattle.std.specs.List.{AllByRecursion}
 use Rattle.mg_index.specs.Catalog.{IsCatalog}
 use Rattle.mg_index.specs.Definition.{IndexDefinition}
+use Rattle.mg_shard.specs.Documents.{shown}
+use Rattle.mg_shard.specs.Index.{HasRows, Index, definitions_of}
+use Rattle.mg_shard.specs.declared.document.Document.{Document}
 use Rattle.mg_shard.proofs.redealt.indexed.Goals as goal
 
 pub invariant_of-result : goal.invariant_of-result
 invariant_of-result g c = record {
-  catalog = subst (λ (ds : List IndexDefinition). IsCatalog ds) (sym c.in_ok-indexes.ensures.definitions) c.requires;
-  rows = rw c.in_ok-share.ensures at c.in_ok-indexes.ensures.rows;
+  catalog = subst (λ (xs : List Index). IsCatalog (definitions_of xs)) (sym (c.in_ok-indexes.ensures ∙ c.deref.ensures.value))
+      (subst (λ (ds : List IndexDefinition). IsCatalog ds) (sym c.in_ok-own.ensures.definitions) c.requires);
+  rows = subst (λ (xs : List Index). AllByRecursion (HasRows (shown c.args.documents)) xs) (sym (c.in_ok-indexes.ensures ∙ c.deref.ensures.value))
+      (subst (λ (ds : List Document). AllByRecursion (HasRows (shown ds)) c.in_ok-own.own.items) c.in_ok-share.ensures c.in_ok-own.ensures.rows);
 }

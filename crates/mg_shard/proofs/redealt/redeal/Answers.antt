@@ -3,7 +3,7 @@ use Rattle.std.proofs.Common.{◌<◌, ℕ, List, length, sym, ap, ◌∙◌, su
 use Rattle.std.proofs.lemmas.List.{length-map}
 use Rattle.std.specs.Arc.{arc_value}
 use Rattle.mg_index.specs.Definition.{IndexDefinition}
-use Rattle.mg_shard.specs.Index.{definitions_of, indexes_seen}
+use Rattle.mg_shard.specs.Index.{definitions_of}
 use Rattle.mg_shard.specs.Redealt.{ArePlaces, documents_in, documents_seen, last_kept}
 use Rattle.mg_shard.specs.Shard.{ShardView, shards_seen}
 use Rattle.mg_shard.specs.declared.document.Document.{Document}
@@ -21,7 +21,7 @@ pub returns-clause-documents : goal.returns-clause-documents
 returns-clause-documents g c =
     let place = g.P.Placement.place c.args.placement.now in
     let ds = c.deref-documents.result.now in
-    let those : List IndexDefinition = definitions_of (indexes_seen c.first_indexes-indexes.result.now) in
+    let those : List IndexDefinition = definitions_of c.deref-indexes.result.now in
     all_dealt place c.args.count (documents_seen ds) c.deref-places.result.now those (documents_in (shards_seen c.args.shards.now)) c.in_ok-made.made.items
     (λ id. ap (λ (xs : List (Bor Document)). last_kept (documents_seen xs) id) c.deref-documents.ensures.value ∙ c.in_ok-listed.ensures id)
     (subst (λ (ps : List ℕ). ArePlaces place c.args.count (documents_seen ds) ps) (sym c.deref-places.ensures.value) c.in_ok-found.ensures)
@@ -31,7 +31,7 @@ pub returns-clause-stands : goal.returns-clause-stands
 returns-clause-stands g c = λ before hs st.
     let place = g.P.Placement.place c.args.placement.now in
     let ds = c.deref-documents.result.now in
-    let those : List IndexDefinition = definitions_of (indexes_seen c.first_indexes-indexes.result.now) in
+    let those : List IndexDefinition = definitions_of c.deref-indexes.result.now in
     redealt_stand before place (shards_seen c.args.shards.now) c.in_ok-made.made.items hs
     (all_dealt place c.args.count (documents_seen ds) c.deref-places.result.now those (documents_in (shards_seen c.args.shards.now)) c.in_ok-made.made.items
     (λ id. ap (λ (xs : List (Bor Document)). last_kept (documents_seen xs) id) c.deref-documents.ensures.value ∙ c.in_ok-listed.ensures id)
@@ -41,7 +41,7 @@ returns-clause-stands g c = λ before hs st.
 pub returns-clause-indexes : goal.returns-clause-indexes
 returns-clause-indexes g c = λ ds some all k d l.
     let shards : List ShardView = shards_seen c.args.shards.now in
-    let those : List IndexDefinition = definitions_of (indexes_seen c.first_indexes-indexes.result.now) in
+    let those : List IndexDefinition = definitions_of c.deref-indexes.result.now in
     let one : 0 < length shards = subst (λ n. 0 < n) (sym (length-map c.args.shards.now arc_value)) some in
     made_definitions (documents_seen c.deref-documents.result.now) c.deref-places.result.now those c.in_ok-made.made.items c.in_ok-made.ensures.made k d l
-    ∙ first_definitions shards ds those c.first_indexes-indexes.ensures.first one all
+    ∙ first_definitions shards ds those (λ s at. ap definitions_of c.deref-indexes.ensures.value ∙ c.in_ok-first.ensures.first s at) one all

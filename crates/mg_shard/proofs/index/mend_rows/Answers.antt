@@ -6,29 +6,29 @@ use Rattle.mg_index.specs.Definition.{Steps}
 use Rattle.mg_pages.specs.Order.{Ascends}
 use Rattle.mg_shard.specs.Mended.{HaveSameRow, own_row, with_row, without_row}
 use Rattle.mg_shard.proofs.Rows.{ascends_rises, own_at, row_at, rows_left, rows_mended}
-use Rattle.mg_shard.proofs.index.IndexRows.mend.Goals as goal
+use Rattle.mg_shard.proofs.index.mend_rows.Goals as goal
 
-pub returns-clause-rows : goal.returns-clause-rows
-returns-clause-rows c = λ ds d before after were.
-    let columns = (arc_value c.args.self.now.definition).columns in
+pub returns : goal.returns
+returns c = λ ds d before after were.
+    let columns = c.args.definition.now.columns in
     let id = c.args.id.now in
     let gone : c.in_ok-gone.gone ≡ row_at columns id (get ds id) =
-    c.in_ok-gone.ensures ∙ ap (λ cs. own_row cs id (option_map (λ v. v.now) c.args.before)) (c.columns-2.ensures ∙ ap (λ x. x.columns) c.deref-definition.ensures)
+    c.in_ok-gone.ensures ∙ ap (λ cs. own_row cs id (option_map (λ v. v.now) c.args.before)) c.columns-2.ensures
     ∙ ap (own_row columns id) before ∙ own_at columns id (get ds id) in
     let come : c.in_ok-come.come ≡ row_at columns id (Some d) =
-    c.in_ok-come.ensures ∙ ap (λ cs. own_row cs id (option_map (λ v. v.now) c.args.after)) (c.columns-3.ensures ∙ ap (λ x. x.columns) c.deref-definition.ensures)
+    c.in_ok-come.ensures ∙ ap (λ cs. own_row cs id (option_map (λ v. v.now) c.args.after)) c.columns-3.ensures
     ∙ ap (own_row columns id) after in
-    let rows = arc_value c.args.self.now.rows in
+    let rows = arc_value c.args.rows.now in
     let new = arc_value c.change_shared.new.rows in
     rows_mended columns ds id d rows new were (ascends_rises new (subst (λ (rs : List RowValue). Ascends row_value_order rs) c.deref-rows.ensures c.ascends.ensures))
     (c.in_ok-change_shared.ensures ∙ ap₂ (λ n rs. with_row n rs) come (ap (λ o. without_row o rows) gone))
 
-pub returns-then-have_same_row-clause-rows : goal.returns-then-have_same_row-clause-rows
-returns-then-have_same_row-clause-rows c = λ ds d before after were.
-    let columns = (arc_value c.args.self.now.definition).columns in
+pub returns-then-have_same_row : goal.returns-then-have_same_row
+returns-then-have_same_row c = λ ds d before after were.
+    let columns = c.args.definition.now.columns in
     let id = c.args.id.now in
     let same : HaveSameRow columns (option_map (λ v. v.now) c.args.before) (option_map (λ v. v.now) c.args.after) =
     subst (λ (cs : List Steps). HaveSameRow cs (option_map (λ v. v.now) c.args.before) (option_map (λ v. v.now) c.args.after))
-    (c.columns.ensures ∙ ap (λ x. x.columns) c.deref-definition.ensures) (c.have_same_row.ensures c.if-have_same_row.true) in
-    rows_left columns ds id d (arc_value c.args.self.now.rows) were
+    c.columns.ensures (c.have_same_row.ensures c.if-have_same_row.true) in
+    rows_left columns ds id d (arc_value c.args.rows.now) were
     (sym (own_at columns id (get ds id)) ∙ ap (own_row columns id) (sym before) ∙ same id ∙ ap (own_row columns id) after)

@@ -1,0 +1,166 @@
+//! An index of a shard, as an element of the list of its indexes.
+ghost use Rattle.std.specs.Prelude.{◌≡◌};
+ghost use Rattle.mg_index.specs.Catalog.{definition_order};
+
+use crate::index::mend_rows;
+use mg_index::IndexDef;
+use mg_packed::Packed;
+use mg_pages::{Element, Keyed, Pages, Probe, text_hint};
+use mg_rows::{KeyBytes, RowBytes};
+use mg_value::NoMemory;
+use std::alloc::{AllocError, Global};
+use std::cmp::Ordering;
+use std::marker::Model;
+use std::sync::Arc;
+
+/// An index of a shard: its definition, and its rows by key and id. Both are shared.
+#[derive(Drop)]
+pub(crate) struct IndexEntry {
+    definition: Arc<IndexDef>,
+    rows: Arc<Pages<RowBytes>>,
+}
+
+impl Model for IndexEntry {
+    ghost use Rattle.std.specs.Arc.{arc_value};
+    ghost use Rattle.mg_shard.specs.Index.{Index, index_code};
+
+    ghost Value = { Index };
+
+    ghost coded = { index_code };
+
+    ghost view = { λ x. (arc_value x.definition, arc_value x.rows) };
+}
+
+impl Element for IndexEntry {
+    fn again(&self) -> Result<IndexEntry, AllocError> {
+        let definition = self.definition.clone()?;
+        let rows = self.rows.clone()?;
+        Ok(IndexEntry { definition, rows })
+    }
+
+    fn owners(&self) -> usize {
+        Arc::strong_count(&self.rows).wrapping_add(Arc::strong_count(&self.definition))
+    }
+}
+
+// The order of two definitions, by design document, then name.
+fn order(definition: &IndexDef, other: &IndexDef) -> Ordering
+    ensures { result ≡ definition_order definition.now other.now }
+{
+    let by_ddoc = definition.ddoc().cmp(other.ddoc());
+    by_ddoc.then(definition.name().cmp(other.name()))
+}
+
+// What the name of each design document begins with.
+const DESIGN_FRONT: &str = "_design/";
+
+// The hint of an index: four bytes of its design document, after `_design/`, and four of its name. It falls at most where design documents
+// have these four bytes in common.
+fn index_hint(ddoc: &str, name: &str) -> u64 {
+    let document = text_hint(ddoc.strip_prefix(DESIGN_FRONT).unwrap_or(ddoc));
+    (document & 0xFFFF_FFFF_0000_0000) | (text_hint(name) >> 32)
+}
+
+impl Keyed for IndexEntry {
+    ghost use Rattle.mg_shard.specs.Index.{index_order, index_order_total};
+
+    ghost order = { index_order };
+
+    ghost total = { index_order_total };
+
+    fn hint(&self) -> u64 {
+        index_hint(self.definition.ddoc(), self.definition.name())
+    }
+
+    fn order(&self, other: &IndexEntry) -> Ordering {
+        order(&self.definition, &other.definition)
+    }
+}
+
+/// A design document and a name, by which an index is looked up.
+#[derive(Clone, Copy)]
+pub(crate) struct IndexName<'a> {
+    pub(crate) ddoc: &'a str,
+    pub(crate) name: &'a str,
+}
+
+impl<'a> Probe<IndexEntry> for IndexName<'a> {
+    ghost use Rattle.mg_shard.specs.Index.{name_against, name_probes};
+
+    ghost against = { λ key x. name_against key.ddoc.now key.name.now x };
+
+    ghost probes = { λ key. name_probes key.ddoc.now key.name.now };
+
+    fn hint(&self) -> u64 {
+        index_hint(self.ddoc, self.name)
+    }
+
+    fn against(&self, element: &IndexEntry) -> Ordering {
+        let by_ddoc = self.ddoc.cmp(element.definition.ddoc());
+        by_ddoc.then(self.name.cmp(element.definition.name()))
+    }
+}
+
+impl IndexEntry {
+    ghost use Rattle.std.specs.Prelude.{◌≡◌, IfOk, OnOk, option_map};
+    ghost use Rattle.std.specs.Arc.{arc_value};
+    ghost use Rattle.std.specs.FinMap.{insert};
+    ghost use Rattle.mg_shard.specs.Documents.{Kept, KeptDocuments, form_at};
+    ghost use Rattle.mg_shard.specs.Index.{HasRows};
+
+    /// An index with these rows.
+    ///
+    /// Errors: `NoMemory` if an allocation fails. Cost: a block for the top of the rows.
+    pub(crate) fn of(
+        alloc: Global,
+        definition: Arc<IndexDef>,
+        rows: Pages<RowBytes>,
+    ) -> Result<IndexEntry, NoMemory>
+        ensures { IfOk result (λ x. x ≡ (arc_value definition, rows)) }
+    {
+        let rows = Arc::new(alloc, rows)?;
+        Ok(IndexEntry { definition, rows })
+    }
+
+    /// Its definition. Takes no memory.
+    pub(crate) fn definition(&self) -> &Arc<IndexDef>
+        ensures { arc_value result.now ≡ self.now.0 }
+    {
+        &self.definition
+    }
+
+    /// Its rows. Takes no memory.
+    pub(crate) fn rows(&self) -> &Pages<RowBytes>
+        ensures { result.now ≡ self.now.1 }
+    {
+        &self.rows
+    }
+
+    /// Mends the rows for a change of the document with this id from one form to another.
+    ///
+    /// Errors: `NoMemory` if an allocation fails; the index is then useless. Cost: as for `mend_rows`.
+    pub(crate) fn mend(
+        &mut self,
+        alloc: Global,
+        scratch: &mut KeyBytes,
+        id: &str,
+        before: Option<&Packed>,
+        after: Option<&Packed>,
+    ) -> Result<(), NoMemory>
+        ensures definition { OnOk result (self.new.0 ≡ self.old.0) }
+        ensures rows { OnOk result ((ds : KeptDocuments) (d : Kept)
+            → option_map (λ v. v.now) before.entry ≡ form_at ds id.now
+            → option_map (λ v. v.now) after.entry ≡ d.1
+            → HasRows ds self.old → HasRows (insert ds id.now d) self.new) }
+    {
+        mend_rows(
+            alloc,
+            scratch,
+            &self.definition,
+            &mut self.rows,
+            id,
+            before,
+            after,
+        )
+    }
+}
