@@ -25,7 +25,7 @@ use Rattle.mg_query.specs.Page.{candidate_of, candidates_of, candidates_found, i
 use Rattle.mg_query.specs.Paged.{count_handed, counts_handed}
 use Rattle.mg_query.specs.Lent.{shard_rows}
 use Rattle.mg_query.specs.Query.{Query}
-use Rattle.mg_query.specs.Served.{AreWhole, IsWhole}
+use Rattle.mg_query.specs.Served.{AreWhole, HasIdAndRev}
 use Rattle.mg_query.proofs.Answered.{all_found_by, follows, is_wanted_by}
 use Rattle.mg_query.proofs.Candidates.{document, documents_of, shown_first}
 use Rattle.mg_query.proofs.Dealt.{entries_kept}
@@ -41,12 +41,12 @@ all_split P (x ∷ xs) ys h = let more = all_split P xs ys h.1 in ((h.0, more.0)
 whole_if : (b : Bool) (e : List ℕ × History) (es : List (List ℕ × History)) → AreWhole (option_to_list (candidate_of e)) → AreWhole (filter_map candidate_of es) → AreWhole (filter_map candidate_of (cond b (e ∷ es) es))
 whole_if false e es h k = k
 whole_if true e es h k =
-    subst AreWhole (sym (shown_first candidate_of e es (candidate_of e) refl)) (all_append IsWhole (option_to_list (candidate_of e)) (filter_map candidate_of es) h k)
+    subst AreWhole (sym (shown_first candidate_of e es (candidate_of e) refl)) (all_append HasIdAndRev (option_to_list (candidate_of e)) (filter_map candidate_of es) h k)
 
 whole_kept : (kept : List ℕ × History → Bool) (es : List (List ℕ × History)) → AreWhole (filter_map candidate_of es) → AreWhole (filter_map candidate_of (filter kept es))
 whole_kept kept [] h = tt
 whole_kept kept (e ∷ es) h =
-    let parts = all_split IsWhole (option_to_list (candidate_of e)) (filter_map candidate_of es) (subst AreWhole (shown_first candidate_of e es (candidate_of e) refl) h) in
+    let parts = all_split HasIdAndRev (option_to_list (candidate_of e)) (filter_map candidate_of es) (subst AreWhole (shown_first candidate_of e es (candidate_of e) refl) h) in
     whole_if (kept e) e (filter kept es) parts.0 (whole_kept kept es parts.1)
 
 whole_on : (place : Placing) (n i : ℕ) (hs : Histories) → AreWhole (candidates_of hs) → AreWhole (candidates_of (histories_on place n i hs))

@@ -11,15 +11,15 @@ use Rattle.mg_query.specs.declared.error.PageError.TheVariants.{NoUsableIndex, B
 use Rattle.mg_query.specs.declared.source.Source as code
 
 -- why a query is not answered, unless an allocation failed
-abbrev pub Refuses : {Y : Type 0} → PageError → Result Y Unanswered → Type 0
-Refuses NoUsableIndex r = r ≡ Err no_usable_index
-Refuses BadBookmark r = r ≡ Err bad_bookmark
-Refuses NoMemory r = Unit {0}
+abbrev pub FailsAs : {Y : Type 0} → PageError → Result Y Unanswered → Type 0
+FailsAs NoUsableIndex r = r ≡ Err no_usable_index
+FailsAs BadBookmark r = r ≡ Err bad_bookmark
+FailsAs NoMemory r = Unit {0}
 
 -- what a call returned is the answer, unless an allocation failed
 abbrev pub PageAnswers : {X Y : Type 0} → (X → Y) → Result X PageError → Result Y Unanswered → Type 0
 PageAnswers seen (Ok x) r = r ≡ Ok (seen x)
-PageAnswers seen (Err e) r = Refuses e r
+PageAnswers seen (Err e) r = FailsAs e r
 
 -- the index that serves a query
 abbrev pub source_seen : code.Source → Source
@@ -41,9 +41,9 @@ Chooses (Err NoMemory) r = ⊥
 -- ---- documents that are objects
 
 -- a document that is served has its id and its revision among its members, as every one has whose body is an object
-abbrev pub IsWhole : Candidate → Type 0
-IsWhole c = Has c.form id_path × Has c.form rev_path
+abbrev pub HasIdAndRev : Candidate → Type 0
+HasIdAndRev c = Has c.form id_path × Has c.form rev_path
 
 -- so has each of them
 abbrev pub AreWhole : List Candidate → Type 0
-AreWhole cs = AllByRecursion IsWhole cs
+AreWhole cs = AllByRecursion HasIdAndRev cs

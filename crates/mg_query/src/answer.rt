@@ -15,7 +15,7 @@ ghost use Rattle.mg_query.specs.Seen.{query_seen};
 ghost use Rattle.mg_query.specs.Served.{PageAnswers, AreWhole, source_seen};
 
 use crate::error::PageError;
-use crate::found::{after_skip, find, find_first};
+use crate::found::{after_skip, find, find_page};
 use crate::query::Query;
 use crate::shown::{Page, bookmark_of, show};
 use crate::source::Source;
@@ -122,7 +122,7 @@ pub fn page_text_by<R: Threads + Sync, G: Gate + Sync>(
         → PageAnswers (λ text. text.items) result
         (text_of (answer_of catalog.now (query_seen query.now) (candidates_of hs))) }
 {
-    let found = find_first(rt, alloc, query, catalog, shards, workers, gate)?;
+    let found = find_page(rt, alloc, query, catalog, shards, workers, gate)?;
     let hits = after_skip(&found.hits, found.skip);
     Ok(write_page(alloc, query, found.source, hits)?)
 }

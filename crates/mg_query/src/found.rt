@@ -30,8 +30,7 @@ use std::alloc::Global;
 use std::sync::Arc;
 use std::thread::Threads;
 
-// The index that serves a query; the hits that its page skips, and then those that it shows, lent by the shards; and how many
-// rows each shard handed over for them.
+// The index that serves a query, the hits that its page skips and shows, and how many rows each shard handed over for them.
 #[derive(Drop)]
 pub(crate) struct Found<'a> {
     pub(crate) source: Source<'a>,
@@ -39,9 +38,9 @@ pub(crate) struct Found<'a> {
     pub(crate) work: Work,
 }
 
-// The index that serves a query, and the hits of its page, lent by the shards, after `skip` hits that the page does not show.
+// The index that serves a query, and its hits. The page does not show the first `skip` of them.
 #[derive(Drop)]
-pub(crate) struct FirstHits<'a> {
+pub(crate) struct PageHits<'a> {
     pub(crate) source: Source<'a>,
     pub(crate) hits: Vec<Hit<'a>>,
     pub(crate) skip: u32,
@@ -88,7 +87,7 @@ pub(crate) fn find<'a, R: Threads + Sync, G: Gate + Sync>(
     definitions_are_catalogs(shards);
     let asked = asked_of(alloc, query, catalog)?;
     let range = asked.range.in_rows(alloc)?;
-    let (hits, work) = gather(rt, alloc, query, &asked, &range, shards, workers, gate)?;
+    let (hits, work) = merge_first(rt, alloc, query, &asked, &range, shards, workers, gate)?;
     Ok(Found {
         source: asked.source,
         hits,
@@ -96,9 +95,9 @@ pub(crate) fn find<'a, R: Threads + Sync, G: Gate + Sync>(
     })
 }
 
-// Finds the hits of the query's page as `find` does. But if the number of workers is only a maximum, and there is no second worker
-// or shard or a second thread is not worth its cost, the caller's thread looks for the hits, one by one as the merge asks for them.
-pub(crate) fn find_first<'a, R: Threads + Sync, G: Gate + Sync>(
+// Finds the hits of the query's page as `find` does, without the counts of rows. If the number of workers is a maximum, and the
+// query is small or there is one worker or one shard, the caller's thread pulls the hits one by one, as the merge asks for them.
+pub(crate) fn find_page<'a, R: Threads + Sync, G: Gate + Sync>(
     rt: &R,
     alloc: Global,
     query: &Query<'_>,
@@ -106,7 +105,7 @@ pub(crate) fn find_first<'a, R: Threads + Sync, G: Gate + Sync>(
     shards: &'a [Arc<Shard>],
     workers: Workers,
     gate: &G,
-) -> Result<FirstHits<'a>, PageError>
+) -> Result<PageHits<'a>, PageError>
     requires indexes { HaveIndexes catalog.now (shards_seen shards.now) }
     ensures source { PageAnswers (λ f. source_seen f.source) result
         (served_of catalog.now (query_seen query.now)) }
@@ -119,8 +118,8 @@ pub(crate) fn find_first<'a, R: Threads + Sync, G: Gate + Sync>(
     definitions_are_catalogs(shards);
     let asked = asked_of(alloc, query, catalog)?;
     let range = asked.range.in_rows(alloc)?;
-    let (hits, skip) = first_of(rt, alloc, query, &asked, &range, shards, workers, gate)?;
-    Ok(FirstHits {
+    let (hits, skip) = page_hits(rt, alloc, query, &asked, &range, shards, workers, gate)?;
+    Ok(PageHits {
         source: asked.source,
         hits,
         skip,
@@ -175,7 +174,7 @@ fn search_of<'a>(query: &Query<'_>, asked: &'a Asked<'_>, range: &'a RowRange<'_
 }
 
 // The hits of the page, after the returned number of hits that the page does not show.
-fn first_of<'a, R: Threads + Sync, G: Gate + Sync>(
+fn page_hits<'a, R: Threads + Sync, G: Gate + Sync>(
     rt: &R,
     alloc: Global,
     query: &Query<'_>,
@@ -187,16 +186,17 @@ fn first_of<'a, R: Threads + Sync, G: Gate + Sync>(
 ) -> Result<(Vec<Hit<'a>>, u32), NoMemory>
     requires asked { IsAskedBy (query_seen query.now) asked.now }
     requires range { range.now ≡ asked.now.range }
-    requires indexes { All (λ s. IsListed s.definitions (source_seen asked.now.source)) (shards_seen shards.now) }
+    requires indexes { All
+        (λ s. IsListed s.definitions (source_seen asked.now.source)) (shards_seen shards.now) }
     ensures { IfOk result
         (λ made. AreOfPage (query_seen query.now) asked.now (shards_seen shards.now) made.1 made.0.items) }
 {
-    let is_one = workers.count() < 2 || shards.len() < 2;
-    let is_small = is_one || is_small(query, asked, range, shards);
-    if workers.is_alone(is_small) {
+    let has_one_thread = workers.count() < 2 || shards.len() < 2;
+    let stays_here = has_one_thread || is_small(query, asked, range, shards);
+    if workers.is_alone(stays_here) {
         return find_alone(alloc, query, asked, range, shards);
     }
-    let (hits, _) = gather(
+    let (hits, _) = merge_first(
         rt,
         alloc,
         query,
@@ -209,8 +209,8 @@ fn first_of<'a, R: Threads + Sync, G: Gate + Sync>(
     Ok((hits, query.skip))
 }
 
-// What `first_of` returns, found on the caller's thread as the merge asks for hits. If the range decides, no other hits come first:
-// what the page skips are rows, whose documents are not looked up.
+// As `page_hits`, on the caller's thread. If the range decides, no document is looked up for a row that is skipped, and the
+// returned number is 0.
 fn find_alone<'a>(
     alloc: Global,
     query: &Query<'_>,
@@ -220,7 +220,8 @@ fn find_alone<'a>(
 ) -> Result<(Vec<Hit<'a>>, u32), NoMemory>
     requires asked { IsAskedBy (query_seen query.now) asked.now }
     requires range { range.now ≡ asked.now.range }
-    requires indexes { All (λ s. IsListed s.definitions (source_seen asked.now.source)) (shards_seen shards.now) }
+    requires indexes { All
+        (λ s. IsListed s.definitions (source_seen asked.now.source)) (shards_seen shards.now) }
     ensures { IfOk result
         (λ made. AreOfPage (query_seen query.now) asked.now (shards_seen shards.now) made.1 made.0.items) }
 {
@@ -232,7 +233,7 @@ fn find_alone<'a>(
     Ok((hits, query.skip))
 }
 
-// Only the hits that the page shows; the range decides.
+// The hits that the page shows, without those that it skips. The range must decide the selector.
 fn pull_page<'a>(
     alloc: Global,
     query: &Query<'_>,
@@ -243,7 +244,8 @@ fn pull_page<'a>(
     requires decided { asked.now.is_decided ≡ true }
     requires asked { IsAskedBy (query_seen query.now) asked.now }
     requires range { range.now ≡ asked.now.range }
-    requires indexes { All (λ s. IsListed s.definitions (source_seen asked.now.source)) (shards_seen shards.now) }
+    requires indexes { All
+        (λ s. IsListed s.definitions (source_seen asked.now.source)) (shards_seen shards.now) }
     ensures { IfOk result
         (λ hits. AreOfPage (query_seen query.now) asked.now (shards_seen shards.now) 0 hits.items) }
 {
@@ -262,7 +264,8 @@ fn pull_hits<'a>(
 ) -> Result<Vec<Hit<'a>>, NoMemory>
     requires asked { IsAskedBy (query_seen query.now) asked.now }
     requires range { range.now ≡ asked.now.range }
-    requires indexes { All (λ s. IsListed s.definitions (source_seen asked.now.source)) (shards_seen shards.now) }
+    requires indexes { All
+        (λ s. IsListed s.definitions (source_seen asked.now.source)) (shards_seen shards.now) }
     ensures { IfOk result
         (λ hits. AreFirst (query_seen query.now) asked.now (shards_seen shards.now) hits.items) }
 {
@@ -271,7 +274,7 @@ fn pull_hits<'a>(
 }
 
 // The first hits of all shards together, merged out of what each shard hands over, and how many rows each handed over.
-fn gather<'a, R: Threads + Sync, G: Gate + Sync>(
+fn merge_first<'a, R: Threads + Sync, G: Gate + Sync>(
     rt: &R,
     alloc: Global,
     query: &Query<'_>,
@@ -284,7 +287,8 @@ fn gather<'a, R: Threads + Sync, G: Gate + Sync>(
     requires workers { (0 < workers) × (workers ≤ 32) }
     requires asked { IsAskedBy (query_seen query.now) asked.now }
     requires range { range.now ≡ asked.now.range }
-    requires indexes { All (λ s. IsListed s.definitions (source_seen asked.now.source)) (shards_seen shards.now) }
+    requires indexes { All
+        (λ s. IsListed s.definitions (source_seen asked.now.source)) (shards_seen shards.now) }
     ensures hits { IfOk result
         (λ made. AreFirst (query_seen query.now) asked.now (shards_seen shards.now) made.0.items) }
     ensures work { IfOk result
@@ -311,7 +315,8 @@ fn lists_of<'a, R: Threads + Sync, G: Gate + Sync>(
     requires workers { (0 < workers) × (workers ≤ 32) }
     requires asked { IsAskedBy (query_seen query.now) asked.now }
     requires range { range.now ≡ asked.now.range }
-    requires indexes { All (λ s. IsListed s.definitions (source_seen asked.now.source)) (shards_seen shards.now) }
+    requires indexes { All
+        (λ s. IsListed s.definitions (source_seen asked.now.source)) (shards_seen shards.now) }
     ensures rows { IfOk result (λ lists. map (λ hits. hit_rows hits.items) lists.items
         ≡ map (rows_asked_of (query_seen query.now) asked.now) (shards_seen shards.now)) }
     ensures hits { IfOk result
@@ -324,13 +329,14 @@ fn lists_of<'a, R: Threads + Sync, G: Gate + Sync>(
 // A page that skips and shows at most this many rows is small if its range has a bound: a thread costs some 100 µs, a row at most 1 µs.
 const SMALL_PAGE: usize = 1000;
 
-// A page of at most this many rows is small if its range decides: a row whose document is not looked up costs at most 0.1 µs.
+// A page that shows at most this many rows is small if its range decides, whatever it skips: the caller's thread looks up no document for
+// a row that it skips, while workers would find as many hits in each shard as the page skips and shows.
 const SMALL_ROWS: usize = 4000;
 
 // A scan that can read at most this many documents or rows, in all shards together, is small.
 const SMALL_SCAN: usize = 1000;
 
-// Whether a query is not worth a second thread: by its text, or because there is little to read.
+// Whether a second thread would cost more than it saves: the page is small, or the shards have little to read.
 fn is_small(
     query: &Query<'_>,
     asked: &Asked<'_>,
@@ -342,12 +348,12 @@ fn is_small(
     is_small_page(query, asked) || reads_at_most(shards, search_of(query, asked, range), SMALL_SCAN)
 }
 
-// Whether the page is small, by the query's text alone.
+// Whether the page is small, judged without a look at the shards.
 fn is_small_page(query: &Query<'_>, asked: &Asked<'_>) -> bool {
     let count = row_count(query);
     let has_bound = asked.range.entered_at(Direction::Asc).is_some()
         || asked.range.entered_at(Direction::Desc).is_some();
-    has_bound && count <= SMALL_PAGE || asked.is_decided && count <= SMALL_ROWS
+    has_bound && count <= SMALL_PAGE || asked.is_decided && query.limit as usize <= SMALL_ROWS
 }
 
 // The row after which the page begins, as bytes, if there is a bookmark.

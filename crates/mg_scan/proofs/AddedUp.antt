@@ -27,7 +27,7 @@ less_room a b n le = same (a + b) n b (n - a) (λ h. omega (arith, h, le)) (λ h
 none_over : (n : ℕ) → nat_le 0 n ≡ true
 none_over n = same 0 n 0 1 (λ le. omega arith) (λ le. omega arith) (nat_le 0 n) true refl refl
 
-drop_shard : (shards : List (Arc ShardView Global)) (i : ℕ) (a : Arc ShardView Global) (s : ShardView) → i < length shards → a ≡ get_or shards i a → s ≡ arc_value a
+pub drop_shard : (shards : List (Arc ShardView Global)) (i : ℕ) (a : Arc ShardView Global) (s : ShardView) → i < length shards → a ≡ get_or shards i a → s ≡ arc_value a
     → drop i (shards_seen shards) ≡ s ∷ drop (i + 1) (shards_seen shards)
 drop_shard [] i a s less is same = absurd (omega arith)
 drop_shard (x ∷ shards) zero a s less is same = ap (λ y. y ∷ shards_seen shards) (sym (same ∙ ap arc_value is))
@@ -35,7 +35,7 @@ drop_shard (x ∷ shards) (suc i) a s less is same =
     let n : suc (i + 1) ≡ suc i + 1 = omega arith in
     drop_shard shards i a s (omega arith) is same ∙ ap (λ m. s ∷ drop m (shards_seen (x ∷ shards))) n
 
-drop_all : (shards : List (Arc ShardView Global)) (i : ℕ) → length shards ≤ i → drop i (shards_seen shards) ≡ []
+pub drop_all : (shards : List (Arc ShardView Global)) (i : ℕ) → length shards ≤ i → drop i (shards_seen shards) ≡ []
 drop_all [] zero le = refl
 drop_all [] (suc i) le = refl
 drop_all (x ∷ shards) zero le = absurd (omega arith)
@@ -56,6 +56,18 @@ module _ (f : ShardView → ℕ) (shards : List (Arc ShardView Global)) (i : ℕ
 
   pub ended : length shards ≤ i → true ≡ all
   ended le = sym (so ∙ ap (λ (xs : List ShardView). nat_le (sum_by f xs) left) (drop_all shards i le) ∙ none_over left)
+
+-- ---- the sum of all
+
+pub added : (f : ShardView → ℕ) (shards : List (Arc ShardView Global)) (i : ℕ) (a : Arc ShardView Global) (s : ShardView) (all more total : ℕ) → i < length shards → a ≡ get_or shards i a → s ≡ arc_value a
+    → total ≡ all + sum_by f (drop i (shards_seen shards)) → more ≡ all + f s → total ≡ more + sum_by f (drop (i + 1) (shards_seen shards))
+added f shards i a s all more total less is same so e =
+    let one = ap (sum_by f) (drop_shard shards i a s less is same) in
+    let both = sum_by-cons f s (drop (i + 1) (shards_seen shards)) in omega (arith, so, e, one, both)
+
+pub all_added : (f : ShardView → ℕ) (shards : List (Arc ShardView Global)) (i all : ℕ) → sum_by f (shards_seen shards) ≡ all + sum_by f (drop i (shards_seen shards)) → length shards ≤ i → all ≡ sum_by f (shards_seen shards)
+all_added f shards i all so le =
+    let none : sum_by f (drop i (shards_seen shards)) ≡ 0 = ap (sum_by f) (drop_all shards i le) in omega (arith, so, none)
 
 -- the count of rows, if there are any
 pub counts : (f : List RowValue → ℕ) (o : Option (List RowValue)) (n : ℕ) → Some n ≡ option_map f o → n ≡ option_map_or f o 0

@@ -16,7 +16,7 @@ use Rattle.mg_normal.specs.contracts.atom.Atom as Atom
 use Rattle.mg_normal.specs.contracts.form.Form as Form
 use Rattle.mg_normal.specs.contracts.normal.Normal as Normal
 use Rattle.mg_path.proofs.path.Path.TheSendSync as path
-use Rattle.mg_range.proofs.row_range.Ends.TheSendSync as ends
+use Rattle.mg_range.proofs.row_range.SpanEnds.TheSendSync as ends
 use Rattle.mg_range.specs.contracts.range.KeyRange as KeyRange
 use Rattle.mg_range.specs.contracts.row_range.RowRange as RowRange
 use Rattle.mg_range.specs.contracts.span.Limit as Limit

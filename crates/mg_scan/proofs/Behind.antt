@@ -47,7 +47,7 @@ rises_dropped order zero xs h = h
 rises_dropped order (suc n) [] h = h
 rises_dropped order (suc n) (x ∷ xs) h = rises_dropped order n xs h.1
 
-drop_taken : {X : Type 0} (n m : ℕ) (xs : List X) → drop n (take m xs) ≡ take (m - n) (drop n xs)
+pub drop_taken : {X : Type 0} (n m : ℕ) (xs : List X) → drop n (take m xs) ≡ take (m - n) (drop n xs)
 drop_taken zero m xs = let e : m ≡ m - 0 = omega arith in ap (λ k. take k xs) e
 drop_taken (suc n) zero xs = let e : 0 ≡ 0 - suc n = omega arith in ap (λ k. take k (drop (suc n) xs)) e
 drop_taken (suc n) (suc m) [] = sym (take-nil (suc m - suc n))

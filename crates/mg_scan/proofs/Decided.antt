@@ -26,7 +26,7 @@ use Rattle.mg_shard.specs.Rows.{row_of}
 use Rattle.mg_shard.specs.Shard.{ShardView}
 use Rattle.mg_value.specs.Value.{item_list}
 
-all_asked : (ds : List ServedDocument) → filter (λ d. normal_holds everything (Some d.1)) ds ≡ ds
+pub all_asked : (ds : List ServedDocument) → filter (λ d. normal_holds everything (Some d.1)) ds ≡ ds
 all_asked [] = refl
 all_asked (d ∷ ds) = ap (λ xs. d ∷ xs) (all_asked ds)
 

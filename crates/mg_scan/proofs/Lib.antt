@@ -16,3 +16,4 @@ pub mod Decided
 pub mod Leads
 pub mod Behind
 pub mod AddedUp
+pub mod PassedOver

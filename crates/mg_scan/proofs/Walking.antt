@@ -62,7 +62,7 @@ filter-directed p Desc xs = filter-reverse p xs
 
 -- ---- rows in order
 
-sorted-directed : (direction : Direction) (xs : List RowValue) → sorted_rows direction xs ≡ in_direction direction (sorted row_value_order xs)
+pub sorted-directed : (direction : Direction) (xs : List RowValue) → sorted_rows direction xs ≡ in_direction direction (sorted row_value_order xs)
 sorted-directed Asc xs = refl
 sorted-directed Desc xs = sorted_descending xs
 
@@ -79,7 +79,7 @@ gt_down true = refl
 gt_down false = refl
 
 -- where a search begins, what comes after is what it reaches
-begun : (direction : Direction) (range : Range) (after : Option RowValue) (xs : List RowValue)
+pub begun : (direction : Direction) (range : Range) (after : Option RowValue) (xs : List RowValue)
     → beyond direction (λ r. begin_order direction (place_row range r) (option_map (row_value_order r) after)) xs ≡ filter (reached direction range after) (in_direction direction xs)
 begun Asc range after xs = filter-same _ (reached Asc range after) (λ r. lt_up (reached Asc range after r)) xs
 begun Desc range after xs =
@@ -159,7 +159,7 @@ chosen Desc Within false false = refl
 chosen Desc Past b true = refl
 chosen Desc Past b false = refl
 
-beyond_is : (direction : Direction) (after : Option RowValue) (r : RowValue) → is_beyond direction (option_map (row_value_order r) after) ≡ comes_after direction after r
+pub beyond_is : (direction : Direction) (after : Option RowValue) (r : RowValue) → is_beyond direction (option_map (row_value_order r) after) ≡ comes_after direction after r
 beyond_is direction None r = refl
 beyond_is direction (Some p) r = refl
 

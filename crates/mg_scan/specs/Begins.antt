@@ -86,7 +86,7 @@ beyond_at : (R : RowValue → RowValue → Ordering) → IsTotalOrder R → (x y
 beyond_at R o x y p true is h e = refl
 beyond_at R o x y p false is h e = sym (upto o x y p h is) ∙ e
 
-beyond_rises : (direction : Direction) (after : Option RowValue) (x y : RowValue) → NotAfter direction x y
+pub beyond_rises : (direction : Direction) (after : Option RowValue) (x y : RowValue) → NotAfter direction x y
     → is_beyond direction (option_map (row_value_order x) after) ≡ true → is_beyond direction (option_map (row_value_order y) after) ≡ true
 beyond_rises direction None x y h e = refl
 beyond_rises direction (Some p) x y h e = beyond_at (directed_order direction) (directed_total direction) x y p (is_gt (directed_order direction y p)) refl h e

@@ -14,3 +14,4 @@ pub mod Begun
 pub mod Decided
 pub mod Lead
 pub mod Ahead
+pub mod Passed

@@ -137,7 +137,8 @@ fn with_these(
 ) -> Result<Shard, NoMemory>
     requires inside { i < length shards.now }
     requires rows { HasRowsAt (arc_value definition.now) (shards_seen shards.now) i rows }
-    ensures { IfOk result (λ s. slice_get (map (with_index (arc_value definition.now)) (shards_seen shards.now)) i ≡ Some s) }
+    ensures { IfOk result
+        (λ s. slice_get (map (with_index (arc_value definition.now)) (shards_seen shards.now)) i ≡ Some s) }
 {
     let shard: &Shard = &shards[i];
     Ok(shard.with_rows(alloc, definition, rows?)?)
@@ -169,7 +170,8 @@ fn with_all(
 ) -> Result<Vec<Shard>, NoMemory>
     requires rows { AreRowsAt (arc_value definition.now) (shards_seen shards.now) given.items }
     requires len { vec_len given ≡ length shards.now }
-    ensures { IfOk result (λ v. v.items ≡ map (with_index (arc_value definition.now)) (shards_seen shards.now)) }
+    ensures { IfOk result
+        (λ v. v.items ≡ map (with_index (arc_value definition.now)) (shards_seen shards.now)) }
 {
     let mut built = Vec::new(alloc);
     let mut given = given;

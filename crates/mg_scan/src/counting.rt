@@ -19,7 +19,10 @@ use std::sync::Arc;
 ///
 /// Cost: in each shard one look-up of where to begin, with the counts on the way there.
 pub fn reads_at_most(shards: &[Arc<Shard>], search: Search<'_>, most: usize) -> bool
-    ensures { result ≡ nat_le (sum_by (count_ahead_in search.entry.target search.entry.range.now (after_of search.entry) search.entry.direction)
+    ensures { result
+        ≡ nat_le (sum_by
+        (count_ahead_in search.entry.target search.entry.range.now
+        (after_of search.entry) search.entry.direction)
         (shards_seen shards.now)) most }
 {
     let mut left = most;
@@ -35,8 +38,10 @@ pub fn reads_at_most(shards: &[Arc<Shard>], search: Search<'_>, most: usize) -> 
 }
 
 // How many documents or rows come after where the search begins in a shard.
-fn count_ahead(shard: &Shard, search: Search<'_>) -> usize
-    ensures { result ≡ count_ahead_in search.entry.target search.entry.range.now (after_of search.entry) search.entry.direction shard.now }
+pub(crate) fn count_ahead(shard: &Shard, search: Search<'_>) -> usize
+    ensures { result
+        ≡ count_ahead_in search.entry.target search.entry.range.now
+        (after_of search.entry) search.entry.direction shard.now }
 {
     match search.target {
         Target::AllDocs => shard.count_documents_beyond(&Begin { search }, search.direction),
@@ -46,7 +51,8 @@ fn count_ahead(shard: &Shard, search: Search<'_>) -> usize
 
 // How many rows of an index come after the place where the search begins; 0 if there is no such index.
 fn count_rows_ahead(shard: &Shard, ddoc: &str, name: &str, search: Search<'_>) -> usize
-    ensures { result ≡ option_map_or (λ rows. length (beyond search.entry.direction (begin_at search.entry) rows))
+    ensures { result ≡ option_map_or
+        (λ rows. length (beyond search.entry.direction (begin_at search.entry) rows))
         (rows_at ddoc.now name.now shard.now) 0 }
 {
     match shard.count_rows_beyond(ddoc, name, &Begin { search }, search.direction) {

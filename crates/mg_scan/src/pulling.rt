@@ -12,6 +12,7 @@ ghost use Rattle.mg_scan.specs.Sourced.{IsSourceOf};
 use crate::hit::Hit;
 use crate::lead::hits_after;
 use crate::lead_source::{LeadSource, lead_source_behind, lead_source_of};
+use crate::passing::pass_over;
 use crate::search::Search;
 use crate::source::{HitSource, source_of};
 use mg_merge::merge_pulled;
@@ -31,7 +32,8 @@ pub fn pull_lent<'a>(
     shards: &'a [Arc<Shard>],
     search: Search<'_>,
 ) -> Result<(Vec<Hit<'a>>, u64), NoMemory>
-    ensures rows { IfOk result (λ made. hit_rows made.0.items ≡ merged search.entry.direction search.entry.take
+    ensures rows { IfOk result
+        (λ made. hit_rows made.0.items ≡ merged search.entry.direction search.entry.take
         (map (found_by search.entry) (shards_seen shards.now))) }
     ensures hits { IfOk result (λ made. AreHitsIn (shards_seen shards.now) made.0.items) }
     ensures pulled { IfOk result (λ made. made.1 ≤ search.entry.take + length shards.now) }
@@ -46,8 +48,8 @@ pub fn pull_lent<'a>(
 /// many rows were found for them: at most `take`, and one more for each shard. All is done on the caller's thread.
 ///
 /// Errors: `NoMemory` if an allocation fails. Cost: in each shard one look-up of where to begin; then a step for each row that is
-/// read, until `take` are found, and the merge; a look-up of a document for each hit that is returned. With one shard the first `skip` rows
-/// of an index are passed over at once, by their count.
+/// read, until `take` are found, and the merge; a look-up of a document for each hit that is returned. The first `skip` rows of an
+/// index are passed over by their counts: with one shard all at once, with several all but a few of each.
 pub fn pull_rows<'a>(
     alloc: Global,
     shards: &'a [Arc<Shard>],
@@ -64,11 +66,30 @@ pub fn pull_rows<'a>(
     if shards.len() == 1 {
         pull_rows_of_one(alloc, shards, search, skip)
     } else {
-        pull_rows_of_all(alloc, shards, search, skip)
+        pull_rows_of_several(alloc, shards, search, skip)
     }
 }
 
-// What `pull_rows` returns, for any number of shards.
+// What `pull_rows` returns, for several shards: most of the rows of an index that are skipped are passed over by counts.
+fn pull_rows_of_several<'a>(
+    alloc: Global,
+    shards: &'a [Arc<Shard>],
+    search: Search<'_>,
+    skip: usize,
+) -> Result<(Vec<Hit<'a>>, u64), NoMemory>
+    requires decided { All (IsDecidedIn search.target search.normal.now search.range.now)
+        (shards_seen shards.now) }
+    ensures rows { IfOk result (λ made. hit_rows made.0.items ≡ drop skip
+        (merged search.entry.direction search.entry.take (map (found_by search.entry) (shards_seen shards.now)))) }
+    ensures hits { IfOk result (λ made. AreHitsIn (shards_seen shards.now) made.0.items) }
+    ensures pulled { IfOk result (λ made. made.1 ≤ search.entry.take + length shards.now) }
+{
+    let (rest, left) = pass_over(alloc, shards, search, skip)?;
+    let (hits, pulled) = pull_rows_of_all(alloc, shards, rest, left)?;
+    Ok((hits, pulled))
+}
+
+// What `pull_rows` returns, for any number of shards: all rows that are skipped are read.
 fn pull_rows_of_all<'a>(
     alloc: Global,
     shards: &'a [Arc<Shard>],
@@ -119,7 +140,8 @@ fn sources_of<'a, 'b>(
     shards: &'a [Arc<Shard>],
     search: Search<'b>,
 ) -> Result<Vec<HitSource<'a, 'b>>, NoMemory>
-    ensures { IfOk result (λ sources. AllZip (IsSourceOf search.entry) (shards_seen shards.now) sources.items) }
+    ensures { IfOk result
+        (λ sources. AllZip (IsSourceOf search.entry) (shards_seen shards.now) sources.items) }
 {
     let mut sources = Vec::with_capacity(alloc, shards.len())?;
     for i in 0..shards.len() {
@@ -135,7 +157,8 @@ fn lead_sources_of<'a, 'b>(
     shards: &'a [Arc<Shard>],
     search: Search<'b>,
 ) -> Result<Vec<LeadSource<'a, 'b>>, NoMemory>
-    ensures { IfOk result (λ sources. AllZip (IsLeadSourceOf search.entry) (shards_seen shards.now) sources.items) }
+    ensures { IfOk result
+        (λ sources. AllZip (IsLeadSourceOf search.entry) (shards_seen shards.now) sources.items) }
 {
     let mut sources = Vec::with_capacity(alloc, shards.len())?;
     for i in 0..shards.len() {

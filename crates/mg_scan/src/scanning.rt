@@ -11,7 +11,7 @@ use crate::gate::Gate;
 use crate::hit::Hit;
 use crate::search::{Search, bytes_of};
 use crate::target::Target;
-use crate::workers::{finish, gather, work};
+use crate::workers::{fill_slots, hits_in_order, search_claimed};
 use mg_collate::{Direction, Row};
 use mg_normal::Normal;
 use mg_range::KeyRange;
@@ -41,17 +41,18 @@ pub fn scan_lent<'a, R: Threads + Sync, G: Gate + Sync>(
     requires { (0 < workers) × (workers ≤ 32) }
     ensures rows { IfOk result (λ lists. map (λ hits. hit_rows hits.items) lists.items
         ≡ map (found_by search.entry) (shards_seen shards.now)) }
-    ensures hits { IfOk result (λ lists. AllZip (λ s hits. AreHitsOf s.documents hits.items) (shards_seen shards.now) lists.items) }
+    ensures hits { IfOk result
+        (λ lists. AllZip (λ s hits. AreHitsOf s.documents hits.items) (shards_seen shards.now) lists.items) }
 {
     let next = AtomicU64::new(0);
     let given = thread::map_indices(
         rt,
         alloc,
         workers.min(shards.len()),
-        &|_worker| work(alloc, shards, search, &next, gate),
+        &|_worker| search_claimed(alloc, shards, search, &next, gate),
     )?;
-    let slots = gather(alloc, given, shards, search)?;
-    let lists = finish(alloc, slots, shards, search, gate)?;
+    let slots = fill_slots(alloc, given, shards, search)?;
+    let lists = hits_in_order(alloc, slots, shards, search, gate)?;
     Ok(lists)
 }
 
@@ -73,7 +74,9 @@ pub fn scan<R: Threads + Sync, G: Gate + Sync>(
 ) -> Result<Vec<Vec<Row>>, NoMemory>
     requires { (0 < workers) × (workers ≤ 32) }
     ensures { IfOk result (λ lists. map (λ rows. rows_view rows.items) lists.items
-        ≡ map (found_in target.entry (asked normal.now range.now (option_map (λ r. row_view r.now) after.entry) take direction)) (shards_seen shards.now)) }
+        ≡ map (found_in target.entry
+        (asked normal.now range.now (option_map (λ r. row_view r.now) after.entry) take direction))
+        (shards_seen shards.now)) }
 {
     let row_range = range.in_rows(alloc)?;
     let after_row = bytes_of(alloc, after)?;

@@ -4,6 +4,8 @@ ghost use Rattle.std.specs.declared.cmp.Ordering.TheVariants.{Less, Greater};
 ghost use Rattle.mg_collate.specs.Direction.{directed};
 ghost use Rattle.mg_collate.specs.Row.{row_value_order, row_view};
 ghost use Rattle.mg_range.specs.RangeSide.{is_early as stands_early, is_late as stands_late};
+ghost use Rattle.mg_scan.specs.Begins.{reached};
+ghost use Rattle.mg_scan.specs.Search.{after_of};
 ghost use Rattle.mg_scan.specs.Way.{begin_at};
 ghost use Rattle.mg_scan.specs.Walked.{id_row, is_beyond as stands_beyond, is_late_row};
 
@@ -106,14 +108,21 @@ fn id_order(id: &str, after: Option<&RowBytes>) -> Option<Ordering>
     }
 }
 
+// Whether a row is one that a search looks at, or comes later. Cost: a comparison of bytes with the end of the range, and one with
+// the row after which the search begins, if there is one.
+pub(crate) fn is_reached(search: Search<'_>, row: &RowBytes) -> bool
+    ensures { result ≡ reached search.entry.direction search.entry.range.now (after_of search.entry) row.now }
+{
+    let is_early = search.range.is_early(search.direction, row);
+    !is_early && is_beyond(search.direction, row_order(row, search.after))
+}
+
 // Compares the place where the search begins to a row. Cost: a comparison of bytes with the end of the range, and one with the row after which it
 // begins, if there is one.
 pub(crate) fn begin_at_row(search: Search<'_>, row: &RowBytes) -> Ordering
     ensures { result ≡ begin_at search.entry row.now }
 {
-    let is_early = search.range.is_early(search.direction, row);
-    let is_reached = !is_early && is_beyond(search.direction, row_order(row, search.after));
-    begin(search.direction, is_reached)
+    begin(search.direction, is_reached(search, row))
 }
 
 // Compares the place where the search begins to the row of an id among all documents.

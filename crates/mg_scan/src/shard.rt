@@ -36,8 +36,11 @@ pub(crate) fn hit_of<'a>(
     normal: &Normal,
 ) -> Option<Hit<'a>>
     ensures row { option_map hit_row result
-        ≡ if option_map_or (λ form. normal_holds normal.now (Some form)) (form_of document.now) false then Some (lent_row row.entry) else None }
-    ensures lent { (ds : KeptDocuments) → get ds (lent_row row.entry).1 ≡ Some (kept_of document.now) → IfSome result (IsHitOf ds) }
+        ≡ if option_map_or
+        (λ form. normal_holds normal.now (Some form)) (form_of document.now) false then Some
+        (lent_row row.entry) else None }
+    ensures lent { (ds : KeptDocuments) → get ds (lent_row row.entry).1 ≡ Some (kept_of document.now)
+        → IfSome result (IsHitOf ds) }
 {
     let form = document.packed()?;
     let text = document.text()?;
@@ -54,7 +57,8 @@ pub(crate) fn hit_of<'a>(
 
 // The hit of a row, if the selector holds of its document.
 pub(crate) fn hit_at<'a>(shard: &'a Shard, row: &'a RowBytes, normal: &Normal) -> Option<Hit<'a>>
-    ensures row { option_map hit_row result ≡ if holds_at normal.now shard.now.documents row.now.1 then Some row.now else None }
+    ensures row { option_map hit_row result
+        ≡ if holds_at normal.now shard.now.documents row.now.1 then Some row.now else None }
     ensures lent { IfSome result (IsHitOf shard.now.documents) }
 {
     let document = shard.document(row.id())?;
@@ -94,7 +98,8 @@ fn hits_of_rows<'a>(
     rows: Rows<'a>,
     search: Search<'_>,
 ) -> Result<Vec<Hit<'a>>, NoMemory>
-    ensures rows { IfOk result (λ v. hit_rows v.items ≡ walked_by search.entry shard.now.documents search.entry.take rows.entry) }
+    ensures rows { IfOk result
+        (λ v. hit_rows v.items ≡ walked_by search.entry shard.now.documents search.entry.take rows.entry) }
     ensures documents { IfOk result (λ v. AreHitsOf shard.now.documents v.items) }
 {
     let mut hits = Vec::with_capacity(alloc, search.take.min(FIRST_ROOM))?;
@@ -115,7 +120,10 @@ fn hits_of_documents<'a>(
     search: Search<'_>,
 ) -> Result<Vec<Hit<'a>>, NoMemory>
     requires { AllByRecursion (λ d. get shard.now.documents (id_of d) ≡ Some (kept_of d)) documents }
-    ensures rows { IfOk result (λ v. hit_rows v.items ≡ walked_by search.entry shard.now.documents search.entry.take (entry_rows (map kept_entry documents.entry))) }
+    ensures rows { IfOk result
+        (λ v. hit_rows v.items
+        ≡ walked_by search.entry shard.now.documents search.entry.take
+        (entry_rows (map kept_entry documents.entry))) }
     ensures documents { IfOk result (λ v. AreHitsOf shard.now.documents v.items) }
 {
     let _ = shard;
@@ -138,7 +146,8 @@ fn hits_of_all<'a>(
     shard: &'a Shard,
     search: Search<'_>,
 ) -> Result<Vec<Hit<'a>>, NoMemory>
-    ensures rows { IfOk result (λ v. hit_rows v.items ≡ scanned (asked_by search.entry all_columns) (docs_of shard.now.documents)) }
+    ensures rows { IfOk result
+        (λ v. hit_rows v.items ≡ scanned (asked_by search.entry all_columns) (docs_of shard.now.documents)) }
     ensures documents { IfOk result (λ v. AreHitsOf shard.now.documents v.items) }
 {
     shard.ids_are_own();
@@ -155,7 +164,9 @@ fn hits_of_index<'a>(
     search: Search<'_>,
 ) -> Result<Vec<Hit<'a>>, NoMemory>
     ensures rows { IfOk result (λ v. hit_rows v.items
-        ≡ option_map_or (λ d. scanned (asked_by search.entry d.columns) (docs_of shard.now.documents)) (definition_at ddoc.now name.now shard.now.definitions) []) }
+        ≡ option_map_or
+        (λ d. scanned (asked_by search.entry d.columns) (docs_of shard.now.documents))
+        (definition_at ddoc.now name.now shard.now.definitions) []) }
     ensures documents { IfOk result (λ v. AreHitsOf shard.now.documents v.items) }
 {
     match shard.rows_beyond(ddoc, name, &Begin { search }, search.direction) {

@@ -1,4 +1,4 @@
-//! Workers that claim shards, and what is made of what they hand over: the same for any claims.
+//! Workers claim shards and search them. What they find does not depend on which worker claims which shard.
 ghost use Rattle.std.specs.Prelude.{◌≡◌, ◌<◌, length, vec_len, All, IfOk, IfSome};
 ghost use Rattle.std.specs.List.{AllZip};
 ghost use Rattle.mg_shard.specs.Shard.{shards_seen};
@@ -21,8 +21,8 @@ pub(crate) struct Done<'a> {
     pub(crate) hits: Vec<Hit<'a>>,
 }
 
-// The hits of the i-th shard, between two passes of the gate.
-fn one<'a, G: Gate>(
+// Searches the i-th shard. Passes the gate before and after.
+fn search_shard<'a, G: Gate>(
     alloc: Global,
     shards: &'a [Arc<Shard>],
     search: Search<'_>,
@@ -40,7 +40,7 @@ fn one<'a, G: Gate>(
 }
 
 /// Claims shards until none is left, and hands over the hits of each.
-pub(crate) fn work<'a, G: Gate>(
+pub(crate) fn search_claimed<'a, G: Gate>(
     alloc: Global,
     shards: &'a [Arc<Shard>],
     search: Search<'_>,
@@ -56,14 +56,14 @@ pub(crate) fn work<'a, G: Gate>(
             break;
         }
         let shard = claimed as usize;
-        let hits = one(alloc, shards, search, shard, gate)?;
+        let hits = search_shard(alloc, shards, search, shard, gate)?;
         all.push(Done { shard, hits })?;
     }
     Ok(all)
 }
 
-// Puts the hits of each piece of work into the slot of its shard. A second list of a shard takes the place of the first.
-fn fill<'a>(
+// Puts each list of hits into the slot of its shard. A second list of a shard overwrites the first; both have the same rows.
+fn put_in_slots<'a>(
     slots: &mut Vec<Option<Vec<Hit<'a>>>>,
     given: Vec<Done<'a>>,
     shards: &[Arc<Shard>],
@@ -74,6 +74,7 @@ fn fill<'a>(
     ensures slots { AllSlots search.entry (shards_seen shards.now) slots.new.items }
     ensures len { vec_len slots.new ≡ vec_len slots.old }
 {
+    // Only the contract speaks of the shards and the search.
     let _ = (shards.len(), search.take);
     let mut given = given;
     while let Some(Done { shard, hits }) = given.pop() {
@@ -92,6 +93,7 @@ fn empty_slots<'a>(
     ensures slots { IfOk result (λ v. AllSlots search.entry (shards_seen shards.now) v.items) }
     ensures len { IfOk result (λ v. vec_len v ≡ length shards.now) }
 {
+    // Only the contract speaks of the search.
     let _ = search.take;
     let mut slots = Vec::new(alloc);
     for _slot in 0..shards.len() {
@@ -101,7 +103,7 @@ fn empty_slots<'a>(
 }
 
 /// The slots that the workers filled, one for each shard.
-pub(crate) fn gather<'a>(
+pub(crate) fn fill_slots<'a>(
     alloc: Global,
     given: Vec<Result<Vec<Done<'a>>, NoMemory>>,
     shards: &[Arc<Shard>],
@@ -114,13 +116,13 @@ pub(crate) fn gather<'a>(
     let mut slots = empty_slots(alloc, shards, search)?;
     let mut given = given;
     while let Some(done) = given.pop() {
-        fill(&mut slots, done?, shards, search);
+        put_in_slots(&mut slots, done?, shards, search);
     }
     Ok(slots)
 }
 
-// What stands in a slot, which is then empty.
-fn taken<'a>(
+// Takes the hits out of a slot, and leaves it empty.
+fn take_slot<'a>(
     slots: &mut Vec<Option<Vec<Hit<'a>>>>,
     i: usize,
     shards: &[Arc<Shard>],
@@ -132,12 +134,13 @@ fn taken<'a>(
     ensures slots { AllSlots search.entry (shards_seen shards.now) slots.new.items }
     ensures len { vec_len slots.new ≡ vec_len slots.old }
 {
+    // Only the contract speaks of the shards and the search.
     let _ = (shards.len(), search.take);
     slots[i].take()
 }
 
-// The hits that a worker gave, or else those that are found here.
-fn or_scan<'a, G: Gate>(
+// The hits of a slot; those of a search here if the slot was empty.
+fn hits_or_search<'a, G: Gate>(
     alloc: Global,
     found: Option<Vec<Hit<'a>>>,
     shards: &'a [Arc<Shard>],
@@ -151,12 +154,12 @@ fn or_scan<'a, G: Gate>(
 {
     match found {
         Some(hits) => Ok(hits),
-        None => one(alloc, shards, search, i, gate),
+        None => search_shard(alloc, shards, search, i, gate),
     }
 }
 
-/// The hits of all shards, in their order. A shard that no worker gave is searched here.
-pub(crate) fn finish<'a, G: Gate>(
+/// The hits of all shards, in the order of the shards. Searches each shard whose slot is empty.
+pub(crate) fn hits_in_order<'a, G: Gate>(
     alloc: Global,
     slots: Vec<Option<Vec<Hit<'a>>>>,
     shards: &'a [Arc<Shard>],
@@ -165,13 +168,14 @@ pub(crate) fn finish<'a, G: Gate>(
 ) -> Result<Vec<Vec<Hit<'a>>>, NoMemory>
     requires slots { AllSlots search (shards_seen shards.now) slots.items }
     requires len { vec_len slots ≡ length shards.now }
-    ensures { IfOk result (λ lists. AllZip (λ s v. Gives search.entry s v.items) (shards_seen shards.now) lists.items) }
+    ensures { IfOk result
+        (λ lists. AllZip (λ s v. Gives search.entry s v.items) (shards_seen shards.now) lists.items) }
 {
     let mut slots = slots;
     let mut all = Vec::new(alloc);
     for i in 0..shards.len() {
-        let found = taken(&mut slots, i, shards, search);
-        let hits = or_scan(alloc, found, shards, search, i, gate)?;
+        let found = take_slot(&mut slots, i, shards, search);
+        let hits = hits_or_search(alloc, found, shards, search, i, gate)?;
         all.push(hits)?;
     }
     Ok(all)

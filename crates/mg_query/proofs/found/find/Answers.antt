@@ -15,8 +15,8 @@ use Rattle.mg_query.proofs.Serving.{choice_served}
 use Rattle.mg_query.proofs.Usable.{choice_usable}
 use Rattle.mg_query.proofs.found.find.Goals as goal
 
-pub gather-requires-clause-indexes : goal.gather-requires-clause-indexes
-gather-requires-clause-indexes g c = λ κs within.
+pub merge_first-requires-clause-indexes : goal.merge_first-requires-clause-indexes
+merge_first-requires-clause-indexes g c = λ κs within.
     listed_in_each c.args.catalog.now (source_seen c.in_ok-asked.asked.source) (shards_seen c.args.shards.now) c.in_ok-asked.ensures.listed c.definitions_are_catalogs.ensures c.requires.indexes
 
 pub returns-clause-hits : goal.returns-clause-hits

@@ -1,7 +1,7 @@
 use Rattle.std.proofs.Common.{◌≡◌, vec_len, IfOk, All, length}
 use Rattle.mg_shard.specs.Shard.{shards_seen}
 use Rattle.mg_scan.specs.Worked.{AllDone, AllSlots}
-use Rattle.mg_scan.proofs.workers.gather.Given as goal
+use Rattle.mg_scan.proofs.workers.fill_slots.Given as goal
 
 abbrev pub invariant-loop-done : goal.invariant-loop-done
 invariant-loop-done l = All (λ r. IfOk r (λ v. AllDone l.search (shards_seen l.shards) v.items)) l.given.items × AllSlots l.search (shards_seen l.shards) l.slots.items × (vec_len l.slots ≡ length l.shards)

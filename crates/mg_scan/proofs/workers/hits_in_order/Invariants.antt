@@ -2,7 +2,7 @@ use Rattle.std.proofs.Common.{◌≡◌, vec_len, take, length}
 use Rattle.std.specs.List.{AllZip}
 use Rattle.mg_shard.specs.Shard.{shards_seen}
 use Rattle.mg_scan.specs.Worked.{AllSlots, Gives}
-use Rattle.mg_scan.proofs.workers.finish.Given as goal
+use Rattle.mg_scan.proofs.workers.hits_in_order.Given as goal
 
 -- the slots that are left, and the hits of the shards so far
 abbrev pub invariant-loop-i : goal.invariant-loop-i

@@ -1,7 +1,7 @@
 use Rattle.mg_collate.proofs.Sorting.{all_append}
 use Rattle.mg_shard.specs.Shard.{shards_seen}
 use Rattle.mg_scan.specs.Worked.{HitsAnswer}
-use Rattle.mg_scan.proofs.workers.work.Goals as goal
+use Rattle.mg_scan.proofs.workers.search_claimed.Goals as goal
 
 pub loop-turn-preserved : goal.loop-turn-preserved
 loop-turn-preserved g c =

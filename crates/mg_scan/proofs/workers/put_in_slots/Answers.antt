@@ -5,7 +5,7 @@ use Rattle.mg_shard.specs.Shard.{shards_seen}
 use Rattle.mg_scan.specs.Worked.{HitsAnswer}
 use Rattle.mg_scan.specs.declared.workers.Done.{Done}
 use Rattle.mg_scan.proofs.Maps.{slots-set}
-use Rattle.mg_scan.proofs.workers.fill.Goals as goal
+use Rattle.mg_scan.proofs.workers.put_in_slots.Goals as goal
 
 pub loop-shard-preserved-then-shard-len : goal.loop-shard-preserved-then-shard-len
 loop-shard-preserved-then-shard-len c =

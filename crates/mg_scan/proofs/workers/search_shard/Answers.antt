@@ -1,5 +1,5 @@
 use Rattle.mg_scan.proofs.Maps.{answers}
-use Rattle.mg_scan.proofs.workers.one.Goals as goal
+use Rattle.mg_scan.proofs.workers.search_shard.Goals as goal
 
 pub returns : goal.returns
 returns g c =

@@ -9,10 +9,10 @@ use Rattle.mg_query.proofs.Indexed.{listed_in_each}
 use Rattle.mg_query.proofs.Lent.{lend_first}
 use Rattle.mg_query.proofs.Serving.{choice_served}
 use Rattle.mg_query.proofs.Usable.{choice_usable}
-use Rattle.mg_query.proofs.found.find_first.Goals as goal
+use Rattle.mg_query.proofs.found.find_page.Goals as goal
 
-pub first_of-requires-clause-indexes : goal.first_of-requires-clause-indexes
-first_of-requires-clause-indexes g c = λ κs within.
+pub page_hits-requires-clause-indexes : goal.page_hits-requires-clause-indexes
+page_hits-requires-clause-indexes g c = λ κs within.
     listed_in_each c.args.catalog.now (source_seen c.in_ok-asked.asked.source) (shards_seen c.args.shards.now) c.in_ok-asked.ensures.listed c.definitions_are_catalogs.ensures c.requires.indexes
 
 pub returns-clause-hits : goal.returns-clause-hits

@@ -13,7 +13,7 @@ use Rattle.mg_query.specs.Served.{source_seen}
 use Rattle.mg_query.proofs.Counts.{sizes}
 use Rattle.mg_query.proofs.Handed.{handed_in_order, handed_within, merged_rows, merged_same}
 use Rattle.mg_query.proofs.Lent.{merged_in}
-use Rattle.mg_query.proofs.found.gather.Goals as goal
+use Rattle.mg_query.proofs.found.merge_first.Goals as goal
 
 pub merge_all-requires : goal.merge_all-requires
 merge_all-requires g c =

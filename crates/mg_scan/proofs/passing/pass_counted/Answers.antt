@@ -1,0 +1,19 @@
+use Rattle.std.proofs.Common.{ap, sym, ◌∙◌, arith}
+use Rattle.mg_scan.specs.Passed.{all_ahead}
+use Rattle.mg_scan.proofs.PassedOver.{ahead_still, counted_page, same_page}
+use Rattle.mg_scan.proofs.passing.pass_counted.Goals as goal
+use Rattle.mg_shard.specs.Shard.{shards_seen}
+
+pub returns-in-None-clause-page : goal.returns-in-None-clause-page
+returns-in-None-clause-page c = same_page (shards_seen c.args.shards.now) c.args.passed.search c.args.passed.skip
+
+pub returns-then-count-passed-clause-page : goal.returns-then-count-passed-clause-page
+returns-then-count-passed-clause-page c = same_page (shards_seen c.args.shards.now) c.args.passed.search c.args.passed.skip
+
+pub returns-else-count-passed-clause-page : goal.returns-else-count-passed-clause-page
+returns-else-count-passed-clause-page c =
+    counted_page (shards_seen c.args.shards.now) c.args.passed.search c.args.passed.skip c.args.passed.ahead c.in-Some.ahead c.saturating_sub-count.result c.args.row c.requires.index c.requires.ahead c.requires.within
+    c.saturating_sub-take.result _ _ c.after-beyond.ensures c.in-Some.ensures c.saturating_sub-count.ensures c.saturating_sub-take.ensures (omega arith) c.after-search.ensures
+
+pub returns-else-count-passed-clause-ahead : goal.returns-else-count-passed-clause-ahead
+returns-else-count-passed-clause-ahead c = ahead_still (shards_seen c.args.shards.now) c.args.passed.search c.args.row c.in-Some.ahead c.saturating_sub-take.result _ _ c.after-beyond.ensures c.in-Some.ensures c.after-search.ensures

@@ -1,0 +1,245 @@
+//! A long skip on several shards: most of the rows that a page skips are passed over by counts.
+ghost use Rattle.std.specs.Prelude.{◌≡◌, ◌<◌, IfOk, IfSome};
+ghost use Rattle.mg_shard.specs.Shard.{shards_seen};
+ghost use Rattle.mg_scan.specs.Passed.{HasPageOf, IsIndex, IsWithin, all_ahead, beyond_row};
+
+use crate::begin::Begin;
+use crate::counting::count_ahead;
+use crate::scout::{Scout, enter, scout_of};
+use crate::search::{Search, is_past_row, is_reached};
+use crate::target::Target;
+use mg_rows::RowBytes;
+use mg_shard::Shard;
+use mg_value::NoMemory;
+use std::alloc::Global;
+use std::sync::Arc;
+
+// A round passes over all but an eighth of the rows at most, so it takes eight steps a shard.
+const STEPS: usize = 8;
+
+// What is left of a search after rows were passed over.
+#[derive(Clone, Copy)]
+pub(crate) struct Passed<'a> {
+    // The search after the last of these rows.
+    pub(crate) search: Search<'a>,
+    // How many rows the page still skips.
+    pub(crate) skip: usize,
+    // How many rows of all shards come after the place where the search begins.
+    pub(crate) ahead: usize,
+}
+
+// What is left of a search whose page skips `skip` rows: the search after rows that were passed over, and how many rows its page
+// skips. Documents are not passed over, since the deleted ones are counted with the others.
+pub(crate) fn pass_over<'a>(
+    alloc: Global,
+    shards: &'a [Arc<Shard>],
+    search: Search<'a>,
+    skip: usize,
+) -> Result<(Search<'a>, usize), NoMemory>
+    ensures { IfOk result (λ r. HasPageOf (shards_seen shards.now) search.entry skip r.0 r.1) }
+{
+    if first_stride(skip, shards.len()) < 2 {
+        return Ok((search, skip));
+    }
+    match search.target {
+        Target::AllDocs => Ok((search, skip)),
+        Target::Index { ddoc, name } => pass_rows(alloc, shards, search, skip, ddoc, name),
+    }
+}
+
+// The stride of the first round. If it is less than two, too few rows are skipped for counts to be worth their look-ups.
+fn first_stride(skip: usize, shards: usize) -> usize {
+    skip / STEPS / shards.max(1)
+}
+
+// What `pass_over` returns where the target is an index.
+fn pass_rows<'a>(
+    alloc: Global,
+    shards: &'a [Arc<Shard>],
+    search: Search<'a>,
+    skip: usize,
+    ddoc: &str,
+    name: &str,
+) -> Result<(Search<'a>, usize), NoMemory>
+    requires { IsIndex search.target }
+    ensures { IfOk result (λ r. HasPageOf (shards_seen shards.now) search.entry skip r.0 r.1) }
+{
+    match count_all(shards, search) {
+        None => Ok((search, skip)),
+        Some(ahead) => {
+            let all = Passed {
+                search,
+                skip,
+                ahead,
+            };
+            let passed = pass_rounds(alloc, shards, all, ddoc, name)?;
+            Ok((passed.search, passed.skip))
+        }
+    }
+}
+
+// Passes over most of the rows that the page skips, in rounds: in each the stride is a fraction of the one before.
+fn pass_rounds<'a>(
+    alloc: Global,
+    shards: &'a [Arc<Shard>],
+    all: Passed<'a>,
+    ddoc: &str,
+    name: &str,
+) -> Result<Passed<'a>, NoMemory>
+    requires index { IsIndex all.search.target }
+    requires ahead { all.ahead ≡ all_ahead (shards_seen shards.now) all.search }
+    ensures { IfOk result (λ r. HasPageOf (shards_seen shards.now) all.entry.search all.entry.skip
+        r.search r.skip) }
+{
+    let mut passed = all;
+    let mut stride = first_stride(all.skip, shards.len());
+    while stride > 1 {
+        let next = pass_round(alloc, shards, passed, ddoc, name, stride)?;
+        passed = next;
+        stride /= STEPS;
+    }
+    Ok(passed)
+}
+
+// Passes over rows in one round. Rows are read only to choose one to pass to; how many come up to it is counted.
+fn pass_round<'a>(
+    alloc: Global,
+    shards: &'a [Arc<Shard>],
+    passed: Passed<'a>,
+    ddoc: &str,
+    name: &str,
+    stride: usize,
+) -> Result<Passed<'a>, NoMemory>
+    requires index { IsIndex passed.search.target }
+    requires ahead { passed.ahead ≡ all_ahead (shards_seen shards.now) passed.search }
+    requires stride { 0 < stride }
+    ensures page { IfOk result (λ r. HasPageOf (shards_seen shards.now) passed.entry.search passed.entry.skip
+        r.search r.skip) }
+    ensures ahead { IfOk result (λ r. r.ahead ≡ all_ahead (shards_seen shards.now) r.search) }
+{
+    match row_near(alloc, shards, passed, ddoc, name, stride)? {
+        None => Ok(passed),
+        Some(row) => Ok(pass_to(shards, passed, row)),
+    }
+}
+
+// How many rows of all shards come after the place where a search begins; `None` if they cannot be counted.
+fn count_all(shards: &[Arc<Shard>], search: Search<'_>) -> Option<usize>
+    ensures { IfSome result (λ n. n ≡ all_ahead (shards_seen shards.now) search.entry) }
+{
+    let mut all = 0usize;
+    for i in 0..shards.len() {
+        let shard: &Shard = &shards[i];
+        let count = count_ahead(shard, search);
+        if count > usize::MAX - all {
+            return None;
+        }
+        all += count;
+    }
+    Some(all)
+}
+
+// Passes over the rows up to a row, if the search finds that row in its range and the page skips all of these.
+fn pass_to<'a>(shards: &[Arc<Shard>], passed: Passed<'a>, row: &'a RowBytes) -> Passed<'a>
+    requires index { IsIndex passed.search.target }
+    requires ahead { passed.ahead ≡ all_ahead (shards_seen shards.now) passed.search }
+    ensures page { HasPageOf (shards_seen shards.now) passed.entry.search passed.entry.skip
+        result.search result.skip }
+    ensures ahead { result.ahead ≡ all_ahead (shards_seen shards.now) result.search }
+{
+    if is_reached(passed.search, row) && !is_past_row(passed.search, row) {
+        pass_counted(shards, passed, row)
+    } else {
+        passed
+    }
+}
+
+// Passes over the rows up to a row in the range of the search, if the page skips all of these.
+fn pass_counted<'a>(shards: &[Arc<Shard>], passed: Passed<'a>, row: &'a RowBytes) -> Passed<'a>
+    requires index { IsIndex passed.search.target }
+    requires ahead { passed.ahead ≡ all_ahead (shards_seen shards.now) passed.search }
+    requires within { IsWithin passed.search row.now }
+    ensures page { HasPageOf (shards_seen shards.now) passed.entry.search passed.entry.skip
+        result.search result.skip }
+    ensures ahead { result.ahead ≡ all_ahead (shards_seen shards.now) result.search }
+{
+    let beyond = after(passed.search, row, 0);
+    match count_all(shards, beyond) {
+        None => passed,
+        Some(ahead) => {
+            let count = passed.ahead.saturating_sub(ahead);
+            if count > passed.skip {
+                return passed;
+            }
+            let take = passed.search.take.saturating_sub(count);
+            let search = after(passed.search, row, take);
+            Passed {
+                search,
+                skip: passed.skip - count,
+                ahead,
+            }
+        }
+    }
+}
+
+// The search after a row, which takes `take` rows.
+fn after<'a>(search: Search<'a>, row: &'a RowBytes, take: usize) -> Search<'a>
+    ensures { result ≡ beyond_row search.entry row.entry take }
+{
+    Search {
+        after: Some(row),
+        take,
+        ..search
+    }
+}
+
+// A row among those that the page skips, near the last of them: of the rows that come in each shard after as many others as `stride`
+// says, again and again, the last that has too few rows of all shards before it to be one that the page shows.
+fn row_near<'a>(
+    alloc: Global,
+    shards: &'a [Arc<Shard>],
+    passed: Passed<'_>,
+    ddoc: &str,
+    name: &str,
+    stride: usize,
+) -> Result<Option<&'a RowBytes>, NoMemory>
+    requires { 0 < stride }
+{
+    let search = passed.search;
+    let mut scouts = scouts_of(alloc, shards, search, ddoc, name, stride)?;
+    let steps = (passed.skip / stride).saturating_sub(shards.len());
+    let mut last = None;
+    for _ in 0..steps {
+        let Some(scout) = scouts.pop() else {
+            return Ok(last);
+        };
+        last = Some(scout.row);
+        if let Some(next) = scout_of(scout.rows, search, stride) {
+            enter(&mut scouts, next, search.direction)?;
+        }
+    }
+    Ok(last)
+}
+
+// The first scout of each shard, the one whose row comes first at the end.
+fn scouts_of<'a>(
+    alloc: Global,
+    shards: &'a [Arc<Shard>],
+    search: Search<'_>,
+    ddoc: &str,
+    name: &str,
+    stride: usize,
+) -> Result<Vec<Scout<'a>>, NoMemory>
+    requires { 0 < stride }
+{
+    let mut scouts = Vec::with_capacity(alloc, shards.len())?;
+    for i in 0..shards.len() {
+        let shard: &Shard = &shards[i];
+        if let Some(rows) = shard.rows_beyond(ddoc, name, &Begin { search }, search.direction) {
+            if let Some(scout) = scout_of(rows, search, stride) {
+                enter(&mut scouts, scout, search.direction)?;
+            }
+        }
+    }
+    Ok(scouts)
+}

@@ -1,0 +1,59 @@
+//! Scouts: one in each shard, which steps over rows by counts.
+ghost use Rattle.std.specs.Prelude.{◌<◌, ◌≤◌, length};
+
+use crate::search::{Search, is_past_row};
+use mg_collate::Direction;
+use mg_rows::RowBytes;
+use mg_shard::Rows;
+use mg_value::NoMemory;
+
+// A row of a shard, and the rows after it.
+#[derive(Drop)]
+pub(crate) struct Scout<'a> {
+    pub(crate) row: &'a RowBytes,
+    pub(crate) rows: Rows<'a>,
+}
+
+// The scout after `stride` rows; `None` if the search's range ends before.
+pub(crate) fn scout_of<'a>(
+    mut rows: Rows<'a>,
+    search: Search<'_>,
+    stride: usize,
+) -> Option<Scout<'a>>
+    requires { 0 < stride }
+{
+    rows.advance(stride - 1);
+    let row = rows.next()?;
+    if is_past_row(search, row) {
+        return None;
+    }
+    Some(Scout { row, rows })
+}
+
+// Puts a scout among others, of which the one whose row comes first stands at the end.
+pub(crate) fn enter<'a>(
+    scouts: &mut Vec<Scout<'a>>,
+    scout: Scout<'a>,
+    direction: Direction,
+) -> Result<(), NoMemory> {
+    let place = place_of(scouts, scout.row, direction);
+    scouts.insert(place, scout)?;
+    Ok(())
+}
+
+// Where the scout of a row stands among others, by binary search.
+fn place_of(scouts: &[Scout<'_>], row: &RowBytes, direction: Direction) -> usize
+    ensures { result ≤ length scouts.now }
+{
+    let mut low = 0;
+    let mut high = scouts.len();
+    while low < high {
+        let middle = low + (high - low) / 2;
+        if direction.apply(scouts[middle].row.compare(row)).is_gt() {
+            low = middle + 1;
+        } else {
+            high = middle;
+        }
+    }
+    low
+}
