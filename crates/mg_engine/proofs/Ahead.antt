@@ -7,7 +7,7 @@ use Rattle.mg_engine.specs.Commands.{Asked, bulk, bulk_effect, next, reply_of, s
 use Rattle.mg_engine.specs.Ahead.{Determines, Makes}
 use Rattle.mg_engine.specs.Run.{Answers}
 use Rattle.mg_engine.specs.Settled.{IsSettled, settled_of}
-use Rattle.mg_engine.specs.Stands.{Holds, Shown}
+use Rattle.mg_engine.specs.Stands.{StateStandsFor, Shown}
 use Rattle.mg_engine.specs.View.{said}
 use Rattle.mg_engine.specs.World.{World}
 use Rattle.mg_engine.specs.declared.bulk.read.ReadBulk.{ReadBulk}
@@ -42,9 +42,9 @@ if_some (Some x) y = y
 
 -- the reply and the state made from what was read are right for each command that it determines
 pub answers : {E : Type 0} (place : Placing) (s : Shown) (read : ReadBulk) (c : Asked) (made : Result (Reply × Option Shown) E) (w : World)
-    → IfOk made (λ r. (c : Asked) → Determines read c → (w : World) → Holds place s w → (said r.0 ≡ Some (reply_of w c)) × Holds place (unwrap_or r.1 s) (next w c))
-    → Determines read c → Holds place s w → Answers w c (said (settled_of made).0) (Holds place (unwrap_or (settled_of made).1 s))
-answers place s read c (Ok r) w does d h = answered w c (said r.0) (λ u. Holds place (unwrap_or r.1 s) u) (does c d w h).0 (does c d w h).1
+    → IfOk made (λ r. (c : Asked) → Determines read c → (w : World) → StateStandsFor place s w → (said r.0 ≡ Some (reply_of w c)) × StateStandsFor place (unwrap_or r.1 s) (next w c))
+    → Determines read c → StateStandsFor place s w → Answers w c (said (settled_of made).0) (StateStandsFor place (unwrap_or (settled_of made).1 s))
+answers place s read c (Ok r) w does d h = answered w c (said r.0) (λ u. StateStandsFor place (unwrap_or r.1 s) u) (does c d w h).0 (does c d w h).1
 answers place s read c (Err e) w does d h = h
 
 pub settles : {E : Type 0} (made : Result (Reply × Option Shown) E) → IfOk made (λ r. IsSettled r.0 r.1) → IsSettled (settled_of made).0 (settled_of made).1

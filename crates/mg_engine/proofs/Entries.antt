@@ -7,17 +7,17 @@ use Rattle.mg_doc.specs.Document.{Edit}
 use Rattle.mg_doc.specs.declared.error.Refused.TheVariants.{BadHistory, Conflict}
 use Rattle.mg_shard.specs.Edits.{id_in}
 use Rattle.mg_engine.specs.Bulk.{entries_of, entry_before, entry_of, refused_entry}
-use Rattle.mg_engine.specs.Outcomes.{entries_told, reply_in, told_id}
+use Rattle.mg_engine.specs.Outcomes.{entries_seen, reply_in, id_seen}
 use Rattle.mg_engine.specs.declared.bulk.apply.Outcome.{Outcome}
 
 -- the entries by the outcomes are those by the edits, if both have the same ids
-pub by_ids : (b : Bool) (es : List Edit) (os : List Outcome) → map id_in es ≡ map told_id os → entries_of b es (map reply_in os) ≡ entries_told b os
+pub by_ids : (b : Bool) (es : List Edit) (os : List Outcome) → map id_in es ≡ map id_seen os → entries_of b es (map reply_in os) ≡ entries_seen b os
 by_ids b [] [] h = refl
 by_ids b [] (o ∷ os) h = absurd cc
 by_ids b (e ∷ es) [] h = absurd cc
 by_ids b (e ∷ es) (o ∷ os) h =
-    let id : id_in e ≡ told_id o = cc in
-    let rest : map id_in es ≡ map told_id os = cc in
+    let id : id_in e ≡ id_seen o = cc in
+    let rest : map id_in es ≡ map id_seen os = cc in
     ap₂ (λ i vs. entry_before (entry_of b i (reply_in o)) vs) id (by_ids b es os rest)
 
 -- a refused edit has an entry, whether edits are new or not

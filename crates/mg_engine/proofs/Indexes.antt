@@ -21,7 +21,7 @@ use Rattle.mg_engine.specs.declared.refusal.Refusal.{Refusal}
 use Rattle.mg_engine.specs.declared.refusal.Refusal.TheVariants.{WrongShape, MixedSort}
 use Rattle.mg_engine.specs.Settled.{shard_without, state_with, state_without}
 use Rattle.mg_scan.specs.Built.{with_index}
-use Rattle.mg_engine.specs.Stands.{HaveRows, Holds, Shown, definitions_of}
+use Rattle.mg_engine.specs.Stands.{HaveRows, StateStandsFor, Shown, definitions_of}
 use Rattle.mg_engine.specs.StateView.{empty_shard}
 
 -- the refusal in a fault, or this one for `NoMemory`
@@ -98,7 +98,7 @@ still_dealt place f ss hs same st =
           (changed_at f same (histories_on place (length ss) i hs) (slice_get ss i) x (sym (slice_get-map f ss i) ∙ at) (st.each i));
     }
 
-pub holds_with : (place : Placing) (d : IndexDefinition) (s : Shown) (w : World) → Holds place s w → Holds place (state_with d s) (record w { indexes = with_definition d w.indexes })
+pub holds_with : (place : Placing) (d : IndexDefinition) (s : Shown) (w : World) → StateStandsFor place s w → StateStandsFor place (state_with d s) (record w { indexes = with_definition d w.indexes })
 holds_with place d s w h = record {
   name = h.name;
   documents = still_dealt place (with_index d) s.shards w.docs (λ _. refl) h.documents;
@@ -108,8 +108,8 @@ holds_with place d s w h = record {
   objects = h.objects;
 }
 
-pub holds_without : (place : Placing) (ddoc name : List ℕ) (s : Shown) (w : World) → Holds place s w
-    → Holds place (state_without ddoc name s) (record w { indexes = without_definition ddoc name w.indexes })
+pub holds_without : (place : Placing) (ddoc name : List ℕ) (s : Shown) (w : World) → StateStandsFor place s w
+    → StateStandsFor place (state_without ddoc name s) (record w { indexes = without_definition ddoc name w.indexes })
 holds_without place ddoc name s w h = record {
   name = h.name;
   documents = still_dealt place (shard_without ddoc name) s.shards w.docs (λ _. refl) h.documents;
@@ -120,7 +120,7 @@ holds_without place ddoc name s w h = record {
 }
 
 -- a state stands also for the world with an equal list of indexes
-pub holds_same : (place : Placing) (ds : List IndexDefinition) (s : Shown) (w : World) → ds ≡ w.indexes → Holds place s w → Holds place s (record w { indexes = ds })
+pub holds_same : (place : Placing) (ds : List IndexDefinition) (s : Shown) (w : World) → ds ≡ w.indexes → StateStandsFor place s w → StateStandsFor place s (record w { indexes = ds })
 holds_same place ds s w e h = record {
   name = h.name;
   documents = h.documents;

@@ -5,8 +5,9 @@ mod Editing
 mod Indexes
 mod Numbers
 mod Reading
+mod Members
 mod Resharding
-mod Telling
+mod Pages
 mod Ahead
 pub mod Whole
 mod Entries

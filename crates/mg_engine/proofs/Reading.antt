@@ -1,7 +1,9 @@
 -- Edits that are read one after another.
-use Rattle.std.proofs.Common.{◌≡◌, List, [], ◌∷◌, ◌++◌, Result, Ok, Err, refl, sym, ap, append-nil, append_assoc}
-use Rattle.mg_doc.specs.Document.{Edit, then_read}
+use Rattle.std.proofs.Common.{◌≡◌, List, [], ◌∷◌, ◌++◌, Bool, true, false, ◌&&◌, Result, Ok, Err, refl, sym, ap, append-nil, append_assoc}
+use Rattle.mg_value.specs.Value.{Value, Items}
+use Rattle.mg_doc.specs.Document.{Edit, is_object, then_read}
 use Rattle.mg_doc.specs.declared.error.DocError.{DocError}
+use Rattle.mg_engine.specs.Bulk.{are_objects}
 
 -- the edits that were read, in front of the rest
 abbrev pub edits_before : List Edit → Result (List Edit) DocError → Result (List Edit) DocError
@@ -27,3 +29,11 @@ refused found d first rest is = rw is
 
 pub all_before : (found : List Edit) → edits_before found (Ok []) ≡ Ok found
 all_before found = ap Ok (append-nil found)
+
+if_both : (a b : Bool) → (a && b) ≡ true → b ≡ true
+if_both true b h = h
+if_both false b h = absurd cc
+
+-- of documents that are all objects, those after the first are objects
+pub later_objects : (v : Value) (vs : Items) → (is_object v && are_objects vs) ≡ true → are_objects vs ≡ true
+later_objects v vs h = if_both (is_object v) (are_objects vs) h

@@ -1,4 +1,4 @@
--- For private clauses: the body of a bulk that was read ahead, without a state.
+-- For private clauses: commands that were prepared, of which a bulk was read without a state.
 use Rattle.std.specs.Prelude.{◌≡◌, ℕ, Bool, List}
 use Rattle.mg_doc.specs.Document.{Edit}
 use Rattle.mg_engine.specs.Commands.{Asked, edits_effect, next, refused, reply_of, shards_after}
@@ -6,7 +6,10 @@ use Rattle.mg_engine.specs.Objects.{BringObjects}
 use Rattle.mg_engine.specs.World.{World}
 use Rattle.mg_engine.specs.declared.bulk.read.ReadBulk.{ReadBulk}
 use Rattle.mg_engine.specs.declared.bulk.read.ReadBulk.TheVariants.{Edits, Refused}
+use Rattle.mg_engine.specs.declared.prepared.Task.{Task}
+use Rattle.mg_engine.specs.declared.prepared.Task.TheVariants.{Apply, Execute}
 use Rattle.mg_engine.specs.declared.refusal.Refusal.{Refusal}
+use Rattle.mg_engine.specs.View.{asked}
 
 -- in every world the command has the effect of these edits
 pub record Makes (new_edits : Bool) (es : List Edit) (c : Asked) : Type 0 where
@@ -25,3 +28,8 @@ pub record IsRefused (r : Refusal) (c : Asked) : Type 0 where
 abbrev pub Determines : ReadBulk → Asked → Type 0
 Determines (Edits new_edits edits) c = Makes new_edits edits.items c
 Determines (Refused r) c = IsRefused r c
+
+-- in every world the task does what the command asks
+abbrev pub Does : Task → Asked → Type 0
+Does (Apply read) c = Determines read c
+Does (Execute command) c = asked command ≡ c

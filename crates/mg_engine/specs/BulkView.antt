@@ -9,7 +9,7 @@ use Rattle.mg_engine.specs.declared.bulk.read.Bulk as code
 
 -- the bulk that the code's `Bulk` stands for
 abbrev pub bulk_seen : code.Bulk → Bulk
-bulk_seen b = record { new_edits = b.new_edits; documents = items_view b.documents.now }
+bulk_seen b = record { new_edits = b.new_edits; documents = items_view b.documents.items }
 
 -- the edits that were read, and whether they are new
 abbrev pub edits_seen : Bool → Vec Edit Global → BulkEdits

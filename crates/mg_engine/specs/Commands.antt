@@ -127,18 +127,18 @@ refusal_for no_usable_index = NoUsableIndex
 refusal_for bad_bookmark = BadBookmark
 
 -- the answer with the value that a query gives, or the refusal if it gives none
-abbrev pub told_or_refused : {A : Type 0} → (A → Value) → Result A Unanswered → Answer
-told_or_refused value (Ok a) = done (value a)
-told_or_refused value (Err why) = refused (refusal_for why)
+abbrev pub shown_or_refused : {A : Type 0} → (A → Value) → Result A Unanswered → Answer
+shown_or_refused value (Ok a) = done (value a)
+shown_or_refused value (Err why) = refused (refusal_for why)
 
 -- the answer to a query: its page, or its refusal
 abbrev pub answer_of_query : World → Result Query QueryError → Answer
-answer_of_query w (Ok q) = told_or_refused page_value (answer_of w.indexes q (candidates_of w.docs))
+answer_of_query w (Ok q) = shown_or_refused page_value (answer_of w.indexes q (candidates_of w.docs))
 answer_of_query w (Err e) = refused (refusal_of_query e)
 
 -- the explanation of a query, or its refusal
 abbrev pub explained : World → Result Query QueryError → Answer
-explained w (Ok q) = told_or_refused (λ v. v) (explanation_of w.name w.indexes q)
+explained w (Ok q) = shown_or_refused (λ v. v) (explanation_of w.name w.indexes q)
 explained w (Err e) = refused (refusal_of_query e)
 
 -- ---- `GET` of a document

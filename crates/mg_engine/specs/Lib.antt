@@ -12,7 +12,7 @@ pub mod Stands
 pub mod StateView
 pub mod Run
 pub mod Faults
-pub mod Told
+pub mod Answering
 pub mod Settled
 pub mod Objects
 pub mod Outcomes

@@ -8,14 +8,14 @@ use Rattle.mg_engine.specs.Bulk.{entry_before, entry_of}
 use Rattle.mg_engine.specs.declared.bulk.apply.Outcome.{Outcome}
 
 -- the id of the edit
-abbrev pub told_id : Outcome → List ℕ
-told_id o = string_bytes o.id
+abbrev pub id_seen : Outcome → List ℕ
+id_seen o = string_bytes o.id
 
 -- what became of the edit
 abbrev pub reply_in : Outcome → Result Revision Refused
 reply_in o = outcome_seen o.reply
 
 -- the entries of the reply, by the outcomes of the edits
-abbrev pub entries_told : Bool → List Outcome → Items
-entries_told new_edits [] = no_items
-entries_told new_edits (o ∷ os) = entry_before (entry_of new_edits (told_id o) (reply_in o)) (entries_told new_edits os)
+abbrev pub entries_seen : Bool → List Outcome → Items
+entries_seen new_edits [] = no_items
+entries_seen new_edits (o ∷ os) = entry_before (entry_of new_edits (id_seen o) (reply_in o)) (entries_seen new_edits os)

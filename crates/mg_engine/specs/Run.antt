@@ -16,13 +16,13 @@ kept (c ∷ cs) (None ∷ rs) = kept cs rs
 kept (c ∷ cs) (Some a ∷ rs) = c ∷ kept cs rs
 
 -- the answers to the commands that were answered
-abbrev pub told : List (Option Answer) → List Answer
-told [] = []
-told (None ∷ rs) = told rs
-told (Some a ∷ rs) = a ∷ told rs
+abbrev pub answers_of : List (Option Answer) → List Answer
+answers_of [] = []
+answers_of (None ∷ rs) = answers_of rs
+answers_of (Some a ∷ rs) = a ∷ answers_of rs
 
 -- from w the commands have these replies: a command that was refused memory counts as not given, and the others are answered by definition
 pub record IsRun (w : World) (cs : List Asked) (rs : List (Option Answer)) (ends : World → Type 0) : Type 0 where
   pub one_each : length rs ≡ length cs
-  pub replies : told rs ≡ replies_of w (kept cs rs)
+  pub replies : answers_of rs ≡ replies_of w (kept cs rs)
   pub world : ends (world_after w (kept cs rs))

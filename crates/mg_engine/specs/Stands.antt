@@ -32,7 +32,7 @@ HaveRows ds shards = All (λ given. given ≡ ds) (definitions_of shards)
 -- a state whose documents are placed by `place` stands for a world if its shards stand for the histories, its catalog is the list of
 -- indexes, each shard has the rows of exactly these indexes, and the names and the counters are the same. The documents of such a world
 -- have objects as bodies: commands bring no others
-pub record Holds (place : Placing) (s : Shown) (w : World) : Type 0 where
+pub record StateStandsFor (place : Placing) (s : Shown) (w : World) : Type 0 where
   pub name : s.name ≡ w.name
   pub documents : ShardsStandFor place s.shards w.docs
   pub indexes : s.catalog ≡ w.indexes
@@ -42,7 +42,7 @@ pub record Holds (place : Placing) (s : Shown) (w : World) : Type 0 where
 
 -- an engine, whose documents are placed by `place`, stands for the world of its state
 abbrev pub Stands : {P : Type 0} → (P → List ℕ → ℕ → ℕ) → P × Shown → World → Type 0
-Stands place e w = Holds (place e.0) e.1 w
+Stands place e w = StateStandsFor (place e.0) e.1 w
 
 -- how many shards an engine has
 abbrev pub shard_count : {P : Type 0} → P × Shown → ℕ

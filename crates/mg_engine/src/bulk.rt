@@ -5,7 +5,7 @@ ghost use Rattle.mg_engine.specs.Commands.{Asked, bulk, edits_effect, next, repl
 ghost use Rattle.mg_engine.specs.Objects.{BringObjects};
 ghost use Rattle.mg_engine.specs.Ahead.{Determines};
 ghost use Rattle.mg_engine.specs.Settled.{IsSettled, accepts};
-ghost use Rattle.mg_engine.specs.Stands.{Holds};
+ghost use Rattle.mg_engine.specs.Stands.{StateStandsFor};
 ghost use Rattle.mg_engine.specs.View.{said};
 ghost use Rattle.mg_engine.specs.World.{World};
 
@@ -16,30 +16,31 @@ mod reply;
 
 use crate::reply::Reply;
 use crate::state::State;
-use apply::edited;
+use apply::apply_edits;
 use mg_doc::Edit;
 use mg_shard::Placement;
 use mg_value::{Json, NoMemory};
-use number::numbered;
+use number::number_edits;
 pub(crate) use read::ReadBulk;
 use reply::entries_line;
 use std::alloc::Global;
 
 impl State {
-    /// Executes a bulk. Returns the reply, and the next state, or `None` if the bulk is refused. Cost: its documents.
+    /// Executes a bulk. Returns the reply, and the next state, or `None` if the bulk is refused. Cost: its documents, which are copied.
     pub(crate) fn bulk<P: Placement>(
         &self,
         alloc: Global,
         placement: &P,
         body: &Json,
     ) -> Result<(Reply, Option<State>), NoMemory>
-        ensures does { IfOk result (λ r. (w : World) → Holds (P.place placement.now) self.now w
+        ensures does { IfOk result (λ r. (w : World) → StateStandsFor (P.place placement.now) self.now w
             → (said r.0 ≡ Some (reply_of w (bulk (view body.now))))
-            × Holds (P.place placement.now) (unwrap_or r.1 self.now) (next w (bulk (view body.now)))) }
+            × StateStandsFor (P.place placement.now) (unwrap_or r.1 self.now)
+            (next w (bulk (view body.now)))) }
         ensures settled { IfOk result (λ r. IsSettled r.0 r.1) }
         ensures number { IfOk result (λ r. length (unwrap_or r.1 self.now).shards ≡ length self.now.shards) }
     {
-        let read = ReadBulk::of(alloc, body)?;
+        let read = ReadBulk::of(alloc, body.copy(alloc)?)?;
         self.apply(alloc, placement, read)
     }
 
@@ -50,8 +51,11 @@ impl State {
         placement: &P,
         read: ReadBulk,
     ) -> Result<(Reply, Option<State>), NoMemory>
-        ensures does { IfOk result (λ r. (c : Asked) → Determines read c → (w : World) → Holds (P.place placement.now) self.now w
-            → (said r.0 ≡ Some (reply_of w c)) × Holds (P.place placement.now) (unwrap_or r.1 self.now) (next w c)) }
+        ensures does { IfOk result
+            (λ r. (c : Asked) → Determines read c → (w : World)
+            → StateStandsFor (P.place placement.now) self.now w
+            → (said r.0 ≡ Some (reply_of w c))
+            × StateStandsFor (P.place placement.now) (unwrap_or r.1 self.now) (next w c)) }
         ensures settled { IfOk result (λ r. IsSettled r.0 r.1) }
         ensures number { IfOk result (λ r. length (unwrap_or r.1 self.now).shards ≡ length self.now.shards) }
     {
@@ -72,15 +76,16 @@ impl State {
         new_edits: bool,
         edits: Vec<Edit>,
     ) -> Result<(Reply, State), NoMemory>
-        ensures reply { IfOk result (λ r. (w : World) → Holds (P.place placement.now) self.now w
+        ensures reply { IfOk result (λ r. (w : World) → StateStandsFor (P.place placement.now) self.now w
             → said r.0 ≡ Some (edits_effect w new_edits edits.items).answer) }
-        ensures holds { IfOk result (λ r. (w : World) → BringObjects edits.items → Holds (P.place placement.now) self.now w
-            → Holds (P.place placement.now) r.1 (edits_effect w new_edits edits.items).world) }
+        ensures holds { IfOk result
+            (λ r. (w : World) → BringObjects edits.items → StateStandsFor (P.place placement.now) self.now w
+            → StateStandsFor (P.place placement.now) r.1 (edits_effect w new_edits edits.items).world) }
         ensures accepted { IfOk result (λ r. accepts r.0 ≡ true) }
         ensures number { IfOk result (λ r. length r.1.shards ≡ length self.now.shards) }
     {
-        let (edits, counter) = numbered(alloc, edits, self.counter)?;
-        let (outcomes, shards) = edited(alloc, placement, &self.shards, edits)?;
+        let (edits, counter) = number_edits(alloc, edits, self.counter)?;
+        let (outcomes, shards) = apply_edits(alloc, placement, &self.shards, edits)?;
         let body = entries_line(alloc, new_edits, &outcomes)?;
         let next = self.with_shards(shards, counter)?;
         Ok((Reply::Full { status: 201, body }, next))

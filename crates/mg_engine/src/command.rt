@@ -1,8 +1,9 @@
-ghost use Rattle.std.specs.Prelude.{◌≡◌};
+ghost use Rattle.std.specs.Prelude.{◌≡◌, IfOk};
 ghost use Rattle.mg_engine.specs.Commands.{is_write};
 ghost use Rattle.mg_engine.specs.View.{asked};
 
-use mg_value::Json;
+use mg_value::{Json, NoMemory};
+use std::alloc::Global;
 
 /// One command to the engine. Each `Json` is the body of a request.
 #[derive(Debug, Drop)]
@@ -42,6 +43,32 @@ impl Command {
                 conflicts: _,
             } => false,
             Command::Reshard(_) => true,
+        }
+    }
+
+    /// A copy of the command. Errors: `NoMemory` if an allocation fails. Cost: the size of what it carries.
+    pub fn copy(&self, alloc: Global) -> Result<Command, NoMemory>
+        ensures { IfOk result (λ c. asked c ≡ asked self.now) }
+    {
+        match self {
+            Command::Bulk(body) => Ok(Command::Bulk(body.copy(alloc)?)),
+            Command::CreateIndex(body) => Ok(Command::CreateIndex(body.copy(alloc)?)),
+            Command::DropIndex { ddoc, name } => {
+                let ddoc = String::from_str(alloc, ddoc)?;
+                let name = String::from_str(alloc, name)?;
+                Ok(Command::DropIndex { ddoc, name })
+            }
+            Command::ListIndexes => Ok(Command::ListIndexes),
+            Command::Find(body) => Ok(Command::Find(body.copy(alloc)?)),
+            Command::Explain(body) => Ok(Command::Explain(body.copy(alloc)?)),
+            Command::Get { id, conflicts } => {
+                let id = String::from_str(alloc, id)?;
+                Ok(Command::Get {
+                    id,
+                    conflicts: *conflicts,
+                })
+            }
+            Command::Reshard(body) => Ok(Command::Reshard(body.copy(alloc)?)),
         }
     }
 }

@@ -7,7 +7,7 @@ ghost use Rattle.mg_engine.specs.Bodies.{index_value, indexes_value, line_of};
 ghost use Rattle.mg_engine.specs.Commands.{create_index, created, drop_index, list_indexes, next, reply_of, world_defined};
 ghost use Rattle.mg_engine.specs.Settled.{IsSettled, accepts, shard_without, state_with, state_without};
 ghost use Rattle.mg_scan.specs.Built.{with_index};
-ghost use Rattle.mg_engine.specs.Stands.{Holds};
+ghost use Rattle.mg_engine.specs.Stands.{StateStandsFor};
 ghost use Rattle.mg_shard.specs.Shard.{shards_seen};
 ghost use Rattle.mg_engine.specs.View.{said};
 ghost use Rattle.mg_engine.specs.World.{World};
@@ -37,9 +37,9 @@ impl State {
         context: &Context<'_, R, G>,
         body: &Json,
     ) -> Result<(Reply, Option<State>), NoMemory>
-        ensures does { IfOk result (λ r. (place : Placing) (w : World) → Holds place self.now w
+        ensures does { IfOk result (λ r. (place : Placing) (w : World) → StateStandsFor place self.now w
             → (said r.0 ≡ Some (reply_of w (create_index (view body.now))))
-            × Holds place (unwrap_or r.1 self.now) (next w (create_index (view body.now)))) }
+            × StateStandsFor place (unwrap_or r.1 self.now) (next w (create_index (view body.now)))) }
         ensures settled { IfOk result (λ r. IsSettled r.0 r.1) }
         ensures number { IfOk result (λ r. length (unwrap_or r.1 self.now).shards ≡ length self.now.shards) }
     {
@@ -61,27 +61,29 @@ impl State {
         context: &Context<'_, R, G>,
         definition: IndexDef,
     ) -> Result<(Reply, State), NoMemory>
-        ensures does { IfOk result (λ r. (place : Placing) (w : World) → Holds place self.now w
+        ensures does { IfOk result (λ r. (place : Placing) (w : World) → StateStandsFor place self.now w
             → (said r.0 ≡ Some (created w (Ok definition)))
-            × Holds place r.1 (world_defined w (Ok definition))) }
+            × StateStandsFor place r.1 (world_defined w (Ok definition))) }
         ensures accepted { IfOk result (λ r. accepts r.0 ≡ true) }
         ensures number { IfOk result (λ r. length r.1.shards ≡ length self.now.shards) }
     {
         let there = self.catalog.has(&definition);
         let body = created_line(context.alloc, &definition, there)?;
-        let next = self.defined(context, definition, there)?;
+        let next = self.with_definition(context, definition, there)?;
         Ok((Reply::Full { status: 200, body }, next))
     }
 
     // The state with a definition. If the same definition is there already, the state is shared as it is.
-    fn defined<R: Threads + Sync, G>(
+    fn with_definition<R: Threads + Sync, G>(
         &self,
         context: &Context<'_, R, G>,
         definition: IndexDef,
         there: bool,
     ) -> Result<State, NoMemory>
         requires same { there ≡ true → with_definition definition self.now.catalog ≡ self.now.catalog }
-        ensures stands { IfOk result (λ s. (place : Placing) (w : World) → Holds place self.now w → Holds place s (world_defined w (Ok definition))) }
+        ensures stands { IfOk result
+            (λ s. (place : Placing) (w : World) → StateStandsFor place self.now w
+            → StateStandsFor place s (world_defined w (Ok definition))) }
         ensures number { IfOk result (λ s. length s.shards ≡ length self.now.shards) }
     {
         if there {
@@ -115,9 +117,9 @@ impl State {
         ddoc: &str,
         name: &str,
     ) -> Result<(Reply, Option<State>), NoMemory>
-        ensures does { IfOk result (λ r. (place : Placing) (w : World) → Holds place self.now w
+        ensures does { IfOk result (λ r. (place : Placing) (w : World) → StateStandsFor place self.now w
             → (said r.0 ≡ Some (reply_of w (drop_index ddoc.now name.now)))
-            × Holds place (unwrap_or r.1 self.now) (next w (drop_index ddoc.now name.now))) }
+            × StateStandsFor place (unwrap_or r.1 self.now) (next w (drop_index ddoc.now name.now))) }
         ensures settled { IfOk result (λ r. IsSettled r.0 r.1) }
         ensures number { IfOk result (λ r. length (unwrap_or r.1 self.now).shards ≡ length self.now.shards) }
     {
@@ -142,7 +144,9 @@ impl State {
 
     /// The reply that lists the indexes, `_all_docs` first. Cost: their number.
     pub(crate) fn list_indexes(&self, alloc: Global) -> Result<Reply, NoMemory>
-        ensures { IfOk result (λ r. (place : Placing) (w : World) → Holds place self.now w → said r ≡ Some (reply_of w list_indexes)) }
+        ensures { IfOk result
+            (λ r. (place : Placing) (w : World) → StateStandsFor place self.now w
+            → said r ≡ Some (reply_of w list_indexes)) }
     {
         let indexes = indexes_json(alloc, self.catalog.list())?;
         let body = line(alloc, &indexes)?;
@@ -170,7 +174,9 @@ fn indexes_json(alloc: Global, definitions: &[IndexDef]) -> Result<Json, NoMemor
 
 // The body of the reply to a definition: `exists` if the same one is `there` already, otherwise `created`.
 fn created_line(alloc: Global, definition: &IndexDef, there: bool) -> Result<Vec<u8>, NoMemory>
-    ensures { IfOk result (λ b. b.items ≡ line_of (index_value definition.now (if there then codes "exists" else codes "created"))) }
+    ensures { IfOk result
+        (λ b. b.items
+        ≡ line_of (index_value definition.now (if there then codes "exists" else codes "created"))) }
 {
     let word = if there { "exists" } else { "created" };
     let mut created = Json::empty_object(alloc);
@@ -194,7 +200,8 @@ fn all_with<R: Threads + Sync, G>(
     shards: &[Arc<Shard>],
     definition: &IndexDef,
 ) -> Result<Vec<Arc<Shard>>, NoMemory>
-    ensures { IfOk result (λ v. shards_seen v.items ≡ map (with_index definition.now) (shards_seen shards.now)) }
+    ensures { IfOk result
+        (λ v. shards_seen v.items ≡ map (with_index definition.now) (shards_seen shards.now)) }
 {
     let alloc = context.alloc;
     let workers = context.workers.count();
@@ -209,7 +216,8 @@ fn all_without(
     ddoc: &str,
     name: &str,
 ) -> Result<Vec<Arc<Shard>>, NoMemory>
-    ensures { IfOk result (λ v. shards_seen v.items ≡ map (shard_without ddoc.now name.now) (shards_seen shards.now)) }
+    ensures { IfOk result
+        (λ v. shards_seen v.items ≡ map (shard_without ddoc.now name.now) (shards_seen shards.now)) }
 {
     let mut all = Vec::with_capacity(alloc, shards.len())?;
     for shard in shards {

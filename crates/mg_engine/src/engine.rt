@@ -79,7 +79,8 @@ impl<P: Placement + Drop> Engine<P> {
         ensures answers { (w : World) → Stands P.place self.old w
             → Answers w (asked command.now) (said result) (Stands P.place self.new) }
         ensures refused { IfNone (said result) (self.new ≡ self.old) }
-        ensures shards { IfSome (said result) (λ _. shard_count self.new ≡ shards_after (shard_count self.old) (asked command.now)) }
+        ensures shards { IfSome (said result)
+            (λ _. shard_count self.new ≡ shards_after (shard_count self.old) (asked command.now)) }
         ensures placement { self.new.0 ≡ self.old.0 }
     {
         let context = Context {
@@ -108,7 +109,8 @@ impl<P: Placement + Drop> Engine<P> {
         requires read { is_write (asked command.now) ≡ false }
         requires some { 1 ≤ workers }
         requires most { workers ≤ 32 }
-        ensures { (w : World) → Stands P.place self.now w → IfSome (said result) (λ a. a ≡ reply_of w (asked command.now)) }
+        ensures { (w : World) → Stands P.place self.now w
+            → IfSome (said result) (λ a. a ≡ reply_of w (asked command.now)) }
     {
         let context = Context {
             rt,
@@ -132,7 +134,8 @@ impl<P: Placement + Drop> Engine<P> {
         requires read { is_write (asked command.now) ≡ false }
         requires some { 1 ≤ workers }
         requires most { workers ≤ 32 }
-        ensures { (w : World) → Stands P.place self.now w → IfSome (said result) (λ a. a ≡ reply_of w (asked command.now)) }
+        ensures { (w : World) → Stands P.place self.now w
+            → IfSome (said result) (λ a. a ≡ reply_of w (asked command.now)) }
     {
         let context = Context {
             rt,
@@ -150,17 +153,17 @@ impl<P: Placement + Drop> Engine<P> {
         &self,
         rt: &R,
         alloc: Global,
-        command: &Command,
+        command: Command,
         workers: usize,
     ) -> (Reply, Option<Engine<P>>)
-        requires write { is_write (asked command.now) ≡ true }
+        requires write { is_write (asked command) ≡ true }
         requires some { 1 ≤ workers }
         requires most { workers ≤ 32 }
         ensures answers { (w : World) → Stands P.place self.now w
-            → Answers w (asked command.now) (said result.0) (Stands P.place (unwrap_or result.1 self.now)) }
+            → Answers w (asked command) (said result.0) (Stands P.place (unwrap_or result.1 self.now)) }
         ensures next { IsSettled result.0 result.1 }
         ensures shards { IfSome (said result.0) (λ _. shard_count (unwrap_or result.1 self.now)
-            ≡ shards_after (shard_count self.now) (asked command.now)) }
+            ≡ shards_after (shard_count self.now) (asked command)) }
         ensures placement { IfSome result.1 (λ next. next.0 ≡ self.now.0) }
     {
         match Prepared::of(alloc, command) {
@@ -175,17 +178,17 @@ impl<P: Placement + Drop> Engine<P> {
         &self,
         rt: &R,
         alloc: Global,
-        prepared: Prepared<'_>,
+        prepared: Prepared,
         workers: usize,
     ) -> (Reply, Option<Engine<P>>)
         requires write { is_write prepared ≡ true }
         requires some { 1 ≤ workers }
         requires most { workers ≤ 32 }
         ensures answers { (w : World) → Stands P.place self.now w
-            → Answers w prepared.entry (said result.0) (Stands P.place (unwrap_or result.1 self.now)) }
+            → Answers w prepared (said result.0) (Stands P.place (unwrap_or result.1 self.now)) }
         ensures next { IsSettled result.0 result.1 }
         ensures shards { IfSome (said result.0) (λ _. shard_count (unwrap_or result.1 self.now)
-            ≡ shards_after (shard_count self.now) prepared.entry) }
+            ≡ shards_after (shard_count self.now) prepared) }
         ensures placement { IfSome result.1 (λ next. next.0 ≡ self.now.0) }
     {
         let Ok(placement) = self.placement.clone() else {
@@ -238,7 +241,8 @@ impl<P: Placement + Drop> Engine<P> {
             (λ replies. IsRun w (map asked commands.now) (map said replies.items) (Stands P.place self.new)) }
         ensures none_run { OnErr result (self.new ≡ self.old) }
         ensures shards { IfOk result (λ replies. shard_count self.new
-            ≡ shards_after_all (shard_count self.old) (kept (map asked commands.now) (map said replies.items))) }
+            ≡ shards_after_all (shard_count self.old)
+            (kept (map asked commands.now) (map said replies.items))) }
         ensures placement { self.new.0 ≡ self.old.0 }
     {
         let mut replies = Vec::with_capacity(alloc, commands.len())?;

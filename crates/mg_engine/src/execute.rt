@@ -3,13 +3,13 @@ ghost use Rattle.std.specs.Prelude.{◌≡◌, IfSome, None, false, length, true
 ghost use Rattle.mg_engine.specs.Commands.{is_write, shards_after};
 ghost use Rattle.mg_engine.specs.Run.{Answers};
 ghost use Rattle.mg_engine.specs.Settled.{IsSettled, reply_made, settled_of};
-ghost use Rattle.mg_engine.specs.Stands.{Holds};
+ghost use Rattle.mg_engine.specs.Stands.{StateStandsFor};
 ghost use Rattle.mg_engine.specs.View.{asked, said};
 ghost use Rattle.mg_engine.specs.World.{World};
 
 use crate::command::Command;
 use crate::context::Context;
-use crate::prepared::Prepared;
+use crate::prepared::{Prepared, Task};
 use crate::reply::Reply;
 use crate::state::State;
 use mg_scan::Gate;
@@ -26,31 +26,32 @@ impl State {
         placement: &P,
         command: &Command,
     ) -> (Reply, Option<State>)
-        ensures answers { (w : World) → Holds (P.place placement.now) self.now w
-            → Answers w (asked command.now) (said result.0) (Holds (P.place placement.now) (unwrap_or result.1 self.now)) }
+        ensures answers { (w : World) → StateStandsFor (P.place placement.now) self.now w
+            → Answers w (asked command.now) (said result.0)
+            (StateStandsFor (P.place placement.now) (unwrap_or result.1 self.now)) }
         ensures write { is_write (asked command.now) ≡ true → IsSettled result.0 result.1 }
         ensures read { is_write (asked command.now) ≡ false → result.1 ≡ None }
         ensures number { IfSome (said result.0) (λ _. length (unwrap_or result.1 self.now).shards
             ≡ shards_after (length self.now.shards) (asked command.now)) }
     {
         match command {
-            Command::Bulk(body) => settled(self.bulk(context.alloc, placement, body)),
-            Command::CreateIndex(body) => settled(self.create_index(context, body)),
-            Command::DropIndex { ddoc, name } => settled(self.drop_index(
+            Command::Bulk(body) => answer_write(self.bulk(context.alloc, placement, body)),
+            Command::CreateIndex(body) => answer_write(self.create_index(context, body)),
+            Command::DropIndex { ddoc, name } => answer_write(self.drop_index(
                 context.alloc,
                 ddoc,
                 name,
             )),
-            Command::ListIndexes => told(self.list_indexes(context.alloc)),
-            Command::Find(body) => told(self.find(context, body)),
-            Command::Explain(body) => told(self.explain(context.alloc, body)),
-            Command::Get { id, conflicts } => told(self.get(
+            Command::ListIndexes => answer_read(self.list_indexes(context.alloc)),
+            Command::Find(body) => answer_read(self.find(context, body)),
+            Command::Explain(body) => answer_read(self.explain(context.alloc, body)),
+            Command::Get { id, conflicts } => answer_read(self.get(
                 context.alloc,
                 placement,
                 id,
                 *conflicts,
             )),
-            Command::Reshard(body) => settled(self.reshard(context, placement, body)),
+            Command::Reshard(body) => answer_write(self.reshard(context, placement, body)),
         }
     }
 
@@ -59,34 +60,35 @@ impl State {
         &self,
         context: &Context<'_, R, G>,
         placement: &P,
-        prepared: Prepared<'_>,
+        prepared: Prepared,
     ) -> (Reply, Option<State>)
-        ensures answers { (w : World) → Holds (P.place placement.now) self.now w
-            → Answers w prepared.entry (said result.0) (Holds (P.place placement.now) (unwrap_or result.1 self.now)) }
-        ensures write { is_write prepared.entry ≡ true → IsSettled result.0 result.1 }
+        ensures answers { (w : World) → StateStandsFor (P.place placement.now) self.now w
+            → Answers w prepared (said result.0)
+            (StateStandsFor (P.place placement.now) (unwrap_or result.1 self.now)) }
+        ensures write { is_write prepared ≡ true → IsSettled result.0 result.1 }
         ensures number { IfSome (said result.0) (λ _. length (unwrap_or result.1 self.now).shards
-            ≡ shards_after (length self.now.shards) prepared.entry) }
+            ≡ shards_after (length self.now.shards) prepared) }
     {
-        let Prepared { command, bulk } = prepared;
-        match bulk {
-            Some(read) => settled(self.apply(context.alloc, placement, read)),
-            None => self.execute(context, placement, command),
+        let Prepared { given: _, task } = prepared;
+        match task {
+            Task::Apply(read) => answer_write(self.apply(context.alloc, placement, read)),
+            Task::Execute(command) => self.execute(context, placement, &command),
         }
     }
 }
 
 // The reply to a write and the next state. If memory was refused, the reply is `NoMemory`, and there is no next state.
-fn settled(made: Result<(Reply, Option<State>), NoMemory>) -> (Reply, Option<State>)
+fn answer_write(made: Result<(Reply, Option<State>), NoMemory>) -> (Reply, Option<State>)
     ensures { result ≡ settled_of made }
 {
     match made {
-        Ok(settled) => settled,
+        Ok(answered) => answered,
         Err(NoMemory) => (Reply::NoMemory, None),
     }
 }
 
 // The reply to a read, which makes no next state. If memory was refused, the reply is `NoMemory`.
-fn told(made: Result<Reply, NoMemory>) -> (Reply, Option<State>)
+fn answer_read(made: Result<Reply, NoMemory>) -> (Reply, Option<State>)
     ensures { result ≡ (reply_made made, None) }
 {
     match made {

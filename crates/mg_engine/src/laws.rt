@@ -2,12 +2,13 @@
 ghost use Rattle.std.specs.Prelude.{◌≡◌, List, map, length, Some};
 ghost use Rattle.mg_engine.specs.Commands.{Answer, Asked};
 ghost use Rattle.mg_engine.specs.Laws.{ReshardsChangeNoReply, ReshardsChangeNoWorld};
-ghost use Rattle.mg_engine.specs.Run.{kept, told};
+ghost use Rattle.mg_engine.specs.Run.{kept, answers_of};
 
-/// Where memory suffices, `kept` are all commands and `told` are all replies.
+/// Where memory suffices, `kept` are all commands and `answers_of` are all replies.
 pub fn where_memory_suffices()
-    ensures kept { (cs : List Asked) (answers : List Answer) → length answers ≡ length cs → kept cs (map Some answers) ≡ cs }
-    ensures told { (answers : List Answer) → told (map Some answers) ≡ answers }
+    ensures kept { (cs : List Asked) (answers : List Answer) → length answers ≡ length cs
+        → kept cs (map Some answers) ≡ cs }
+    ensures answers { (answers : List Answer) → answers_of (map Some answers) ≡ answers }
 {}
 
 /// Reshards change no other reply: every other command has the reply that it has without the reshards.

@@ -1,5 +1,6 @@
-//! Commands whose bodies were read ahead, without a state.
+//! Commands that are prepared: a bulk is read ahead, for which no state is needed.
 ghost use Rattle.std.specs.Prelude.{◌≡◌, IfOk};
+ghost use Rattle.mg_engine.specs.Ahead.{Does};
 ghost use Rattle.mg_engine.specs.View.{asked};
 
 use crate::bulk::ReadBulk;
@@ -7,15 +8,26 @@ use crate::command::Command;
 use mg_value::NoMemory;
 use std::alloc::Global;
 use std::marker::Model;
+use std::snapshot::Snapshot;
 
-/// A command, with the edits of its body if it is a bulk. Contracts see it as what the command asks.
+/// A command whose bulk, if it is one, was read into edits. Contracts see it as what the command asks.
 #[derive(Drop)]
-pub struct Prepared<'a> {
-    pub(crate) command: &'a Command,
-    pub(crate) bulk: Option<ReadBulk>,
+pub struct Prepared {
+    /// The command as it was given. It has no bytes: only contracts see it.
+    pub(crate) given: Snapshot<Command>,
+    pub(crate) task: Task,
 }
 
-impl<'a> Model for Prepared<'a> {
+/// What is to be done for a command.
+#[derive(Drop)]
+pub(crate) enum Task {
+    /// Applies the edits of a bulk, or refuses the bulk.
+    Apply(ReadBulk),
+    /// Executes any other command.
+    Execute(Command),
+}
+
+impl Model for Prepared {
     ghost use Rattle.mg_engine.specs.Commands.{Asked};
     ghost use Rattle.mg_engine.specs.Code.{asked_code};
 
@@ -23,31 +35,36 @@ impl<'a> Model for Prepared<'a> {
 
     ghost coded = { asked_code };
 
-    ghost use Rattle.std.specs.Prelude.{IfSome};
-    ghost use Rattle.mg_engine.specs.Ahead.{Determines};
+    ghost use Rattle.mg_engine.specs.Ahead.{Does};
     ghost use Rattle.mg_engine.specs.View.{asked};
 
-    ghost view = { λ p. asked p.command.now };
+    ghost view = { λ p. asked p.given.value };
 
-    ghost invariant = { λ p. IfSome p.bulk (λ read. Determines read (asked p.command.now)) };
+    ghost invariant = { λ p. Does p.task (asked p.given.value) };
 }
 
-impl<'a> Prepared<'a> {
-    /// Reads the edits of a bulk ahead; of other commands it reads nothing. It needs no engine, and therefore no lock on one.
+impl Prepared {
+    /// Reads a bulk ahead: its documents are moved into edits. Other commands stay as they are. It needs no engine, and therefore no
+    /// lock on one.
     ///
-    /// Errors: `NoMemory` if an allocation fails. Cost: for a bulk a copy of its documents, otherwise nothing.
-    pub fn of(alloc: Global, command: &'a Command) -> Result<Prepared<'a>, NoMemory>
-        ensures { IfOk result (λ p. p ≡ asked command.now) }
+    /// Errors: `NoMemory` if an allocation fails. Cost: for a bulk that of `Edit::read` for each document, otherwise nothing.
+    pub fn of(alloc: Global, command: Command) -> Result<Prepared, NoMemory>
+        ensures { IfOk result (λ p. p ≡ asked command) }
+    {
+        let given = Snapshot::of(&command);
+        let task = Task::of(alloc, command)?;
+        Ok(Prepared { given, task })
+    }
+}
+
+impl Task {
+    // What is to be done for a command.
+    fn of(alloc: Global, command: Command) -> Result<Task, NoMemory>
+        ensures { IfOk result (λ t. Does t (asked command)) }
     {
         match command {
-            Command::Bulk(body) => {
-                let bulk = Some(ReadBulk::of(alloc, body)?);
-                Ok(Prepared { command, bulk })
-            }
-            _ => Ok(Prepared {
-                command,
-                bulk: None,
-            }),
+            Command::Bulk(body) => Ok(Task::Apply(ReadBulk::of(alloc, body)?)),
+            other => Ok(Task::Execute(other)),
         }
     }
 }

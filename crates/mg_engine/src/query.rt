@@ -7,9 +7,9 @@ ghost use Rattle.mg_query.specs.Query.{query_of};
 ghost use Rattle.mg_query.specs.Seen.{query_seen};
 ghost use Rattle.mg_query.specs.Served.{AreWhole};
 ghost use Rattle.mg_engine.specs.Commands.{Answer, explain as explain_command, explained as explained_of, find, answer_of_query, reply_of};
-ghost use Rattle.mg_engine.specs.Stands.{Holds};
+ghost use Rattle.mg_engine.specs.Stands.{StateStandsFor};
 ghost use Rattle.mg_shard.specs.Shard.{HaveIndexes, shards_seen};
-ghost use Rattle.mg_engine.specs.Told.{Tells};
+ghost use Rattle.mg_engine.specs.Answering.{MakesAnswer};
 ghost use Rattle.mg_engine.specs.View.{said};
 ghost use Rattle.mg_engine.specs.World.{World};
 
@@ -35,19 +35,23 @@ impl State {
         context: &Context<'_, R, G>,
         body: &Json,
     ) -> Result<Reply, NoMemory>
-        ensures { IfOk result (λ r. (place : Placing) (w : World) → Holds place self.now w → said r ≡ Some (reply_of w (find (view body.now)))) }
+        ensures { IfOk result
+            (λ r. (place : Placing) (w : World) → StateStandsFor place self.now w
+            → said r ≡ Some (reply_of w (find (view body.now)))) }
     {
         let line = page_line(context, &self.catalog, self.whole_shards(), body);
-        let reply = told(context.alloc, line)?;
+        let reply = make_reply(context.alloc, line)?;
         Ok(reply)
     }
 
     /// The reply that explains a query. Cost: the choice of the index, and the query.
     pub(crate) fn explain(&self, alloc: Global, body: &Json) -> Result<Reply, NoMemory>
-        ensures { IfOk result (λ r. (place : Placing) (w : World) → Holds place self.now w → said r ≡ Some (reply_of w (explain_command (view body.now)))) }
+        ensures { IfOk result
+            (λ r. (place : Placing) (w : World) → StateStandsFor place self.now w
+            → said r ≡ Some (reply_of w (explain_command (view body.now)))) }
     {
-        let line = explained(alloc, &self.name, &self.catalog, body);
-        let reply = told(alloc, line)?;
+        let line = explanation_line(alloc, &self.name, &self.catalog, body);
+        let reply = make_reply(alloc, line)?;
         Ok(reply)
     }
 }
@@ -60,8 +64,9 @@ fn page_line<R: Threads + Sync, G: Gate + Sync>(
     body: &Json,
 ) -> Result<Vec<u8>, Fault>
     requires indexes { HaveIndexes catalog.now (shards_seen shards.now) }
-    ensures { (place : Placing) (w : World) → ShardsStandFor place (shards_seen shards.now) w.docs → AreWhole (candidates_of w.docs)
-        → w.indexes ≡ catalog.now → Tells result (answer_of_query w (query_of (view body.now))) }
+    ensures { (place : Placing) (w : World) → ShardsStandFor place (shards_seen shards.now) w.docs
+        → AreWhole (candidates_of w.docs)
+        → w.indexes ≡ catalog.now → MakesAnswer result (answer_of_query w (query_of (view body.now))) }
 {
     let query = Query::read(context.alloc, body)?;
     answer_line(context, catalog, shards, &query)
@@ -75,8 +80,9 @@ fn answer_line<R: Threads + Sync, G: Gate + Sync>(
     query: &Query<'_>,
 ) -> Result<Vec<u8>, Fault>
     requires indexes { HaveIndexes catalog.now (shards_seen shards.now) }
-    ensures { (place : Placing) (w : World) → ShardsStandFor place (shards_seen shards.now) w.docs → AreWhole (candidates_of w.docs)
-        → w.indexes ≡ catalog.now → Tells result (answer_of_query w (Ok (query_seen query.now))) }
+    ensures { (place : Placing) (w : World) → ShardsStandFor place (shards_seen shards.now) w.docs
+        → AreWhole (candidates_of w.docs)
+        → w.indexes ≡ catalog.now → MakesAnswer result (answer_of_query w (Ok (query_seen query.now))) }
 {
     let Context {
         rt,
@@ -94,8 +100,14 @@ fn answer_line<R: Threads + Sync, G: Gate + Sync>(
 }
 
 // Reads a query and writes the line that explains it, for a database of this name and catalog.
-fn explained(alloc: Global, name: &str, catalog: &Catalog, body: &Json) -> Result<Vec<u8>, Fault>
-    ensures { (w : World) → w.name ≡ name.now → w.indexes ≡ catalog.now → Tells result (explained_of w (query_of (view body.now))) }
+fn explanation_line(
+    alloc: Global,
+    name: &str,
+    catalog: &Catalog,
+    body: &Json,
+) -> Result<Vec<u8>, Fault>
+    ensures { (w : World) → w.name ≡ name.now → w.indexes ≡ catalog.now
+        → MakesAnswer result (explained_of w (query_of (view body.now))) }
 {
     let query = Query::read(alloc, body)?;
     let value = explain(alloc, name, &query, catalog)?;
@@ -103,8 +115,8 @@ fn explained(alloc: Global, name: &str, catalog: &Catalog, body: &Json) -> Resul
 }
 
 // The reply with this body, or the refusal as a reply.
-fn told(alloc: Global, body: Result<Vec<u8>, Fault>) -> Result<Reply, NoMemory>
-    ensures { IfOk result (λ r. (a : Answer) → Tells body a → said r ≡ Some a) }
+fn make_reply(alloc: Global, body: Result<Vec<u8>, Fault>) -> Result<Reply, NoMemory>
+    ensures { IfOk result (λ r. (a : Answer) → MakesAnswer body a → said r ≡ Some a) }
 {
     match body {
         Ok(body) => Ok(Reply::Full { status: 200, body }),

@@ -8,7 +8,7 @@ ghost use Rattle.mg_doc.specs.Conflicts.{with_conflicts_of};
 ghost use Rattle.mg_shard.specs.Documents.{StandsAt, form_of};
 ghost use Rattle.mg_engine.specs.Bodies.{line_of};
 ghost use Rattle.mg_engine.specs.Commands.{got};
-ghost use Rattle.mg_engine.specs.Stands.{Holds};
+ghost use Rattle.mg_engine.specs.Stands.{StateStandsFor};
 ghost use Rattle.mg_shard.specs.Shard.{shards_seen};
 ghost use Rattle.mg_engine.specs.View.{said};
 ghost use Rattle.mg_engine.specs.World.{World};
@@ -36,7 +36,7 @@ impl State {
         id: &str,
         conflicts: bool,
     ) -> Result<Reply, NoMemory>
-        ensures { IfOk result (λ r. (w : World) → Holds (P.place placement.now) self.now w
+        ensures { IfOk result (λ r. (w : World) → StateStandsFor (P.place placement.now) self.now w
             → said r ≡ Some (got id.now conflicts (finite.get w.docs id.now))) }
     {
         each_id_has_its_shard();
@@ -49,7 +49,8 @@ impl State {
 // The shard on which an id is placed.
 fn shard_of<'a, P: Placement>(placement: &P, shards: &'a [Arc<Shard>], id: &str) -> &'a Shard
     requires { 0 < length shards.now }
-    ensures { slice_get (shards_seen shards.now) (P.place placement.now id.now (length (shards_seen shards.now))) ≡ Some result.now }
+    ensures { slice_get (shards_seen shards.now)
+        (P.place placement.now id.now (length (shards_seen shards.now))) ≡ Some result.now }
 {
     let place = placement.shard_of(id, shards.len());
     let shard = &shards[place];
@@ -77,7 +78,8 @@ fn get_from(alloc: Global, shard: &Shard, id: &str, conflicts: bool) -> Result<R
 
 // The line of a document with its conflicts.
 fn conflicted_line(alloc: Global, form: &Part<'_>, tree: &RevTree) -> Result<Vec<u8>, NoMemory>
-    ensures { IfOk result (λ b. (h : History) → StandsFor tree.now h → b.items ≡ line_of (with_conflicts_of h form.now)) }
+    ensures { IfOk result
+        (λ b. (h : History) → StandsFor tree.now h → b.items ≡ line_of (with_conflicts_of h form.now)) }
 {
     let document = form.copy(alloc)?;
     let shown = with_conflicts(alloc, document, tree)?;

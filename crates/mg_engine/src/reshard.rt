@@ -9,7 +9,7 @@ ghost use Rattle.mg_shard.specs.Shard.{shards_seen};
 ghost use Rattle.mg_engine.specs.Commands.{next, reply_of, reshard, shards_after};
 ghost use Rattle.mg_engine.specs.Reshard.{shard_number, shards_asked};
 ghost use Rattle.mg_engine.specs.Settled.{IsSettled};
-ghost use Rattle.mg_engine.specs.Stands.{HaveRows, Holds};
+ghost use Rattle.mg_engine.specs.Stands.{HaveRows, StateStandsFor};
 ghost use Rattle.mg_engine.specs.View.{said};
 ghost use Rattle.mg_engine.specs.World.{World};
 
@@ -34,9 +34,10 @@ impl State {
         placement: &P,
         body: &Json,
     ) -> Result<(Reply, Option<State>), NoMemory>
-        ensures does { IfOk result (λ r. (w : World) → Holds (P.place placement.now) self.now w
+        ensures does { IfOk result (λ r. (w : World) → StateStandsFor (P.place placement.now) self.now w
             → (said r.0 ≡ Some (reply_of w (reshard (view body.now))))
-            × Holds (P.place placement.now) (unwrap_or r.1 self.now) (next w (reshard (view body.now)))) }
+            × StateStandsFor (P.place placement.now) (unwrap_or r.1 self.now)
+            (next w (reshard (view body.now)))) }
         ensures settled { IfOk result (λ r. IsSettled r.0 r.1) }
         ensures number { IfOk result (λ r. length (unwrap_or r.1 self.now).shards
             ≡ shards_after (length self.now.shards) (reshard (view body.now))) }
@@ -57,14 +58,16 @@ impl State {
         count: usize,
     ) -> Result<State, NoMemory>
         requires { 0 < count }
-        ensures stands { IfOk result (λ s. (w : World) → Holds (P.place placement.now) self.now w → Holds (P.place placement.now) s w) }
+        ensures stands { IfOk result
+            (λ s. (w : World) → StateStandsFor (P.place placement.now) self.now w
+            → StateStandsFor (P.place placement.now) s w) }
         ensures number { IfOk result (λ s. length s.shards ≡ count) }
     {
         if count == self.shards.len() {
             let state = self.share(context.alloc)?;
             Ok(state)
         } else {
-            let shards = dealt_anew(context, &self.shards, placement, count)?;
+            let shards = deal_shards(context, &self.shards, placement, count)?;
             let state = self.with_shards(shards, self.counter)?;
             Ok(state)
         }
@@ -72,7 +75,7 @@ impl State {
 }
 
 // Deals the documents of these shards to `count` new ones, with the rows of the same indexes.
-fn dealt_anew<P: Placement, R: Threads + Sync, G>(
+fn deal_shards<P: Placement, R: Threads + Sync, G>(
     context: &Context<'_, R, G>,
     shards: &[Arc<Shard>],
     placement: &P,
@@ -80,9 +83,11 @@ fn dealt_anew<P: Placement, R: Threads + Sync, G>(
 ) -> Result<Vec<Arc<Shard>>, NoMemory>
     requires { 0 < count }
     ensures number { IfOk result (λ v. length (shards_seen v.items) ≡ count) }
-    ensures stands { IfOk result (λ v. (hs : Histories) → ShardsStandFor (P.place placement.now) (shards_seen shards.now) hs
+    ensures stands { IfOk result
+        (λ v. (hs : Histories) → ShardsStandFor (P.place placement.now) (shards_seen shards.now) hs
         → ShardsStandFor (P.place placement.now) (shards_seen v.items) hs) }
-    ensures rows { IfOk result (λ v. (ds : List IndexDefinition) → 0 < length shards.now → HaveRows ds (shards_seen shards.now)
+    ensures rows { IfOk result
+        (λ v. (ds : List IndexDefinition) → 0 < length shards.now → HaveRows ds (shards_seen shards.now)
         → HaveRows ds (shards_seen v.items)) }
 {
     let workers = context.workers.count();

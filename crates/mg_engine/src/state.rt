@@ -1,7 +1,7 @@
 //! The state of the engine: what the database holds.
 ghost use Rattle.std.specs.Prelude.{◌≡◌, ◌<◌, All, IfOk, length};
 ghost use Rattle.mg_engine.specs.World.{empty_world};
-ghost use Rattle.mg_engine.specs.Stands.{HaveRows, Holds};
+ghost use Rattle.mg_engine.specs.Stands.{HaveRows, StateStandsFor};
 ghost use Rattle.mg_shard.specs.Shard.{shards_seen};
 ghost use Rattle.mg_shard.specs.Dealt.{Placing};
 
@@ -42,7 +42,8 @@ impl State {
     /// The state of an empty database: shards without a document, and no index. Cost: the number of shards, and the name.
     pub(crate) fn new(alloc: Global, name: &str, shards: usize) -> Result<State, NoMemory>
         requires { 0 < shards }
-        ensures stands { IfOk result (λ s. (place : Placing) → Holds place s (empty_world name.now)) }
+        ensures stands { IfOk result
+            (λ s. (place : Placing) → StateStandsFor place s (empty_world name.now)) }
         ensures number { IfOk result (λ s. length s.shards ≡ shards) }
     {
         let name = Arc::new(alloc, String::from_str(alloc, name)?)?;
@@ -65,7 +66,8 @@ impl State {
     ) -> Result<State, NoMemory>
         requires some { 0 < length shards.items }
         requires rows { HaveRows self.now.catalog (shards_seen shards.items) }
-        ensures { IfOk result (λ s. s ≡ record self.now { shards = shards_seen shards.items; counter = counter }) }
+        ensures { IfOk result
+            (λ s. s ≡ record self.now { shards = shards_seen shards.items; counter = counter }) }
     {
         Ok(State {
             name: self.name.clone()?,
@@ -84,7 +86,8 @@ impl State {
     ) -> Result<State, NoMemory>
         requires some { 0 < length shards.items }
         requires rows { HaveRows catalog (shards_seen shards.items) }
-        ensures { IfOk result (λ s. s ≡ record self.now { catalog = catalog; shards = shards_seen shards.items }) }
+        ensures { IfOk result
+            (λ s. s ≡ record self.now { catalog = catalog; shards = shards_seen shards.items }) }
     {
         Ok(State {
             name: self.name.clone()?,

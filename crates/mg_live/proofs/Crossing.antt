@@ -20,7 +20,7 @@ use Rattle.left_right.proofs.writer.Writer.TheSendSync as writer
 use Rattle.left_right.specs.contracts.reader.Reader as Reader
 use Rattle.left_right.specs.contracts.writer.Writer as Writer
 use Rattle.logbook.proofs.tokens.Seen.TheSendSync as seen
-use Rattle.mg_live.proofs.history.Head.TheSendSync as head
+use Rattle.mg_live.proofs.commit_log.Head.TheSendSync as head
 use Rattle.mg_engine.specs.contracts.engine.Engine as Engine
 use Rattle.mg_engine.specs.contracts.engine.Engine.TheInside as engine
 use Rattle.mg_engine.specs.contracts.state.State as State
@@ -29,14 +29,14 @@ use Rattle.mg_live.specs.contracts.database.Waiting as Waiting
 use Rattle.mg_live.specs.contracts.desk.Desk as Desk
 use Rattle.mg_live.specs.contracts.desk.Desk.TheInside as desk
 use Rattle.mg_live.specs.contracts.tally.Tally.TheInside as tally
-use Rattle.mg_live.proofs.history.Prefix.TheSendSync as front
+use Rattle.mg_live.proofs.commit_log.Prefix.TheSendSync as front
 use Rattle.mg_live.specs.contracts.markers.Ours as Ours
 use Rattle.mg_live.specs.contracts.markers.OursProtocolSnapshotUnit.TheImpl as protocol_of
-use Rattle.mg_live.specs.contracts.published.SnapshotAbsorbUnit.TheImpl as absorb_of
+use Rattle.mg_live.specs.contracts.publication.SnapshotAbsorbUnit.TheImpl as absorb_of
 use Rattle.mg_live.specs.contracts.seat.Named as Named
 use Rattle.mg_live.specs.contracts.seat.Seat.TheInside as seat
 use Rattle.mg_live.specs.contracts.seat.Seat as Seat
-use Rattle.mg_live.specs.contracts.seat.Shared as Shared
+use Rattle.mg_live.specs.contracts.seat.SharedDesk as SharedDesk
 use Rattle.mg_live.specs.contracts.snapshot.Snapshot as Snapshot
 use Rattle.mg_live.specs.contracts.tally.Tally as Tally
 use Rattle.mg_live.specs.declared.database.Database as database
@@ -113,11 +113,11 @@ module _ (D C P : RattleType) (d : database.Ghosts D.Denot) (l : ledger.Ghosts D
   desk_send : IsSend (Desk.the_row D C P b d l p)
   desk_send = view_send _ _ _ _ _ (declared_send (desk.the_type D C P b d l p) (writes_send, (book.the_send D l, (as_row_send (row_field C) c, tt))))
 
-  shared_send : IsSend (Shared.the_row D C P d l p b)
-  shared_send = declared_send (Shared.the_type D C P d l p b) (named_send D d l, (mutex_send (Desk.the_row D C P b d l p) desk_send, tt))
+  shared_send : IsSend (SharedDesk.the_row D C P d l p b)
+  shared_send = declared_send (SharedDesk.the_type D C P d l p b) (named_send D d l, (mutex_send (Desk.the_row D C P b d l p) desk_send, tt))
 
-  shared_sync : IsSync (Shared.the_row D C P d l p b)
-  shared_sync = declared_sync (Shared.the_type D C P d l p b) (named_sync D d l, (mutex_sync (Desk.the_row D C P b d l p) desk_send, tt))
+  shared_sync : IsSync (SharedDesk.the_row D C P d l p b)
+  shared_sync = declared_sync (SharedDesk.the_type D C P d l p b) (named_sync D d l, (mutex_sync (Desk.the_row D C P b d l p) desk_send, tt))
 
   -- a seat is `Send` if what ends its database is `Send`, and the placement of its documents is `Send` and `Sync`
   pub seat_send_by : IsSend (Seat.the_row D C P d l p b)
@@ -131,7 +131,7 @@ module _ (D C P : RattleType) (d : database.Ghosts D.Denot) (l : ledger.Ghosts D
           tally_send D l,
           (
             option.the_send Reads reads_send,
-            (Arc-send (Shared.the_row D C P d l p b) shared_send shared_sync, tt),
+            (Arc-send (SharedDesk.the_row D C P d l p b) shared_send shared_sync, tt),
           ),
         ),
       ),

@@ -1,13 +1,14 @@
 -- Prefixes of one commit log.
 use Rattle.std.proofs.lemmas.Bool.{leb-true, leb-false}
+use Rattle.std.proofs.lemmas.Bool.Decides.{nat_tests}
 use Rattle.std.proofs.lemmas.List.{get_or_read, map-append}
-use Rattle.std.proofs.Common.{Bool, true, false, leb, MatchBool, ◌<◌, ◌⊎◌, ◌+◌, ⊎_elim, inl, inr, subst, get_or, ◌≡◌, ℕ, ◌≤◌, List, [], ◌∷◌, length, refl, ap, sym, ◌∙◌, arith}
+use Rattle.std.proofs.Common.{Bool, true, false, leb, MatchBool, ◌<◌, ◌⊎◌, ◌+◌, ⊎_elim, inl, inr, subst, get_or, nat_lt, ◌≡◌, ℕ, ◌≤◌, List, [], ◌∷◌, length, refl, ap, sym, ◌∙◌, arith}
 use mathlib.Core.List.{IsPrefix}
 use mathlib.Core.Logic.{dite}
 use native.Mathlib.Decide.{ℕ_discrete}
 use Rattle.mg_machine.specs.Laws.{IsPrefix as Begins}
-use Rattle.mg_machine.specs.Machine.{Commit}
-use Rattle.mg_machine.proofs.Beginnings.{itself}
+use Rattle.mg_machine.specs.Machine.{Commit, longer_of}
+use Rattle.mg_machine.proofs.Beginnings.{itself, two}
 use Rattle.mg_live.specs.View.{commit_seen, commits_seen}
 use Rattle.mg_live.specs.declared.markers.Entry.{Entry}
 
@@ -36,6 +37,13 @@ seen_begins xs ys p = (commits_seen p.0, sym (ap commits_seen p.1) ∙ map-appen
 -- commits are a prefix of themselves
 pub begins_itself : (cs : List Commit) → Begins cs cs
 begins_itself cs = itself cs
+
+-- the longer of two lists, of which the first is a prefix of the second, is the second
+pub longer_second : (cs ds : List Commit) → Begins cs ds → ds ≡ longer_of cs ds
+longer_second cs ds p = elim (two (nat_lt (length cs) (length ds))) [
+  | inl t ↦ rw t refl
+  | inr f ↦ let le : length ds ≤ length cs = grind (arith, nat_tests, f) in rw f (sym (prefix_whole cs ds (p.0, sym p.1) le))
+]
 
 -- the lengths of two prefixes of one list decide which is a prefix of the other
 pub compared : (xs ys zs : List Entry) → IsPrefix xs zs → IsPrefix ys zs → (b : Bool) → leb (length xs) (length ys) ≡ b

@@ -15,14 +15,15 @@ use Rattle.mg_machine.specs.Machine.{Commit, after_write, are_full, write_reply}
 use Rattle.mg_machine.specs.Points.{IsAfter, IsDealt}
 use Rattle.mg_live.specs.Published.{Nexts, Publishes, Standing}
 use Rattle.mg_live.specs.Snapshots.{StandsAfter, IsOf, commits_of}
-use Rattle.mg_live.specs.Sitting.{IsLater, Sitting, Writes}
+use Rattle.mg_live.specs.Sitting.{IsLater, Learned, Sitting, Writes}
 use Rattle.mg_live.specs.Rules.{log_entry}
 use Rattle.mg_live.specs.View.{commit_seen, commits_seen}
 use Rattle.mg_live.specs.declared.markers.Entry.{Entry}
-use Rattle.mg_live.specs.declared.history.Prefix.{Prefix}
+use Rattle.mg_live.specs.declared.commit_log.Prefix.{Prefix}
 use Rattle.mg_machine.specs.declared.point.Point.{Point}
 use Rattle.mg_live.specs.declared.snapshot.Snapshot.{Snapshot}
 use Rattle.mg_machine.proofs.Beginnings.{itself, two}
+use Rattle.mg_live.proofs.Fronts.{longer_second}
 
 -- ---- the same snapshot in another place
 
@@ -122,3 +123,9 @@ wrote name old cs c (Some a) new p = record { commits = cs; later = p.later; ans
 -- a seat that has seen nothing more
 pub later_same : (s : Sitting) → IsLater s s
 later_same s = record { number = refl; seen = itself s.seen; tally = refl }
+
+-- ---- learning
+
+-- a seat that learns a list, of which it has seen a prefix, has then seen that list
+pub learned : (old : Sitting) (heard : List Commit) → IsPrefix old.seen heard → Learned old heard (record old { seen = heard })
+learned old heard p = record { longer = longer_second old.seen heard p; own = p; other = itself heard; number = refl; tally = refl }

@@ -6,7 +6,7 @@ use Rattle.mg_machine.specs.Laws.{IsPrefix}
 use Rattle.mg_machine.specs.Machine.{Commit, after_write, write_reply}
 use Rattle.mg_live.specs.View.{commits_seen}
 use Rattle.mg_live.specs.Sitting.{tally_after}
-use Rattle.mg_live.specs.declared.history.Prefix.{Prefix}
+use Rattle.mg_live.specs.declared.commit_log.Prefix.{Prefix}
 
 -- the reply to a write after commits, and the commits after it if it is accepted
 abbrev pub Nexts : List ℕ → List Commit → Commit → Option Answer → Option (List Commit) → Type 0
@@ -26,7 +26,7 @@ standing cs front tally = record { published = cs; seen = commits_seen front.see
 
 -- a write is answered after the published commits, of which its seat had seen a prefix. If it is accepted, it is published as the last
 -- commit, and its seat's tally counts it
-pub record IsAnswered (name : List ℕ) (write : Commit) (old : Standing) (a : Answer) (new : Standing) : Type 0 where
+pub record IsWriteAnswered (name : List ℕ) (write : Commit) (old : Standing) (a : Answer) (new : Standing) : Type 0 where
   pub later : IsPrefix old.seen old.published
   pub answer : a ≡ write_reply name old.published write.1
   pub published : new.published ≡ after_write name old.published write.0 write.1
@@ -36,4 +36,4 @@ pub record IsAnswered (name : List ℕ) (write : Commit) (old : Standing) (a : A
 -- a write is answered; or memory was refused, and nothing has changed
 abbrev pub Publishes : List ℕ → Commit → Standing → Option Answer → Standing → Type 0
 Publishes name write old None new = new ≡ old
-Publishes name write old (Some a) new = IsAnswered name write old a new
+Publishes name write old (Some a) new = IsWriteAnswered name write old a new

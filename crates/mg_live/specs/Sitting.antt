@@ -69,10 +69,10 @@ Answered name old c o new = MatchBool (is_write c) (Writes name old c o new) (Re
 -- ---- learning
 
 -- the seat has learned a list of commits: it has then seen the longer of both lists, and both are prefixes of it
-pub record Told (old : Sitting) (heard : List Commit) (new : Sitting) : Type 0 where
+pub record Learned (old : Sitting) (heard : List Commit) (new : Sitting) : Type 0 where
   pub longer : new.seen ≡ longer_of old.seen heard
   pub own : IsPrefix old.seen new.seen
-  pub told : IsPrefix heard new.seen
+  pub other : IsPrefix heard new.seen
   pub number : new.number ≡ old.number
   pub tally : new.tally ≡ old.tally
 

@@ -86,7 +86,7 @@ where
         ensures { Answered D.db self.old (bulk (view body.now)) (said result) self.new }
     {
         match body.copy(self.alloc) {
-            Ok(body) => self.write(rt, &Command::Bulk(body), workers),
+            Ok(body) => self.write(rt, Command::Bulk(body), workers),
             Err(_) => Reply::NoMemory,
         }
     }
@@ -103,7 +103,7 @@ where
         ensures { Answered D.db self.old (create_index (view body.now)) (said result) self.new }
     {
         match body.copy(self.alloc) {
-            Ok(body) => self.write(rt, &Command::CreateIndex(body), workers),
+            Ok(body) => self.write(rt, Command::CreateIndex(body), workers),
             Err(_) => Reply::NoMemory,
         }
     }
@@ -124,7 +124,7 @@ where
             return Reply::NoMemory;
         };
         match String::from_str(self.alloc, name) {
-            Ok(name) => self.write(rt, &Command::DropIndex { ddoc, name }, workers),
+            Ok(name) => self.write(rt, Command::DropIndex { ddoc, name }, workers),
             Err(_) => Reply::NoMemory,
         }
     }
@@ -141,7 +141,7 @@ where
         ensures { Answered D.db self.old (reshard (view body.now)) (said result) self.new }
     {
         match body.copy(self.alloc) {
-            Ok(body) => self.write(rt, &Command::Reshard(body), workers),
+            Ok(body) => self.write(rt, Command::Reshard(body), workers),
             Err(_) => Reply::NoMemory,
         }
     }

@@ -1,5 +1,5 @@
 //! Which database a seat belongs to, for contracts, and what ends a database.
-use crate::published::Writes;
+use crate::publication::SnapshotWriter;
 use crate::snapshot::Snapshot;
 use left_right::Absorb;
 use mg_shard::Placement;
@@ -37,7 +37,7 @@ impl Database for Brand {
 /// What ends the writer of a database that is dropped.
 pub trait Ends: Drop {
     /// Ends the writer. May wait for readers.
-    fn end<D: Database, P: Placement + Drop>(&self, writer: Writes<D, P>)
+    fn end<D: Database, P: Placement + Drop>(&self, writer: SnapshotWriter<D, P>)
     where
         Snapshot<P>: Absorb<(), State = ()>;
 }
@@ -47,7 +47,7 @@ pub trait Ends: Drop {
 pub struct Waiting<R: Drop>(pub R);
 
 impl<R: Wait + Drop> Ends for Waiting<R> {
-    fn end<D: Database, P: Placement + Drop>(&self, writer: Writes<D, P>)
+    fn end<D: Database, P: Placement + Drop>(&self, writer: SnapshotWriter<D, P>)
     where
         Snapshot<P>: Absorb<(), State = ()>,
     {

@@ -8,9 +8,9 @@ ghost use Rattle.mg_live.specs.Rules.{head_of};
 ghost use Rattle.mg_live.specs.Snapshots.{IsOf, IsPublished, commits_of};
 ghost use Rattle.mg_live.specs.View.{commits_seen};
 
+use crate::commit_log::{Head, Prefix, Write};
 use crate::database::{Database, Ends};
-use crate::history::{Head, Prefix, Write};
-use crate::published::{Writes, publish};
+use crate::publication::{SnapshotWriter, publish};
 use crate::snapshot::Snapshot;
 use crate::tally::Tally;
 use left_right::Absorb;
@@ -27,7 +27,7 @@ pub struct Desk<D: Database, C: Ends, P: Placement + Drop>
 where
     Snapshot<P>: Absorb<(), State = ()>,
 {
-    writer: Writes<D, P>,
+    writer: SnapshotWriter<D, P>,
     book: Book<D>,
     ends: C,
 }
@@ -71,7 +71,7 @@ where
     Snapshot<P>: Absorb<(), State = ()>,
 {
     // A desk with no commit.
-    pub(crate) fn new(ends: C, writer: Writes<D, P>, book: Book<D>) -> Desk<D, C, P>
+    pub(crate) fn new(ends: C, writer: SnapshotWriter<D, P>, book: Book<D>) -> Desk<D, C, P>
         requires empty { (commits_of writer.desk.shown.value ≡ []) × (book.total ≡ 0) }
         requires here { IsOf P.place D.history D.db D.shards writer.desk.shown.value }
         ensures { result ≡ [] }
@@ -88,18 +88,18 @@ where
         rt: &R,
         alloc: Global,
         head: &Head,
-        write: &Write<'_>,
-        prepared: Prepared<'_>,
+        write: &Write,
+        prepared: Prepared,
         tally: &mut Tally<D>,
         front: &mut Prefix,
     ) -> (Reply, Option<Snapshot<P>>)
-        requires write { is_write (asked write.now.command.now) ≡ true }
-        requires prepared { prepared ≡ asked write.now.command.now }
+        requires write { is_write (asked write.now.command.value) ≡ true }
+        requires prepared { prepared ≡ asked write.now.command.value }
         requires some { 1 ≤ write.now.workers }
         requires most { write.now.workers ≤ 32 }
         requires here { (front.old.seen.book ≡ D.history) × (head.now.word ≡ head_of D.history) }
         ensures here { front.new.seen.book ≡ D.history }
-        ensures publishes { Publishes D.db (write.now.seat, asked write.now.command.now)
+        ensures publishes { Publishes D.db (write.now.seat, asked write.now.command.value)
             (standing self.old front.old tally.old) (said result.0) (standing self.new front.new tally.new) }
     {
         let now = self.writer.published();
@@ -121,10 +121,11 @@ where
     }
 
     // Lets a seat catch up with what is published. Returns false, and changes nothing, if the seat is ahead of it.
-    pub(crate) fn tell(&self, front: &mut Prefix) -> bool
+    pub(crate) fn catch_up(&self, front: &mut Prefix) -> bool
         requires { front.old.seen.book ≡ D.history }
         ensures here { front.new.seen.book ≡ D.history }
-        ensures told { MatchBool result ((commits_seen front.new.seen.log ≡ self.now) × IsPrefix (commits_seen front.old.seen.log) self.now) (front.new ≡ front.old) }
+        ensures caught_up { MatchBool result ((commits_seen front.new.seen.log ≡ self.now)
+            × IsPrefix (commits_seen front.old.seen.log) self.now) (front.new ≡ front.old) }
         ensures published { IsPublished P.place D.db D.shards self.now }
     {
         let now = self.writer.published();

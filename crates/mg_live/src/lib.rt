@@ -2,18 +2,18 @@
 #![tactic(auto)]
 
 mod calls;
+mod commit_log;
 mod database;
 mod desk;
-mod history;
 mod live;
 mod markers;
-mod published;
+mod publication;
 mod seat;
 mod snapshot;
 mod tally;
 
+pub use commit_log::CommitLog;
 pub use database::{Database, Ends, Waiting};
-pub use history::CommitLog;
 pub use live::{CloseError, Closed, Live};
 pub use mg_machine::{interleave, laws};
 pub use seat::{Seat, Seen};

@@ -6,12 +6,12 @@ ghost use Rattle.mg_live.specs.Sitting.{AreAll, IsAhead, all_tallies, new_seats}
 ghost use Rattle.mg_live.specs.View.{commits_seen};
 ghost use Rattle.mg_live.specs.declared.live.CloseError.TheVariants.{Ahead, Missing};
 
+use crate::commit_log::{CommitLog, Head, Prefix};
 use crate::database::{Database, Ends};
 use crate::desk::Desk;
-use crate::history::{CommitLog, Head, Prefix};
 use crate::markers::Ours;
-use crate::published::Writes;
-use crate::seat::{Named, Seat, Shared};
+use crate::publication::SnapshotWriter;
+use crate::seat::{Named, Seat, SharedDesk};
 use crate::snapshot::Snapshot;
 use crate::tally::Tally;
 use left_right::Absorb;
@@ -31,7 +31,7 @@ pub struct Live<D: Database, C: Ends, P: Placement + Drop = Md5Placement>
 where
     Snapshot<P>: Absorb<(), State = ()>,
 {
-    shared: Arc<Shared<D, C, P>>,
+    shared: Arc<SharedDesk<D, C, P>>,
     first: Prefix,
     rest: Share<D>,
     seats: usize,
@@ -79,7 +79,7 @@ struct Start<D: Database, C: Ends, P: Placement + Drop>
 where
     Snapshot<P>: Absorb<(), State = ()>,
 {
-    shared: Shared<D, C, P>,
+    shared: SharedDesk<D, C, P>,
     factory: Factory<Snapshot<P>, (), Ours<D, P>>,
     front: Prefix,
     all: Share<D>,
@@ -123,10 +123,10 @@ where
         front: front.again(),
     };
     let second = first.again()?;
-    let writer: Writes<D, P> = Writer::new(alloc, first, second, seats)?;
+    let writer: SnapshotWriter<D, P> = Writer::new(alloc, first, second, seats)?;
     let factory = writer.factory().another();
     let desk = Desk::new(ends, writer, book);
-    let shared = Shared {
+    let shared = SharedDesk {
         named: Named {
             head,
             of: PhantomData,

@@ -1,6 +1,6 @@
 //! Markers: types of which no value is made. They name rules and steps for proofs.
+use crate::commit_log::Write;
 use crate::database::Database;
-use crate::history::Write;
 use crate::snapshot::Snapshot;
 use crossbeam_utils::rule::{Outcome, Protocol};
 use logbook::{Gain, Plain, Play, Rule};
@@ -55,11 +55,11 @@ impl Play<Entry, u64> for Add {
     ghost then = { Adds };
 }
 
-impl<'a> Plain<Write<'a>, Entry, u64> for Add {
+impl Plain<Write, Entry, u64> for Add {
     ghost use Rattle.std.specs.Prelude.{None};
     ghost use Rattle.mg_live.specs.Rules.{log_entry};
 
-    ghost ask = { λ write. log_entry write.seat write.command.now };
+    ghost ask = { λ write. log_entry write.seat write.command.value };
 
     ghost state = { λ write. None };
 }

@@ -4,12 +4,12 @@ ghost use Rattle.mg_engine.specs.Commands.{is_write};
 ghost use Rattle.mg_engine.specs.View.{asked, said};
 ghost use Rattle.mg_live.specs.Snapshots.{StandsAfter, IsPublished};
 ghost use Rattle.mg_live.specs.Rules.{head_of};
-ghost use Rattle.mg_live.specs.Sitting.{Answered, IsLater, Reads, Told, Writes};
+ghost use Rattle.mg_live.specs.Sitting.{Answered, IsLater, Reads, Learned, Writes};
 
+use crate::commit_log::{Head, Prefix, Write};
 use crate::database::{Database, Ends};
 use crate::desk::Desk;
-use crate::history::{Head, Prefix, Write};
-use crate::published::{Reads, look};
+use crate::publication::{SnapshotReader, look};
 use crate::snapshot::Snapshot;
 use crate::tally::Tally;
 use left_right::Absorb;
@@ -24,7 +24,7 @@ use std::thread::Threads;
 
 /// What all seats share: the word of the commit log, and the desk under the writer's lock.
 #[derive(Drop)]
-pub(crate) struct Shared<D: Database, C: Ends, P: Placement + Drop>
+pub(crate) struct SharedDesk<D: Database, C: Ends, P: Placement + Drop>
 where
     Snapshot<P>: Absorb<(), State = ()>,
 {
@@ -50,8 +50,8 @@ where
     pub(crate) alloc: Global,
     pub(crate) front: Prefix,
     pub(crate) tally: Tally<D>,
-    pub(crate) reader: Option<Reads<D, P>>,
-    pub(crate) shared: Arc<Shared<D, C, P>>,
+    pub(crate) reader: Option<SnapshotReader<D, P>>,
+    pub(crate) shared: Arc<SharedDesk<D, C, P>>,
 }
 
 impl<D: Database, C: Ends, P: Placement + Drop> Model for Seat<D, C, P>
@@ -101,7 +101,7 @@ where
 {
     /// Catches up with what is published, and returns the database after the commits that the seat has then seen. It waits for nobody.
     ///
-    /// Errors: `NoMemory` where the snapshot cannot be taken. Cost: the same for any documents.
+    /// Errors: `NoMemory` where the snapshot cannot be taken. Cost: independent of the documents.
     pub fn snapshot(&mut self) -> Result<Snapshot<P>, NoMemory>
         ensures later { IsLater self.old self.new }
         ensures snapshot { IfOk result (λ s. StandsAfter P.place D.db D.shards s self.new.seen) }
@@ -122,21 +122,22 @@ where
     /// The reply to a command, by 1 to 32 workers. A read is answered over one snapshot, and waits for nobody. A write is answered after
     /// all commits; if it is accepted, it is one more commit.
     ///
-    /// Where memory was refused, a write is not a commit, and the seat is as it was. Cost: that of the engine's reply.
+    /// Where memory was refused, a write is not a commit, and the seat is as it was. Cost: that of the engine's reply. The documents of a
+    /// bulk are moved into the database, not copied.
     pub fn answer<R: Wait + Threads + Sync>(
         &mut self,
         rt: &R,
-        command: &Command,
+        command: Command,
         workers: usize,
     ) -> Reply
         requires some { 1 ≤ workers }
         requires most { workers ≤ 32 }
-        ensures { Answered D.db self.old (asked command.now) (said result) self.new }
+        ensures { Answered D.db self.old (asked command) (said result) self.new }
     {
         if command.is_write() {
             self.write(rt, command, workers)
         } else {
-            self.reply(rt, command, workers)
+            self.reply(rt, &command, workers)
         }
     }
 
@@ -189,13 +190,13 @@ where
     pub(crate) fn write<R: Wait + Threads + Sync>(
         &mut self,
         rt: &R,
-        command: &Command,
+        command: Command,
         workers: usize,
     ) -> Reply
-        requires write { is_write (asked command.now) ≡ true }
+        requires write { is_write (asked command) ≡ true }
         requires some { 1 ≤ workers }
         requires most { workers ≤ 32 }
-        ensures { Writes D.db self.old (asked command.now) (said result) self.new }
+        ensures { Writes D.db self.old (asked command) (said result) self.new }
     {
         let Seat {
             number,
@@ -205,13 +206,9 @@ where
             shared,
             ..
         } = self;
+        let write = Write::of(*number, &command, workers);
         let Ok(prepared) = Prepared::of(*alloc, command) else {
             return Reply::NoMemory;
-        };
-        let write = Write {
-            seat: *number,
-            command,
-            workers,
         };
         let (reply, before) = {
             let mut desk = shared.desk.lock(rt);
@@ -239,7 +236,7 @@ where
         ensures refused { OnErr result (self.new ≡ self.old) }
     {
         let desk = self.shared.desk.lock(rt);
-        if !desk.tell(&mut self.front) {
+        if !desk.catch_up(&mut self.front) {
             return Err(NoMemory);
         }
         Ok(Seen {
@@ -250,7 +247,7 @@ where
 
     /// Learns what another seat has seen: this seat has then seen the longer of both lists. Takes no memory.
     pub fn learn(&mut self, seen: &Seen<D>)
-        ensures { Told self.old seen.now self.new }
+        ensures { Learned self.old seen.now self.new }
     {
         if self.front.begins(&seen.front) {
             self.front = seen.front.again();

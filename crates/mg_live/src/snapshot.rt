@@ -9,8 +9,8 @@ ghost use Rattle.mg_live.specs.Snapshots.{IsOf, commits_of, shown_of};
 ghost use Rattle.mg_shard.specs.Shard.{shards_seen};
 ghost use Rattle.mg_live.specs.Rules.{head_of};
 
+use crate::commit_log::{Head, Prefix, Write};
 use crate::database::Database;
-use crate::history::{Head, Prefix, Write};
 use mg_engine::{Prepared, Reply};
 use mg_index::Catalog;
 use mg_machine::Point;
@@ -63,16 +63,16 @@ impl<P: Placement + Drop> Snapshot<P> {
         rt: &R,
         alloc: Global,
         head: &Head,
-        write: &Write<'_>,
-        prepared: Prepared<'_>,
+        write: &Write,
+        prepared: Prepared,
     ) -> (Reply, Option<Snapshot<P>>)
-        requires write { is_write (asked write.now.command.now) ≡ true }
-        requires prepared { prepared ≡ asked write.now.command.now }
+        requires write { is_write (asked write.now.command.value) ≡ true }
+        requires prepared { prepared ≡ asked write.now.command.value }
         requires some { 1 ≤ write.now.workers }
         requires most { write.now.workers ≤ 32 }
         requires head { head.now.word ≡ head_of D.history }
         requires here { IsOf P.place D.history D.db D.shards self.now }
-        ensures next { Nexts D.db (commits_of self.now) (write.now.seat, asked write.now.command.now) (said result.0)
+        ensures next { Nexts D.db (commits_of self.now) (write.now.seat, asked write.now.command.value) (said result.0)
             (option_map commits_of result.1) }
         ensures there { IfSome result.1 (λ s. IsOf P.place D.history D.db D.shards s) }
     {

@@ -77,8 +77,8 @@ abbrev pub all_accepted : List ℕ → Machine → List Event → List (Commit �
 all_accepted name m [] = []
 all_accepted name m (e ∷ es) = cons_option (accepted_of name m e) (all_accepted name (happens name m e).0 es)
 
--- the commits are the accepted writes, each once and in order, and their replies are those that one caller gets who gives these
--- commands alone, one after another
+-- the commits are the accepted writes, each once and in order. Their replies are those that a single caller gets for these commands
+-- alone, one after another
 pub record AreAnswered (name : List ℕ) (cs : List Commit) (accepted : List (Commit × Answer)) : Type 0 where
   pub commits : map (λ p. p.0) accepted ≡ cs
   pub replies : map (λ p. p.1) accepted ≡ replies_of (empty_world name) (commands_of cs)
@@ -88,7 +88,7 @@ CommitsAreAnswered = (name : List ℕ) (seats : ℕ) (es : List Event) → AreAt
 
 -- ---- the replies to reads
 
--- a read has the reply that one caller gets who gives the commands that its seat has seen, and then this read
+-- a read has the reply that a single caller gets for it after giving the commands that its seat has seen
 abbrev pub ReadsAreOfTheSeen : Type 0
 ReadsAreOfTheSeen =
     (name : List ℕ) (seats : ℕ) (es : List Event) (seat : ℕ) (c : Asked) (a : Answer) → AreAt seats es → is_write c ≡ false

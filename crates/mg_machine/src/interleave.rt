@@ -66,8 +66,12 @@ pub fn replay<R: Threads + Sync>(
     events: &[Event],
 ) -> Result<Vec<Option<Reply>>, NoMemory>
     requires { AreAt seats (events_seen events.now) }
-    ensures replies { IfOk result (λ v. map (option_and_then said) v.items ≡ replies_of_events db.now (opened seats) (events_seen events.now)) }
-    ensures some { IfOk result (λ v. map is_some v.items ≡ map is_some (replies_of_events db.now (opened seats) (events_seen events.now))) }
+    ensures replies { IfOk result
+        (λ v. map (option_and_then said) v.items
+        ≡ replies_of_events db.now (opened seats) (events_seen events.now)) }
+    ensures some { IfOk result
+        (λ v. map is_some v.items
+        ≡ map is_some (replies_of_events db.now (opened seats) (events_seen events.now))) }
 {
     let mut at = Seats::open(alloc, db, seats)?;
     let mut replies = Vec::with_capacity(alloc, events.len())?;

@@ -4,8 +4,8 @@ ghost use Rattle.mg_machine.specs.Laws.{CommitsAreAnswered, LooksAreKept, Nothin
 ///
 /// - each seat has seen a prefix of one commit log, and nothing that it has seen is lost;
 /// - what a seat has learned from another, it has seen from then on;
-/// - the commits are the accepted writes, and their replies are those that one caller gets who gives these writes alone, one
-///   after another;
+/// - the commits are the accepted writes, and their replies are those that a single caller gets for these writes alone, one after
+///   another;
 /// - a read is answered right after the commits that its seat has seen. If the last event of the seat was to catch up, these are
 ///   all commits that there were then, whatever others have published since;
 /// - the command decides what is done: a write is published, and to publish a read is to catch up and then to read.

@@ -39,7 +39,9 @@ impl<P: Placement + Drop> Point<P> {
 
     /// A copy of this point, which shares the engine.
     pub fn again(&self) -> Result<Point<P>, NoMemory>
-        ensures after { IfOk result (λ p. (name : List ℕ) (cs : List Commit) → IsAfter P.place name self.now cs → IsAfter P.place name p cs) }
+        ensures after { IfOk result
+            (λ p. (name : List ℕ) (cs : List Commit) → IsAfter P.place name self.now cs
+            → IsAfter P.place name p cs) }
         ensures engine { IfOk result (λ p. arc_value p.engine ≡ arc_value self.now.engine) }
     {
         let engine = self.engine.clone()?;
@@ -85,7 +87,7 @@ impl<P: Placement + Drop> Point<P> {
     }
 
     /// The reply to a write, and the point after it: one commit later if the write is accepted, otherwise a copy of this point.
-    /// Cost: that of the engine's commit.
+    /// Cost: that of the engine's commit, and a copy of the command.
     pub fn write<R: Threads + Sync>(
         &self,
         rt: &R,
@@ -96,14 +98,15 @@ impl<P: Placement + Drop> Point<P> {
         requires write { is_write (asked command.now) ≡ true }
         requires some { 1 ≤ workers }
         requires most { workers ≤ 32 }
-        ensures after { IfOk result (λ r. (name : List ℕ) (cs : List Commit) (seat : ℕ) → IsAfter P.place name self.now cs
+        ensures after { IfOk result
+            (λ r. (name : List ℕ) (cs : List Commit) (seat : ℕ) → IsAfter P.place name self.now cs
             → (said r.0 ≡ Some (write_reply name cs (asked command.now)))
             × IsAfter P.place name r.1 (after_write name cs seat (asked command.now))) }
         ensures dealt { IfOk result (λ r. (name : List ℕ) (shards : ℕ) (cs : List Commit) (seat : ℕ)
             → IsAfter P.place name self.now cs → IsDealt shards self.now cs
             → IsDealt shards r.1 (after_write name cs seat (asked command.now))) }
     {
-        let prepared = Prepared::of(alloc, command)?;
+        let prepared = Prepared::of(alloc, command.copy(alloc)?)?;
         self.write_prepared(rt, alloc, prepared, workers)
     }
 
@@ -112,18 +115,19 @@ impl<P: Placement + Drop> Point<P> {
         &self,
         rt: &R,
         alloc: Global,
-        prepared: Prepared<'_>,
+        prepared: Prepared,
         workers: usize,
     ) -> Result<(Reply, Point<P>), NoMemory>
         requires write { is_write prepared ≡ true }
         requires some { 1 ≤ workers }
         requires most { workers ≤ 32 }
-        ensures after { IfOk result (λ r. (name : List ℕ) (cs : List Commit) (seat : ℕ) → IsAfter P.place name self.now cs
-            → (said r.0 ≡ Some (write_reply name cs prepared.entry))
-            × IsAfter P.place name r.1 (after_write name cs seat prepared.entry)) }
+        ensures after { IfOk result
+            (λ r. (name : List ℕ) (cs : List Commit) (seat : ℕ) → IsAfter P.place name self.now cs
+            → (said r.0 ≡ Some (write_reply name cs prepared))
+            × IsAfter P.place name r.1 (after_write name cs seat prepared)) }
         ensures dealt { IfOk result (λ r. (name : List ℕ) (shards : ℕ) (cs : List Commit) (seat : ℕ)
             → IsAfter P.place name self.now cs → IsDealt shards self.now cs
-            → IsDealt shards r.1 (after_write name cs seat prepared.entry)) }
+            → IsDealt shards r.1 (after_write name cs seat prepared)) }
     {
         if self.commits == u64::MAX {
             let reply = Reply::refusing(alloc, Refusal::TooLarge)?;
@@ -137,19 +141,20 @@ impl<P: Placement + Drop> Point<P> {
         &self,
         rt: &R,
         alloc: Global,
-        prepared: Prepared<'_>,
+        prepared: Prepared,
         workers: usize,
     ) -> Result<(Reply, Point<P>), NoMemory>
         requires write { is_write prepared ≡ true }
         requires some { 1 ≤ workers }
         requires most { workers ≤ 32 }
         requires room { self.now.commits < 18446744073709551615 }
-        ensures after { IfOk result (λ r. (name : List ℕ) (cs : List Commit) (seat : ℕ) → IsAfter P.place name self.now cs
-            → (said r.0 ≡ Some (write_reply name cs prepared.entry))
-            × IsAfter P.place name r.1 (after_write name cs seat prepared.entry)) }
+        ensures after { IfOk result
+            (λ r. (name : List ℕ) (cs : List Commit) (seat : ℕ) → IsAfter P.place name self.now cs
+            → (said r.0 ≡ Some (write_reply name cs prepared))
+            × IsAfter P.place name r.1 (after_write name cs seat prepared)) }
         ensures dealt { IfOk result (λ r. (name : List ℕ) (shards : ℕ) (cs : List Commit) (seat : ℕ)
             → IsAfter P.place name self.now cs → IsDealt shards self.now cs
-            → IsDealt shards r.1 (after_write name cs seat prepared.entry)) }
+            → IsDealt shards r.1 (after_write name cs seat prepared)) }
     {
         let (reply, engine) = self.engine.commit_prepared(rt, alloc, prepared, workers);
         let reply = whole(reply)?;

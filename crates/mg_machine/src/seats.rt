@@ -80,7 +80,8 @@ impl Seats {
     /// Lets a seat catch up with all commits.
     pub(crate) fn enter(&mut self, seat: usize) -> Result<(), NoMemory>
         requires { seat < vec_len self.old.each }
-        ensures follow { OnOk result ((name : List ℕ) (m : Machine) → Follow name self.old m → Follow name self.new (entered m seat)) }
+        ensures follow { OnOk result ((name : List ℕ) (m : Machine) → Follow name self.old m
+            → Follow name self.new (entered m seat)) }
         ensures number { vec_len self.new.each ≡ vec_len self.old.each }
     {
         self.each[seat] = self.latest.again()?;
@@ -147,7 +148,9 @@ fn copies(
     point: &Point<Md5Placement>,
     number: usize,
 ) -> Result<Vec<Point<Md5Placement>>, NoMemory>
-    ensures after { IfOk result (λ v. (name : List ℕ) (cs : List Commit) → IsAfter by_md5 name point.now cs → All (λ p. IsAfter by_md5 name p cs) v.items) }
+    ensures after { IfOk result
+        (λ v. (name : List ℕ) (cs : List Commit) → IsAfter by_md5 name point.now cs
+        → All (λ p. IsAfter by_md5 name p cs) v.items) }
     ensures number { IfOk result (λ v. vec_len v ≡ number) }
 {
     let mut copies = Vec::with_capacity(alloc, number)?;

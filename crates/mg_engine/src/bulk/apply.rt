@@ -3,7 +3,7 @@ ghost use Rattle.std.specs.Prelude.{◌≡◌, ◌<◌, IfOk, OnOk, map, length}
 ghost use Rattle.mg_shard.specs.Dealt.{DraftsStandFor, ShardsStandFor};
 ghost use Rattle.mg_shard.specs.Edits.{after_edit, after_edits, id_in, outcome_in, outcomes};
 ghost use Rattle.mg_shard.specs.Histories.{Histories};
-ghost use Rattle.mg_engine.specs.Outcomes.{reply_in, told_id};
+ghost use Rattle.mg_engine.specs.Outcomes.{reply_in, id_seen};
 ghost use Rattle.mg_engine.specs.Stands.{definitions_of};
 ghost use Rattle.mg_engine.specs.StateView.{AllLeave, Leaves, before, fresh};
 ghost use Rattle.mg_shard.specs.Shard.{shards_seen};
@@ -28,29 +28,32 @@ pub(crate) struct Outcome {
 /// Applies edits that have ids, in order. Returns what became of each, and the shards after them, into which the bodies are moved.
 ///
 /// Errors: `NoMemory` if an allocation fails. Cost: the edits, each with its document, and the number of shards.
-pub(crate) fn edited<P: Placement>(
+pub(crate) fn apply_edits<P: Placement>(
     alloc: Global,
     placement: &P,
     shards: &[Arc<Shard>],
     edits: Vec<Edit>,
 ) -> Result<(Vec<Outcome>, Vec<Arc<Shard>>), NoMemory>
     requires { 0 < length shards.now }
-    ensures replies { IfOk result (λ r. (hs : Histories) → ShardsStandFor (P.place placement.now) (shards_seen shards.now) hs
+    ensures replies { IfOk result
+        (λ r. (hs : Histories) → ShardsStandFor (P.place placement.now) (shards_seen shards.now) hs
         → map reply_in r.0.items ≡ outcomes hs edits.items) }
-    ensures ids { IfOk result (λ r. map told_id r.0.items ≡ map id_in edits.items) }
-    ensures stands { IfOk result (λ r. (hs : Histories) → ShardsStandFor (P.place placement.now) (shards_seen shards.now) hs
+    ensures ids { IfOk result (λ r. map id_seen r.0.items ≡ map id_in edits.items) }
+    ensures stands { IfOk result
+        (λ r. (hs : Histories) → ShardsStandFor (P.place placement.now) (shards_seen shards.now) hs
         → ShardsStandFor (P.place placement.now) (shards_seen r.1.items) (after_edits hs edits.items)) }
-    ensures definitions { IfOk result (λ r. definitions_of (shards_seen r.1.items) ≡ definitions_of (shards_seen shards.now)) }
+    ensures definitions { IfOk result
+        (λ r. definitions_of (shards_seen r.1.items) ≡ definitions_of (shards_seen shards.now)) }
 {
     shards_become_drafts();
     drafts_become_shards();
-    let mut drafts = drafts_of(alloc, shards)?;
+    let mut drafts = make_drafts(alloc, shards)?;
     let replies = edit_all(alloc, placement, &mut drafts, edits)?;
-    Ok((replies, finished(alloc, drafts, shards)?))
+    Ok((replies, finish_drafts(alloc, drafts, shards)?))
 }
 
 // A draft of each shard, in which no document is touched yet.
-fn drafts_of<'a>(alloc: Global, shards: &'a [Arc<Shard>]) -> Result<Vec<Draft<'a>>, NoMemory>
+fn make_drafts<'a>(alloc: Global, shards: &'a [Arc<Shard>]) -> Result<Vec<Draft<'a>>, NoMemory>
     ensures { IfOk result (λ v. v.items ≡ map fresh (shards_seen shards.now)) }
 {
     let mut drafts = Vec::with_capacity(alloc, shards.len())?;
@@ -68,9 +71,10 @@ fn edit_all<P: Placement>(
     edits: Vec<Edit>,
 ) -> Result<Vec<Outcome>, NoMemory>
     requires { 0 < length drafts.old }
-    ensures replies { IfOk result (λ v. (hs : Histories) → DraftsStandFor (P.place placement.now) drafts.old hs
+    ensures replies { IfOk result
+        (λ v. (hs : Histories) → DraftsStandFor (P.place placement.now) drafts.old hs
         → map reply_in v.items ≡ outcomes hs edits.items) }
-    ensures ids { IfOk result (λ v. map told_id v.items ≡ map id_in edits.items) }
+    ensures ids { IfOk result (λ v. map id_seen v.items ≡ map id_in edits.items) }
     ensures stands { OnOk result ((hs : Histories) → DraftsStandFor (P.place placement.now) drafts.old hs
         → DraftsStandFor (P.place placement.now) drafts.new (after_edits hs edits.items)) }
     ensures before { OnOk result (before drafts.new ≡ before drafts.old) }
@@ -93,7 +97,7 @@ fn edit_one<P: Placement>(
     requires { 0 < length drafts.old }
     ensures reply { IfOk result (λ o. (hs : Histories) → DraftsStandFor (P.place placement.now) drafts.old hs
         → reply_in o ≡ outcome_in hs edit) }
-    ensures id { IfOk result (λ o. told_id o ≡ id_in edit) }
+    ensures id { IfOk result (λ o. id_seen o ≡ id_in edit) }
     ensures stands { OnOk result ((hs : Histories) → DraftsStandFor (P.place placement.now) drafts.old hs
         → DraftsStandFor (P.place placement.now) drafts.new (after_edit hs edit)) }
     ensures before { OnOk result (before drafts.new ≡ before drafts.old) }
@@ -108,7 +112,7 @@ fn edit_one<P: Placement>(
 }
 
 // Finishes the drafts of all shards. A shard whose draft touched no document is kept, and shared.
-fn finished(
+fn finish_drafts(
     alloc: Global,
     drafts: Vec<Draft<'_>>,
     shards: &[Arc<Shard>],
@@ -119,13 +123,13 @@ fn finished(
     let mut left = Vec::with_capacity(alloc, shards.len())?;
     for draft in drafts {
         let shard = &shards[left.len()];
-        left.push(left_by(alloc, draft, shard)?)?;
+        left.push(finish_draft(alloc, draft, shard)?)?;
     }
     Ok(left)
 }
 
 // Finishes the draft of a shard. If it touched no document, the shard is kept, and shared.
-fn left_by(alloc: Global, draft: Draft<'_>, shard: &Arc<Shard>) -> Result<Arc<Shard>, NoMemory>
+fn finish_draft(alloc: Global, draft: Draft<'_>, shard: &Arc<Shard>) -> Result<Arc<Shard>, NoMemory>
     requires { draft.shard ≡ arc_value shard.now }
     ensures { IfOk result (λ s. Leaves draft.entry (arc_value s)) }
 {

@@ -7,7 +7,7 @@ use mg_value::NoMemory;
 use std::alloc::Global;
 
 /// Gives the k-th edit without an id the k-th number after `last` as its id. Returns the edits, and the counter after them.
-pub(crate) fn numbered(
+pub(crate) fn number_edits(
     alloc: Global,
     edits: Vec<Edit>,
     last: u64,
@@ -18,7 +18,7 @@ pub(crate) fn numbered(
     let mut found = Vec::with_capacity(alloc, edits.len())?;
     let mut number = last;
     for edit in edits {
-        let (edit, given) = named(alloc, edit, number)?;
+        let (edit, given) = name_edit(alloc, edit, number)?;
         found.push(edit)?;
         number = given;
     }
@@ -26,7 +26,7 @@ pub(crate) fn numbered(
 }
 
 // Gives an edit without an id the number after `last` as its id. Returns the edit, and the counter after it.
-fn named(alloc: Global, edit: Edit, last: u64) -> Result<(Edit, u64), NoMemory>
+fn name_edit(alloc: Global, edit: Edit, last: u64) -> Result<(Edit, u64), NoMemory>
     ensures edit { IfOk result (λ r. r.0 ≡ with_number (number_after last) edit) }
     ensures last { IfOk result (λ r. r.1 ≡ (if is_some edit.id then last else number_after last)) }
 {

@@ -22,24 +22,29 @@ pub(crate) enum ReadBulk {
 }
 
 // The documents of a bulk, each an object, and whether their edits are new.
-#[derive(Clone, Copy)]
-struct Bulk<'a> {
+#[derive(Drop)]
+struct Bulk {
     new_edits: bool,
-    documents: &'a [Json],
+    documents: Vec<Json>,
 }
 
 impl ReadBulk {
     /// Reads the body of a bulk: first its shape, and then its documents in order, up to the first fault.
     ///
-    /// Errors: `NoMemory` if an allocation fails. Cost: a copy of its documents.
-    pub(crate) fn of(alloc: Global, body: &Json) -> Result<ReadBulk, NoMemory>
-        ensures { IfOk result (λ read. Determines read (bulk (view body.now))) }
+    /// The documents are moved into the edits, not copied.
+    ///
+    /// Errors: `NoMemory` if an allocation fails. Cost: that of `Edit::read` for each document.
+    pub(crate) fn of(alloc: Global, body: Json) -> Result<ReadBulk, NoMemory>
+        ensures { IfOk result (λ read. Determines read (bulk (view body))) }
     {
         let Some(bulk) = read_bulk(body) else {
             return Ok(ReadBulk::Refused(Refusal::WrongShape));
         };
-        let new_edits = bulk.new_edits;
-        match read_edits(alloc, new_edits, bulk.documents) {
+        let Bulk {
+            new_edits,
+            documents,
+        } = bulk;
+        match read_edits(alloc, new_edits, documents) {
             Ok(edits) => Ok(ReadBulk::Edits { new_edits, edits }),
             Err(Fault::Refused(refusal)) => Ok(ReadBulk::Refused(refusal)),
             Err(Fault::NoMemory) => Err(NoMemory),
@@ -48,28 +53,33 @@ impl ReadBulk {
 }
 
 // Reads a body as a bulk, without its edits. `None` if the body has another shape, or a document is not an object.
-fn read_bulk(body: &Json) -> Option<Bulk<'_>>
-    ensures { option_map bulk_seen result ≡ bulk_of (view body.now) }
+fn read_bulk(body: Json) -> Option<Bulk>
+    ensures { option_map bulk_seen result ≡ bulk_of (view body) }
 {
-    shaped(body.member("docs"), body.member("new_edits"))
+    let mut body = body;
+    let docs = body.take("docs");
+    read_shape(docs, body.member("new_edits"))
 }
 
-fn shaped<'a>(docs: Option<&'a Json>, new_edits: Option<&Json>) -> Option<Bulk<'a>>
-    ensures { option_map bulk_seen result ≡ shaped (option_map (λ j. view j.now) docs.entry) (option_map (λ j. view j.now) new_edits.entry) }
+// Reads the members `docs` and `new_edits`, which may be absent, as a bulk.
+fn read_shape(docs: Option<Json>, new_edits: Option<&Json>) -> Option<Bulk>
+    ensures { option_map bulk_seen result
+        ≡ shaped (option_map view docs) (option_map (λ j. view j.now) new_edits.entry) }
 {
     match (docs, new_edits) {
-        (Some(Json::List(documents)), None) => of_objects(true, documents),
+        (Some(Json::List(documents)), None) => read_objects(true, documents),
         (Some(Json::List(documents)), Some(Json::Flag(new_edits))) => {
-            of_objects(*new_edits, documents)
+            read_objects(*new_edits, documents)
         }
         _ => None,
     }
 }
 
-fn of_objects(new_edits: bool, documents: &[Json]) -> Option<Bulk<'_>>
-    ensures { option_map bulk_seen result ≡ of_objects new_edits (items_view documents.now) }
+// A bulk of these documents. `None` if one of them is not an object.
+fn read_objects(new_edits: bool, documents: Vec<Json>) -> Option<Bulk>
+    ensures { option_map bulk_seen result ≡ of_objects new_edits (items_view documents.items) }
 {
-    if are_objects(documents) {
+    if are_objects(&documents) {
         Some(Bulk {
             new_edits,
             documents,
@@ -100,14 +110,14 @@ fn is_object(value: &Json) -> bool
 }
 
 // Reads the edit of each document, in order. The error is the first fault.
-fn read_edits(alloc: Global, new_edits: bool, documents: &[Json]) -> Result<Vec<Edit>, Fault>
-    requires { are_objects (items_view documents.now) ≡ true }
+fn read_edits(alloc: Global, new_edits: bool, documents: Vec<Json>) -> Result<Vec<Edit>, Fault>
+    requires { are_objects (items_view documents.items) ≡ true }
     ensures { Gives (edits_seen new_edits) result
-        (edits_or_refusal new_edits (edits_of new_edits (items_view documents.now))) }
+        (edits_or_refusal new_edits (edits_of new_edits (items_view documents.items))) }
 {
     let mut edits = Vec::with_capacity(alloc, documents.len())?;
     for document in documents {
-        let edit = Edit::read(alloc, document.copy(alloc)?, new_edits)?;
+        let edit = Edit::read(alloc, document, new_edits)?;
         edits.push(edit)?;
     }
     Ok(edits)

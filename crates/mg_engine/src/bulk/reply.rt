@@ -4,7 +4,7 @@ ghost use Rattle.mg_value.specs.Held.{items_tokens_of, tokens_of};
 ghost use Rattle.mg_value.specs.Value.{Items, list};
 ghost use Rattle.mg_engine.specs.Bodies.{line_of};
 ghost use Rattle.mg_engine.specs.Bulk.{done_entry, entry_before, entry_of, refused_entry};
-ghost use Rattle.mg_engine.specs.Outcomes.{entries_told, reply_in, told_id};
+ghost use Rattle.mg_engine.specs.Outcomes.{entries_seen, reply_in, id_seen};
 
 use crate::body::with_line_feed;
 use crate::bulk::apply::Outcome;
@@ -26,7 +26,7 @@ pub(crate) fn entries_line(
     new_edits: bool,
     outcomes: &[Outcome],
 ) -> Result<Vec<u8>, NoMemory>
-    ensures { IfOk result (λ b. b.items ≡ line_of (list (entries_told new_edits outcomes.now))) }
+    ensures { IfOk result (λ b. b.items ≡ line_of (list (entries_seen new_edits outcomes.now))) }
 {
     let room = outcomes.len().saturating_mul(ENTRY_ROOM);
     let mut out = Writer::new(Vec::with_capacity(alloc, room)?);
@@ -42,7 +42,8 @@ fn write_entries(
     outcomes: &[Outcome],
     out: &mut Writer,
 ) -> Result<(), NoMemory>
-    ensures tokens { OnOk result (out.new.tokens ≡ out.old.tokens ++ items_tokens_of (entries_told new_edits outcomes.now)) }
+    ensures tokens { OnOk result (out.new.tokens
+        ≡ out.old.tokens ++ items_tokens_of (entries_seen new_edits outcomes.now)) }
     ensures before { OnOk result (out.new.before ≡ out.old.before) }
 {
     for outcome in outcomes {
@@ -60,7 +61,8 @@ fn write_entry(
     out: &mut Writer,
 ) -> Result<(), NoMemory>
     ensures tokens { OnOk result ((vs : Items) → out.new.tokens ++ items_tokens_of vs
-        ≡ out.old.tokens ++ items_tokens_of (entry_before (entry_of new_edits (told_id outcome.now) (reply_in outcome.now)) vs)) }
+        ≡ out.old.tokens ++ items_tokens_of
+        (entry_before (entry_of new_edits (id_seen outcome.now) (reply_in outcome.now)) vs)) }
     ensures before { OnOk result (out.new.before ≡ out.old.before) }
 {
     let id = outcome.id.as_str();
@@ -92,7 +94,8 @@ fn write_done(alloc: Global, id: &str, rev: &Rev, out: &mut Writer) -> Result<()
 }
 
 fn write_refused(error: &str, id: &str, reason: &str, out: &mut Writer) -> Result<(), NoMemory>
-    ensures tokens { OnOk result (out.new.tokens ≡ out.old.tokens ++ tokens_of (refused_entry error.now id.now reason.now)) }
+    ensures tokens { OnOk result (out.new.tokens
+        ≡ out.old.tokens ++ tokens_of (refused_entry error.now id.now reason.now)) }
     ensures before { OnOk result (out.new.before ≡ out.old.before) }
 {
     out.begin_object()?;

@@ -2,11 +2,11 @@ use Rattle.std.proofs.Common.{◌≡◌, Err, List, sym, subst}
 use Rattle.mg_index.specs.Definition.{IndexDefinition}
 use Rattle.mg_query.specs.Page.{answer_of, candidates_of, page_value}
 use Rattle.mg_query.specs.Seen.{query_seen}
-use Rattle.mg_engine.specs.Commands.{told_or_refused}
+use Rattle.mg_engine.specs.Commands.{shown_or_refused}
 use Rattle.mg_engine.specs.Faults.{fault_of, refusal_of_page}
-use Rattle.mg_engine.specs.Told.{Tells}
+use Rattle.mg_engine.specs.Answering.{MakesAnswer}
 use Rattle.mg_engine.specs.declared.fault.Fault.{Fault}
-use Rattle.mg_engine.proofs.Telling.{no_page, page_told}
+use Rattle.mg_engine.proofs.Pages.{no_page, page_shown}
 use Rattle.mg_engine.proofs.query.answer_line.Goals as goal
 
 pub returns-in_ok-line-in-Ok : goal.returns-in_ok-line-in-Ok
@@ -14,14 +14,14 @@ returns-in_ok-line-in-Ok g c = λ place w st whole ix.
     let q = query_seen c.args.query.now in
     let cs = candidates_of w.docs in
     let body = c.in_ok-line-in-Ok.line.items in
-    subst (λ (ds : List IndexDefinition). told_or_refused page_value (answer_of ds q cs) ≡ record { status = 200; body = body }) (sym ix)
-    (page_told (answer_of c.args.catalog.now q cs) c.in-Ok.text.items body (c.in-Ok.ensures.answers place w.docs st whole) c.in_ok-line-in-Ok.ensures)
+    subst (λ (ds : List IndexDefinition). shown_or_refused page_value (answer_of ds q cs) ≡ record { status = 200; body = body }) (sym ix)
+    (page_shown (answer_of c.args.catalog.now q cs) c.in-Ok.text.items body (c.in-Ok.ensures.answers place w.docs st whole) c.in_ok-line-in-Ok.ensures)
 
 pub returns-in-Err : goal.returns-in-Err
 returns-in-Err g c = λ place w st whole ix.
     let q = query_seen c.args.query.now in
     let cs = candidates_of w.docs in
     let fault = c.in-Err.fault in
-    subst (λ (f : Fault). Tells (Err f) (told_or_refused page_value (answer_of w.indexes q cs))) (sym c.from.ensures)
-    (subst (λ (ds : List IndexDefinition). Tells (Err (fault_of (refusal_of_page fault))) (told_or_refused page_value (answer_of ds q cs))) (sym ix)
+    subst (λ (f : Fault). MakesAnswer (Err f) (shown_or_refused page_value (answer_of w.indexes q cs))) (sym c.from.ensures)
+    (subst (λ (ds : List IndexDefinition). MakesAnswer (Err (fault_of (refusal_of_page fault))) (shown_or_refused page_value (answer_of ds q cs))) (sym ix)
     (no_page fault (answer_of c.args.catalog.now q cs) (c.in-Err.ensures.answers place w.docs st whole)))

@@ -4,14 +4,14 @@ use Rattle.mg_value.specs.Value.{Value}
 use Rattle.mg_shard.specs.Edits.{outcome_seen}
 use Rattle.mg_shard.specs.declared.reply.EditReply.{EditReply}
 use Rattle.mg_engine.specs.Bulk.{entry_before, entry_of, refused_entry}
-use Rattle.mg_engine.specs.Outcomes.{reply_in, told_id}
+use Rattle.mg_engine.specs.Outcomes.{reply_in, id_seen}
 use Rattle.mg_engine.proofs.Entries.{bad_history_told, conflict_told, tokens_before}
 use Rattle.mg_engine.proofs.bulk.reply.write_entry.Goals as goal
 
 pub returns-in_ok-write_refused-in-Conflict-clause-tokens : goal.returns-in_ok-write_refused-in-Conflict-clause-tokens
 returns-in_ok-write_refused-in-Conflict-clause-tokens c = λ vs.
     let b = c.args.new_edits in
-    let id = told_id c.args.outcome.now in
+    let id = id_seen c.args.outcome.now in
     let before = c.args.out.now.tokens in
     let entry = λ (i : List ℕ). refused_entry (codes "conflict") i (codes "Document update conflict.") in
     let said : entry_of b id (reply_in c.args.outcome.now) ≡ Some (entry id) = ap (λ (r : EditReply). entry_of b id (outcome_seen r)) c.in-Conflict.is ∙ conflict_told b id in
@@ -22,7 +22,7 @@ returns-in_ok-write_refused-in-Conflict-clause-tokens c = λ vs.
 pub returns-in_ok-write_refused-in-BadHistory-clause-tokens : goal.returns-in_ok-write_refused-in-BadHistory-clause-tokens
 returns-in_ok-write_refused-in-BadHistory-clause-tokens c = λ vs.
     let b = c.args.new_edits in
-    let id = told_id c.args.outcome.now in
+    let id = id_seen c.args.outcome.now in
     let before = c.args.out.now.tokens in
     let entry = λ (i : List ℕ). refused_entry (codes "bad_history") i (codes "Revision history does not fit the document.") in
     let said : entry_of b id (reply_in c.args.outcome.now) ≡ Some (entry id) = ap (λ (r : EditReply). entry_of b id (outcome_seen r)) c.in-BadHistory.is ∙ bad_history_told b id in

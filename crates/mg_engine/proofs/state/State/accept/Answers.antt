@@ -8,8 +8,8 @@ use Rattle.mg_shard.specs.Shard.{ShardView, shards_seen}
 use Rattle.mg_engine.specs.Bodies.{line_of}
 use Rattle.mg_engine.specs.Bulk.{counter_after, entries_of, numbered}
 use Rattle.mg_engine.specs.Commands.{Answer}
-use Rattle.mg_engine.specs.Outcomes.{entries_told, reply_in, told_id}
-use Rattle.mg_engine.specs.Stands.{Holds, Shown, definitions_of}
+use Rattle.mg_engine.specs.Outcomes.{entries_seen, reply_in, id_seen}
+use Rattle.mg_engine.specs.Stands.{StateStandsFor, Shown, definitions_of}
 use Rattle.mg_engine.specs.declared.bulk.apply.Outcome.{Outcome}
 use Rattle.mg_engine.proofs.Entries.{by_ids}
 use Rattle.mg_engine.proofs.Indexes.{have_same}
@@ -28,7 +28,7 @@ returns-clause-holds g c = λ w bring h.
     let shards : shards_seen c.deref.result.now ≡ c.args.self.now.shards = ap shards_seen c.deref.ensures.value ∙ ap (λ (s : Shown). s.shards) c.self.view_is in
     let edits = c.in_ok-edits.ensures.edits ∙ ap (λ n. numbered n given) counter in
     let before = subst (λ (ss : List ShardView). ShardsStandFor place ss w.docs) (sym shards) h.documents in
-    subst (λ (s : Shown). Holds place s (record w { docs = after_edits w.docs (numbered w.counter given); counter = counter_after w.counter given })) (sym c.in_ok-next.ensures)
+    subst (λ (s : Shown). StateStandsFor place s (record w { docs = after_edits w.docs (numbered w.counter given); counter = counter_after w.counter given })) (sym c.in_ok-next.ensures)
     (record {
       name = h.name;
       documents = subst (λ (hs : Histories). ShardsStandFor place made hs) (ap (after_edits w.docs) edits) (c.in_ok-outcomes.ensures.stands w.docs before);
@@ -49,7 +49,7 @@ returns-clause-reply g c = λ w h.
     let edits = c.in_ok-edits.ensures.edits ∙ ap (λ n. numbered n given) counter in
     let before = subst (λ (ss : List ShardView). ShardsStandFor place ss w.docs) (sym shards) h.documents in
     let replies : map reply_in outs ≡ outcomes w.docs (numbered w.counter given) = c.in_ok-outcomes.ensures.replies w.docs before ∙ ap (outcomes w.docs) edits in
-    let ids : map told_id outs ≡ map id_in (numbered w.counter given) = c.in_ok-outcomes.ensures.ids ∙ ap (λ (es : List Edit). map id_in es) edits in
-    let told : entries_told b outs ≡ entries_of b (numbered w.counter given) (outcomes w.docs (numbered w.counter given)) =
+    let ids : map id_seen outs ≡ map id_in (numbered w.counter given) = c.in_ok-outcomes.ensures.ids ∙ ap (λ (es : List Edit). map id_in es) edits in
+    let seen : entries_seen b outs ≡ entries_of b (numbered w.counter given) (outcomes w.docs (numbered w.counter given)) =
     sym (by_ids b (numbered w.counter given) outs (sym ids)) ∙ ap (entries_of b (numbered w.counter given)) replies in
-    ap (λ (t : List ℕ). answer t) (c.in_ok-body.ensures ∙ ap (λ (os : List Outcome). line_of (list (entries_told b os))) c.deref-2.ensures.value ∙ ap (λ vs. line_of (list vs)) told)
+    ap (λ (t : List ℕ). answer t) (c.in_ok-body.ensures ∙ ap (λ (os : List Outcome). line_of (list (entries_seen b os))) c.deref-2.ensures.value ∙ ap (λ vs. line_of (list vs)) seen)

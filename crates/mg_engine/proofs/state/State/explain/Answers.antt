@@ -9,4 +9,4 @@ pub returns : goal.returns
 returns c = λ place w h.
     let name : w.name ≡ c.deref-2.result.now = sym (c.deref-2.ensures ∙ ap string_bytes c.deref.ensures ∙ ap (λ (s : Shown). s.name) c.self.view_is ∙ h.name) in
     let catalog : w.indexes ≡ c.deref-3.result.now = sym (c.deref-3.ensures ∙ ap (λ (s : Shown). s.catalog) c.self.view_is ∙ h.indexes) in
-    c.in_ok-reply.ensures (explained w (query_of (view c.args.body.now))) (c.explained-line.ensures w name catalog)
+    c.in_ok-reply.ensures (explained w (query_of (view c.args.body.now))) (c.explanation_line-line.ensures w name catalog)

@@ -4,7 +4,7 @@ use Rattle.std.specs.declared.sync.Arc.{Arc}
 use Rattle.mg_index.specs.Definition.{IndexDefinition}
 use Rattle.mg_shard.specs.Dealt.{ShardsStandFor}
 use Rattle.mg_shard.specs.Shard.{ShardView, shards_seen}
-use Rattle.mg_engine.specs.Stands.{HaveRows, Holds, Shown}
+use Rattle.mg_engine.specs.Stands.{HaveRows, StateStandsFor, Shown}
 use Rattle.mg_engine.proofs.state.State.over_shards.Goals as goal
 
 pub with_shards-requires-clause-rows : goal.with_shards-requires-clause-rows
@@ -21,7 +21,7 @@ returns-in_ok-state-2-clause-stands g c = λ w h.
     let place = g.P.Placement.place c.args.placement.now in
     let given : shards_seen c.deref.result.now ≡ c.args.self.now.shards = ap shards_seen c.deref.ensures.value ∙ ap (λ (s : Shown). s.shards) c.self.view_is in
     let some : 0 < length c.deref.result.now = subst (λ (xs : List (Arc ShardView Global)). 0 < length xs) (sym c.deref.ensures.value) c.self.invariant.some in
-    subst (λ (s : Shown). Holds place s w) (sym c.in_ok-state-2.ensures)
+    subst (λ (s : Shown). StateStandsFor place s w) (sym c.in_ok-state-2.ensures)
     (record {
       name = h.name;
       documents = c.in_ok-shards.ensures.stands w.docs (subst (λ (ss : List ShardView). ShardsStandFor place ss w.docs) (sym given) h.documents);

@@ -5,14 +5,14 @@ use Rattle.mg_machine.specs.Machine.{Commit}
 use Rattle.mg_live.specs.Published.{Nexts, standing}
 use Rattle.mg_live.specs.View.{commits_seen}
 use Rattle.mg_live.specs.Snapshots.{IsOf, commits_of}
-use Rattle.mg_live.specs.declared.history.Prefix.{Prefix}
+use Rattle.mg_live.specs.declared.commit_log.Prefix.{Prefix}
 use Rattle.mg_live.proofs.Publishing.{added, published}
 use Rattle.mg_live.proofs.desk.Desk.write.Goals as goal
 
 pub invariant_of-self : goal.invariant_of-self
 invariant_of-self g c =
     let db = g.D.Database.db in
-    let write : Commit = (c.args.write.now.seat, asked c.args.write.now.command.now) in
+    let write : Commit = (c.args.write.now.seat, asked c.args.write.now.command.value) in
     let cs = commits_of c.published-now.result.now in
     let reply = said c.next-reply.result.0 in
     let next : Nexts db cs write reply (Some (commits_of c.in-Some.next)) = rw c.in-Some.is at c.next-reply.ensures.next in
@@ -24,7 +24,7 @@ invariant_of-self g c =
 pub returns-clause-publishes : goal.returns-clause-publishes
 returns-clause-publishes g c =
     let db = g.D.Database.db in
-    let write : Commit = (c.args.write.now.seat, asked c.args.write.now.command.now) in
+    let write : Commit = (c.args.write.now.seat, asked c.args.write.now.command.value) in
     let cs = commits_of c.published-now.result.now in
     let reply = said c.next-reply.result.0 in
     let shown = commits_of c.publish-before.new.writer.desk.shown.value in

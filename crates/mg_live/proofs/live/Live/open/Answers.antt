@@ -1,5 +1,5 @@
 use Rattle.std.proofs.Common.{◌≡◌, [], ap, ◌∙◌, arith, add-one, refl}
-use Rattle.mg_live.specs.declared.history.Prefix.{Prefix}
+use Rattle.mg_live.specs.declared.commit_log.Prefix.{Prefix}
 use Rattle.mg_live.proofs.live.Live.open.Goals as goal
 
 pub loop-number-preserved : goal.loop-number-preserved

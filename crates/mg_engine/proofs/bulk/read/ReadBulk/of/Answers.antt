@@ -5,4 +5,4 @@ use Rattle.mg_engine.proofs.Ahead.{all_read}
 use Rattle.mg_engine.proofs.bulk.read.ReadBulk.of.Goals as goal
 
 pub returns-in-Ok : goal.returns-in-Ok
-returns-in-Ok c = all_read (view c.args.body.now) (bulk_seen c.in-Some.bulk) (edits_seen c.in-Some.bulk.new_edits c.in-Ok.edits) (sym c.in-Some.ensures) c.in-Ok.ensures
+returns-in-Ok c = all_read (view c.args.body) (bulk_seen c.in-Some.bulk) (edits_seen c.in-Some.bulk.new_edits c.in-Ok.edits) (sym c.in-Some.ensures) c.in-Ok.ensures

@@ -1,5 +1,5 @@
 use Rattle.mg_live.proofs.Publishing.{stands_after}
-use Rattle.mg_live.proofs.desk.Desk.tell.Goals as goal
+use Rattle.mg_live.proofs.desk.Desk.catch_up.Goals as goal
 
 pub returns-then-not-begins-clause-published : goal.returns-then-not-begins-clause-published
 returns-then-not-begins-clause-published g c =

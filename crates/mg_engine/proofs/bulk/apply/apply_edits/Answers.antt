@@ -5,10 +5,10 @@ use Rattle.mg_engine.specs.Stands.{definitions_of}
 use Rattle.mg_engine.specs.StateView.{AllLeave, before}
 use Rattle.mg_shard.specs.Shard.{shards_seen}
 use Rattle.mg_engine.proofs.Editing.{before-fresh, fresh_stand, left_definitions, left_stand, same_number, written}
-use Rattle.mg_engine.proofs.bulk.apply.edited.Goals as goal
+use Rattle.mg_engine.proofs.bulk.apply.apply_edits.Goals as goal
 
-pub finished-requires : goal.finished-requires
-finished-requires g c =
+pub finish_drafts-requires : goal.finish_drafts-requires
+finish_drafts-requires g c =
     let new = c.edit_all.new.drafts in
     let old = c.in_ok-drafts.drafts.items in
     let number : length new ≡ length c.deref_mut.result.now = same_number new c.deref_mut.result.now c.in_ok-replies.ensures.before in
@@ -30,9 +30,9 @@ returns-clause-stands g c = λ hs st.
     let new = c.edit_all.new.drafts in
     let old = c.in_ok-drafts.drafts.items in
     let long : c.in_ok-drafts.drafts.len ≡ length new = c.in_ok-drafts.drafts.ok.0 ∙ ap length (sym c.deref_mut.ensures.value) ∙ sym (same_number new c.deref_mut.result.now c.in_ok-replies.ensures.before) in
-    let left = c.in_ok-finished.field-0.items in
+    let left = c.in_ok-finish_drafts.field-0.items in
     left_stand place new (shards_seen left) _ c.drafts_become_shards.ensures
-    (subst (λ (ds : List DraftView). AllLeave ds (shards_seen left)) (written new (drop (length new) old) c.in_ok-drafts.drafts.len long) c.in_ok-finished.ensures)
+    (subst (λ (ds : List DraftView). AllLeave ds (shards_seen left)) (written new (drop (length new) old) c.in_ok-drafts.drafts.len long) c.in_ok-finish_drafts.ensures)
     (c.in_ok-replies.ensures.stands hs drafts)
 
 pub returns-clause-definitions : goal.returns-clause-definitions
@@ -40,6 +40,6 @@ returns-clause-definitions g c =
     let new = c.edit_all.new.drafts in
     let old = c.in_ok-drafts.drafts.items in
     let long : c.in_ok-drafts.drafts.len ≡ length new = c.in_ok-drafts.drafts.ok.0 ∙ ap length (sym c.deref_mut.ensures.value) ∙ sym (same_number new c.deref_mut.result.now c.in_ok-replies.ensures.before) in
-    let left = c.in_ok-finished.field-0.items in
-    left_definitions new (shards_seen left) (subst (λ (ds : List DraftView). AllLeave ds (shards_seen left)) (written new (drop (length new) old) c.in_ok-drafts.drafts.len long) c.in_ok-finished.ensures)
+    let left = c.in_ok-finish_drafts.field-0.items in
+    left_definitions new (shards_seen left) (subst (λ (ds : List DraftView). AllLeave ds (shards_seen left)) (written new (drop (length new) old) c.in_ok-drafts.drafts.len long) c.in_ok-finish_drafts.ensures)
     ∙ ap definitions_of (c.in_ok-replies.ensures.before ∙ ap before (c.deref_mut.ensures.value ∙ c.in_ok-drafts.ensures) ∙ before-fresh (shards_seen c.args.shards.now))

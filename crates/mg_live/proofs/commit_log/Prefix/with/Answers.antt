@@ -1,7 +1,7 @@
 use Rattle.std.proofs.Common.{sym, ◌∙◌, ap}
 use Rattle.mg_live.specs.Rules.{log_entry}
 use Rattle.mg_live.proofs.Adding.{adds_moves}
-use Rattle.mg_live.proofs.history.Prefix.with.Goals as goal
+use Rattle.mg_live.proofs.commit_log.Prefix.with.Goals as goal
 
 pub compare_exchange-found-requires : goal.compare_exchange-found-requires
 compare_exchange-found-requires c =
@@ -16,5 +16,5 @@ compare_exchange-found-requires c =
       book,
       pen.0 ∙ book,
       offer.0,
-      rw (ap (λ w. w.key) h, pen.1, offer.1, offer.3, ap (λ s. s.log) again) (adds_moves s.seen.log (log_entry write.seat write.command.now) s.count (sym s.counted)),
+      rw (ap (λ w. w.key) h, pen.1, offer.1, offer.3, ap (λ s. s.log) again) (adds_moves s.seen.log (log_entry write.seat write.command.value) s.count (sym s.counted)),
     )

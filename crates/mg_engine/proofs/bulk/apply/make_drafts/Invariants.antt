@@ -1,7 +1,7 @@
 use Rattle.std.proofs.Common.{◌≡◌, ◌++◌, drop, map}
 use Rattle.mg_engine.specs.StateView.{fresh}
 use Rattle.mg_shard.specs.Shard.{shards_seen}
-use Rattle.mg_engine.proofs.bulk.apply.drafts_of.Given as goal
+use Rattle.mg_engine.proofs.bulk.apply.make_drafts.Given as goal
 
 -- the drafts so far, followed by those of the rest, are the drafts of all shards
 abbrev pub invariant-loop-shard : goal.invariant-loop-shard

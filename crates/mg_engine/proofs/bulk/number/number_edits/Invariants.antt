@@ -1,7 +1,7 @@
 use Rattle.std.proofs.Common.{◌≡◌, ◌++◌}
 use Rattle.std.specs.Vec.Iter.{into_iter_items}
 use Rattle.mg_engine.specs.Bulk.{counter_after, numbered}
-use Rattle.mg_engine.proofs.bulk.number.numbered.Given as goal
+use Rattle.mg_engine.proofs.bulk.number.number_edits.Given as goal
 
 -- the edits so far, followed by the rest with numbers from here on, are all edits with numbers
 abbrev pub invariant-loop-edit : goal.invariant-loop-edit

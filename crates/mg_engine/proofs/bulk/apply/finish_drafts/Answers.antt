@@ -4,7 +4,7 @@ use Rattle.mg_shard.specs.Draft.{DraftView}
 use Rattle.mg_shard.specs.Shard.{ShardView, shards_seen}
 use Rattle.mg_engine.specs.StateView.{AllLeave}
 use Rattle.mg_engine.proofs.Editing.{nothing}
-use Rattle.mg_engine.proofs.bulk.apply.finished.Goals as goal
+use Rattle.mg_engine.proofs.bulk.apply.finish_drafts.Goals as goal
 
 pub returns : goal.returns
 returns c =

@@ -28,16 +28,16 @@ impl<P> Absorb<()> for Snapshot<P> {
 }
 
 /// Reads the published snapshot.
-pub(crate) type Reads<D, P> = Reader<Snapshot<P>, (), Ours<D, P>>;
+pub(crate) type SnapshotReader<D, P> = Reader<Snapshot<P>, (), Ours<D, P>>;
 
 /// Replaces the published snapshot.
-pub type Writes<D, P> = Writer<Snapshot<P>, (), (), Ours<D, P>>;
+pub type SnapshotWriter<D, P> = Writer<Snapshot<P>, (), (), Ours<D, P>>;
 
 /// Publishes a snapshot in one step, which takes no memory and cannot fail. It waits for the readers that still look at the copy that
 /// the snapshot replaces, and returns this copy: dropping it may cost as much as what it alone holds.
 pub(crate) fn publish<D: Database, P: Placement + Drop, R: Wait>(
     rt: &R,
-    writer: &mut Writes<D, P>,
+    writer: &mut SnapshotWriter<D, P>,
     snapshot: Snapshot<P>,
 ) -> Snapshot<P>
 where
@@ -53,9 +53,9 @@ where
 // Does what `publish` does, for a writer that is moved in and returned.
 fn show<D: Database, P: Placement + Drop, R: Wait>(
     rt: &R,
-    writer: Writes<D, P>,
+    writer: SnapshotWriter<D, P>,
     snapshot: Snapshot<P>,
-) -> (Writes<D, P>, Snapshot<P>)
+) -> (SnapshotWriter<D, P>, Snapshot<P>)
 where
     Snapshot<P>: Absorb<(), State = ()>,
     requires { IsOf P.place D.history D.db D.shards snapshot }
@@ -70,8 +70,8 @@ where
 
 /// A copy of the snapshot that is published now. It waits for nobody.
 pub(crate) fn look<D: Database, P: Placement + Drop>(
-    reader: Reads<D, P>,
-) -> (Reads<D, P>, Result<Snapshot<P>, AllocError>)
+    reader: SnapshotReader<D, P>,
+) -> (SnapshotReader<D, P>, Result<Snapshot<P>, AllocError>)
     ensures { IfOk result.1 (λ s. IsOf P.place D.history D.db D.shards s) }
 {
     match reader.enter_as::<Ours<D, P>>() {

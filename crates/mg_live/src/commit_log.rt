@@ -8,13 +8,31 @@ use crate::markers::{Add, Entry, Law, Nothing};
 use logbook::{Offer, Seen, Start, Word};
 use mg_engine::Command;
 use std::marker::Model;
+use std::snapshot::Snapshot;
 
-/// A write that a seat asks for, with its number of workers.
-#[derive(Clone, Copy)]
-pub(crate) struct Write<'a> {
+/// A write that a seat asks for, with its number of workers. The command has no bytes here: only contracts see it, as the commit that
+/// the log gets.
+#[derive(Drop)]
+pub(crate) struct Write {
     pub(crate) seat: usize,
-    pub(crate) command: &'a Command,
+    pub(crate) command: Snapshot<Command>,
     pub(crate) workers: usize,
+}
+
+impl Write {
+    /// The write of a seat. Of the command it keeps only what contracts see.
+    pub(crate) fn of(seat: usize, command: &Command, workers: usize) -> Write
+        ensures seat { result.seat ≡ seat }
+        ensures command { result.command.value ≡ command.now }
+        ensures workers { result.workers ≡ workers }
+    {
+        let command = Snapshot::of(command);
+        Write {
+            seat,
+            command,
+            workers,
+        }
+    }
 }
 
 /// The word in memory that counts the entries of the commit log.
@@ -122,17 +140,15 @@ impl Prefix {
     }
 
     /// Adds a commit to the log right after this prefix. Returns the prefix with the commit, or `None` if the log is longer.
-    pub(crate) fn with(&self, head: &Head, write: &Write<'_>) -> Option<Prefix>
+    pub(crate) fn with(&self, head: &Head, write: &Write) -> Option<Prefix>
         requires head { head.now.word ≡ head_of self.now.seen.book }
         requires room { length self.now.seen.log ≢ 18446744073709551615 }
         ensures { IfSome result (λ f.
-            (f.seen.log ≡ self.now.seen.log ++ log_entry write.now.seat write.now.command.now ∷ [])
+            (f.seen.log ≡ self.now.seen.log ++ log_entry write.now.seat write.now.command.value ∷ [])
             × (f.seen.book ≡ self.now.seen.book)) }
     {
         let mut seen = self.seen.again();
-        let mut offer: Offer<Entry, u64, Law, Nothing> = seen.plain::<Nothing, Write<'_>, Add>(
-            write,
-        );
+        let mut offer: Offer<Entry, u64, Law, Nothing> = seen.plain::<Nothing, Write, Add>(write);
         let mut pen = seen.no_pen();
         let count = self.count;
         let found = head

@@ -4,7 +4,7 @@ use Rattle.mg_doc.specs.Document.{Edit}
 use Rattle.mg_engine.specs.Bulk.{counter_after, numbered}
 use Rattle.mg_engine.proofs.Counter.{counter_cons, numbered_cons}
 use Rattle.mg_engine.proofs.Editing.{nothing}
-use Rattle.mg_engine.proofs.bulk.number.numbered.Goals as goal
+use Rattle.mg_engine.proofs.bulk.number.number_edits.Goals as goal
 
 pub loop-edit-init : goal.loop-edit-init
 loop-edit-init c =

@@ -3,7 +3,7 @@ use Rattle.mg_shard.specs.Dealt.{ShardsStandFor}
 use Rattle.mg_shard.specs.Shard.{ShardView, shards_seen}
 use Rattle.mg_engine.specs.Stands.{HaveRows}
 use Rattle.mg_engine.proofs.Indexes.{each_has, have_rows}
-use Rattle.mg_engine.proofs.reshard.dealt_anew.Goals as goal
+use Rattle.mg_engine.proofs.reshard.deal_shards.Goals as goal
 
 pub returns-clause-stands : goal.returns-clause-stands
 returns-clause-stands g c = λ hs h.

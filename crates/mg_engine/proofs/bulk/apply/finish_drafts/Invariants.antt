@@ -2,7 +2,7 @@ use Rattle.std.proofs.Common.{◌≡◌, ◌++◌, List, drop, length}
 use Rattle.std.specs.Vec.Iter.{into_iter_items}
 use Rattle.mg_shard.specs.Shard.{ShardView, shards_seen}
 use Rattle.mg_engine.specs.StateView.{AllLeave, before}
-use Rattle.mg_engine.proofs.bulk.apply.finished.Given as goal
+use Rattle.mg_engine.proofs.bulk.apply.finish_drafts.Given as goal
 
 -- the shards so far, followed by what the rest of the drafts leave, are what all drafts leave
 abbrev pub invariant-loop-draft : goal.invariant-loop-draft

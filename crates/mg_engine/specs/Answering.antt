@@ -7,7 +7,7 @@ use Rattle.mg_engine.specs.declared.fault.Fault.{Fault}
 use Rattle.mg_engine.specs.declared.fault.Fault.TheVariants.{Refused, NoMemory}
 
 -- the body, or the refusal, makes this answer; true also where memory was refused
-abbrev pub Tells : Result (Vec ℕ Global) Fault → Answer → Type 0
-Tells (Ok body) a = a ≡ record { status = 200; body = body.items }
-Tells (Err (Refused x)) a = a ≡ refused x
-Tells (Err NoMemory) a = Unit {0}
+abbrev pub MakesAnswer : Result (Vec ℕ Global) Fault → Answer → Type 0
+MakesAnswer (Ok body) a = a ≡ record { status = 200; body = body.items }
+MakesAnswer (Err (Refused x)) a = a ≡ refused x
+MakesAnswer (Err NoMemory) a = Unit {0}
