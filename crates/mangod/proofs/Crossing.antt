@@ -3,7 +3,7 @@ use denote.Param.Send.{IsSend, sendable}
 use denote.Param.SendFields.{declared_send}
 use denote.RattleType.{RattleType}
 use Rattle.std.specs.declared.sync.ledger.Ledger as ledger
-use Rattle.mg_http.specs.contracts.service.SeatService as SeatService
+use Rattle.mg_http.specs.contracts.sessions.service.SeatService as SeatService
 use Rattle.mg_live.specs.declared.database.Database as database
 use Rattle.mg_live.proofs.Crossing.{seat_send}
 

@@ -2,7 +2,7 @@
 use Rattle.std.proofs.Common.{◌≡◌, ◌∙◌, ◌<◌, ℕ, List, [], ◌∷◌, ◌++◌, length, map, get_or, Option, refl, sym, ap, subst}
 use Rattle.std.proofs.lemmas.List.{get_or-map}
 use Rattle.mg_engine.specs.Commands.{Asked, Answer}
-use Rattle.mg_http.proofs.TalkLemmas.{talks}
+use Rattle.mg_http.proofs.StandingLemmas.{converses}
 use Rattle.mg_live.specs.Sitting.{Answered, Sitting}
 use Rattle.mangod.specs.Conversations.{Conversation, InTurn}
 
@@ -18,7 +18,7 @@ module _ {S T : Type 0} (answers : S → Asked → Option Answer → S → Type 
   pub seen_by : (a b : S) (v : T) (xs : List Conversation) → InTurn answers db a xs b → stands a v → (u : T) × InTurn shown db v xs u × stands b u
   seen_by a b v [] h st = (v, refl, subst (λ (s : S). stands s v) (sym h) st)
   seen_by a b v (x ∷ xs) h st =
-      let one = talks answers shown stands db steps a x.bytes x.written h.0 x.end v h.1 st in
+      let one = converses answers shown stands db steps a x.bytes x.written h.0 x.end v h.1 st in
       let others = seen_by h.0 b one.0 xs h.2 one.2 in
       (others.0, (one.0, one.1, others.1), others.2)
 

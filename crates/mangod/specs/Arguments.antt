@@ -16,9 +16,9 @@ is_database_name (first ∷ rest) = is_ascii_lowercase first && list_all is_name
 
 -- the number that decimal digits write, if it is from 1 to `most`
 abbrev pub number_of : List ℕ → ℕ → Option ℕ
-number_of word most =
-    if list_all is_ascii_digit word && (nat_le 1 (digits_value 10 word) && nat_le (digits_value 10 word) most)
-    then Some (digits_value 10 word) else None
+number_of arg most =
+    if list_all is_ascii_digit arg && (nat_le 1 (digits_value 10 arg) && nat_le (digits_value 10 arg) most)
+    then Some (digits_value 10 arg) else None
 
 -- what the arguments ask for
 pub record Settings : Type 0 where
@@ -43,7 +43,7 @@ settings_with db addr shards workers sessions = None
 abbrev pub settings_of : List (List ℕ) → Option Settings
 settings_of (db ∷ shards ∷ workers ∷ sessions ∷ addr ∷ []) =
     settings_with db addr (number_of shards 64) (number_of workers 32) (number_of sessions 16)
-settings_of words = None
+settings_of args = None
 
 -- the name of the database, the number of its shards and the number of sessions; an empty name, one shard and one session if the
 -- arguments are wrong

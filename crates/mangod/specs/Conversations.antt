@@ -20,4 +20,4 @@ InTurn {S} answers db old (c ∷ cs) new =
 
 -- sessions of the database of this name took a seat from the first state to the last, one after another
 abbrev pub IsServed : List ℕ → Sitting → Sitting → Type 0
-IsServed db old new = (talks : List Conversation) × InTurn (Answered db) db old talks new
+IsServed db old new = (conversations : List Conversation) × InTurn (Answered db) db old conversations new

@@ -19,8 +19,8 @@ ending_of WriteFault = record { status = 1; line = codes "mangod: write fault" }
 ending_of Limit = record { status = 1; line = codes "mangod: limit" }
 
 -- the arguments are wrong
-abbrev pub wrong_words : Ending
-wrong_words = record { status = 2; line = codes "mangod: usage: mangod DB SHARDS WORKERS SESSIONS ADDR" }
+abbrev pub wrong_arguments : Ending
+wrong_arguments = record { status = 2; line = codes "mangod: usage: mangod DB SHARDS WORKERS SESSIONS ADDR" }
 
 -- there is no memory to start
 abbrev pub no_memory : Ending

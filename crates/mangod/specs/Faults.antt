@@ -23,8 +23,8 @@ after_number None = Never
 after_number (Some number) = if is_want number then WithMore else if is_of_one_connection number then Again else Never
 
 -- what to do with a connection, by its session's end and whether its input was ended in a pause between messages
-abbrev pub afterwards : SessionEnd → Bool → Disposal
-afterwards Eof true = Keep
-afterwards Refused paused = CloseGently
-afterwards Closed paused = CloseGently
-afterwards end paused = Close
+abbrev pub disposal_after : SessionEnd → Bool → Disposal
+disposal_after Eof true = Keep
+disposal_after Refused paused = CloseGently
+disposal_after Closed paused = CloseGently
+disposal_after end paused = Close

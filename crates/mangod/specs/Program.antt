@@ -1,17 +1,17 @@
 -- What the program does with its arguments, over an input and an output. `read` and `wrote` say which bytes were read and written.
 use Rattle.std.specs.Prelude.{◌≡◌, ℕ, ◌⊎◌, List, [], Option, Some, None, MatchBool}
 use Rattle.mg_engine.specs.World.{World, empty_world}
-use Rattle.mg_http.specs.Talk.{HoldsAt}
+use Rattle.mg_http.specs.AtWorld.{WroteTranscriptAt}
 use Rattle.mg_http.specs.declared.sessions.SessionEnd.{SessionEnd}
 use Rattle.mangod.specs.Arguments.{Settings, is_standard}
-use Rattle.mangod.specs.Ends.{Ending, cannot_listen, ending_of, no_memory, stopped, wrong_words}
+use Rattle.mangod.specs.Ends.{Ending, cannot_listen, ending_of, no_memory, stopped, wrong_arguments}
 
--- One session was held, from the empty world of this database. `HoldsAt` says what was written for what was read, and that it is the
--- transcript if memory sufficed.
+-- One session was held, from the empty world of this database. `WroteTranscriptAt` says what was written for what was read, and that it
+-- is the transcript if memory sufficed.
 pub record HoldsSession (db : List ℕ) (read wrote : List ℕ → Type 0) (ending : Ending) : Type 0 where
   pub left : World
   pub end : SessionEnd
-  pub held : HoldsAt db (record { read = read; wrote = wrote; old = empty_world db; new = left; end = end })
+  pub held : WroteTranscriptAt db (record { read = read; wrote = wrote; old = empty_world db; new = left; end = end })
   pub ends : ending ≡ ending_of end
 
 -- the program ended at once, and read and wrote nothing
@@ -19,8 +19,8 @@ abbrev pub EndsAtOnce : (List ℕ → Type 0) → (List ℕ → Type 0) → Endi
 EndsAtOnce read wrote why ending = read [] × wrote [] × (ending ≡ why)
 
 -- what the program does with the address `-`: it holds a session, unless there was no memory to start
-abbrev pub Serves : List ℕ → (List ℕ → Type 0) → (List ℕ → Type 0) → Ending → Type 0
-Serves db read wrote ending = HoldsSession db read wrote ending ⊎ EndsAtOnce read wrote no_memory ending
+abbrev pub RunsOneSession : List ℕ → (List ℕ → Type 0) → (List ℕ → Type 0) → Ending → Type 0
+RunsOneSession db read wrote ending = HoldsSession db read wrote ending ⊎ EndsAtOnce read wrote no_memory ending
 
 -- how the program ends with another address: no memory to start, or it cannot listen, or the listener failed
 abbrev pub IsEndOfListening : Ending → Type 0
@@ -32,5 +32,5 @@ Listens read wrote ending = read [] × wrote [] × IsEndOfListening ending
 
 -- what the program does; wrong arguments (`None`) end it at once
 abbrev pub RunsWith : Option Settings → (List ℕ → Type 0) → (List ℕ → Type 0) → Ending → Type 0
-RunsWith None read wrote ending = EndsAtOnce read wrote wrong_words ending
-RunsWith (Some s) read wrote ending = MatchBool (is_standard s.addr) (Serves s.db read wrote ending) (Listens read wrote ending)
+RunsWith None read wrote ending = EndsAtOnce read wrote wrong_arguments ending
+RunsWith (Some s) read wrote ending = MatchBool (is_standard s.addr) (RunsOneSession s.db read wrote ending) (Listens read wrote ending)

@@ -15,11 +15,11 @@ const SESSIONS: usize = 16;
 /// Parses the arguments `DB SHARDS WORKERS SESSIONS ADDR`; `None` if they are wrong. Allocates nothing.
 ///
 /// SHARDS is 1 to 64, WORKERS is 1 to 32, and SESSIONS is 1 to 16. ADDR is any text.
-pub(crate) fn settings(words: &[String]) -> Option<Settings<'_>>
-    ensures { option_map settings_seen result ≡ settings_of (map (λ w. string_bytes w) words.now) }
+pub(crate) fn settings(args: &[String]) -> Option<Settings<'_>>
+    ensures { option_map settings_seen result ≡ settings_of (map (λ arg. string_bytes arg) args.now) }
 {
-    match words {
-        [db, shards, workers, sessions, addr] => checked(
+    match args {
+        [db, shards, workers, sessions, addr] => check_settings(
             db.as_str(),
             addr.as_str(),
             number(shards.as_str(), SHARDS),
@@ -41,7 +41,7 @@ pub(crate) fn sessions(asked: Option<Settings<'_>>) -> usize
 }
 
 // The settings of a name, an address and three numbers; `None` if one of them is wrong.
-fn checked<'a>(
+fn check_settings<'a>(
     db: &'a str,
     addr: &'a str,
     shards: Option<usize>,
@@ -71,10 +71,10 @@ fn checked<'a>(
 }
 
 // Whether an argument is a database name: a lower case letter, then lower case letters, digits and `_$()+-`.
-fn is_database_name(word: &str) -> bool
-    ensures { result ≡ is_database_name word.now }
+fn is_database_name(arg: &str) -> bool
+    ensures { result ≡ is_database_name arg.now }
 {
-    match word.as_bytes().split_first() {
+    match arg.as_bytes().split_first() {
         Some((first, rest)) => first.is_ascii_lowercase() && are_name_bytes(rest),
         None => false,
     }
@@ -93,13 +93,13 @@ fn is_name_byte(byte: u8) -> bool
 }
 
 // Parses a decimal number from 1 to `most`; `None` for anything else.
-fn number(word: &str, most: usize) -> Option<usize>
+fn number(arg: &str, most: usize) -> Option<usize>
     requires { most ≤ 1000 }
-    ensures value { result ≡ number_of word.now most }
+    ensures value { result ≡ number_of arg.now most }
     ensures within { IfSome result (λ n. (1 ≤ n) × (n ≤ most)) }
 {
     let mut number: usize = 0;
-    for digit in word.as_bytes() {
+    for digit in arg.as_bytes() {
         if !digit.is_ascii_digit() {
             return None;
         }

@@ -2,7 +2,7 @@
 ghost use Rattle.std.specs.Prelude.{◌≡◌, List};
 ghost use Rattle.mangod.specs.Conversations.{Conversation, InTurn};
 
-use crate::faults::{Disposal, afterwards};
+use crate::faults::{Disposal, disposal_after};
 use crate::line::{Incoming, Line, Outgoing};
 use crate::lobby::Lobby;
 use mg_http::{Device, Service, session};
@@ -21,7 +21,8 @@ pub(crate) fn serve_connections<H: Wait + Threads + Sync + Clock, S: Service>(
     lobby: &Lobby,
     service: &mut S,
 )
-    ensures { (talks : List Conversation) × InTurn S.answers db.now service.old talks service.new }
+    ensures { (conversations : List Conversation)
+        × InTurn S.answers db.now service.old conversations service.new }
 {
     for _turn in 0..u64::MAX {
         let Some(stream) = lobby.next(rt) else {
@@ -44,7 +45,8 @@ fn converse<H: Wait + Threads + Sync + Clock, S: Service>(
     stream: &TcpStream,
     service: &mut S,
 ) -> Disposal
-    ensures { (talks : List Conversation) × InTurn S.answers db.now service.old talks service.new }
+    ensures { (conversations : List Conversation)
+        × InTurn S.answers db.now service.old conversations service.new }
 {
     let Ok(began) = Instant::now(rt) else {
         return Disposal::Close;
@@ -53,5 +55,5 @@ fn converse<H: Wait + Threads + Sync + Clock, S: Service>(
     let mut reader = Device::new(Incoming::new(&line));
     let mut writer = Device::new(Outgoing::new(&line));
     let end = session(rt, alloc, db, &mut reader, &mut writer, service);
-    afterwards(end, line.has_paused())
+    disposal_after(end, line.has_paused())
 }

@@ -11,7 +11,7 @@ pub(crate) struct Exit {
 }
 
 /// The arguments are wrong.
-pub(crate) const WRONG_WORDS: Exit = Exit {
+pub(crate) const WRONG_ARGUMENTS: Exit = Exit {
     status: 2,
     line: "mangod: usage: mangod DB SHARDS WORKERS SESSIONS ADDR",
 };

@@ -1,6 +1,6 @@
 //! Decides what to do after a failed accept, and with a connection after its session.
 ghost use Rattle.std.specs.Prelude.{◌≡◌};
-ghost use Rattle.mangod.specs.Faults.{after_number, afterwards, is_of_one_connection, is_want};
+ghost use Rattle.mangod.specs.Faults.{after_number, disposal_after, is_of_one_connection, is_want};
 
 use mg_http::SessionEnd;
 use std::io::ErrorKind;
@@ -67,8 +67,8 @@ pub(crate) enum Disposal {
 }
 
 /// What to do with a connection after a session with this end. `has_paused`: its input was ended in a pause between messages.
-pub(crate) fn afterwards(end: SessionEnd, has_paused: bool) -> Disposal
-    ensures { result ≡ afterwards end has_paused }
+pub(crate) fn disposal_after(end: SessionEnd, has_paused: bool) -> Disposal
+    ensures { result ≡ disposal_after end has_paused }
 {
     match end {
         SessionEnd::Eof if has_paused => Disposal::Keep,

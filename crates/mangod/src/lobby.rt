@@ -50,7 +50,7 @@ struct Watch {
     /// Whether descriptors or memory ran out at the last accept.
     is_wanting: bool,
     /// When silent connections were last searched for.
-    looked: Instant,
+    last_search: Instant,
 }
 
 /// A connection without a session.
@@ -78,7 +78,7 @@ impl Lobby {
             spill: vec![in alloc; 0; SPILL]?,
             is_accepting: true,
             is_wanting: false,
-            looked: Instant::now(rt)?,
+            last_search: Instant::now(rt)?,
         };
         let guests = Slab::with_capacity(alloc, GUESTS)?;
         let registry = watch.poll.registry().try_clone()?;
@@ -228,10 +228,10 @@ impl Lobby {
         let Ok(now) = Instant::now(rt) else {
             return;
         };
-        if now.saturating_duration_since(watch.looked) < Duration::from_millis(LOOK_MILLIS) {
+        if now.saturating_duration_since(watch.last_search) < Duration::from_millis(LOOK_MILLIS) {
             return;
         }
-        watch.looked = now;
+        watch.last_search = now;
         self.guests.lock(rt).retain(|_, guest| {
             !is_silent_too_long(now.saturating_duration_since(guest.since))
         });

@@ -13,7 +13,7 @@ mod program;
 mod seats;
 
 use crate::arguments::{sessions, settings};
-use crate::ends::{NO_MEMORY, WRONG_WORDS};
+use crate::ends::{NO_MEMORY, WRONG_ARGUMENTS};
 use crate::program::run;
 use mg_http::Device;
 use mg_live::CommitLog;
@@ -26,8 +26,8 @@ use std::sync::ledger::Blank;
 fn main(rt: HostRuntime) -> ExitCode {
     let ending = match env::args(&rt) {
         Ok(args) => match args.skip(1).collect::<Vec<String>>(rt.alloc()) {
-            Ok(words) => {
-                let asked = settings(&words);
+            Ok(args) => {
+                let asked = settings(&args);
                 run::<Brand, _, _, _>(
                     rt,
                     asked,
@@ -41,7 +41,7 @@ fn main(rt: HostRuntime) -> ExitCode {
         },
         Err(error) => match error.kind() {
             ErrorKind::OutOfMemory => NO_MEMORY,
-            _ => WRONG_WORDS,
+            _ => WRONG_ARGUMENTS,
         },
     };
     if !ending.line.is_empty() {

@@ -6,11 +6,11 @@ ghost use Rattle.mangod.specs.Arguments.{name_in, sessions_in, shards_in};
 ghost use Rattle.mg_engine.specs.Stands.{Stands, shard_count};
 ghost use Rattle.mg_engine.specs.World.{empty_world};
 ghost use Rattle.mg_shard.specs.Placement.{md5_place};
-ghost use Rattle.mangod.specs.Program.{IsEndOfListening, RunsWith, Serves};
+ghost use Rattle.mangod.specs.Program.{IsEndOfListening, RunsOneSession, RunsWith};
 ghost use Rattle.mangod.specs.View.{ending_seen, settings_seen};
 
 use crate::config::Settings;
-use crate::ends::{CANNOT_LISTEN, Exit, NO_MEMORY, STOPPED, WRONG_WORDS};
+use crate::ends::{CANNOT_LISTEN, Exit, NO_MEMORY, STOPPED, WRONG_ARGUMENTS};
 use crate::lobby::Lobby;
 use crate::seats::serve;
 use mg_engine::Engine;
@@ -62,7 +62,7 @@ pub(crate) fn run<
         (Appends (W.contents (inner_of writer.old)) (W.contents (inner_of writer.new))) (ending_seen result) }
 {
     let Some(settings) = asked else {
-        return WRONG_WORDS;
+        return WRONG_ARGUMENTS;
     };
     if settings.addr == "-" {
         return hold_session(&rt, settings, reader, writer);
@@ -79,7 +79,7 @@ fn hold_session<H: Wait + Threads + Sync + AllocGlobal, R: Read, W: Write>(
 ) -> Exit
     requires reading { has_failed reader.old ≡ false }
     requires writing { has_failed writer.old ≡ false }
-    ensures { Serves settings.entry.db.now
+    ensures { RunsOneSession settings.entry.db.now
         (Consumes (R.remaining (inner_of reader.old)) (R.remaining (inner_of reader.new)))
         (Appends (W.contents (inner_of writer.old)) (W.contents (inner_of writer.new))) (ending_seen result) }
 {
@@ -148,7 +148,8 @@ fn listen<
 
 // A service of an empty database.
 fn solo<H: AllocGlobal>(rt: &H, settings: &Settings<'_>) -> Result<Solo<Md5Placement>, NoMemory>
-    ensures stands { IfOk result (λ solo. Stands (λ p id shards. md5_place id shards) solo.engine (empty_world settings.now.db.now)) }
+    ensures stands { IfOk result
+        (λ solo. Stands (λ p id shards. md5_place id shards) solo.engine (empty_world settings.now.db.now)) }
     ensures shards { IfOk result (λ solo. shard_count solo.engine ≡ settings.now.shards) }
     ensures workers { IfOk result (λ solo. solo.workers ≡ settings.now.workers) }
 {

@@ -70,7 +70,8 @@ fn attend_all<D: Database + Send + Sync, H: Wait + Threads + Clock + Send + Sync
     requires { db.now ≡ D.db }
     ensures count { IfOk result (λ after. vec_len after ≡ vec_len services) }
     ensures each { IfOk result (λ after. (i : ℕ) (d : Sitting) → i < vec_len services
-        → IsServed D.db (slice_index_or (map (λ service. service.seat) services.items) i d) (slice_index_or after.items i d)) }
+        → IsServed D.db (slice_index_or (map (λ service. service.seat) services.items) i d)
+        (slice_index_or after.items i d)) }
 {
     let after = thread::map_vec(
         rt,

@@ -6,13 +6,13 @@ use Rattle.mg_value.specs.Text.{Reads, whole_of}
 use Rattle.mg_engine.specs.declared.refusal.Refusal.{Refusal}
 use Rattle.mg_engine.specs.Commands.{Answer, refused, reply_of, next}
 use Rattle.mg_engine.specs.World.{World}
-use Rattle.mg_http.specs.declared.routes.Endpoint.{Endpoint}
+use Rattle.mg_http.specs.declared.request.routes.Endpoint.{Endpoint}
 use Rattle.mg_http.specs.Device.{IsPrefix}
 use Rattle.mg_http.specs.Head.{framed, unframed, asks_of, is_silent}
 use Rattle.mg_http.specs.Message.{Message, HasHead, Begins, IsRefused, IsWaiting}
 use Rattle.mg_http.specs.Reply.{text_of}
 use Rattle.mg_http.specs.Session.{Handles, HandlesBody, asked_by}
-use Rattle.mg_http.specs.Talk.{AtWorld}
+use Rattle.mg_http.specs.AtWorld.{AtWorld}
 use Rattle.mg_http.specs.Target.{Request, body, asks, refuses}
 use Rattle.mg_http.specs.Transcript.{Stops, Speaks}
 use Rattle.mg_http.proofs.Forms.{passage, step}

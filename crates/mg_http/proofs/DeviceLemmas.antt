@@ -5,18 +5,18 @@ use Rattle.std.proofs.lemmas.Grind.{flat_map-append}
 use Rattle.std.proofs.Math.Seq.{take-suc}
 use Rattle.std.proofs.KnownBytes.{Appends-trans}
 use Rattle.std.specs.Io.KnownBytes.{Appends}
-use Rattle.mg_http.specs.declared.device.Fault.{Fault}
-use Rattle.mg_http.specs.Device.{WritesPart, Writes}
+use Rattle.mg_http.specs.declared.sessions.device.IoFault.{IoFault}
+use Rattle.mg_http.specs.Device.{WritesPrefix, WritesBytes}
 use Rattle.mg_http.specs.Gathered.{Gathers}
 
--- a prefix of the rest, written after the front, is a prefix of the whole
-pub part_then : (x y z : Option (List ℕ)) (front rest : List ℕ) → Appends x y front → WritesPart y z rest → WritesPart x z (front ++ rest)
-part_then x y z front rest p q =
-    (front ++ q.0, (q.1.0, append_assoc front q.0 q.1.0 ∙ ap (λ (t : List ℕ). front ++ t) q.1.1), Appends-trans x y z front q.0 p q.2)
+-- a prefix of the rest, written after the first part, is a prefix of the whole
+pub part_then : (x y z : Option (List ℕ)) (first rest : List ℕ) → Appends x y first → WritesPrefix y z rest → WritesPrefix x z (first ++ rest)
+part_then x y z first rest p q =
+    (first ++ q.0, (q.1.0, append_assoc first q.0 q.1.0 ∙ ap (λ (t : List ℕ). first ++ t) q.1.1), Appends-trans x y z first q.0 p q.2)
 
--- a prefix of the front is a prefix of the whole
-pub part_cut : (x z : Option (List ℕ)) (front rest : List ℕ) → WritesPart x z front → WritesPart x z (front ++ rest)
-part_cut x z front rest q =
+-- a prefix of the first part is a prefix of the whole
+pub part_cut : (x z : Option (List ℕ)) (first rest : List ℕ) → WritesPrefix x z first → WritesPrefix x z (first ++ rest)
+part_cut x z first rest q =
     (q.0, (q.1.0 ++ rest, sym (append_assoc q.0 q.1.0 rest) ∙ ap (λ (t : List ℕ). t ++ rest) q.1.1), q.2)
 
 -- one more write sends the next n bytes of what was left
@@ -28,18 +28,18 @@ more_sent x y z bytes sent left after n is p q rest = (
   Appends-trans x y z sent (take n left) p q,
 )
 
--- the page and then the piece were written
-pub gather_both : {A : Type 0} (x y z : Option (List ℕ)) (held piece left : List ℕ) (r : Result A Fault) → left ≡ []
-    → Appends x y held → Writes y z piece r → Gathers x z held piece left r
+-- what is in the output and then the piece were written
+pub gather_both : {A : Type 0} (x y z : Option (List ℕ)) (held piece left : List ℕ) (r : Result A IoFault) → left ≡ []
+    → Appends x y held → WritesBytes y z piece r → Gathers x z held piece left r
 gather_both x y z held piece left (Ok a) none p q =
     (held ++ piece, rw none (sym (append-nil (held ++ piece))), Appends-trans x y z held piece p q)
 gather_both x y z held piece left (Err e) none p q = part_then x y z held piece p q
 
--- the page, written after what was sent, completes the whole
-pub page_last : {A : Type 0} (x y z : Option (List ℕ)) (sent page whole : List ℕ) (r : Result A Fault) → sent ++ page ≡ whole
-    → Appends x y sent → Writes y z page r → Writes x z whole r
-page_last x y z sent page whole (Ok a) e p q = rw (← e) (Appends-trans x y z sent page p q)
-page_last x y z sent page whole (Err f) e p q = rw (← e) (part_then x y z sent page p q)
+-- the output, written after what was sent, completes the whole
+pub output_last : {A : Type 0} (x y z : Option (List ℕ)) (sent output whole : List ℕ) (r : Result A IoFault) → sent ++ output ≡ whole
+    → Appends x y sent → WritesBytes y z output r → WritesBytes x z whole r
+output_last x y z sent output whole (Ok a) e p q = rw (← e) (Appends-trans x y z sent output p q)
+output_last x y z sent output whole (Err f) e p q = rw (← e) (part_then x y z sent output p q)
 
 module _ {P : Type 0} (text : P → List ℕ) (pieces : List P) (at : ℕ) (d : P) (within : at < length pieces) (x y z : Option (List ℕ)) where
   -- all pieces are those before, this one, and those after
@@ -48,14 +48,14 @@ module _ {P : Type 0} (text : P → List ℕ) (pieces : List P) (at : ℕ) (d : 
       ap (flat_map text) (sym (take-append-drop at pieces)) ∙ flat_map-append text (take at pieces) (drop at pieces)
       ∙ ap (λ (t : List _). flat_map text (take at pieces) ++ flat_map text t) (drop-cons pieces at d within)
 
-  -- a prefix of the page and one more piece, written after what was sent, is a prefix of all pieces
-  pub part_of_page : (sent page : List ℕ) → sent ++ page ≡ flat_map text (take at pieces) → Appends x y sent
-      → WritesPart y z (page ++ text (get_or pieces at d)) → WritesPart x z (flat_map text pieces)
-  part_of_page sent page e p q =
+  -- a prefix of the output and one more piece, written after what was sent, is a prefix of all pieces
+  pub part_of_output : (sent output : List ℕ) → sent ++ output ≡ flat_map text (take at pieces) → Appends x y sent
+      → WritesPrefix y z (output ++ text (get_or pieces at d)) → WritesPrefix x z (flat_map text pieces)
+  part_of_output sent output e p q =
       let after = flat_map text (drop (suc at) pieces) in
       let piece = text (get_or pieces at d) in
-      let whole : flat_map text pieces ≡ sent ++ ((page ++ piece) ++ after) =
-      pieces_cut ∙ ap (λ (t : List ℕ). t ++ (piece ++ after)) (sym e) ∙ append_assoc sent page (piece ++ after) ∙ ap (λ (t : List ℕ). sent ++ t) (sym (append_assoc page piece after)) in
+      let whole : flat_map text pieces ≡ sent ++ ((output ++ piece) ++ after) =
+      pieces_cut ∙ ap (λ (t : List ℕ). t ++ (piece ++ after)) (sym e) ∙ append_assoc sent output (piece ++ after) ∙ ap (λ (t : List ℕ). sent ++ t) (sym (append_assoc output piece after)) in
       rw whole (part_then x y z sent _ p (part_cut y z _ after q))
 
   -- one more piece follows those before
@@ -64,13 +64,13 @@ module _ {P : Type 0} (text : P → List ℕ) (pieces : List P) (at : ℕ) (d : 
       ap (flat_map text) (take-suc pieces at d within) ∙ flat_map-append text (take at pieces) (get_or pieces at d ∷ [])
       ∙ ap (λ (t : List ℕ). flat_map text (take at pieces) ++ t) (append-nil (text (get_or pieces at d)))
 
-  -- one more piece is sent or on the page
-  pub one_gathered : (sent page left : List ℕ) → sent ++ page ≡ flat_map text (take at pieces) → Appends x y sent
-      → ((more : List ℕ) × (page ++ text (get_or pieces at d) ≡ more ++ left) × Appends y z more)
+  -- one more piece is sent or in the output
+  pub one_gathered : (sent output left : List ℕ) → sent ++ output ≡ flat_map text (take at pieces) → Appends x y sent
+      → ((more : List ℕ) × (output ++ text (get_or pieces at d) ≡ more ++ left) × Appends y z more)
       → (sent : List ℕ) × (sent ++ left ≡ flat_map text (take (suc at) pieces)) × Appends x z sent
-  one_gathered sent page left e p q = (
+  one_gathered sent output left e p q = (
     sent ++ q.0,
-    append_assoc sent q.0 left ∙ ap (λ (t : List ℕ). sent ++ t) (sym q.1) ∙ sym (append_assoc sent page _)
+    append_assoc sent q.0 left ∙ ap (λ (t : List ℕ). sent ++ t) (sym q.1) ∙ sym (append_assoc sent output _)
         ∙ ap (λ (t : List ℕ). t ++ text (get_or pieces at d)) e ∙ sym pieces_more,
     Appends-trans x y z sent q.0 p q.2,
   )

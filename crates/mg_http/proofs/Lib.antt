@@ -1,6 +1,5 @@
 pub mod CutLemmas
 pub mod DeviceLemmas
-pub mod FaultLemmas
 pub mod Forms
 pub mod HeadLemmas
 pub mod ListLemmas
@@ -9,6 +8,8 @@ pub mod NumberLemmas
 pub mod ReplyLemmas
 pub mod RouteLemmas
 pub mod SessionLemmas
-pub mod TalkLemmas
+pub mod StandingLemmas
+pub mod TargetScanLemmas
 pub mod TranscriptLemmas
 pub mod WalkLemmas
+pub mod WindowLemmas

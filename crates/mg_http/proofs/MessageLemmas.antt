@@ -25,10 +25,10 @@ module _ (bytes : List ℕ) (k : ℕ) where
   pub has_head : (h : RequestHead) (r : List ℕ) → k ≤ 16384 → ReadsRequest (take k bytes) h r → HasHead bytes h (r ++ drop k bytes)
   has_head h r small x = record { reads = widen h r x; fits = omega (arith, head_fits h r x) }
 
-take_over : (k : ℕ) (front rest : List ℕ) → length front ≤ k → take k (front ++ rest) ≡ front ++ take (k - length front) rest
-take_over k front rest fits =
-    let split : k ≡ length front + (k - length front) = omega (arith, fits) in
-    ap (λ (j : ℕ). take j (front ++ rest)) split ∙ take-append-add front rest (k - length front)
+take_over : (k : ℕ) (prefix rest : List ℕ) → length prefix ≤ k → take k (prefix ++ rest) ≡ prefix ++ take (k - length prefix) rest
+take_over k prefix rest fits =
+    let split : k ≡ length prefix + (k - length prefix) = omega (arith, fits) in
+    ap (λ (j : ℕ). take j (prefix ++ rest)) split ∙ take-append-add prefix rest (k - length prefix)
 
 -- a head within its limit is found in the window
 pub in_window : (bytes : List ℕ) (h : RequestHead) (after : List ℕ) → HasHead bytes h after
@@ -85,13 +85,13 @@ two_messages db bytes m n p q x y =
 -- ---- refused bytes stay refused
 
 -- of two prefixes of a list, one is a prefix of the other
-either_front : (a b c d : List ℕ) → a ++ b ≡ c ++ d → ((u : List ℕ) × (a ++ u ≡ c)) ⊎ ((u : List ℕ) × (a ≡ c ++ u))
-either_front [] b c d e = inl (c, refl)
-either_front (x ∷ a) b [] d e = inr (x ∷ a, refl)
-either_front (x ∷ a) b (y ∷ c) d e =
+either_prefix : (a b c d : List ℕ) → a ++ b ≡ c ++ d → ((u : List ℕ) × (a ++ u ≡ c)) ⊎ ((u : List ℕ) × (a ≡ c ++ u))
+either_prefix [] b c d e = inl (c, refl)
+either_prefix (x ∷ a) b [] d e = inr (x ∷ a, refl)
+either_prefix (x ∷ a) b (y ∷ c) d e =
     let heads : x ≡ y = cc in
     let tails : a ++ b ≡ c ++ d = cc in
-    elim (either_front a b c d tails) [
+    elim (either_prefix a b c d tails) [
       | inl r ↦ inl (r.0, rw (heads, r.1) refl)
       | inr r ↦ inr (r.0, rw (heads, r.1) refl)
     ]
@@ -127,9 +127,9 @@ part_of_target u more all = λ k d inside. rw (get_or_append_left u more d k ins
 in_target_before : (w more : List ℕ) → NeverHasRequest w → EndsInTarget (w ++ more) → EndsInTarget w
 in_target_before w more never (blank, method, target, token, uri, is) =
     let start : List ℕ = print_blank blank ++ method in
-    let front : List ℕ = start ++ 32 ∷ [] in
-    let whole : w ++ more ≡ front ++ target = is ∙ sym (append_assoc start (32 ∷ []) target) in
-    elim (either_front w more front target whole) [
+    let prefix : List ℕ = start ++ 32 ∷ [] in
+    let whole : w ++ more ≡ prefix ++ target = is ∙ sym (append_assoc start (32 ∷ []) target) in
+    elim (either_prefix w more prefix target whole) [
       | inl r ↦
           let joined : w ++ (r.0 ++ tail) ≡ print_request (some_head blank method) ++ [] =
           sym (append_assoc w r.0 tail) ∙ ap (λ (t : List ℕ). t ++ tail) r.1 ∙ append_assoc start (32 ∷ []) tail
@@ -137,7 +137,7 @@ in_target_before w more never (blank, method, target, token, uri, is) =
           absurd (never (r.0 ++ tail) (some_head blank method) [] (some_head_is blank method token, joined))
       | inr r ↦
           let behind : r.0 ++ more ≡ target =
-          append_cancel_left front (r.0 ++ more) target (sym (append_assoc front r.0 more) ∙ ap (λ (t : List ℕ). t ++ more) (sym r.1) ∙ whole) in
+          append_cancel_left prefix (r.0 ++ more) target (sym (append_assoc prefix r.0 more) ∙ ap (λ (t : List ℕ). t ++ more) (sym r.1) ∙ whole) in
           (blank, method, r.0, token, part_of_target r.0 more (rw (← behind) at uri), r.1 ∙ append_assoc start (32 ∷ []) r.0)
     ]
 

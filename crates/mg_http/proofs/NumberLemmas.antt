@@ -26,10 +26,10 @@ same_digits (x ∷ xs) (y ∷ ys) n m size a b e =
     let p = both (is_ascii_digit x) (list_all is_ascii_digit xs) a in
     let q = both (is_ascii_digit y) (list_all is_ascii_digit ys) b in
     let more = same_digits xs ys (n * 10 + digit_value x) (m * 10 + digit_value y) (omega (arith, size)) p.1 q.1 e in
-    let front : n ≡ m = omega (arith, more.0, digit_small x p.0, digit_small y q.0) in
-    let digit : x ≡ y = omega (arith, more.0, front, digit_is x p.0, digit_is y q.0) in
+    let leading : n ≡ m = omega (arith, more.0, digit_small x p.0, digit_small y q.0) in
+    let digit : x ≡ y = omega (arith, more.0, leading, digit_is x p.0, digit_is y q.0) in
     let tail : xs ≡ ys = more.1 in
-    (front, cc)
+    (leading, cc)
 
 abbrev zeros : ℕ → List ℕ → List ℕ
 zeros zero ds = ds

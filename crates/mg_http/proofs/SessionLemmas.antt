@@ -7,19 +7,20 @@ use Rattle.std.proofs.KnownBytes.{Consumes-nil, Appends-nil, Consumes-trans, App
 use Rattle.std.proofs.lemmas.Grind.{common_steps}
 use Rattle.std.proofs.lemmas.List.{drop-append-le}
 use Rattle.httparse.specs.Grammar.{RequestHead, print_request}
-use Rattle.mg_engine.specs.Commands.{Asked, Answer}
-use Rattle.mg_http.specs.declared.device.Fault.{Fault}
-use Rattle.mg_http.specs.declared.head.Framed.{Framed}
-use Rattle.mg_http.specs.declared.inbox.Stop.{Stop}
-use Rattle.mg_http.specs.declared.inbox.Stop.TheVariants as stop
+use Rattle.mg_engine.specs.Commands.{Asked, Answer, refused}
+use Rattle.mg_engine.specs.declared.refusal.Refusal.{Refusal}
+use Rattle.mg_http.specs.declared.sessions.device.IoFault.{IoFault}
+use Rattle.mg_http.specs.declared.request.head.Framed.{Framed}
+use Rattle.mg_http.specs.declared.sessions.inbox.Stop.{Stop}
+use Rattle.mg_http.specs.declared.sessions.inbox.Stop.TheVariants as stop
 use Rattle.mg_http.specs.declared.sessions.SessionEnd.{SessionEnd}
 use Rattle.mg_http.specs.declared.sessions.SessionEnd.TheVariants.{Eof, Closed, Refused, ReadFault, WriteFault, Limit}
-use Rattle.mg_http.specs.Device.{Writes}
-use Rattle.mg_http.specs.Message.{HasHead, Begins, IsWaiting}
-use Rattle.mg_http.specs.Reply.{reply_text}
-use Rattle.mg_http.specs.Session.{Call, IsHandled, Handles, call_text, Serves, LacksMemory, Refuses, Ends, Converses}
+use Rattle.mg_http.specs.Device.{WritesBytes}
+use Rattle.mg_http.specs.Message.{HasHead, Begins, IsRefused, IsWaiting}
+use Rattle.mg_http.specs.Reply.{text_of, reply_text}
+use Rattle.mg_http.specs.Session.{Call, IsHandled, Handles, call_text, Serves, LacksMemory, IsRefusalText, Ends, Converses}
 use Rattle.mg_http.specs.Transcript.{IsAtLimit}
-use Rattle.mg_http.specs.Turns.{request_in, message_of, IsFramed, Turns, Progress, Counts, StopsWith}
+use Rattle.mg_http.specs.Turns.{request_in, message_of, IsFramed, LacksMemoryForHead, Turns, Progress, Counts, StopsWith}
 use Rattle.mg_http.proofs.Forms.{exchange, step}
 use Rattle.mg_http.proofs.HeadLemmas.{head_long}
 use Rattle.mg_http.proofs.MessageLemmas.{HasHead-append, Begins-append}
@@ -68,6 +69,13 @@ pub head_counts : (bytes : List ℕ) (h : RequestHead) (len : ℕ) → HasHead b
 head_counts bytes h len has within =
     omega (arith, within, head_long h has.reads.0, ap length has.reads.1, length-append (print_request h) (drop len bytes), length-drop len bytes)
 
+-- the text of a refusal refuses the bytes, or says that memory ran out
+pub refuses_by : (db bytes : List ℕ) (refusal : Refusal) (silent : Bool) → IsRefused db bytes refusal silent ⊎ LacksMemoryForHead bytes refusal silent
+    → IsRefusalText db bytes (text_of silent (refused refusal))
+refuses_by db bytes refusal silent (inl is) = inl (refusal, silent, is, refl)
+refuses_by db bytes refusal silent (inr (is, h, after, has, quiet)) =
+    inr (silent, inr (inr (h, after, has, quiet)), ap (λ (r : Refusal). text_of silent (refused r)) is)
+
 -- a session that stopped reading ends at its limit only if it may not call its reader again
 pub stops_at_limit : (old new : Option (List ℕ)) (silent : Bool) (s : Stop) (end : SessionEnd) → StopsWith old new silent s end → end ≡ Limit → s ≡ stop.Limit
 stops_at_limit old new silent stop.End end h e = let f : Eof ≡ Limit = sym h.0 ∙ e in cc
@@ -81,16 +89,16 @@ stops_at_limit old new silent stop.NoMemory ReadFault h e = absurd h
 stops_at_limit old new silent stop.NoMemory Limit h e = absurd h
 
 -- a session that wrote a refusing text, or a prefix of it, did not end at its limit
-pub refused_counts : {A P : Type 0} (written : Result A Fault) (end : SessionEnd) → end ≡ cond (is_ok written) Refused WriteFault → end ≡ Limit → P
+pub refused_counts : {A P : Type 0} (written : Result A IoFault) (end : SessionEnd) → end ≡ cond (is_ok written) Refused WriteFault → end ≡ Limit → P
 refused_counts (Ok a) end e at = let f : Refused ≡ Limit = sym e ∙ at in cc
 refused_counts (Err x) end e at = let f : WriteFault ≡ Limit = sym e ∙ at in cc
 
-pub refused_text : {A : Type 0} (written : Result A Fault) (end : SessionEnd) (bytes : List ℕ) → end ≡ cond (is_ok written) Refused WriteFault → IsAtLimit end bytes
+pub refused_text : {A : Type 0} (written : Result A IoFault) (end : SessionEnd) (bytes : List ℕ) → end ≡ cond (is_ok written) Refused WriteFault → IsAtLimit end bytes
 refused_text (Ok a) end bytes e = rw e tt
 refused_text (Err x) end bytes e = rw e tt
 
 -- the progress of a turn that answered a message
-pub answered_counts : {A : Type 0} (old new : Progress) (came : List ℕ) (written : Result A Fault) (closes : Bool) (result : Result ⊤ SessionEnd)
+pub answered_counts : {A : Type 0} (old new : Progress) (came : List ℕ) (written : Result A IoFault) (closes : Bool) (result : Result ⊤ SessionEnd)
     → result ≡ cond (is_ok written) (cond closes (Err Closed) (Ok tt)) (Err WriteFault)
     → new.requests + new.held ≤ old.requests + (old.held + length came) → new.reads ≤ old.reads + length came
     → Counts old new came result
@@ -177,8 +185,8 @@ module _ {S : Type 0} (answers : S → Asked → Option Answer → S → Type 0)
       × ((calls : List Call) × Serves answers db calls held (exchange old (before ++ came) written new))
 
   -- a message was handled, and its reply, or a prefix of it, was written
-  pub handled_one : {A : Type 0} (w w' : Option (List ℕ)) (old : S) (bytes rest : List ℕ) (new : S) (call : Call) (written : Result A Fault) (closes : Bool)
-      → call.message.closes ≡ closes → Begins db bytes call.message rest → IsHandled answers old call new → Writes w w' (call_text call) written
+  pub handled_one : {A : Type 0} (w w' : Option (List ℕ)) (old : S) (bytes rest : List ℕ) (new : S) (call : Call) (written : Result A IoFault) (closes : Bool)
+      → call.message.closes ≡ closes → Begins db bytes call.message rest → IsHandled answers old call new → WritesBytes w w' (call_text call) written
       → (text : List ℕ) × Appends w w' text
       × Turns answers db (exchange old bytes text new) rest (cond (is_ok written) (cond closes (Err Closed) (Ok tt)) (Err WriteFault))
   handled_one w w' old bytes rest new call (Ok a) true c h k t =
@@ -191,10 +199,10 @@ module _ {S : Type 0} (answers : S → Asked → Option Answer → S → Type 0)
 
   -- a message whose head was read, whose body is there, and whose reply was written
   abbrev pub answered : {A : Type 0} (r r' w w' : Option (List ℕ)) (old : S) (held came bytes left : List ℕ) (h : RequestHead) (f : Framed) (new : S) (reply : Option Answer)
-      (written : Result A Fault) (result : Result ⊤ SessionEnd)
+      (written : Result A IoFault) (result : Result ⊤ SessionEnd)
       → HasHead held h (drop f.len held) → IsFramed db h f → f.len ≤ length held → Consumes r r' came → bytes ≡ held ++ came → f.len + f.body ≤ length bytes
       → left ≡ drop (f.len + f.body) bytes
-      → Handles answers (request_in f.target) (slice_range bytes f.len (f.len + f.body)) (step old reply new) → Writes w w' (reply_text f.silent reply) written
+      → Handles answers (request_in f.target) (slice_range bytes f.len (f.len + f.body)) (step old reply new) → WritesBytes w w' (reply_text f.silent reply) written
       → result ≡ cond (is_ok written) (cond f.closes (Err Closed) (Ok tt)) (Err WriteFault)
       → (came : List ℕ) × (text : List ℕ) × Consumes r r' came × Appends w w' text × Turns answers db (exchange old (held ++ came) text new) left result
   answered r r' w w' old held came bytes left h f new reply written result has is within read joined there rest handled wrote e =
@@ -244,8 +252,8 @@ module _ {S : Type 0} (answers : S → Asked → Option Answer → S → Type 0)
   limited r r' w old held came c = (came, [], c, Appends-nil w, ends_at old (held ++ came) [] old Limit (refl, refl))
 
   -- a refusing text, or a prefix of it, was written
-  pub refuses_now : {A : Type 0} (r w w' : Option (List ℕ)) (old : S) (held text : List ℕ) (written : Result A Fault) (end : SessionEnd)
-      → Refuses db held text → Writes w w' text written → end ≡ cond (is_ok written) Refused WriteFault → Promises r r w w' old held old end
+  pub refuses_now : {A : Type 0} (r w w' : Option (List ℕ)) (old : S) (held text : List ℕ) (written : Result A IoFault) (end : SessionEnd)
+      → IsRefusalText db held text → WritesBytes w w' text written → end ≡ cond (is_ok written) Refused WriteFault → Promises r r w w' old held old end
   refuses_now r w w' old held text (Ok a) end h k e =
       ([], text, Consumes-nil r, k, rw (append-nil held, e) (ends_at old held text old Refused (h, refl)))
   refuses_now r w w' old held text (Err f) end h k e =

@@ -14,10 +14,10 @@ use Rattle.mg_http.specs.Device.{IsPrefix}
 use Rattle.mg_http.specs.Head.{framed, unframed, asks_of, is_silent, closes_after}
 use Rattle.mg_http.specs.Message.{Message, HasHead, Begins, IsRefused, IsNoHead, CanGoOn}
 use Rattle.mg_http.specs.Reply.{text_of, reply_text}
-use Rattle.mg_http.specs.Session.{Call, Handles, call_text, Serves, Answered, Ends, Converses, asked_by}
-use Rattle.mg_http.specs.Talk.{AtWorld, Talks, IsTalk, HoldsAt}
+use Rattle.mg_http.specs.Session.{Call, Handles, call_text, Serves, IsLastCall, Ends, Converses, asked_by}
+use Rattle.mg_http.specs.AtWorld.{AtWorld, ConversesAt, IsTranscriptAt, WroteTranscriptAt}
 use Rattle.mg_http.specs.Target.{Request, body, asks, refuses}
-use Rattle.mg_http.specs.Transcript.{Stops, Speaks, IsTranscript, IsAnswered, EndsAmply, IsAmple, IsAtLimit, WroteAll, Holds}
+use Rattle.mg_http.specs.Transcript.{Stops, Speaks, IsTranscript, IsAnswered, EndsAmply, IsAmple, IsAtLimit, WroteAll, WroteTranscript}
 use Rattle.mg_http.proofs.Forms.{course, exchange, passage, step}
 use Rattle.mg_http.proofs.MessageLemmas.{has_head, two_messages, Begins-append}
 use Rattle.mg_http.proofs.HeadLemmas.{head_long}
@@ -30,8 +30,8 @@ messages_in [] = []
 messages_in (call ∷ calls) = call.message ∷ messages_in calls
 
 -- a prefix of a prefix is a prefix
-front_of_front : (xs ys zs : List ℕ) → IsPrefix xs ys → IsPrefix ys zs → IsPrefix xs zs
-front_of_front xs ys zs a b =
+prefix_of_prefix : (xs ys zs : List ℕ) → IsPrefix xs ys → IsPrefix ys zs → IsPrefix xs zs
+prefix_of_prefix xs ys zs a b =
     (a.0 ++ b.0, sym (append_assoc xs a.0 b.0) ∙ ap (λ (t : List ℕ). t ++ b.0) a.1 ∙ b.1)
 
 module _ {S : Type 0} (answers : S → Asked → Option Answer → S → Type 0) (db : List ℕ) where
@@ -91,14 +91,14 @@ module _ {S : Type 0} (answers : S → Asked → Option Answer → S → Type 0)
 
   pub holds : (read wrote : List ℕ → Type 0) (old new : S) (end : SessionEnd) (bytes written : List ℕ)
       → read bytes → wrote written → Converses answers db end (exchange old bytes written new) → IsAtLimit end bytes
-      → Holds answers db (course read wrote old new end)
-  holds read wrote old new end bytes written input output talk limit = record {
+      → WroteTranscript answers db (course read wrote old new end)
+  holds read wrote old new end bytes written input output conversation limit = record {
     bytes = bytes;
     written = written;
     input = input;
     output = output;
-    talk = talk;
-    transcript = whole_transcript old bytes written new end talk;
+    conversation = conversation;
+    transcript = whole_transcript old bytes written new end conversation;
     limit = limit;
   }
 
@@ -133,7 +133,7 @@ module _ (db : List ℕ) where
 
   -- the reply to the first message is a prefix of each transcript, whatever bytes follow
   call_begins : (w : World) (rest more : List ℕ) (call : Call) (whole : List ℕ) (u : World) (ms : List Message) (later : List ℕ)
-      → Answered AtWorld db call (exchange w rest whole u) → IsAnswered call → Speaks AtWorld db ms (passage w (rest ++ more) later) → IsPrefix whole later
+      → IsLastCall AtWorld db call (exchange w rest whole u) → IsAnswered call → Speaks AtWorld db ms (passage w (rest ++ more) later) → IsPrefix whole later
   call_begins w rest more call whole u [] later a has k =
       absurd (no_stop db (rest ++ more) call.message (a.after ++ more) later (Begins-append db rest call.message a.after more a.begins) k)
   call_begins w rest more call whole u (n ∷ ns) later a has k =
@@ -163,26 +163,26 @@ module _ (db : List ℕ) where
   last_begins Closed w rest last u e ample more ms later k = call_begins w rest more e.0 last u ms later e.2 ample k
   last_begins Refused w rest last u (inl r, same) ample more ms later k = refusal_begins w rest more last ms later r k
   last_begins Refused w rest last u (inr r, same) ample more ms later k = absurd ample
-  last_begins WriteFault w rest last u (whole, front, inl a) ample more ms later k =
-      front_of_front last whole later front (call_begins w rest more a.0 whole u ms later a.1 ample k)
-  last_begins WriteFault w rest last u (whole, front, inr (inl r, same)) ample more ms later k =
-      front_of_front last whole later front (refusal_begins w rest more whole ms later r k)
-  last_begins WriteFault w rest last u (whole, front, inr (inr r, same)) ample more ms later k = absurd ample
+  last_begins WriteFault w rest last u (whole, prefix, inl a) ample more ms later k =
+      prefix_of_prefix last whole later prefix (call_begins w rest more a.0 whole u ms later a.1 ample k)
+  last_begins WriteFault w rest last u (whole, prefix, inr (inl r, same)) ample more ms later k =
+      prefix_of_prefix last whole later prefix (refusal_begins w rest more whole ms later r k)
+  last_begins WriteFault w rest last u (whole, prefix, inr (inr r, same)) ample more ms later k = absurd ample
 
-  pub front_of_transcript : (w : World) (bytes written : List ℕ) (u : World) (end : SessionEnd) (t : Talks db end (exchange w bytes written u))
-      → IsAmple AtWorld db end (exchange w bytes written u) t → (more text : List ℕ) → IsTalk db w (bytes ++ more) text → IsPrefix written text
-  front_of_transcript w bytes written u end t ample more text k =
+  pub prefix_of_transcript : (w : World) (bytes written : List ℕ) (u : World) (end : SessionEnd) (t : ConversesAt db end (exchange w bytes written u))
+      → IsAmple AtWorld db end (exchange w bytes written u) t → (more text : List ℕ) → IsTranscriptAt db w (bytes ++ more) text → IsPrefix written text
+  prefix_of_transcript w bytes written u end t ample more text k =
       let served = Serves-append AtWorld db w bytes t.calls t.text t.rest t.mid more t.served in
       let left = follows w (bytes ++ more) t.calls t.text (t.rest ++ more) t.mid k.0 text served ample.calls k.1 in
       let last = last_begins end t.mid t.rest t.last u t.ended ample.last more left.0 left.1 left.3 in
       (last.0, ap (λ (x : List ℕ). x ++ last.0) t.written_is ∙ append_assoc t.text t.last last.0 ∙ ap (λ (x : List ℕ). t.text ++ x) last.1 ∙ sym left.2)
 
   pub holds_at : (read wrote : List ℕ → Type 0) (w u : World) (end : SessionEnd) (bytes written : List ℕ)
-      → read bytes → wrote written → Talks db end (exchange w bytes written u) → IsAtLimit end bytes → HoldsAt db (course read wrote w u end)
+      → read bytes → wrote written → ConversesAt db end (exchange w bytes written u) → IsAtLimit end bytes → WroteTranscriptAt db (course read wrote w u end)
   unfolding holds
-  holds_at read wrote w u end bytes written input output talk limit = record {
-    session = holds AtWorld db read wrote w u end bytes written input output talk limit;
-    front = front_of_transcript w bytes written u end talk;
+  holds_at read wrote w u end bytes written input output conversation limit = record {
+    session = holds AtWorld db read wrote w u end bytes written input output conversation limit;
+    prefix = prefix_of_transcript w bytes written u end conversation;
   }
 
   -- ---- every input has a transcript
@@ -210,7 +210,7 @@ module _ (db : List ℕ) where
   rest_shorter bytes h after n k has small =
       omega (arith, head_long h has.reads.0, ap length has.reads.1, length-append (print_request h) after, length-drop n after)
 
-  some_transcript : (k : ℕ) (bytes : List ℕ) (w : World) → length bytes < k → ¬ ((text : List ℕ) → ¬ (IsTalk db w bytes text))
+  some_transcript : (k : ℕ) (bytes : List ℕ) (w : World) → length bytes < k → ¬ ((text : List ℕ) → ¬ (IsTranscriptAt db w bytes text))
   some_transcript zero bytes w small none = absurd (omega (arith, small))
   some_transcript (suc k) bytes w small none =
       let stops : (text : List ℕ) → ¬ (Stops db bytes text) = λ text s. none text ([], s) in
@@ -254,5 +254,5 @@ module _ (db : List ℕ) where
             ]
       ] refl) stops
 
-  pub never_without : (w : World) (bytes : List ℕ) → ¬ ((text : List ℕ) → ¬ (IsTalk db w bytes text))
+  pub never_without : (w : World) (bytes : List ℕ) → ¬ ((text : List ℕ) → ¬ (IsTranscriptAt db w bytes text))
   never_without w bytes = some_transcript (suc (length bytes)) bytes w (omega arith)

@@ -9,11 +9,11 @@ use Rattle.std.proofs.Math.Bool.{and-true}
 use Rattle.std.proofs.lemmas.List.{append_assoc, append-nil}
 use Rattle.std.proofs.lemmas.Slice.Eq.{bytes_eq-Decides}
 use Rattle.percent_encoding.specs.Percent.{percent_decode}
-use Rattle.mg_http.specs.declared.routes.Action.{Action}
-use Rattle.mg_http.specs.Routes.{Part, literal, parameter, Route, routes, same_part, takes, fits, passes_over, whole_path, means, parameters_of}
+use Rattle.mg_http.specs.declared.request.routes.Action.{Action}
+use Rattle.mg_http.specs.Routes.{RouteSegment, literal, parameter, Route, routes, same_part, takes, fits, passes_over, whole_path, means, parameters_of}
 use Rattle.mg_engine.specs.declared.refusal.Refusal.TheVariants.{Missing, NoDatabase}
 use Rattle.mg_http.specs.Target.{Request, refuses, names, requested_by, request_with, request_on}
-use Rattle.mg_http.specs.Walk.{RouteMatch, path_behind, behind, begins_with, goes_on, enter, enter_as, place_of_route, ends_here, ends_with, request_at}
+use Rattle.mg_http.specs.Walk.{RouteMatch, path_behind, behind, begins_with, goes_on, enter, enter_as, match_of, ends_here, ends_with, request_at}
 use Rattle.mg_http.proofs.ListLemmas.{or_true, and_false}
 
 -- a route that was found: its method, what it asks for, and its decoded parameters
@@ -29,11 +29,11 @@ abbrev pub all_found : (Route → Bool) → (Route → List (List ℕ)) → List
 all_found p f rs = filter_map (λ r. found r.method r.asks (f r) (p r)) rs
 
 -- where the path first differs from some of these routes, that route has the segment as a literal
-abbrev pub passed : List Route → List (List ℕ) → List Part → Bool
+abbrev pub passed : List Route → List (List ℕ) → List RouteSegment → Bool
 passed rs segments path = list_any (λ r. passes_over segments path r.path) rs
 
 -- the path fits, and none of these routes has a literal where the path has a parameter
-abbrev pub meant_in : List Route → List (List ℕ) → List Part → Bool
+abbrev pub meant_in : List Route → List (List ℕ) → List RouteSegment → Bool
 meant_in rs segments path = fits segments path && not (passed rs segments path)
 
 or_parts : (a b : Bool) → (a || b) ≡ false → (a ≡ false) × (b ≡ false)
@@ -41,18 +41,18 @@ or_parts true b e = cc
 or_parts false b e = (refl, e)
 
 -- without segments, no literal is passed over
-passed_end : (rs : List Route) (path : List Part) → passed rs [] path ≡ false
+passed_end : (rs : List Route) (path : List RouteSegment) → passed rs [] path ≡ false
 passed_end [] path = refl
 passed_end (r ∷ rs) path = passed_end rs path
 
-fits_end : (path : List Part) → fits [] path ≡ (length path == 0)
+fits_end : (path : List RouteSegment) → fits [] path ≡ (length path == 0)
 fits_end [] = refl
 fits_end (p ∷ path) =
     let apart : (length (p ∷ path) == 0) ≡ false = grind (arith, nat_tests) in
     sym apart
 
 -- a literal that matches its segment: only the routes that have the same literal count
-passed_literal : (rs : List Route) (s : List ℕ) (segments : List (List ℕ)) (path : List Part)
+passed_literal : (rs : List Route) (s : List ℕ) (segments : List (List ℕ)) (path : List RouteSegment)
     → passed rs (s ∷ segments) (literal s ∷ path) ≡ passed (behind (literal s) rs) segments path
 passed_literal [] s segments path = refl
 passed_literal (r ∷ rs) s segments path =
@@ -67,7 +67,7 @@ passed_literal (r ∷ rs) s segments path =
     ]
 
 -- a parameter, if no route has the segment as a literal: only the routes that have a parameter count
-passed_parameter : (rs : List Route) (s : List ℕ) (segments : List (List ℕ)) (path : List Part) → goes_on (literal s) rs ≡ false
+passed_parameter : (rs : List Route) (s : List ℕ) (segments : List (List ℕ)) (path : List RouteSegment) → goes_on (literal s) rs ≡ false
     → passed rs (s ∷ segments) (parameter ∷ path) ≡ passed (behind parameter rs) segments path
 passed_parameter [] s segments path none = refl
 passed_parameter (r ∷ rs) s segments path none =
@@ -80,7 +80,7 @@ passed_parameter (r ∷ rs) s segments path none =
     ] parts.0
 
 -- a parameter passes over the segment if some route has it as a literal
-passed_over : (rs : List Route) (s : List ℕ) (segments : List (List ℕ)) (path : List Part) → goes_on (literal s) rs ≡ true
+passed_over : (rs : List Route) (s : List ℕ) (segments : List (List ℕ)) (path : List RouteSegment) → goes_on (literal s) rs ≡ true
     → passed rs (s ∷ segments) (parameter ∷ path) ≡ true
 passed_over [] s segments path some = some
 passed_over (r ∷ rs) s segments path some =
@@ -233,15 +233,15 @@ spells_here p spelled (r ∷ rs) =
     ]
 
 -- what is asked in a state of the match, from the routes of which nothing is left
-at_place : (db method query : List ℕ) (place : RouteMatch)
-    → request_at db method query place
-    ≡ request_with db (cond (list_any ends_here place.routes_left) (Some place.parameters) None)
-    (option_map (λ r. r.asks) (find (ends_with method) place.routes_left)) query
-at_place db method query place =
-    elim (list_any ends_here place.routes_left) as (λ b.
-    cond (not (b && list_all is_utf8 place.parameters)) (refuses Missing)
-    (cond (names db place.parameters) (requested_by (option_map (λ r. r.asks) (find (ends_with method) place.routes_left)) place.parameters query) (refuses NoDatabase))
-    ≡ request_with db (cond b (Some place.parameters) None) (option_map (λ r. r.asks) (find (ends_with method) place.routes_left)) query) [
+at_match : (db method query : List ℕ) (matched : RouteMatch)
+    → request_at db method query matched
+    ≡ request_with db (cond (list_any ends_here matched.routes_left) (Some matched.parameters) None)
+    (option_map (λ r. r.asks) (find (ends_with method) matched.routes_left)) query
+at_match db method query matched =
+    elim (list_any ends_here matched.routes_left) as (λ b.
+    cond (not (b && list_all is_utf8 matched.parameters)) (refuses Missing)
+    (cond (names db matched.parameters) (requested_by (option_map (λ r. r.asks) (find (ends_with method) matched.routes_left)) matched.parameters query) (refuses NoDatabase))
+    ≡ request_with db (cond b (Some matched.parameters) None) (option_map (λ r. r.asks) (find (ends_with method) matched.routes_left)) query) [
       | true ↦ refl
       | false ↦ refl
     ]
@@ -274,7 +274,7 @@ no_name name below (r ∷ rs) empty =
 
 -- the match of all segments finds the routes that they mean
 all_walked : (segments : List (List ℕ))
-    → (let end = place_of_route segments in all_found ends_here (λ r. end.parameters) end.routes_left)
+    → (let end = match_of segments in all_found ends_here (λ r. end.parameters) end.routes_left)
     ≡ all_found (means segments) (λ r. parameters_of segments (whole_path r)) routes
 all_walked [] = refl
 all_walked (name ∷ below) =
@@ -288,10 +288,10 @@ all_walked (name ∷ below) =
 
 -- what the code asks after its match is what the segments ask
 pub walk_asks : (db method query : List ℕ) (segments : List (List ℕ))
-    → request_at db method query (place_of_route segments) ≡ request_on db method query segments
+    → request_at db method query (match_of segments) ≡ request_on db method query segments
 walk_asks db method query segments =
-    let end = place_of_route segments in
-    at_place db method query end
+    let end = match_of segments in
+    at_match db method query end
     ∙ ap (λ spelled. request_with db spelled (option_map (λ r. r.asks) (find (ends_with method) end.routes_left)) query)
     (sym (spells_here ends_here end.parameters end.routes_left))
     ∙ by_found db method query ends_here (λ r. end.parameters) end.routes_left

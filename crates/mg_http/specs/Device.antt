@@ -1,8 +1,8 @@
 -- Readers and writers, and what a call did to their bytes.
 use Rattle.std.specs.Prelude.{◌≡◌, ℕ, List, ◌++◌, Bool, Option, Result, Ok, Err}
 use Rattle.std.specs.Io.KnownBytes.{Appends}
-use Rattle.mg_http.specs.declared.device.Device.{Device}
-use Rattle.mg_http.specs.declared.device.Fault.{Fault}
+use Rattle.mg_http.specs.declared.sessions.device.Device.{Device}
+use Rattle.mg_http.specs.declared.sessions.device.IoFault.{IoFault}
 
 -- the wrapped reader or writer
 abbrev pub inner_of : {T : Type 0} → Device T → T
@@ -17,10 +17,10 @@ abbrev pub IsPrefix : List ℕ → List ℕ → Type 0
 IsPrefix xs ys = (rest : List ℕ) × (xs ++ rest ≡ ys)
 
 -- a prefix of these bytes was written
-abbrev pub WritesPart : Option (List ℕ) → Option (List ℕ) → List ℕ → Type 0
-WritesPart old new bytes = (sent : List ℕ) × IsPrefix sent bytes × Appends old new sent
+abbrev pub WritesPrefix : Option (List ℕ) → Option (List ℕ) → List ℕ → Type 0
+WritesPrefix old new bytes = (sent : List ℕ) × IsPrefix sent bytes × Appends old new sent
 
 -- these bytes were written; after an error, a prefix of them
-abbrev pub Writes : {A : Type 0} → Option (List ℕ) → Option (List ℕ) → List ℕ → Result A Fault → Type 0
-Writes old new bytes (Ok a) = Appends old new bytes
-Writes old new bytes (Err e) = WritesPart old new bytes
+abbrev pub WritesBytes : {A : Type 0} → Option (List ℕ) → Option (List ℕ) → List ℕ → Result A IoFault → Type 0
+WritesBytes old new bytes (Ok a) = Appends old new bytes
+WritesBytes old new bytes (Err e) = WritesPrefix old new bytes

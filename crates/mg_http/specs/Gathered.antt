@@ -1,11 +1,11 @@
 -- A reply that is written in pieces. Only private clauses use this definition.
 use Rattle.std.specs.Prelude.{◌≡◌, ℕ, List, ◌++◌, Option, Result, Ok, Err}
 use Rattle.std.specs.Io.KnownBytes.{Appends}
-use Rattle.mg_http.specs.Device.{WritesPart}
-use Rattle.mg_http.specs.declared.device.Fault.{Fault}
+use Rattle.mg_http.specs.Device.{WritesPrefix}
+use Rattle.mg_http.specs.declared.sessions.device.IoFault.{IoFault}
 
 -- of what was held and the piece after it, all but what is held now was written; after an error, a prefix was written
 abbrev pub Gathers
-    : {A : Type 0} → Option (List ℕ) → Option (List ℕ) → List ℕ → List ℕ → List ℕ → Result A Fault → Type 0
+    : {A : Type 0} → Option (List ℕ) → Option (List ℕ) → List ℕ → List ℕ → List ℕ → Result A IoFault → Type 0
 Gathers old new held piece left (Ok a) = (sent : List ℕ) × (held ++ piece ≡ sent ++ left) × Appends old new sent
-Gathers old new held piece left (Err e) = WritesPart old new (held ++ piece)
+Gathers old new held piece left (Err e) = WritesPrefix old new (held ++ piece)

@@ -5,8 +5,8 @@ use Rattle.httparse.specs.Grammar.{RequestHead}
 use Rattle.httparse.specs.Spans.{name_and_value}
 use Rattle.mg_engine.specs.declared.refusal.Refusal.{Refusal}
 use Rattle.mg_engine.specs.declared.refusal.Refusal.TheVariants.{LengthRequired, TooLarge, HeadTooLarge, BadHead}
-use Rattle.mg_http.specs.declared.fields.Length.{Length}
-use Rattle.mg_http.specs.declared.fields.Length.TheVariants.{Absent, Bytes, TooMany, Faulty}
+use Rattle.mg_http.specs.declared.request.fields.Length.{Length}
+use Rattle.mg_http.specs.declared.request.fields.Length.TheVariants.{Absent, Bytes, TooMany, Faulty}
 use Rattle.mg_http.specs.Fields.{Field, has_field, length_in, asks_close}
 use Rattle.mg_http.specs.Target.{Request, body, asks, refuses, request_of}
 

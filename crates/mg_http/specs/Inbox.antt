@@ -1,6 +1,6 @@
 -- What a session holds, and how far it is from its limits.
 use Rattle.std.specs.Prelude.{ℕ, ◌+◌, ◌-◌, List, drop}
-use Rattle.mg_http.specs.declared.inbox.Inbox.{Inbox}
+use Rattle.mg_http.specs.declared.sessions.inbox.Inbox.{Inbox}
 
 -- the bytes that were read and are not answered yet
 abbrev pub unanswered : Inbox → List ℕ

@@ -1,3 +1,4 @@
+pub mod AtWorld
 pub mod Device
 pub mod Gathered
 pub mod Fields
@@ -11,7 +12,6 @@ pub mod Segments
 pub mod Session
 pub mod Significant
 pub mod Solo
-pub mod Talk
 pub mod Target
 pub mod TargetScan
 pub mod Transcript

@@ -1,15 +1,15 @@
 -- What the table of routes and the states of a match in the code mean in the definition.
 use Rattle.std.specs.Prelude.{map}
 use Rattle.std.specs.Cow.{cow_slice_items}
-use Rattle.mg_http.specs.declared.routes.Part.{Part}
-use Rattle.mg_http.specs.declared.routes.Part.TheVariants.{Literal, Parameter}
-use Rattle.mg_http.specs.declared.routes.Route.{Route}
-use Rattle.mg_http.specs.declared.place.RouteMatch.{RouteMatch}
+use Rattle.mg_http.specs.declared.request.routes.RouteSegment.{RouteSegment}
+use Rattle.mg_http.specs.declared.request.routes.RouteSegment.TheVariants.{Literal, Parameter}
+use Rattle.mg_http.specs.declared.request.routes.Route.{Route}
+use Rattle.mg_http.specs.declared.request.route_match.RouteMatch.{RouteMatch}
 use Rattle.mg_http.specs.Routes as spec
 use Rattle.mg_http.specs.Walk as walk
 
 -- the part that a part in the code means
-abbrev pub part_seen : Part → spec.Part
+abbrev pub part_seen : RouteSegment → spec.RouteSegment
 part_seen (Literal segment) = spec.literal segment.now
 part_seen Parameter = spec.parameter
 
@@ -17,6 +17,6 @@ part_seen Parameter = spec.parameter
 abbrev pub route_of : Route → spec.Route
 route_of r = record { method = r.method.now; path = map part_seen r.path.now; asks = r.action }
 
--- the place that a place in the code means
-abbrev pub place_in : RouteMatch → walk.RouteMatch
-place_in p = record { routes_left = map route_of (cow_slice_items p.routes); parameters = map (λ v. v.items) p.parameters.items }
+-- the state of a match that a `RouteMatch` of the code means
+abbrev pub match_in : RouteMatch → walk.RouteMatch
+match_in p = record { routes_left = map route_of (cow_slice_items p.routes); parameters = map (λ v. v.items) p.parameters.items }

@@ -3,19 +3,19 @@
 use Rattle.std.specs.Prelude.{ℕ, Bool, true, false, not, ◌&&◌, ◌==◌, List, [], ◌∷◌, length, bytes_eq, codes, if◌then◌else◌}
 use Rattle.std.specs.List.{list_any, slice_split}
 use Rattle.percent_encoding.specs.Percent.{percent_decode}
-use Rattle.mg_http.specs.declared.routes.Endpoint.TheVariants.{BulkDocs, Find, Explain, CreateIndex, Reshard}
-use Rattle.mg_http.specs.declared.routes.Action.{Action}
-use Rattle.mg_http.specs.declared.routes.Action.TheVariants.{Body, Document, ListIndexes, DropIndex, DropDesignIndex}
+use Rattle.mg_http.specs.declared.request.routes.Endpoint.TheVariants.{BulkDocs, Find, Explain, CreateIndex, Reshard}
+use Rattle.mg_http.specs.declared.request.routes.Action.{Action}
+use Rattle.mg_http.specs.declared.request.routes.Action.TheVariants.{Body, Document, ListIndexes, DropIndex, DropDesignIndex}
 
 -- a part of a path: a literal segment, or a parameter, which is any segment that is not empty
-pub data Part : Type 0 where
-  literal : List ℕ → Part
-  parameter : Part
+pub data RouteSegment : Type 0 where
+  literal : List ℕ → RouteSegment
+  parameter : RouteSegment
 
 -- a route: its method, its path after the database's name, and what it asks for
 pub record Route : Type 0 where
   pub method : List ℕ
-  pub path : List Part
+  pub path : List RouteSegment
   pub asks : Action
 
 -- the table of the routes
@@ -46,26 +46,26 @@ segments_of [] = []
 segments_of (b ∷ rest) = if b == 47 then slice_split (λ c. c == 47) rest else []
 
 -- two parts are equal
-abbrev pub same_part : Part → Part → Bool
+abbrev pub same_part : RouteSegment → RouteSegment → Bool
 same_part (literal a) (literal b) = bytes_eq a b
 same_part (literal a) parameter = false
 same_part parameter (literal b) = false
 same_part parameter parameter = true
 
 -- a literal takes the segment that equals it, a parameter any segment that is not empty
-abbrev pub takes : Part → List ℕ → Bool
+abbrev pub takes : RouteSegment → List ℕ → Bool
 takes (literal text) segment = bytes_eq text segment
 takes parameter segment = not (length segment == 0)
 
 -- the path has as many parts as there are segments, and each part takes its segment
-abbrev pub fits : List (List ℕ) → List Part → Bool
+abbrev pub fits : List (List ℕ) → List RouteSegment → Bool
 fits [] [] = true
 fits [] (p ∷ path) = false
 fits (s ∷ segments) [] = false
 fits (s ∷ segments) (p ∷ path) = takes p s && fits segments path
 
 -- at the first part in which the two paths differ, the other one has the segment as a literal
-abbrev pub passes_over : List (List ℕ) → List Part → List Part → Bool
+abbrev pub passes_over : List (List ℕ) → List RouteSegment → List RouteSegment → Bool
 passes_over [] path other = false
 passes_over (s ∷ segments) [] other = false
 passes_over (s ∷ segments) (p ∷ path) [] = false
@@ -73,7 +73,7 @@ passes_over (s ∷ segments) (p ∷ path) (q ∷ other) =
     if same_part q p then passes_over segments path other else same_part q (literal s)
 
 -- a route's path from its start: the name of the database is its first parameter
-abbrev pub whole_path : Route → List Part
+abbrev pub whole_path : Route → List RouteSegment
 whole_path r = parameter ∷ r.path
 
 -- the segments mean the route: it fits them, and passes over no literal of the table
@@ -86,7 +86,7 @@ abbrev pub is_asked : List ℕ → List (List ℕ) → Route → Bool
 is_asked method segments r = means segments r && bytes_eq r.method method
 
 -- the percent-decoded parameters of a path
-abbrev pub parameters_of : List (List ℕ) → List Part → List (List ℕ)
+abbrev pub parameters_of : List (List ℕ) → List RouteSegment → List (List ℕ)
 parameters_of [] path = []
 parameters_of (s ∷ segments) [] = []
 parameters_of (s ∷ segments) (literal text ∷ path) = parameters_of segments path

@@ -2,7 +2,7 @@
 use Rattle.std.specs.Prelude.{◌==◌, List, [], ℕ, Option, Some, None}
 use Rattle.std.specs.List.{slice_split}
 use Rattle.std.specs.Borrow.{Bor}
-use Rattle.mg_http.specs.declared.place.Segments.{Segments}
+use Rattle.mg_http.specs.declared.request.route_match.Segments.{Segments}
 
 -- the segments of the rest of a path; `None`: nothing is left
 abbrev pub segments_of_rest : Option (Bor (List ℕ)) → List (List ℕ)

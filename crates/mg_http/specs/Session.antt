@@ -7,8 +7,8 @@ use Rattle.mg_value.specs.Text.{Reads}
 use Rattle.mg_engine.specs.declared.refusal.Refusal.{Refusal}
 use Rattle.mg_engine.specs.declared.refusal.Refusal.TheVariants.{InvalidJson}
 use Rattle.mg_engine.specs.Commands.{Asked, bulk, find, explain, create_index, reshard, Answer, refused}
-use Rattle.mg_http.specs.declared.routes.Endpoint.{Endpoint}
-use Rattle.mg_http.specs.declared.routes.Endpoint.TheVariants.{BulkDocs, Find, Explain, CreateIndex, Reshard}
+use Rattle.mg_http.specs.declared.request.routes.Endpoint.{Endpoint}
+use Rattle.mg_http.specs.declared.request.routes.Endpoint.TheVariants.{BulkDocs, Find, Explain, CreateIndex, Reshard}
 use Rattle.mg_http.specs.declared.sessions.SessionEnd.{SessionEnd}
 use Rattle.mg_http.specs.declared.sessions.SessionEnd.TheVariants.{Eof, Closed, Refused, ReadFault, WriteFault, Limit}
 use Rattle.mg_http.specs.Device.{IsPrefix}
@@ -88,7 +88,7 @@ Serves answers db [] rest all = (all.bytes ≡ rest) × (all.text ≡ []) × (al
 Serves answers db (call ∷ calls) rest all = ServesFirst answers db call all (Serves answers db calls rest)
 
 -- the bytes begin with the message of the call; it was handled, and the text is its reply
-pub record Answered
+pub record IsLastCall
     {S : Type 0} (answers : S → Asked → Option Answer → S → Type 0) (db : List ℕ) (call : Call) (all : Exchange S) : Type 0 where
   pub after : List ℕ
   pub begins : Begins db all.bytes call.message after
@@ -104,8 +104,8 @@ LacksMemory bytes silent =
     ⊎ ((h : RequestHead) × (after : List ℕ) × HasHead bytes h after × (silent ≡ is_silent h)))
 
 -- the text is a reply that refuses the bytes, or that says that memory ran out
-abbrev pub Refuses : List ℕ → List ℕ → List ℕ → Type 0
-Refuses db bytes text =
+abbrev pub IsRefusalText : List ℕ → List ℕ → List ℕ → Type 0
+IsRefusalText db bytes text =
     ((refusal : Refusal) × (silent : Bool) × IsRefused db bytes refusal silent × (text ≡ text_of silent (refused refusal)))
     ⊎ ((silent : Bool) × LacksMemory bytes silent × (text ≡ reply_text silent None))
 
@@ -114,12 +114,12 @@ abbrev pub Ends : {S : Type 0} → (S → Asked → Option Answer → S → Type
 Ends answers db Eof last = IsWaiting db last.bytes × (last.text ≡ []) × (last.new ≡ last.old)
 Ends answers db ReadFault last = IsWaiting db last.bytes × (last.text ≡ []) × (last.new ≡ last.old)
 Ends answers db Limit last = (last.text ≡ []) × (last.new ≡ last.old)
-Ends answers db Closed last = (call : Call) × (call.message.closes ≡ true) × Answered answers db call last
-Ends answers db Refused last = Refuses db last.bytes last.text × (last.new ≡ last.old)
+Ends answers db Closed last = (call : Call) × (call.message.closes ≡ true) × IsLastCall answers db call last
+Ends answers db Refused last = IsRefusalText db last.bytes last.text × (last.new ≡ last.old)
 Ends answers db WriteFault last =
     (whole : List ℕ) × IsPrefix last.text whole
-    × (((call : Call) × Answered answers db call (record last { text = whole }))
-    ⊎ (Refuses db last.bytes whole × (last.new ≡ last.old)))
+    × (((call : Call) × IsLastCall answers db call (record last { text = whole }))
+    ⊎ (IsRefusalText db last.bytes whole × (last.new ≡ last.old)))
 
 -- a session with this end: it read these bytes, wrote this text, and took the service from the old state to the new one
 pub record Converses

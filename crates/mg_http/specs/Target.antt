@@ -8,9 +8,9 @@ use Rattle.form_urlencoded.specs.Form.{split_once, raw_pairs, decode}
 use Rattle.mg_engine.specs.declared.refusal.Refusal.{Refusal}
 use Rattle.mg_engine.specs.declared.refusal.Refusal.TheVariants.{Missing, NoDatabase, MethodNotAllowed}
 use Rattle.mg_engine.specs.Commands.{Asked, get, list_indexes, drop_index}
-use Rattle.mg_http.specs.declared.routes.Endpoint.{Endpoint}
-use Rattle.mg_http.specs.declared.routes.Action.{Action}
-use Rattle.mg_http.specs.declared.routes.Action.TheVariants.{Body, Document, ListIndexes, DropIndex, DropDesignIndex}
+use Rattle.mg_http.specs.declared.request.routes.Endpoint.{Endpoint}
+use Rattle.mg_http.specs.declared.request.routes.Action.{Action}
+use Rattle.mg_http.specs.declared.request.routes.Action.TheVariants.{Body, Document, ListIndexes, DropIndex, DropDesignIndex}
 use Rattle.mg_http.specs.Routes.{routes, whole_path, means, is_asked, parameters_of, segments_of}
 
 -- what is asked: what an endpoint does with the value that the body is, a command, or a refusal
@@ -41,10 +41,10 @@ document_asked (db ∷ id ∷ []) conflicts = asks (get id conflicts)
 document_asked parameters conflicts = refuses Missing
 
 -- The command that drops the index whose design document and name are the parameters after the database's name. The design document's
--- name is this front, followed by its parameter.
+-- name is this prefix, followed by its parameter.
 abbrev pub drop_asked : List ℕ → List (List ℕ) → Request
-drop_asked front (db ∷ ddoc ∷ name ∷ []) = asks (drop_index (front ++ ddoc) name)
-drop_asked front parameters = refuses Missing
+drop_asked prefix (db ∷ ddoc ∷ name ∷ []) = asks (drop_index (prefix ++ ddoc) name)
+drop_asked prefix parameters = refuses Missing
 
 -- What a route asks for with these parameters, of which the first is the database's name. Below `_index/_design` the design document's
 -- name is `_design/` followed by the parameter, even if the parameter itself begins with `_design/`.

@@ -62,16 +62,16 @@ EndsAmply answers db Limit last ended = ⊤
 EndsAmply answers db Closed last ended = IsAnswered ended.0
 EndsAmply answers db Refused last (inl refused, same) = ⊤
 EndsAmply answers db Refused last (inr lacking, same) = ⊥
-EndsAmply answers db WriteFault last (whole, front, inl answered) = IsAnswered answered.0
-EndsAmply answers db WriteFault last (whole, front, inr (inl refused, same)) = ⊤
-EndsAmply answers db WriteFault last (whole, front, inr (inr lacking, same)) = ⊥
+EndsAmply answers db WriteFault last (whole, prefix, inl answered) = IsAnswered answered.0
+EndsAmply answers db WriteFault last (whole, prefix, inr (inl refused, same)) = ⊤
+EndsAmply answers db WriteFault last (whole, prefix, inr (inr lacking, same)) = ⊥
 
 -- memory sufficed for a session: none of its replies is out of memory
 pub record IsAmple
     {S : Type 0} (answers : S → Asked → Option Answer → S → Type 0) (db : List ℕ) (end : SessionEnd) (all : Exchange S)
-    (talk : Converses answers db end all) : Type 0 where
-  pub calls : All IsAnswered talk.calls
-  pub last : EndsAmply answers db end (record { old = talk.mid; bytes = talk.rest; text = talk.last; new = all.new }) talk.ended
+    (conversation : Converses answers db end all) : Type 0 where
+  pub calls : All IsAnswered conversation.calls
+  pub last : EndsAmply answers db end (record { old = conversation.mid; bytes = conversation.rest; text = conversation.last; new = all.new }) conversation.ended
 
 -- the session wrote all that it had to write: it ended neither at a write fault nor at its limit
 abbrev pub WroteAll : SessionEnd → Type 0
@@ -102,13 +102,13 @@ pub record Course (S : Type 0) : Type 1 where
   pub end : SessionEnd
 
 -- What the session did. If memory sufficed and it wrote all that it had to write, it wrote a transcript of what it read.
-pub record Holds
+pub record WroteTranscript
     {S : Type 0} (answers : S → Asked → Option Answer → S → Type 0) (db : List ℕ) (course : Course S) : Type 0 where
   pub bytes : List ℕ
   pub written : List ℕ
   pub input : course.read bytes
   pub output : course.wrote written
-  pub talk : Converses answers db course.end (record { old = course.old; bytes = bytes; text = written; new = course.new })
-  pub transcript : IsAmple answers db course.end (record { old = course.old; bytes = bytes; text = written; new = course.new }) talk
+  pub conversation : Converses answers db course.end (record { old = course.old; bytes = bytes; text = written; new = course.new })
+  pub transcript : IsAmple answers db course.end (record { old = course.old; bytes = bytes; text = written; new = course.new }) conversation
       → WroteAll course.end → IsTranscript answers db (record { from = course.old; bytes = bytes; text = written })
   pub limit : IsAtLimit course.end bytes

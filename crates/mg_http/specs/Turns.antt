@@ -1,24 +1,22 @@
 -- For private clauses: the loop of a session and the functions that it calls. To know what a session promises, nothing here is needed.
-use Rattle.std.specs.Prelude.{◌≡◌, ◌⊎◌, ℕ, ◌+◌, ◌≤◌, List, length, drop, Bool, Option, None, Result, Ok, Err, ⊤}
+use Rattle.std.specs.Prelude.{◌≡◌, ◌⊎◌, ℕ, ◌+◌, ◌≤◌, List, length, drop, Bool, false, Option, None, Result, Ok, Err, ⊤}
 use Rattle.std.specs.Io.KnownBytes.{Appends}
 use Rattle.httparse.specs.Grammar.{RequestHead, ReadsRequest}
 use Rattle.mg_engine.specs.Commands.{Asked, Answer}
 use Rattle.mg_engine.specs.View as engine
-use Rattle.mg_http.specs.declared.head.HeadRead.{HeadRead}
-use Rattle.mg_http.specs.declared.head.HeadRead.TheVariants as head
-use Rattle.mg_http.specs.declared.head.Framed.{Framed}
-use Rattle.mg_http.specs.declared.head.Framing.{Framing}
-use Rattle.mg_http.specs.declared.head.Framing.TheVariants as framing
-use Rattle.mg_http.specs.declared.message.Pending.{Pending}
-use Rattle.mg_http.specs.declared.message.Pending.TheVariants as front
-use Rattle.mg_http.specs.declared.inbox.Inbox.{Inbox}
-use Rattle.mg_http.specs.declared.inbox.Stop.{Stop}
-use Rattle.mg_http.specs.declared.inbox.Stop.TheVariants as stop
+use Rattle.mg_engine.specs.declared.refusal.Refusal.{Refusal}
+use Rattle.mg_engine.specs.declared.refusal.Refusal.TheVariants.{BadHead, OutOfMemory}
+use Rattle.mg_http.specs.declared.request.head.Framed.{Framed}
+use Rattle.mg_http.specs.declared.request.head.Pending.{Pending}
+use Rattle.mg_http.specs.declared.request.head.Pending.TheVariants as pending
+use Rattle.mg_http.specs.declared.sessions.inbox.Inbox.{Inbox}
+use Rattle.mg_http.specs.declared.sessions.inbox.Stop.{Stop}
+use Rattle.mg_http.specs.declared.sessions.inbox.Stop.TheVariants as stop
 use Rattle.mg_http.specs.declared.sessions.SessionEnd.{SessionEnd}
 use Rattle.mg_http.specs.declared.sessions.SessionEnd.TheVariants.{Eof, Closed, Refused, ReadFault, WriteFault, Limit}
-use Rattle.mg_http.specs.declared.target.Target.{Target}
-use Rattle.mg_http.specs.declared.target.Target.TheVariants as target
-use Rattle.mg_http.specs.Device.{WritesPart}
+use Rattle.mg_http.specs.declared.request.target.Target.{Target}
+use Rattle.mg_http.specs.declared.request.target.Target.TheVariants as target
+use Rattle.mg_http.specs.Device.{WritesPrefix}
 use Rattle.mg_http.specs.Inbox.{unanswered}
 use Rattle.mg_http.specs.Reply.{reply_text}
 use Rattle.mg_http.specs.Head.{Asks, framed, unframed, asks_of, is_silent, closes_after}
@@ -42,32 +40,40 @@ pub record IsFramed (db : List ℕ) (h : RequestHead) (f : Framed) : Type 0 wher
   pub silent : f.silent ≡ is_silent h
   pub closes : f.closes ≡ closes_after h
 
--- the code's framing of the body is right
-abbrev pub IsFramedBy : Asks → Framing → Type 0
-IsFramedBy asked (framing.Bytes t n) = (asked ≡ framed (request_in t) n) × (n ≤ 8388608)
-IsFramedBy asked (framing.Refused refusal) = asked ≡ unframed refusal
+-- the code's decision about the body of a request is right: its length, or a refusal before it
+abbrev pub IsBodyFramed : Asks → Request → Result ℕ Refusal → Type 0
+IsBodyFramed asked request (Ok n) = (asked ≡ framed request n) × (n ≤ 8388608)
+IsBodyFramed asked request (Err refusal) = asked ≡ unframed refusal
+
+-- the code's framing of a message is right: its target and the length of its body; or a refusal before the body, or out of memory
+abbrev pub IsFramedBy : Asks → Result (Target × ℕ) Refusal → Type 0
+IsFramedBy asked (Ok f) = (asked ≡ framed (request_in f.0) f.1) × (f.1 ≤ 8388608)
+IsFramedBy asked (Err refusal) = (asked ≡ unframed refusal) ⊎ (refusal ≡ OutOfMemory)
 
 -- what the code read is what these bytes, at most 16,384, begin with
-abbrev pub IsHeadRead : List ℕ → List ℕ → HeadRead → Type 0
-IsHeadRead db bytes (head.Whole f) =
+abbrev pub IsHeadRead : List ℕ → List ℕ → Pending → Type 0
+IsHeadRead db bytes pending.Waiting = CanGoOn bytes
+IsHeadRead db bytes (pending.Refused refusal silent) =
+    ((h : RequestHead) × (after : List ℕ) × ReadsRequest bytes h after
+    × ((asks_of db h ≡ unframed refusal) ⊎ (refusal ≡ OutOfMemory)) × (silent ≡ is_silent h))
+    ⊎ (IsNoHead bytes × (refusal ≡ BadHead) × (silent ≡ false))
+IsHeadRead db bytes (pending.Message f) =
     (f.len ≤ length bytes) × (f.body ≤ 8388608)
     × (h : RequestHead) × ReadsRequest bytes h (drop f.len bytes) × IsFramed db h f
-IsHeadRead db bytes (head.Unframed refusal silent) =
-    (h : RequestHead) × (after : List ℕ) × ReadsRequest bytes h after × (asks_of db h ≡ unframed refusal) × (silent ≡ is_silent h)
-IsHeadRead db bytes head.Partial = CanGoOn bytes
-IsHeadRead db bytes head.Bad = IsNoHead bytes
-IsHeadRead db bytes (head.NoMemory silent) =
-    (h : RequestHead) × (after : List ℕ) × ReadsRequest bytes h after × (silent ≡ is_silent h)
+
+-- a complete head, for whose target there was no memory
+abbrev pub LacksMemoryForHead : List ℕ → Refusal → Bool → Type 0
+LacksMemoryForHead bytes refusal silent =
+    (refusal ≡ OutOfMemory) × (h : RequestHead) × (after : List ℕ) × HasHead bytes h after × (silent ≡ is_silent h)
 
 -- what the code found is what the unanswered bytes begin with
 abbrev pub IsPending : List ℕ → List ℕ → Pending → Type 0
-IsPending db bytes (front.Message f) =
+IsPending db bytes pending.Waiting = IsPartHead bytes
+IsPending db bytes (pending.Refused refusal silent) =
+    IsRefused db bytes refusal silent ⊎ LacksMemoryForHead bytes refusal silent
+IsPending db bytes (pending.Message f) =
     (f.len ≤ length bytes) × (f.body ≤ 8388608)
     × (h : RequestHead) × HasHead bytes h (drop f.len bytes) × IsFramed db h f
-IsPending db bytes front.Waiting = IsPartHead bytes
-IsPending db bytes (front.Refused refusal silent) = IsRefused db bytes refusal silent
-IsPending db bytes (front.NoMemory silent) =
-    (h : RequestHead) × (after : List ℕ) × HasHead bytes h after × (silent ≡ is_silent h)
 
 -- The session continues with the bytes `left` unanswered, or it ended.
 abbrev pub Turns : {S : Type 0} → (S → Asked → Option Answer → S → Type 0) → List ℕ → Exchange S → List ℕ → Result ⊤ SessionEnd → Type 0
@@ -95,7 +101,7 @@ Counts old new came (Err end) =
 -- What was written of a refusing text: all of it if the session ends `Refused`, a prefix of it after a write fault.
 abbrev pub RefusesBy : Option (List ℕ) → Option (List ℕ) → List ℕ → SessionEnd → Type 0
 RefusesBy old new text Refused = Appends old new text
-RefusesBy old new text WriteFault = WritesPart old new text
+RefusesBy old new text WriteFault = WritesPrefix old new text
 RefusesBy old new text Eof = ⊥
 RefusesBy old new text Closed = ⊥
 RefusesBy old new text ReadFault = ⊥

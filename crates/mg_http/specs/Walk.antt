@@ -6,29 +6,29 @@ use Rattle.std.specs.Option.{option_map}
 use Rattle.std.specs.Str.{is_utf8}
 use Rattle.percent_encoding.specs.Percent.{percent_decode}
 use Rattle.mg_engine.specs.declared.refusal.Refusal.TheVariants.{Missing, NoDatabase}
-use Rattle.mg_http.specs.Routes.{Part, literal, parameter, Route, routes, same_part}
+use Rattle.mg_http.specs.Routes.{RouteSegment, literal, parameter, Route, routes, same_part}
 use Rattle.mg_http.specs.Target.{Request, refuses, requested_by, names}
 
 -- the rest of a path after the part; `None`: it does not begin with the part
-abbrev pub path_behind : Part → List Part → Option (List Part)
+abbrev pub path_behind : RouteSegment → List RouteSegment → Option (List RouteSegment)
 path_behind part [] = None
 path_behind part (p ∷ ps) = if same_part p part then Some ps else None
 
 -- the rest of a route after the part
-abbrev pub route_behind : Part → Route → Option Route
+abbrev pub route_behind : RouteSegment → Route → Option Route
 route_behind part r = option_map (λ path. record r { path = path }) (path_behind part r.path)
 
 -- the rests of the routes whose paths begin with the part
-abbrev pub behind : Part → List Route → List Route
+abbrev pub behind : RouteSegment → List Route → List Route
 behind part rs = filter_map (route_behind part) rs
 
 -- a route's path begins with the part
-abbrev pub begins_with : Part → List Part → Bool
+abbrev pub begins_with : RouteSegment → List RouteSegment → Bool
 begins_with part [] = false
 begins_with part (p ∷ ps) = same_part p part
 
 -- some route's path begins with the part
-abbrev pub goes_on : Part → List Route → Bool
+abbrev pub goes_on : RouteSegment → List Route → Bool
 goes_on part rs = list_any (λ r. begins_with part r.path) rs
 
 -- the state of a match: the rest of each route that still fits, and the decoded parameters so far
@@ -38,20 +38,20 @@ pub record RouteMatch : Type 0 where
 
 -- the state after one more segment, matched as a literal (true) or as a parameter
 abbrev pub enter_as : Bool → RouteMatch → List ℕ → RouteMatch
-enter_as true place segment = record place { routes_left = behind (literal segment) place.routes_left }
-enter_as false place segment = record {
-  routes_left = if length segment == 0 then [] else behind parameter place.routes_left;
-  parameters = place.parameters ++ percent_decode segment ∷ [];
+enter_as true matched segment = record matched { routes_left = behind (literal segment) matched.routes_left }
+enter_as false matched segment = record {
+  routes_left = if length segment == 0 then [] else behind parameter matched.routes_left;
+  parameters = matched.parameters ++ percent_decode segment ∷ [];
 }
 
 -- the state after one more segment: a literal goes before a parameter
 abbrev pub enter : RouteMatch → List ℕ → RouteMatch
-enter place segment = enter_as (goes_on (literal segment) place.routes_left) place segment
+enter matched segment = enter_as (goes_on (literal segment) matched.routes_left) matched segment
 
 -- the state after all segments, of which the first one names the database
-abbrev pub place_of_route : List (List ℕ) → RouteMatch
-place_of_route [] = record { routes_left = []; parameters = [] }
-place_of_route (name ∷ below) =
+abbrev pub match_of : List (List ℕ) → RouteMatch
+match_of [] = record { routes_left = []; parameters = [] }
+match_of (name ∷ below) =
     fold enter (record { routes_left = if length name == 0 then [] else routes; parameters = percent_decode name ∷ [] }) below
 
 -- nothing of the route's path is left
@@ -64,8 +64,8 @@ ends_with method r = ends_here r && bytes_eq r.method method
 
 -- what the method and the query ask for in the state after all segments
 abbrev pub request_at : List ℕ → List ℕ → List ℕ → RouteMatch → Request
-request_at db method query place =
-    if not (list_any ends_here place.routes_left && list_all is_utf8 place.parameters) then refuses Missing
-    else (if names db place.parameters
-    then requested_by (option_map (λ r. r.asks) (find (ends_with method) place.routes_left)) place.parameters query
+request_at db method query matched =
+    if not (list_any ends_here matched.routes_left && list_all is_utf8 matched.parameters) then refuses Missing
+    else (if names db matched.parameters
+    then requested_by (option_map (λ r. r.asks) (find (ends_with method) matched.routes_left)) matched.parameters query
     else refuses NoDatabase)

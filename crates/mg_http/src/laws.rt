@@ -4,7 +4,7 @@ ghost use Rattle.mg_engine.specs.World.{World};
 ghost use Rattle.mg_http.specs.Device.{IsPrefix};
 ghost use Rattle.mg_http.specs.Message.{Message, Begins};
 ghost use Rattle.mg_http.specs.Session.{Exchange};
-ghost use Rattle.mg_http.specs.Talk.{AtWorld, IsTalk, Talks};
+ghost use Rattle.mg_http.specs.AtWorld.{AtWorld, ConversesAt, IsTranscriptAt};
 ghost use Rattle.mg_http.specs.Transcript.{IsAmple, WroteAll};
 ghost use Rattle.mg_http.specs.declared.sessions.SessionEnd.{SessionEnd};
 
@@ -17,21 +17,23 @@ pub fn one_message()
 /// Any cut of the input: the transcript of some bytes is a prefix of each transcript of those bytes and more.
 pub fn any_cut()
     ensures { (db : List ℕ) (w : World) (bytes more text longer : List ℕ)
-        → IsTalk db w bytes text → IsTalk db w (bytes ++ more) longer → IsPrefix text longer }
+        → IsTranscriptAt db w bytes text → IsTranscriptAt db w (bytes ++ more) longer → IsPrefix text longer }
 {}
 
 /// A session for which memory sufficed writes the transcript of the bytes that it read, unless it ended at a write fault or at its
 /// limit. However it ended, what it wrote is a prefix of each transcript of those bytes and of any bytes that might have followed.
 pub fn sessions_write_transcripts()
-    ensures whole { (db : List ℕ) (end : SessionEnd) (all : Exchange World) (talk : Talks db end all)
-        → IsAmple AtWorld db end all talk → WroteAll end → IsTalk db all.old all.bytes all.text }
-    ensures front { (db : List ℕ) (end : SessionEnd) (all : Exchange World) (talk : Talks db end all)
-        → IsAmple AtWorld db end all talk
-        → (more text : List ℕ) → IsTalk db all.old (all.bytes ++ more) text → IsPrefix all.text text }
+    ensures whole { (db : List ℕ) (end : SessionEnd) (all : Exchange World) (conversation : ConversesAt db end all)
+        → IsAmple AtWorld db end all conversation → WroteAll end
+        → IsTranscriptAt db all.old all.bytes all.text }
+    ensures prefix { (db : List ℕ) (end : SessionEnd) (all : Exchange World) (conversation : ConversesAt db end all)
+        → IsAmple AtWorld db end all conversation
+        → (more text : List ℕ) → IsTranscriptAt db all.old (all.bytes ++ more) text → IsPrefix all.text text }
 {}
 
 /// Every input has a transcript, from every world. This is stated as a double negation, since the definition of a head gives no way to
 /// decide whether some bytes can still become one.
 pub fn every_input_has_a_transcript()
-    ensures { (db : List ℕ) (w : World) (bytes : List ℕ) → ¬ ((text : List ℕ) → ¬ (IsTalk db w bytes text)) }
+    ensures { (db : List ℕ) (w : World) (bytes : List ℕ)
+        → ¬ ((text : List ℕ) → ¬ (IsTranscriptAt db w bytes text)) }
 {}

@@ -5,17 +5,24 @@ ghost use Rattle.httparse.specs.Grammar.{RequestHead};
 ghost use Rattle.mg_http.specs.Device.{inner_of, has_failed};
 ghost use Rattle.mg_http.specs.Inbox.{unanswered, turns_left};
 ghost use Rattle.mg_http.specs.Message.{HasHead};
-ghost use Rattle.mg_http.specs.Transcript.{Holds};
+ghost use Rattle.mg_http.specs.Transcript.{WroteTranscript};
 ghost use Rattle.mg_http.specs.Turns.{IsFramed, Turns, Counts, StopsWith, progress_of};
 
-use crate::answer::answer;
-use crate::device::{Device, Fault};
-use crate::head::Framed;
-use crate::inbox::{Inbox, Stop, rest_of};
-use crate::message::Pending;
-use crate::reply::{write_refusal, write_reply};
-use crate::service::Service;
+mod answer;
+mod device;
+mod inbox;
+mod reply;
+mod serve;
+mod service;
+
+use crate::request::{Framed, Pending};
+use answer::answer_request;
+pub use device::Device;
+use device::IoFault;
+use inbox::{Inbox, Stop, rest_of};
 use mg_engine::Reply;
+use reply::{write_refusal, write_reply};
+pub use service::{SeatService, Service, Solo};
 use std::alloc::Global;
 use std::io::{Read, Write};
 use std::sync::Wait;
@@ -39,30 +46,32 @@ pub enum SessionEnd {
 }
 
 /// How a session ends after the write of its last reply, which refused the input.
-fn refused(written: Result<(), Fault>) -> SessionEnd
+fn end_after_refusal(written: Result<(), IoFault>) -> SessionEnd
     ensures { result ≡ (if is_ok written then SessionEnd.Refused else SessionEnd.WriteFault) }
 {
     match written {
         Ok(()) => SessionEnd::Refused,
-        Err(Fault) => SessionEnd::WriteFault,
+        Err(IoFault) => SessionEnd::WriteFault,
     }
 }
 
 /// Whether the session continues after the write of a reply. `closes`: the message asked to close.
-fn replied(written: Result<(), Fault>, closes: bool) -> Result<(), SessionEnd>
-    ensures { result ≡ (if is_ok written then (if closes then Err SessionEnd.Closed else Ok tt) else Err SessionEnd.WriteFault) }
+fn continue_after(written: Result<(), IoFault>, closes: bool) -> Result<(), SessionEnd>
+    ensures { result
+        ≡ (if is_ok written then
+        (if closes then Err SessionEnd.Closed else Ok tt) else Err SessionEnd.WriteFault) }
 {
     match written {
-        Err(Fault) => Err(SessionEnd::WriteFault),
+        Err(IoFault) => Err(SessionEnd::WriteFault),
         Ok(()) if closes => Err(SessionEnd::Closed),
         Ok(()) => Ok(()),
     }
 }
 
 /// How a session ends after it stopped reading. Out of memory gets a reply; the other reasons get none.
-fn stopped<W: Write>(
+fn end_after_stop<W: Write>(
     writer: &mut Device<W>,
-    page: &mut Vec<u8>,
+    output: &mut Vec<u8>,
     silent: bool,
     stop: Stop,
 ) -> SessionEnd
@@ -74,28 +83,29 @@ fn stopped<W: Write>(
         Stop::End => SessionEnd::Eof,
         Stop::Failed => SessionEnd::ReadFault,
         Stop::Limit => SessionEnd::Limit,
-        Stop::NoMemory => refused(write_reply(writer, page, silent, &Reply::NoMemory)),
+        Stop::NoMemory => end_after_refusal(write_reply(writer, output, silent, &Reply::NoMemory)),
     }
 }
 
 /// Reads the rest of the message whose head was read, and answers it.
-fn message<H: Wait + Threads + Sync, S: Service, R: Read, W: Write>(
+fn answer_message<H: Wait + Threads + Sync, S: Service, R: Read, W: Write>(
     rt: &H,
     alloc: Global,
     inbox: &mut Inbox,
     reader: &mut Device<R>,
     writer: &mut Device<W>,
     service: &mut S,
-    framed: &Framed,
+    framed: Framed,
 ) -> Result<(), SessionEnd>
     requires reading { has_failed reader.old ≡ false }
     requires writing { has_failed writer.old ≡ false }
-    requires len { framed.now.len ≤ length (unanswered inbox.old) }
-    requires body { framed.now.body ≤ 8388608 }
+    requires len { framed.len ≤ length (unanswered inbox.old) }
+    requires body { framed.body ≤ 8388608 }
 
     // If the unanswered bytes begin with this head: what was read and written.
-    ensures bytes { (db : List ℕ) (h : RequestHead) → HasHead (unanswered inbox.old) h (drop framed.now.len (unanswered inbox.old))
-        → IsFramed db h framed.now → (came : List ℕ) × (written : List ℕ)
+    ensures bytes { (db : List ℕ) (h : RequestHead)
+        → HasHead (unanswered inbox.old) h (drop framed.len (unanswered inbox.old))
+        → IsFramed db h framed → (came : List ℕ) × (written : List ℕ)
         × Consumes (R.remaining (inner_of reader.old)) (R.remaining (inner_of reader.new)) came
         × Appends (W.contents (inner_of writer.old)) (W.contents (inner_of writer.new)) written
         × Turns S.answers db
@@ -114,26 +124,26 @@ fn message<H: Wait + Threads + Sync, S: Service, R: Read, W: Write>(
 {
     let end = framed.len + framed.body as usize;
     if let Err(stop) = inbox.fill(reader, end) {
-        return Err(stopped(writer, &mut inbox.page, framed.silent, stop));
+        return Err(end_after_stop(writer, &mut inbox.output, framed.silent, stop));
     }
     if inbox.requests == u32::MAX {
         return Err(SessionEnd::Limit);
     }
     let body = &rest_of(&inbox.held, inbox.start)[framed.len..end];
-    let written = answer(
+    let written = answer_request(
         rt,
         alloc,
         service,
         writer,
-        &mut inbox.page,
+        &mut inbox.output,
         &mut inbox.buffer,
         framed.silent,
-        &framed.target,
+        framed.target,
         body,
     );
     inbox.requests += 1;
     inbox.start += end;
-    replied(written, framed.closes)
+    continue_after(written, framed.closes)
 }
 
 /// One turn: answers a message, or reads more bytes, or ends the session.
@@ -165,24 +175,20 @@ fn turn<H: Wait + Threads + Sync, S: Service, R: Read, W: Write>(
     ensures write_fault { IsTrue (has_failed writer.new) ↔ IsErrOf result SessionEnd.WriteFault }
     ensures progress { OnOk result (turns_left inbox.new < turns_left inbox.old) }
 {
-    match inbox.front(alloc, db) {
-        Pending::Message(framed) => message(rt, alloc, inbox, reader, writer, service, &framed),
+    match inbox.pending(alloc, db) {
         Pending::Waiting => match inbox.read_piece(reader) {
             Ok(()) => Ok(()),
-            Err(stop) => Err(stopped(writer, &mut inbox.page, false, stop)),
+            Err(stop) => Err(end_after_stop(writer, &mut inbox.output, false, stop)),
         },
-        Pending::Refused(refusal, silent) => Err(refused(write_refusal(
+        Pending::Refused(refusal, silent) => Err(end_after_refusal(write_refusal(
             writer,
-            &mut inbox.page,
+            &mut inbox.output,
             silent,
             refusal,
         ))),
-        Pending::NoMemory(silent) => Err(refused(write_reply(
-            writer,
-            &mut inbox.page,
-            silent,
-            &Reply::NoMemory,
-        ))),
+        Pending::Message(framed) => answer_message(
+            rt, alloc, inbox, reader, writer, service, framed,
+        ),
     }
 }
 
@@ -199,7 +205,7 @@ pub fn session<H: Wait + Threads + Sync, S: Service, R: Read, W: Write>(
     requires writing { has_failed writer.old ≡ false }
 
     // What was read, what was written, and how the two are related.
-    ensures talk { Holds S.answers db.now (record {
+    ensures transcript { WroteTranscript S.answers db.now (record {
       read = Consumes (R.remaining (inner_of reader.old)) (R.remaining (inner_of reader.new));
       wrote = Appends (W.contents (inner_of writer.old)) (W.contents (inner_of writer.new));
       old = service.old;
@@ -213,8 +219,8 @@ pub fn session<H: Wait + Threads + Sync, S: Service, R: Read, W: Write>(
     let mut inbox = match Inbox::new(alloc) {
         Ok(inbox) => inbox,
         Err(_) => {
-            let mut page = Vec::new(alloc);
-            return refused(write_reply(writer, &mut page, false, &Reply::NoMemory));
+            let mut output = Vec::new(alloc);
+            return end_after_refusal(write_reply(writer, &mut output, false, &Reply::NoMemory));
         }
     };
     loop {

@@ -6,7 +6,7 @@ use Rattle.mangod.proofs.arguments.number.Given as goal
 
 abbrev pub invariant-loop-digit : goal.invariant-loop-digit
 invariant-loop-digit l = record {
-  value : l.number ≡ digits_value 10 (take l.digit-index l.word);
-  digits : list_all is_ascii_digit (take l.digit-index l.word) ≡ true;
+  value : l.number ≡ digits_value 10 (take l.digit-index l.arg);
+  digits : list_all is_ascii_digit (take l.digit-index l.arg) ≡ true;
   small : l.number ≤ l.most;
 }

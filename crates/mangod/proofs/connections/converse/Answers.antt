@@ -7,5 +7,5 @@ returns-in_default g c = ([], refl)
 pub returns : goal.returns
 returns g c =
     let held = c.session-end in
-    let talk = held.ensures.talk in
-    (record { bytes = talk.bytes; written = talk.written; end = held.result } ∷ [], (held.new.service, talk.talk, refl))
+    let course = held.ensures.transcript in
+    (record { bytes = course.bytes; written = course.written; end = held.result } ∷ [], (held.new.service, course.conversation, refl))

@@ -6,13 +6,13 @@ use Rattle.mg_http.proofs.SessionLemmas.{refuses_now, refused_text, run_ends, ru
 use Rattle.mg_http.proofs.TranscriptLemmas.{holds}
 use Rattle.mg_http.proofs.sessions.session.Goals as goal
 
-pub returns-in-Err-clause-talk : goal.returns-in-Err-clause-talk
-returns-in-Err-clause-talk g c =
-    let done = refuses_now g.S.Service.answers c.args.db.now _ _ _ _ [] _ c.write_reply.result _ (inr (false, inl (refl, refl), refl)) c.write_reply.ensures.bytes c.refused.ensures in
-    holds g.S.Service.answers c.args.db.now _ _ _ _ _ done.0 done.1 done.2 done.3 done.4 (refused_text c.write_reply.result _ done.0 c.refused.ensures)
+pub returns-in-Err-clause-transcript : goal.returns-in-Err-clause-transcript
+returns-in-Err-clause-transcript g c =
+    let done = refuses_now g.S.Service.answers c.args.db.now _ _ _ _ [] _ c.write_reply.result _ (inr (false, inl (refl, refl), refl)) c.write_reply.ensures.bytes c.end_after_refusal.ensures in
+    holds g.S.Service.answers c.args.db.now _ _ _ _ _ done.0 done.1 done.2 done.3 done.4 (refused_text c.write_reply.result _ done.0 c.end_after_refusal.ensures)
 
-pub returns-in-Err-turn-clause-talk : goal.returns-in-Err-turn-clause-talk
-returns-in-Err-turn-clause-talk g c =
+pub returns-in-Err-turn-clause-transcript : goal.returns-in-Err-turn-clause-transcript
+returns-in-Err-turn-clause-transcript g c =
     let run = c.loop-end.invariant.run in
     let turn = c.in-Err-turn.ensures.bytes in
     let done = run_ends g.S.Service.answers c.args.db.now _ _ _ _ _ _ _ _ _ _ (run.0, run.1, run.2, run.3, run.4) _ (turn.0, turn.1, turn.2, turn.3, turn.4) in

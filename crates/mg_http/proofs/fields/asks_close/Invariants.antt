@@ -1,8 +1,0 @@
-use Rattle.std.proofs.Common.{◌≡◌, map, take, false}
-use Rattle.std.specs.List.{list_any}
-use Rattle.httparse.specs.Spans.{header_bytes}
-use Rattle.mg_http.specs.Fields.{asks_close}
-use Rattle.mg_http.proofs.fields.asks_close.Given as goal
-
-abbrev pub invariant-loop-field : goal.invariant-loop-field
-invariant-loop-field l = list_any (asks_close) (map (header_bytes l.bytes) (take l.field-index l.fields)) ≡ false

@@ -1,7 +1,0 @@
-use Rattle.std.proofs.Common.{rules}
-use Rattle.httparse.specs.Grammar.{trim_ows}
-use Rattle.mg_http.proofs.text.trim_blanks.Goals as goal
-
-pub returns : goal.returns
-unfolding trim_ows
-returns c = search rules

@@ -1,0 +1,29 @@
+-- The transcripts of a world: the text that the specification gives for some input, from this world (RFC 9112).
+use Rattle.std.specs.Prelude.{◌≡◌, ℕ, List, ◌++◌, Option}
+use Rattle.mg_engine.specs.Commands.{Asked, Answer}
+use Rattle.mg_engine.specs.Run.{Answers}
+use Rattle.mg_engine.specs.World.{World}
+use Rattle.mg_http.specs.declared.sessions.SessionEnd.{SessionEnd}
+use Rattle.mg_http.specs.Device.{IsPrefix}
+use Rattle.mg_http.specs.Session.{Exchange, Converses}
+use Rattle.mg_http.specs.Transcript.{Course, WroteTranscript, IsAmple, IsTranscript}
+
+-- at w the command has the specification's reply and leaves the world u; or memory ran out, and u is w
+abbrev pub AtWorld : World → Asked → Option Answer → World → Type 0
+AtWorld w command reply u = Answers w command reply (λ v. v ≡ u)
+
+-- a session of the database db with this end, from one world to another
+abbrev pub ConversesAt : List ℕ → SessionEnd → Exchange World → Type 0
+ConversesAt db end all = Converses AtWorld db end all
+
+-- the text is a transcript of the bytes, from the world w
+abbrev pub IsTranscriptAt : List ℕ → World → List ℕ → List ℕ → Type 0
+IsTranscriptAt db w bytes text = IsTranscript AtWorld db (record { from = w; bytes = bytes; text = text })
+
+-- A session over an input and an output, from one world to another. If memory sufficed for it, what it wrote is a prefix of each
+-- transcript of what it read and of any bytes that might have followed, however it ended and wherever its input was cut.
+pub record WroteTranscriptAt (db : List ℕ) (course : Course World) : Type 0 where
+  pub session : WroteTranscript AtWorld db course
+  pub prefix
+      : IsAmple AtWorld db course.end (record { old = course.old; bytes = session.bytes; text = session.written; new = course.new }) session.conversation
+      → (more text : List ℕ) → IsTranscriptAt db course.old (session.bytes ++ more) text → IsPrefix session.written text

@@ -1,0 +1,44 @@
+//! Reads one request: what the bytes that a session has not answered begin with.
+ghost use Rattle.std.specs.Prelude.{◌≡◌, ◌≤◌, length};
+ghost use Rattle.mg_http.specs.Turns.{IsPending};
+
+mod decode;
+mod fields;
+mod head;
+mod route_match;
+mod routes;
+mod table;
+mod target;
+mod text;
+mod unfinished;
+
+use head::read_head;
+pub(crate) use head::{Framed, Pending};
+use httparse::spans::HeaderSpan;
+use mg_engine::Refusal;
+pub(crate) use routes::Endpoint;
+use std::alloc::Global;
+pub(crate) use table::Table;
+pub(crate) use target::Target;
+
+/// The most bytes of a head.
+pub(crate) const MAX_HEAD: usize = 16_384;
+
+/// Reads what the bytes begin with; `spans` is room for the fields of a head. A head that is still incomplete at its limit is refused.
+pub(crate) fn read_pending(
+    alloc: Global,
+    db: &str,
+    table: &Table,
+    bytes: &[u8],
+    spans: &mut [HeaderSpan],
+) -> Pending
+    requires { 5461 ≤ length spans.old }
+    ensures { IsPending db.now bytes.now result }
+{
+    match read_head(alloc, db, table, &bytes[..bytes.len().min(MAX_HEAD)], spans) {
+        Pending::Waiting if bytes.len() < MAX_HEAD => Pending::Waiting,
+        Pending::Waiting => Pending::Refused(Refusal::HeadTooLarge, false),
+        Pending::Refused(refusal, silent) => Pending::Refused(refusal, silent),
+        Pending::Message(framed) => Pending::Message(framed),
+    }
+}

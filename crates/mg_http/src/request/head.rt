@@ -1,0 +1,187 @@
+//! Reads a head: what it asks for, and how its body is framed.
+ghost use Rattle.std.specs.Prelude.{◌≡◌, ◌==◌, ◌||◌, ℕ, ◌≤◌, List, length, map, All, take, bytes_eq, codes};
+ghost use Rattle.std.specs.List.{list_any};
+ghost use Rattle.httparse.specs.Grammar.{RequestHead, NeverHasRequest};
+ghost use Rattle.httparse.specs.Spans.{IsHeaderWithin, header_bytes, IsRequestWithin, IsRequestAt};
+ghost use Rattle.mg_http.specs.Fields.{asks_close};
+ghost use Rattle.mg_http.specs.Head.{framed_by, refusal_before, parts_ask};
+ghost use Rattle.mg_http.specs.Turns.{IsHeadRead, request_in, IsBodyFramed, IsFramedBy};
+
+use crate::request::fields::{Length, asks_close, has_field, length_in};
+use crate::request::table::Table;
+use crate::request::target::{Target, read_target};
+use crate::request::unfinished::ends_in_target;
+use httparse::spans::{HeaderSpan, RequestSpans, parse_request};
+use httparse::{Error, Status};
+use mg_engine::Refusal;
+use std::alloc::{AllocError, Global};
+
+/// The most fields of a head.
+const MAX_FIELDS: usize = 64;
+
+/// A head whose body's length is known.
+#[derive(Drop)]
+pub struct Framed {
+    /// What the head asks for.
+    pub target: Target,
+    /// The number of bytes of the head.
+    pub len: usize,
+    /// The number of bytes of the body.
+    pub body: u64,
+    /// Whether the reply leaves out the bytes of its body.
+    pub silent: bool,
+    /// Whether the session ends after the reply.
+    pub closes: bool,
+}
+
+/// What unanswered bytes begin with.
+#[derive(Drop)]
+pub(crate) enum Pending {
+    /// An incomplete head, or no byte.
+    Waiting,
+    /// Bytes that are refused, or a head for whose target there was no memory; `true`: the reply leaves out its body.
+    Refused(Refusal, bool),
+    /// A head; its body may still be incomplete.
+    Message(Framed),
+}
+
+/// The target's own refusal, if it is one; else this one.
+fn refusal_before(refusal: Refusal, target: &Target) -> Refusal
+    ensures { result ≡ refusal_before refusal (request_in target.now) }
+{
+    match target {
+        Target::Refuses(first) => *first,
+        Target::Body(_) => refusal,
+        Target::Asks(_) => refusal,
+    }
+}
+
+/// The number of bytes of the body, or the refusal before it. `coded`: a Transfer-Encoding is given, which is refused. `post`: a
+/// length is required.
+fn frame_body(length: Length, coded: bool, post: bool, target: &Target) -> Result<u64, Refusal>
+    requires { (n : ℕ) → length ≡ Length.Bytes n → n ≤ 8388608 }
+    ensures { IsBodyFramed (framed_by length coded post (request_in target.now)) (request_in target.now) result }
+{
+    match length {
+        Length::Faulty => Err(Refusal::BadHead),
+        Length::Absent if coded || post => Err(refusal_before(Refusal::LengthRequired, target)),
+        Length::Absent => Ok(0),
+        _ if coded => Err(refusal_before(Refusal::LengthRequired, target)),
+        Length::Bytes(n) => Ok(n),
+        Length::TooMany => Err(refusal_before(Refusal::TooLarge, target)),
+    }
+}
+
+/// What a head with this method, target and fields asks for, and the number of bytes of its body.
+///
+/// Errors: why the message is refused before its body; or out of memory for the decoded target.
+fn read_framing(
+    alloc: Global,
+    db: &str,
+    table: &Table,
+    method: &[u8],
+    target: &[u8],
+    bytes: &[u8],
+    fields: &[HeaderSpan],
+) -> Result<(Target, u64), Refusal>
+    requires { All (IsHeaderWithin (length bytes.now)) fields.now }
+    ensures { IsFramedBy (parts_ask db.now method.now target.now (map (header_bytes bytes.now) fields.now)) result }
+{
+    if fields.len() > MAX_FIELDS {
+        return Err(Refusal::HeadTooLarge);
+    }
+    let target = match read_target(alloc, db, table, method, target) {
+        Ok(target) => target,
+        Err(AllocError) => return Err(Refusal::OutOfMemory),
+    };
+    let length = length_in(bytes, fields);
+    let coded = has_field(bytes, fields, b"transfer-encoding");
+    let body = frame_body(length, coded, method == b"POST".as_slice(), &target);
+    match body {
+        Ok(body) => Ok((target, body)),
+        Err(refusal) => Err(refusal),
+    }
+}
+
+/// The first `count` spans.
+fn first_of(spans: &[HeaderSpan], count: usize) -> &[HeaderSpan]
+    requires { count ≤ length spans.now }
+    ensures { result.now ≡ take count spans.now }
+{
+    &spans[..count]
+}
+
+/// Whether the method is HEAD.
+fn is_head(method: &[u8]) -> bool
+    ensures { result ≡ bytes_eq method.now (codes "HEAD") }
+{
+    method == b"HEAD".as_slice()
+}
+
+/// Whether the session ends after the reply: the version is 1.0, or a Connection field asks to close.
+fn closes_after(minor: u8, bytes: &[u8], fields: &[HeaderSpan]) -> bool
+    requires { All (IsHeaderWithin (length bytes.now)) fields.now }
+    ensures { result ≡ (minor == 0 || list_any asks_close (map (header_bytes bytes.now) fields.now)) }
+{
+    minor == 0 || asks_close(bytes, fields)
+}
+
+/// Classifies bytes that the parser rejected: an unfinished target, or no head at all.
+fn read_rejected(bytes: &[u8]) -> Pending
+    requires { NeverHasRequest bytes.now }
+    ensures { (db : List ℕ) → IsHeadRead db bytes.now result }
+{
+    if ends_in_target(bytes) {
+        Pending::Waiting
+    } else {
+        Pending::Refused(Refusal::BadHead, false)
+    }
+}
+
+/// What the head that the parser found in the bytes asks for.
+fn read_whole(
+    alloc: Global,
+    db: &str,
+    table: &Table,
+    bytes: &[u8],
+    spans: &[HeaderSpan],
+    head: RequestSpans,
+) -> Pending
+    requires { IsRequestWithin bytes.now spans.now head }
+    ensures { (h : RequestHead) → IsRequestAt bytes.now spans.now head h
+        → IsHeadRead db.now bytes.now result }
+{
+    let method = head.method.of(bytes);
+    let fields = first_of(spans, head.headers);
+    let silent = is_head(method);
+    match read_framing(alloc, db, table, method, head.path.of(bytes), bytes, fields) {
+        Err(refusal) => Pending::Refused(refusal, silent),
+        Ok((target, body)) => Pending::Message(Framed {
+            target,
+            len: head.len,
+            body,
+            silent,
+            closes: closes_after(head.version, bytes, fields),
+        }),
+    }
+}
+
+/// Reads the head that at most 16,384 bytes begin with; `spans` is room for its fields.
+pub(crate) fn read_head(
+    alloc: Global,
+    db: &str,
+    table: &Table,
+    bytes: &[u8],
+    spans: &mut [HeaderSpan],
+) -> Pending
+    requires size { length bytes.now ≤ 16384 }
+    requires room { 5461 ≤ length spans.old }
+    ensures { IsHeadRead db.now bytes.now result }
+{
+    match parse_request(bytes, spans) {
+        Ok(Status::Complete(head)) => read_whole(alloc, db, table, bytes, spans, head),
+        Ok(Status::Partial) => Pending::Waiting,
+        Err(Error::TooManyHeaders) => unreachable!(),
+        Err(_) => read_rejected(bytes),
+    }
+}

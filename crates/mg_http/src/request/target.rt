@@ -1,0 +1,151 @@
+//! Translates the method and the target of a head to a command.
+ghost use Rattle.std.specs.Prelude.{◌≡◌, map, IfOk, true};
+ghost use Rattle.std.specs.List.{list_all};
+ghost use Rattle.std.specs.Str.{is_utf8};
+ghost use Rattle.mg_http.specs.RouteViews.{match_in};
+ghost use Rattle.mg_http.specs.Target.{path_in, query_in, names, document_asked, drop_asked, request_of};
+ghost use Rattle.mg_http.specs.Turns.{request_in};
+ghost use Rattle.mg_http.specs.Walk.{request_at};
+
+use crate::request::decode::asks_conflicts;
+use crate::request::route_match::RouteMatch;
+use crate::request::routes::{Action, Endpoint};
+use crate::request::table::Table;
+use mg_engine::{Command, Refusal};
+use std::alloc::{AllocError, Global};
+
+/// What the method and the target of a head ask for.
+#[derive(Drop)]
+pub enum Target {
+    /// What the endpoint does with the body.
+    Body(Endpoint),
+    /// A command; the body is ignored.
+    Asks(Command),
+    /// A refusal, which is written after the body was read.
+    Refuses(Refusal),
+}
+
+/// The path and the query of the target, without the question mark between them.
+fn split_query(target: &[u8]) -> (&[u8], &[u8])
+    ensures path { result.0.now ≡ path_in target.now }
+    ensures query { result.1.now ≡ query_in target.now }
+{
+    match target.iter().position(|&b| b == b'?') {
+        Some(i) => (&target[..i], &target[i + 1..]),
+        None => (target, &[]),
+    }
+}
+
+/// Whether the bytes are UTF-8.
+fn is_text(bytes: &[u8]) -> bool
+    ensures { result ≡ is_utf8 bytes.now }
+{
+    match str::from_utf8(bytes) {
+        Ok(_) => true,
+        Err(_) => false,
+    }
+}
+
+/// Whether each parameter is UTF-8.
+fn are_texts(parameters: &[Vec<u8>]) -> bool
+    ensures { result ≡ list_all is_utf8 (map (λ v. v.items) parameters.now) }
+{
+    parameters.iter().all(|parameter| is_text(parameter))
+}
+
+/// Whether the first parameter is the database's name.
+fn names(db: &str, parameters: &[Vec<u8>]) -> bool
+    ensures { result ≡ names db.now (map (λ v. v.items) parameters.now) }
+{
+    match parameters.first() {
+        Some(name) => name.as_slice() == db.as_bytes(),
+        None => false,
+    }
+}
+
+/// The bytes, which are UTF-8, as a `str`.
+fn as_text(bytes: &[u8]) -> &str
+    requires { is_utf8 bytes.now ≡ true }
+    ensures { result.now ≡ bytes.now }
+{
+    match str::from_utf8(bytes) {
+        Ok(text) => text,
+        Err(_) => unreachable!(),
+    }
+}
+
+/// The command that reads a document. The parameters are UTF-8: the database's name and the id.
+fn document(alloc: Global, parameters: &[Vec<u8>], conflicts: bool) -> Result<Target, AllocError>
+    requires { list_all is_utf8 (map (λ v. v.items) parameters.now) ≡ true }
+    ensures { IfOk result (λ t. request_in t ≡ document_asked (map (λ v. v.items) parameters.now) conflicts) }
+{
+    match parameters {
+        [_, id] => {
+            let id = String::from_str(alloc, as_text(id))?;
+            Ok(Target::Asks(Command::Get { id, conflicts }))
+        }
+        _ => Ok(Target::Refuses(Refusal::Missing)),
+    }
+}
+
+/// The command that drops an index. The parameters are UTF-8: the database's name, the design document's name after the
+/// `prefix`, and the index's name.
+fn drop_index(alloc: Global, prefix: &str, parameters: &[Vec<u8>]) -> Result<Target, AllocError>
+    requires { list_all is_utf8 (map (λ v. v.items) parameters.now) ≡ true }
+    ensures { IfOk result (λ t. request_in t ≡ drop_asked prefix.now (map (λ v. v.items) parameters.now)) }
+{
+    match parameters {
+        [_, rest, name] => {
+            let mut ddoc = String::from_str(alloc, prefix)?;
+            ddoc.push_str(as_text(rest))?;
+            let name = String::from_str(alloc, as_text(name))?;
+            Ok(Target::Asks(Command::DropIndex { ddoc, name }))
+        }
+        _ => Ok(Target::Refuses(Refusal::Missing)),
+    }
+}
+
+/// What the method asks for at a matched path, or the refusal of a path that does not match.
+fn target_at(
+    alloc: Global,
+    db: &str,
+    method: &[u8],
+    query: &[u8],
+    matched: RouteMatch,
+) -> Result<Target, AllocError>
+    ensures { IfOk result (λ t. request_in t ≡ request_at db.now method.now query.now (match_in matched)) }
+{
+    if !matched.is_end() || !are_texts(&matched.parameters) {
+        return Ok(Target::Refuses(Refusal::Missing));
+    }
+    if !names(db, &matched.parameters) {
+        return Ok(Target::Refuses(Refusal::NoDatabase));
+    }
+    match matched.action(method) {
+        None => Ok(Target::Refuses(Refusal::MethodNotAllowed)),
+        Some(Action::Body(endpoint)) => Ok(Target::Body(endpoint)),
+        Some(Action::Document) => {
+            document(alloc, &matched.parameters, asks_conflicts(alloc, query)?)
+        }
+        Some(Action::ListIndexes) => Ok(Target::Asks(Command::ListIndexes)),
+        Some(Action::DropIndex) => drop_index(alloc, "", &matched.parameters),
+        Some(Action::DropDesignIndex) => drop_index(alloc, "_design/", &matched.parameters),
+    }
+}
+
+/// What the method and the target ask of the database.
+///
+/// Errors: out of memory for the decoded target.
+pub(crate) fn read_target(
+    alloc: Global,
+    db: &str,
+    table: &Table,
+    method: &[u8],
+    target: &[u8],
+) -> Result<Target, AllocError>
+    ensures { IfOk result (λ t. request_in t ≡ request_of db.now method.now target.now) }
+{
+    let (path, query) = split_query(target);
+    let matched = RouteMatch::of(alloc, table, path)?;
+    target_at(alloc, db, method, query, matched)
+}

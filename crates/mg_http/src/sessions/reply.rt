@@ -1,0 +1,120 @@
+ghost use Rattle.std.specs.Prelude.{◌≡◌, [], true, is_ok, if◌then◌else◌};
+ghost use Rattle.mg_engine.specs.Commands.{refused};
+ghost use Rattle.mg_engine.specs.View.{said};
+ghost use Rattle.mg_http.specs.Device.{inner_of, has_failed, WritesBytes};
+ghost use Rattle.mg_http.specs.Reply.{phrase_of, text_with, text_of, reply_text};
+
+use crate::sessions::device::{Device, IoFault};
+use http::StatusCode;
+use itoa::Buffer;
+use mg_engine::{Refusal, Reply};
+use std::io::Write;
+
+/// The standard phrase of the status; empty for a status without one.
+fn phrase(status: u16) -> &'static str
+    ensures { result.now ≡ phrase_of status }
+{
+    match StatusCode::from_u16(status) {
+        Ok(code) => code.canonical_reason().unwrap_or(""),
+        Err(_) => "",
+    }
+}
+
+/// Writes the text of a reply from its parts. They are gathered in `output`, so that one write usually suffices.
+fn write_parts<'a, W: Write>(
+    writer: &mut Device<W>,
+    output: &mut Vec<u8>,
+    code: &'a [u8],
+    phrase: &'a [u8],
+    length: &'a [u8],
+    body: &'a [u8],
+) -> Result<(), IoFault>
+    ensures bytes { WritesBytes (W.contents (inner_of writer.old)) (W.contents (inner_of writer.new))
+        (text_with code.now phrase.now length.now body.now) result }
+    ensures failed { has_failed writer.new ≡ (if is_ok result then has_failed writer.old else true) }
+{
+    writer.put_all(
+        output,
+        &[
+            b"HTTP/1.1 ",
+            code,
+            b" ",
+            phrase,
+            b"\r\nContent-Type: application/json\r\nContent-Length: ",
+            length,
+            b"\r\n\r\n",
+            body,
+        ],
+    )
+}
+
+/// The body that is written: empty for a silent reply.
+fn body_to_write(silent: bool, body: &[u8]) -> &[u8]
+    ensures { result.now ≡ (if silent then [] else body.now) }
+{
+    if silent { &[] } else { body }
+}
+
+/// Writes the text of a reply with this status and body. A silent reply leaves the body out, but gives its length.
+///
+/// Errors: those of the writer.
+fn write_text<W: Write>(
+    writer: &mut Device<W>,
+    output: &mut Vec<u8>,
+    silent: bool,
+    status: u16,
+    body: &[u8],
+) -> Result<(), IoFault>
+    ensures bytes { WritesBytes (W.contents (inner_of writer.old)) (W.contents (inner_of writer.new))
+        (text_of silent (record { status = status; body = body.now })) result }
+    ensures failed { has_failed writer.new ≡ (if is_ok result then has_failed writer.old else true) }
+{
+    let mut code = Buffer::new();
+    let mut length = Buffer::new();
+    write_parts(
+        writer,
+        output,
+        code.format(status).as_bytes(),
+        phrase(status).as_bytes(),
+        length.format(body.len()).as_bytes(),
+        body_to_write(silent, body),
+    )
+}
+
+/// Writes a reply of the service.
+///
+/// Errors: those of the writer.
+pub(crate) fn write_reply<W: Write>(
+    writer: &mut Device<W>,
+    output: &mut Vec<u8>,
+    silent: bool,
+    reply: &Reply,
+) -> Result<(), IoFault>
+    ensures bytes { WritesBytes (W.contents (inner_of writer.old)) (W.contents (inner_of writer.new))
+        (reply_text silent (said reply.now)) result }
+    ensures failed { has_failed writer.new ≡ (if is_ok result then has_failed writer.old else true) }
+{
+    write_text(writer, output, silent, reply.status(), reply.body())
+}
+
+/// Writes a refusal as a reply. Allocates nothing but room in `output`.
+///
+/// Errors: those of the writer.
+pub(crate) fn write_refusal<W: Write>(
+    writer: &mut Device<W>,
+    output: &mut Vec<u8>,
+    silent: bool,
+    refusal: Refusal,
+) -> Result<(), IoFault>
+    ensures bytes { WritesBytes (W.contents (inner_of writer.old)) (W.contents (inner_of writer.new))
+        (text_of silent (refused refusal)) result }
+    ensures failed { has_failed writer.new ≡ (if is_ok result then has_failed writer.old else true) }
+{
+    write_text(
+        writer,
+        output,
+        silent,
+        refusal.status(),
+        refusal.body().as_bytes(),
+    )
+}

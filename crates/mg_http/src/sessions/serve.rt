@@ -1,0 +1,49 @@
+ghost use Rattle.std.specs.Prelude.{◌≡◌, ◌↔◌, false, IsTrue};
+ghost use Rattle.std.specs.Io.KnownBytes.{Appends, Consumes, IsAtEnd};
+ghost use Rattle.mg_engine.specs.Stands.{Stands};
+ghost use Rattle.mg_engine.specs.World.{World};
+ghost use Rattle.mg_http.specs.Device.{inner_of, has_failed};
+ghost use Rattle.mg_http.specs.AtWorld.{WroteTranscriptAt};
+
+use crate::sessions::device::Device;
+use crate::sessions::service::Solo;
+use crate::sessions::{SessionEnd, session};
+use mg_shard::Placement;
+use std::alloc::Global;
+use std::io::{Read, Write};
+use std::sync::Wait;
+use std::thread::Threads;
+
+impl<P: Placement + Drop> Solo<P> {
+    /// Serves one session of the database `db`: answers each message that it reads, one after another, from the engine.
+    ///
+    /// If memory sufficed, it writes the transcript of what it read; after a failed write, or at the session's limit, a prefix of the
+    /// transcript. Afterwards the engine stands for the world that the answered messages leave.
+    ///
+    /// Errors: each error ends the session; see `SessionEnd`. Cost: that of the commands, and one pass over the bytes.
+    pub fn serve<H: Wait + Threads + Sync, R: Read, W: Write>(
+        &mut self,
+        rt: &H,
+        alloc: Global,
+        db: &str,
+        reader: &mut Device<R>,
+        writer: &mut Device<W>,
+    ) -> SessionEnd
+        requires reading { has_failed reader.old ≡ false }
+        requires writing { has_failed writer.old ≡ false }
+        ensures transcript { (w : World) → Stands P.place self.old.engine w
+            → (u : World) × WroteTranscriptAt db.now (record {
+              read = Consumes (R.remaining (inner_of reader.old)) (R.remaining (inner_of reader.new));
+              wrote = Appends (W.contents (inner_of writer.old)) (W.contents (inner_of writer.new));
+              old = w;
+              new = u;
+              end = result;
+            })
+            × Stands P.place self.new.engine u }
+        ensures eof { result ≡ SessionEnd.Eof → IsAtEnd (R.remaining (inner_of reader.new)) }
+        ensures read_fault { IsTrue (has_failed reader.new) ↔ (result ≡ SessionEnd.ReadFault) }
+        ensures write_fault { IsTrue (has_failed writer.new) ↔ (result ≡ SessionEnd.WriteFault) }
+    {
+        session(rt, alloc, db, reader, writer, self)
+    }
+}

@@ -1,0 +1,63 @@
+ghost use denote.Param.Send.{IsSync};
+ghost use Rattle.std.specs.Prelude.{◌≡◌, ◌≤◌, Option, IfNone};
+ghost use Rattle.mg_engine.specs.Commands.{Asked, Answer};
+ghost use Rattle.mg_engine.specs.View.{asked, said};
+ghost use Rattle.mg_http.specs.Solo.{Steps};
+ghost use Rattle.mg_live.specs.Sitting.{Answered};
+
+use mg_engine::{Command, Engine, Reply};
+use mg_live::{Database, Ends, Seat};
+use mg_shard::Placement;
+use std::alloc::Global;
+use std::sync::Wait;
+use std::thread::Threads;
+
+/// Answers one command after another.
+pub trait Service {
+    // From the first state, the command may get this answer (`None`: out of memory) and leave the second state.
+    ghost answers: { Self → Asked → Option Answer → Self → Type 0 };
+
+    /// Answers the command. The clause `requires` repeats the bound `Sync`, since an impl does not get the bounds of its trait's method.
+    fn ask<H: Wait + Threads + Sync>(&mut self, rt: &H, alloc: Global, command: Command) -> Reply
+        requires { IsSync H.row }
+        ensures { answers self.old (asked command) (said result) self.new };
+}
+
+/// An engine for one caller, and the number of workers, 1 to 32, with which it answers.
+#[derive(Drop)]
+pub struct Solo<P> {
+    pub engine: Engine<P>,
+    pub workers: usize,
+    ghost some_worker: { 1 ≤ workers },
+    ghost most_workers: { workers ≤ 32 },
+}
+
+impl<P: Placement + Drop> Service for Solo<P> {
+    // The answer is right at each world that the engine stands for; or memory ran out, and the engine is unchanged.
+    ghost answers = { λ old command answer new.
+        Steps P.place old.engine command answer new.engine × IfNone answer (new.engine ≡ old.engine) };
+
+    fn ask<H: Wait + Threads + Sync>(&mut self, rt: &H, alloc: Global, command: Command) -> Reply {
+        self.engine.step(rt, alloc, &command, self.workers)
+    }
+}
+
+/// A seat at a database that other sessions use too, and the number of workers, 1 to 32, with which it answers.
+#[derive(Drop)]
+pub struct SeatService<D: Database, C: Ends> {
+    pub seat: Seat<D, C>,
+    pub workers: usize,
+    ghost some_worker: { 1 ≤ workers },
+    ghost most_workers: { workers ≤ 32 },
+}
+
+impl<D: Database, C: Ends> Service for SeatService<D, C> {
+    // The answer is the seat's: a read is answered from what the seat has seen by then; a write, after a list of commits that begins
+    // with those that the seat had seen.
+    ghost answers = { λ old command answer new. Answered D.db old.seat command answer new.seat };
+
+    fn ask<H: Wait + Threads + Sync>(&mut self, rt: &H, alloc: Global, command: Command) -> Reply {
+        let _ = alloc;
+        self.seat.answer(rt, command, self.workers)
+    }
+}
