@@ -1,7 +1,7 @@
 #!/usr/bin/env python3
 """Edits documents at random, queries them by changing indexes, and compares each reply with that of a model.
 
-usage: indexes.py --program PATH [--shards 1,2,7,64] [--workers 1,2] [--seeds 1,2,3,4] [--edits 1500]
+usage: indexes.py --program PATH [--shards 1,2,7,64] [--workers 1,2] [--seeds 1,2,3,4] [--edits 1500] [--documents 3000]
 
 A seed makes one conversation: new edits, replicated edits, deletions and conflicts of a few documents (of some hundred for every
 fourth seed, so that an index has several pages of rows); indexes that are created, change their columns and are dropped; and queries by
@@ -206,6 +206,52 @@ class RandomConversation:
         self.ask("GET", quote(name, safe="") + ("?conflicts=true" if conflicts else ""))
 
 
+class LongSkips(RandomConversation):
+    """Many documents, and pages by indexes that skip many rows: none, most, all and more, in both directions, after bookmarks too."""
+
+    def __init__(self, documents):
+        self.random = random.Random(documents)
+        self.database = Database()
+        self.exchanges = []
+        self.last = None
+        self.ids = [f"d{i:05}" for i in range(documents)]
+        self.random.shuffle(self.ids)
+        for first in range(0, documents, 500):
+            edits = [(name, None, False, self.body()) for name in self.ids[first : first + 500]]
+            self.add_bulk([self.document_of(edit) for edit in edits], True, [self.database.apply(edit, True) for edit in edits])
+        for _ in range(40):
+            self.delete_leaves()
+        self.columns = {"i": ["a"], "j": ["b"]}
+        for name, columns in self.columns.items():
+            self.ask("POST", "_index", {"index": {"fields": columns}, "ddoc": "x", "name": name})
+        skips = [share * documents // 20 for share in range(1, 20)] + [documents - 41, documents, 3 * documents, MOST]
+        for skip in skips + self.random.sample(range(documents), 10):
+            self.find(self.query(skip))
+            if self.last and self.chance(0.3):
+                query, bookmark = self.last
+                self.find({**query, "bookmark": bookmark, "skip": skip // 2})
+
+    def body(self):
+        return {"a": self.random.randrange(1000), "b": self.random.choice(VALUES)}
+
+    def query(self, skip):
+        """A query whose selector bounds a column of an index; for some also a test that no range decides."""
+        name = self.random.choice(sorted(self.columns))
+        column = self.columns[name][0]
+        test = self.random.choice([{"$gte": None}, {"$gt": 100 if column == "a" else None}, {"$lt": 900 if column == "a" else {"b": "a"}}])
+        return {
+            "selector": {column: test, **({"c": {"$exists": False}} if self.chance(0.1) else {})},
+            "sort": [column],
+            "direction": self.random.choice(["asc", "desc"]),
+            "hint": (DESIGN + "x", name),
+            "limit": self.random.choice([0, 1, 10, 25]),
+            "skip": skip,
+            "bookmark": "nil",
+            "fields": ["_id", "a"],
+            "conflicts": False,
+        }
+
+
 def fault_of(program, exchanges, shards, workers):
     """The first fault of a run; None if there is none."""
     output, ending = run_session(program, b"".join(message for message, _ in exchanges), shards, workers)
@@ -221,15 +267,17 @@ def fault_of(program, exchanges, shards, workers):
 
 
 def main():
-    args = arguments(__doc__, shards="1,2,7,64", workers="1,2", seeds="1,2,3,4", edits=1500)
+    args = arguments(__doc__, shards="1,2,7,64", workers="1,2", seeds="1,2,3,4", edits=1500, documents=3000)
     tally = Tally()
     settings = list(itertools.product(args.shards.split(","), args.workers.split(",")))
-    for seed in args.seeds.split(","):
-        exchanges, faults = RandomConversation(int(seed), args.edits).exchanges, []
+    conversations = [(f"seed {seed}", RandomConversation(int(seed), args.edits)) for seed in args.seeds.split(",")]
+    conversations.append(("long skips", LongSkips(args.documents)))
+    for name, conversation in conversations:
+        exchanges, faults = conversation.exchanges, []
         for shards, workers in settings:
             fault = fault_of(args.program, exchanges, shards, workers)
             faults += [f"\n  {shards} shards, {workers} workers, {fault}"] if fault else []
-        tally.count(f"seed {seed}, {len(exchanges)} messages", faults)
+        tally.count(f"{name}, {len(exchanges)} messages", faults)
     print(f"each conversation on {len(settings)} pairs of shards and workers:")
     return tally.end()
 

@@ -49,7 +49,7 @@ class Source:
         self.targets, self.whole = [], []
         for exchange in (exchange for conversation in all_conversations().values() for exchange in conversation.exchanges):
             head, _, body = exchange.message.partition(b"\r\n\r\n")
-            if head.startswith((b"POST /db/_", b"GET /db/", b"DELETE /db/")) and exchange.is_whole and len(body) < 4000:
+            if head.startswith((b"POST /db/_", b"GET /db/", b"DELETE /db/")) and exchange.is_complete and len(body) < 4000:
                 self.whole.append(exchange.message)
                 with contextlib.suppress(ValueError):
                     self.targets.append((head.split(b" ")[1][4:].decode(), json.loads(body)))

@@ -19,11 +19,11 @@ SETTINGS = {
 }
 
 
-def allocation(words):
+def allocation(args):
     """The table: each program without the settings, with them, and with more freed blocks kept for reuse as well."""
-    corpus, wanted, found = words.corpus(words.usual), rows.Measure([1], FEW, words.share), {}
-    programs = {"mangod": lambda corpus, tunables: Program(words.program, corpus, tunables=tunables)}
-    if "rust" in words.systems and built():
+    corpus, wanted, found = args.corpus(args.usual), rows.Measure([1], FEW, args.share), {}
+    programs = {"mangod": lambda corpus, tunables: Program(args.program, corpus, tunables=tunables)}
+    if "rust" in args.systems and built():
         programs["plain Rust"] = PlainRust
     for name, make in programs.items():
         for title, tunables in SETTINGS.items():

@@ -1,4 +1,4 @@
-"""Measures the program alone: workers, edits of one document, and many clients."""
+"""Measures the program alone: workers, edits of one document, many clients, rows that pages skip, and many indexes."""
 import contextlib
 import json
 import re
@@ -17,6 +17,9 @@ WORKERS = [(1, 1), (1, 4), (16, 1), (16, 4)]
 CROWDS = (1, 4, 16)
 CROWD_KINDS = ("get", "equality", "commit")
 CROWD_SECONDS = 5
+SKIPPED = 10000
+MANY_INDEXES = (250, 500, 1000)
+MANY_SHARDS = (64, 32)
 
 
 def placed_anew(program, shards):
@@ -45,10 +48,10 @@ def worked(path, corpus, setting):
     return [one and one * 1e3 for one in times]
 
 
-def workers(words):
+def workers(args):
     """The table of what several workers gain."""
-    corpus = words.corpus(words.usual)
-    made = [worked(words.program, corpus, setting) for setting in WORKERS]
+    corpus = args.corpus(args.usual)
+    made = [worked(args.program, corpus, setting) for setting in WORKERS]
     titles = ["one document without an index", "an index on two fields", "a reshard to 16 shards, with that index"]
     rows = {title: [one[place] for one in made] for place, title in enumerate(titles)}
     return grid(f"ms by the clock, {corpus.count:,} documents; shards and workers", map(short, WORKERS), rows)
@@ -67,32 +70,32 @@ def edit_often(program, count):
     return Use(count, program.processor() - before, time.monotonic() - clock)
 
 
-def edits(words):
+def edits(args):
     """The table of the processor time of edits of one document, by their number."""
-    numbers, used = [max(20, int(words.share * count)) for count in (4000, 8000, 16000)], []
+    numbers, used = [max(20, int(args.share * count)) for count in (4000, 8000, 16000)], []
     for count in numbers:
-        with contextlib.closing(Program(words.program, words.corpus(BULK))) as program:
+        with contextlib.closing(Program(args.program, args.corpus(BULK))) as program:
             used.append(edit_often(program, count).figures()["processor_us"])
     return grid("edits of one document", [f"{count:,}" for count in numbers], {"µs of processor time each": used})
 
 
-def crowd(words):
+def crowd(args):
     """The table of `GET`s, queries and commits by 1, 4 and 16 clients, with each pair of shards and workers."""
-    corpus = words.corpus(words.usual)
-    made = [crowded(words, corpus, setting) for setting in PAIRS]
+    corpus = args.corpus(args.usual)
+    made = [crowded(args, corpus, setting) for setting in PAIRS]
     rows = {name: [one[name] for one in made] for name in made[0]}
     title = f"requests a second, clients: {' / '.join(map(str, CROWDS))}; {corpus.count:,} documents; shards and workers"
     return grid(title, map(short, PAIRS), rows)
 
 
-def crowded(words, corpus, setting):
+def crowded(args, corpus, setting):
     """The requests a second of one database: for each kind, a figure for each number of clients."""
-    with contextlib.closing(Program(words.program, corpus, setting, sessions=max(CROWDS))) as program:
+    with contextlib.closing(Program(args.program, corpus, setting, sessions=max(CROWDS))) as program:
         load(program, corpus)
         for which in INDEXES:
             program.index(which)
-        program.share()
-        rows = {REQUESTS[kind][0]: [many(program, kind, clients, words.share)["a_second"] for clients in CROWDS] for kind in CROWD_KINDS}
+        program.open_to_clients()
+        rows = {REQUESTS[kind][0]: [many(program, kind, clients, args.share)["a_second"] for clients in CROWDS] for kind in CROWD_KINDS}
         if shutil.which("wrk"):
             rows["`GET` of one document by wrk"] = [by_wrk(program, clients) for clients in CROWDS]
     say(titled(setting), rows)
@@ -110,11 +113,60 @@ def many(program, kind, clients, share):
 
 def by_wrk(program, clients):
     """The `GET`s a second of clients of wrk, which take less of the processors than those in Python."""
-    words = ["wrk", "-t1", f"-c{clients}", "-d2s", f"http://127.0.0.1:{program.port}/db/{program.corpus.name(1)}"]
-    text = subprocess.run(words, capture_output=True, text=True, check=True).stdout
+    args = ["wrk", "-t1", f"-c{clients}", "-d2s", f"http://127.0.0.1:{program.port}/db/{program.corpus.name(1)}"]
+    text = subprocess.run(args, capture_output=True, text=True, check=True).stdout
     if "Non-2xx" in text or "Socket errors" in text:
         raise SystemExit(f"wrk: {text}")
     return float(re.search(r"Requests/sec:\s*([0-9.]+)", text)[1])
 
 
-PARTS = {"workers": workers, "edits": edits, "crowd": crowd}
+def skips(args):
+    """The table of the processor time of a row that a page skips, where the range decides, with each pair."""
+    corpus = args.corpus(args.usual)
+    rows = min(SKIPPED, corpus.count // 2)
+    title = f"a row of {rows:,} that a page skips: processor time, ns"
+    made = {title: [skipped(args, corpus, setting, rows) for setting in PAIRS]}
+    return grid(f"{corpus.count:,} documents; shards and workers", map(short, PAIRS), made)
+
+
+def skipped(args, corpus, setting, rows):
+    """The processor time of a skipped row, in nanoseconds: that of a page that skips many rows, less that of one that skips none."""
+    with contextlib.closing(Program(args.program, corpus, setting)) as program:
+        load(program, corpus)
+        program.index("price")
+        none, many = (shown_after(program, skip, max(20, int(4000 * args.share))) for skip in (0, rows))
+    cost = (many - none) / rows * 1e9
+    say(f"{titled(setting)}, a skipped row: {cost:.1f} ns")
+    return cost
+
+
+def shown_after(program, skip, count):
+    """The processor time of a page that skips some documents of a range of prices and shows one."""
+    corpus, before = program.corpus, program.processor()
+    for number in range(count):
+        rank = number % (corpus.count - skip)
+        asked = {"selector": {corpus.path("price"): {"$gte": corpus.prices[rank]}}, "limit": 1, "skip": skip}
+        status, body = program.connection.exchange(message("POST", "_find", asked))
+        if status != b"200" or [one["_id"] for one in json.loads(body)["docs"]] != [corpus.name(corpus.at(rank + skip))]:
+            raise SystemExit(f"a page that skips {skip} documents was answered by {status} {body[:300]}")
+    return (program.processor() - before) / count
+
+
+def catalogs(args):
+    """The table of the time that it takes to define many indexes on 64 shards."""
+    numbers = [max(5, int(min(1, 10 * args.share) * count)) for count in MANY_INDEXES]
+    seconds = [defined(args, number) for number in numbers]
+    return grid(f"indexes of {BULK:,} documents on 64 shards", [f"{number:,}" for number in numbers], {"seconds by the clock": seconds})
+
+
+def defined(args, count):
+    """The wall-clock time of the definition of some indexes on the same member."""
+    with contextlib.closing(Program(args.program, args.corpus(BULK), MANY_SHARDS)) as program:
+        load(program, program.corpus)
+        clock = time.monotonic()
+        for number in range(count):
+            program.index("price", f"index{number}")
+        return time.monotonic() - clock
+
+
+PARTS = {"workers": workers, "edits": edits, "crowd": crowd, "skips": skips, "catalogs": catalogs}

@@ -37,8 +37,8 @@ class Counted(Piped):
         for which in INDEXES:
             self.index(which)
 
-    def control(self, *words):
-        subprocess.run(["callgrind_control", *words, str(self.process.pid)], check=True, capture_output=True)
+    def control(self, *args):
+        subprocess.run(["callgrind_control", *args, str(self.process.pid)], check=True, capture_output=True)
 
     def count(self, asked, warm):
         """The instructions and the reads from memory of a request. The first `warm` requests fill the simulated cache uncounted."""
@@ -84,11 +84,11 @@ def of_sizes(path, sizes):
     return found
 
 
-def counts(words):
+def counts(args):
     """The counts of the gate with more documents, for the program and for plain Rust: for each program and pair, and each kind."""
-    sizes = {**GATE, **({"documents": 1000, "shards": "1", "requests": 4} if words.smallest else MANY)}
-    programs = {"mangod": (words.program, sizes)}
-    if not words.smallest and "rust" in words.systems and built():
+    sizes = {**GATE, **({"documents": 1000, "shards": "1", "requests": 4} if args.smallest else MANY)}
+    programs = {"mangod": (args.program, sizes)}
+    if not args.smallest and "rust" in args.systems and built():
         programs["plain Rust"] = (PROGRAM, {**sizes, "shards": "1"})
     with futures.ThreadPoolExecutor() as pool:
         made = pool.map(lambda one: of_sizes(*one), programs.values())

@@ -41,8 +41,8 @@ def group(file, symbol):
 
 def shares(name):
     """The share of each group in a file that `perf record` wrote."""
-    words = ["perf", "report", "-i", name, "--stdio", "--sort", "dso,sym", "-t", ";"]
-    text = subprocess.run(words, capture_output=True, text=True, errors="replace").stdout
+    args = ["perf", "report", "-i", name, "--stdio", "--sort", "dso,sym", "-t", ";"]
+    text = subprocess.run(args, capture_output=True, text=True, errors="replace").stdout
     found = {}
     for line in text.splitlines():
         parts = [part.strip() for part in line.split(";", 2)]
@@ -56,8 +56,8 @@ def profiled(program, work):
     """The greatest shares of the processor time that the program takes during some work, as a text."""
     with tempfile.TemporaryDirectory() as folder:
         name = os.path.join(folder, "perf.data")
-        words = ["perf", "record", "--quiet", "-e", "cpu-clock", "-F", "1999", "-p", str(program.process.pid), "-o", name]
-        recorder = subprocess.Popen(words, stdout=subprocess.DEVNULL, stderr=subprocess.DEVNULL)
+        args = ["perf", "record", "--quiet", "-e", "cpu-clock", "-F", "1999", "-p", str(program.process.pid), "-o", name]
+        recorder = subprocess.Popen(args, stdout=subprocess.DEVNULL, stderr=subprocess.DEVNULL)
         time.sleep(0.3)
         work()
         recorder.send_signal(signal.SIGINT)
@@ -66,19 +66,19 @@ def profiled(program, work):
     return ", ".join(f"{one} {share:.0f} %" for one, share in found[:SHOWN] if share >= 1) or "too little to say"
 
 
-def limits(words):
+def limits(args):
     """The table of the rows, each with what takes its time. Empty if `perf` is not installed."""
     rows = {}
     if not shutil.which("perf"):
         say("perf is not here: limits are left out")
         return grid("where the processor time goes", ["shares"], rows)
-    corpus = words.corpus(words.usual)
-    with contextlib.closing(Program(words.program, corpus)) as program:
+    corpus = args.corpus(args.usual)
+    with contextlib.closing(Program(args.program, corpus)) as program:
         rows["load"] = [profiled(program, lambda: load(program, corpus))]
         for which in INDEXES:
             program.index(which)
         for kind in KINDS:
-            rows[REQUESTS[kind][0]] = [profiled(program, lambda: alone(program, kind, SECONDS * words.share, "limits"))]
+            rows[REQUESTS[kind][0]] = [profiled(program, lambda: alone(program, kind, SECONDS * args.share, "limits"))]
         rows["an index that is built"] = [profiled(program, lambda: [program.index("kind", f"limits{one}") for one in range(BUILDS)])]
     for title, (text,) in rows.items():
         say(f"{title}: {text}")

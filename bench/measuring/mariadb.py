@@ -112,7 +112,7 @@ class Connection:
         return answer[1:5]
 
     def exchange(self, message):
-        """Sends a command; gives the packets of its answer: the rows, or the only packet if it has none."""
+        """Sends a command; returns the packets of its answer: the rows, or the only packet if it has none."""
         self.socket.sendall(message)
         data, at, end, packets, last = self.rest, 0, 0, [], None
         while last is None:
@@ -159,11 +159,11 @@ class MariaDB(Server):
         self.folder = tempfile.mkdtemp(prefix="bench-mariadb-")
         self.data, self.socket = os.path.join(self.folder, "data"), os.path.join(self.folder, "socket")
         user = ["--user=root"] if os.getuid() == 0 else []
-        words = ["mariadb-install-db", "--no-defaults", *user, f"--datadir={self.data}", "--auth-root-authentication-method=normal", "--skip-test-db"]
-        subprocess.run(words, stdout=subprocess.DEVNULL, stderr=subprocess.DEVNULL, check=True)
-        words = [program(), "--no-defaults", *user, f"--datadir={self.data}", f"--socket={self.socket}", f"--pid-file={self.folder}/pid"]
+        args = ["mariadb-install-db", "--no-defaults", *user, f"--datadir={self.data}", "--auth-root-authentication-method=normal", "--skip-test-db"]
+        subprocess.run(args, stdout=subprocess.DEVNULL, stderr=subprocess.DEVNULL, check=True)
+        args = [program(), "--no-defaults", *user, f"--datadir={self.data}", f"--socket={self.socket}", f"--pid-file={self.folder}/pid"]
         self.log = open(os.path.join(self.folder, "log"), "w")
-        self.process = subprocess.Popen([*words, *(f"--{one}" for one in SETTINGS)], stdin=subprocess.DEVNULL, stdout=self.log, stderr=self.log)
+        self.process = subprocess.Popen([*args, *(f"--{one}" for one in SETTINGS)], stdin=subprocess.DEVNULL, stdout=self.log, stderr=self.log)
         self.connection = self.connected()
         self.connection.query("CREATE DATABASE bench")
         self.connection.query("CREATE TABLE bench.docs (id VARCHAR(64) PRIMARY KEY, body JSON) COLLATE utf8mb4_bin")

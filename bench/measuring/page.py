@@ -176,6 +176,7 @@ def pairs(measured):
     rows = {title: [statistics.median(one) for one in cells] for title, cells in measured.settings().items() if title in ALONE.values()}
     clients = " / ".join(map(str, CROWDS))
     rows.update({f"{title}, clients: {clients}, a second": cells for title, cells in measured.grid("crowd")["rows"].items()})
+    rows.update(measured.grid("skips")["rows"])
     counted = [measured.found["counts"].get(name) for name in [*(f"mangod {one}" for one in names), f"{RUST} 1/1"]]
     for kind in SHORT if counted[0] else []:
         rows[f"{REQUESTS[kind][0]}: instructions, reads"] = ["{:,}, {:,}".format(*one[kind]) if one else None for one in counted]
@@ -196,6 +197,15 @@ def start(measured):
         yield from textwrap.wrap(f"From the start to the first reply, without documents, it takes {starts} shards/workers{rust}.", 148)
 
 
+def catalogs(measured):
+    """A sentence on the time that many indexes take."""
+    found = measured.grid("catalogs")
+    if found["rows"]:
+        times = " / ".join(map(spelled, found["rows"]["seconds by the clock"]))
+        words = f"To define {' / '.join(found['columns'])} indexes, on a database with 64 shards, 32 workers and 1,000 documents, takes {times} s."
+        yield from textwrap.wrap(words, 148)
+
+
 def of_grid(part):
     def made(measured):
         found = measured.grid(part)
@@ -204,4 +214,5 @@ def of_grid(part):
 
 
 TABLES = {"source": source, "behind": behind, "queries": queries, "together": together, "writes": writes, "memory": memory, "proof": proof,
-          "pairs": pairs, "starts": start, **{part: of_grid(part) for part in ("workers", "waits", "limits", "allocation")}}
+          "pairs": pairs, "starts": start, "catalogs": catalogs,
+          **{part: of_grid(part) for part in ("workers", "waits", "limits", "allocation")}}

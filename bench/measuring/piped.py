@@ -38,8 +38,8 @@ class Piped(Program):
 
     def __init__(self, path, corpus, setting, tool=(), tunables=TUNABLES):
         self.corpus = corpus
-        words = [*tool, path, "db", *map(str, setting), "1", "-"]
-        self.process = subprocess.Popen(words, stdin=subprocess.PIPE, stdout=subprocess.PIPE, env=tuned(tunables))
+        args = [*tool, path, "db", *map(str, setting), "1", "-"]
+        self.process = subprocess.Popen(args, stdin=subprocess.PIPE, stdout=subprocess.PIPE, env=tuned(tunables))
         self.connection = Session(self.process, corpus)
 
     def client(self):
@@ -66,13 +66,13 @@ def span(values):
     return " to ".join(sorted({f"{value:,.1f}" for value in (min(values), max(values))}, key=lambda text: float(text.replace(",", ""))))
 
 
-def piped(words):
+def piped(args):
     """Measures each number of documents and each pair of shards and workers three times, a million documents or more once."""
     rows = []
-    for setting in words.shards:
-        for count in words.documents:
-            corpus = words.corpus(count)
-            made = [figures(words.program, corpus, setting, words.share, turn) for turn in range(1 if count >= 10**6 else TIMES)]
+    for setting in args.shards:
+        for count in args.documents:
+            corpus = args.corpus(count)
+            made = [figures(args.program, corpus, setting, args.share, turn) for turn in range(1 if count >= 10**6 else TIMES)]
             title = f"{titled(setting)}, {count:,} documents"
             rows.append((f"{title}: load, documents a second", span([1e6 / one["load"] for one in made])))
             rows.append((f"{title}: memory a document without indexes, bytes", span([one["memory"] for one in made])))

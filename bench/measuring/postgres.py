@@ -69,7 +69,7 @@ class Connection:
             self.exchange(part(b"P", kind.encode(), b"\0", statement.encode(), b"\0", struct.pack("!h", 0)) + part(b"S"))
 
     def exchange(self, text, until=b"Z"):
-        """Sends bytes, and gives the messages of the answer up to the first of the kind `until`."""
+        """Sends bytes, and returns the messages of the answer up to the first of the kind `until`."""
         self.socket.sendall(text)
         data, at, parts = self.rest, 0, []
         while True:
@@ -186,7 +186,7 @@ class PostgreSQL:
         if "Index" not in plan or "Seq Scan" in plan:
             raise SystemExit(f"PostgreSQL does not read {request.kind} by an index:\n{plan}")
 
-    def share(self):
+    def open_to_clients(self):
         """Nothing to do before several clients connect."""
 
     def close(self):

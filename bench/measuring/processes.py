@@ -74,7 +74,7 @@ class Use:
 
 
 def run(client, prepared):
-    """Sends all requests once; gives the processor time of this process and the wall-clock time, in seconds."""
+    """Sends all requests once; returns the processor time of this process and the wall-clock time, in seconds."""
     gc.collect()
     gc.disable()
     used, clock = time.process_time(), time.monotonic()
@@ -86,7 +86,7 @@ def run(client, prepared):
 
 
 def run_for(client, prepared, seconds):
-    """Sends the requests in order, again and again, for some seconds of wall-clock time; gives how many were answered."""
+    """Sends the requests in order, again and again, for some seconds of wall-clock time; returns how many were answered."""
     count, end = 0, time.monotonic() + seconds
     for message, answer in itertools.cycle(prepared):
         client.ask(message, answer)
@@ -121,7 +121,7 @@ def reported(pipe):
 
 
 def at_once(system, lists, work):
-    """Runs a client for each list of requests, each in a process of its own. Gives the results of their work, the processor time of the
+    """Runs a client for each list of requests, each in a process of its own. Returns the results of their work, the processor time of the
     program, and the wall-clock time, in seconds."""
     clients = []
     for requests in lists:

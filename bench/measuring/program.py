@@ -42,7 +42,7 @@ class Connection:
         self.corpus = corpus
 
     def exchange(self, text):
-        """Sends a message; gives the status and the body of the reply."""
+        """Sends a message; returns the status and the body of the reply."""
         self.socket.sendall(text)
         data = self.socket.recv(1 << 18)
         while (end := data.find(b"\r\n\r\n")) < 0:
@@ -105,8 +105,8 @@ class Program(Server):
     def __init__(self, path, corpus, setting=(1, 1), sessions=8, tunables=TUNABLES):
         self.name = self.called if setting == (1, 1) else f"{self.called}, {titled(setting)}"
         self.corpus, self.port = corpus, free_port()
-        words = [path, "db", *map(str, setting), str(sessions), f"127.0.0.1:{self.port}"]
-        self.process = subprocess.Popen(words, stdin=subprocess.DEVNULL, stderr=subprocess.PIPE, env=tuned(tunables))
+        args = [path, "db", *map(str, setting), str(sessions), f"127.0.0.1:{self.port}"]
+        self.process = subprocess.Popen(args, stdin=subprocess.DEVNULL, stderr=subprocess.PIPE, env=tuned(tunables))
         if not self.process.stderr.readline().endswith(b": listening\n"):
             raise SystemExit(f"{path} does not listen")
         self.connection = self.client()
@@ -129,6 +129,6 @@ class Program(Server):
         if status != b"200" or json.loads(body)["result"] != "created":
             raise SystemExit(f"an index was answered by {status} {body}")
 
-    def share(self):
-        """Frees its own session for the clients."""
+    def open_to_clients(self):
+        """Closes its own connection, which frees a session for a client."""
         self.connection.socket.close()

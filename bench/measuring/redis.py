@@ -25,7 +25,7 @@ class Connection:
         self.socket.setsockopt(socket.IPPROTO_TCP, socket.TCP_NODELAY, 1)
 
     def exchange(self, text):
-        """Sends a command; gives the answer: a line, or a text after a line with its length."""
+        """Sends a command; returns the answer: a line, or a text after a line with its length."""
         self.socket.sendall(text)
         data = b""
         while True:
@@ -51,8 +51,8 @@ class Redis(Server):
 
     def __init__(self, corpus):
         self.corpus, self.port = corpus, free_port()
-        words = [program(), "--bind", "127.0.0.1", "--port", str(self.port), "--save", "", "--appendonly", "no"]
-        self.process = subprocess.Popen(words, stdin=subprocess.DEVNULL, stdout=subprocess.DEVNULL)
+        args = [program(), "--bind", "127.0.0.1", "--port", str(self.port), "--save", "", "--appendonly", "no"]
+        self.process = subprocess.Popen(args, stdin=subprocess.DEVNULL, stdout=subprocess.DEVNULL)
         self.connection = self.connected()
 
     def client(self):

@@ -10,7 +10,7 @@ from . import processes
 from .documents import BULK, INDEXES
 from .processes import Use
 
-# each kind of request, its name in tables, and the least number that each client sends
+# each kind of request: its title, and the least number that each client sends at a full share
 REQUESTS = {
     "get": ("`GET` of a document", 500),
     "equality": ("20 documents by an index", 200),
@@ -21,18 +21,19 @@ REQUESTS = {
     "commit": ("a commit of one document, three indexes", 200),
     "mixture": ("nine `GET`s to one commit", 200),
 }
+# requests per added document
 WRITES = {"commit": 1, "mixture": 10}
 ONCE = {
-    "load": "load by bulks of 1,000, documents a second",
+    "load": "load by bulks of 1,000, documents per second",
     "build": "an index on one field, ms",
-    "memory": "memory a document, bytes",
-    "indexed": "the same with three indexes",
-    "pages": "bytes on its pages a document, with three indexes",
+    "memory": "bytes of memory per document",
+    "indexed": "bytes of memory per document, with three indexes",
+    "pages": "bytes on pages per document, with three indexes",
 }
 CHUNK = 50
 SECONDS = 2
 ROUND = 40000
-# no cell is made of fewer requests
+# a figure rests on at least this many requests of all clients together
 LEAST = 5
 
 
@@ -75,7 +76,7 @@ def build(system, which):
 
 
 def prepared_database(system, corpus, empty):
-    """Loads the documents and builds the indexes; gives the figures that are measured once."""
+    """Loads the documents and builds the indexes; returns the figures that are measured once."""
     rows = {"load": load(system, corpus).figures()}
     rows["memory"] = {"bytes": (system.size() - empty) / corpus.count}
     if hasattr(system, "index"):
@@ -88,7 +89,7 @@ def prepared_database(system, corpus, empty):
 
 
 def measure(make, corpus, wanted, turn):
-    """Starts a system with one database, measures it, and ends it; gives its figures."""
+    """Starts a system with one database, measures it, and ends it; returns its figures."""
     system = make(corpus)
     try:
         rows = prepared_database(system, corpus, system.size())
@@ -103,7 +104,7 @@ def requests(system, corpus, wanted, turn):
     """The figures of each kind of request, with each number of clients."""
     rows = {}
     if max(wanted.clients) > 1:
-        system.share()
+        system.open_to_clients()
     for kind in wanted.rows:
         if kind not in getattr(system, "kinds", REQUESTS):
             continue
@@ -115,8 +116,8 @@ def requests(system, corpus, wanted, turn):
 
 
 def row(system, kind, clients, wanted, turn):
-    """The cost of requests of a kind. After a warm-up, the clients send as many as take the wanted time. At most as many documents are added
-    as were loaded, since a database grows by them."""
+    """The cost of requests of a kind, after a warm-up: about as many as fill the share of SECONDS. Besides the warm-up, writes add at most
+    about as many documents as were loaded, unless the least number asks for more."""
     def sent(count, part):
         seeds = [f"{turn}-{clients}-{client}-{kind}-{part}" for client in range(clients)]
         return processes.measured(system, [system.corpus.requests(kind, count, seed) for seed in seeds])

@@ -16,8 +16,8 @@ def built():
         return None
     home = os.path.join(FOLDER, "target", "home")
     os.makedirs(home, exist_ok=True)
-    words = [CARGO, "build", "--release", "--offline", "--locked", "--quiet"]
-    subprocess.run(words, cwd=FOLDER, env={"PATH": "/usr/bin:/bin", "HOME": home, "CARGO_HOME": home}, check=True)
+    args = [CARGO, "build", "--release", "--offline", "--locked", "--quiet"]
+    subprocess.run(args, cwd=FOLDER, env={"PATH": "/usr/bin:/bin", "HOME": home, "CARGO_HOME": home}, check=True)
     return PROGRAM
 
 

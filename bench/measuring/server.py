@@ -36,7 +36,7 @@ class Server:
     def settle(self):
         """Nothing to do after a load."""
 
-    def share(self):
+    def open_to_clients(self):
         """Nothing to do before several clients connect."""
 
     def close(self):

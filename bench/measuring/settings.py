@@ -37,10 +37,10 @@ def alone(program, kind, seconds, seed):
     return processes.Use(count, program.processor() - before, clock)
 
 
-def figures(words, corpus, setting, turn):
+def figures(args, corpus, setting, turn):
     """The figures of one database: the title of each row, and its figure."""
-    seconds, rows = SECONDS * words.share, {}
-    with contextlib.closing(Program(words.program, corpus, setting, sessions=CLIENTS + 1)) as program:
+    seconds, rows = SECONDS * args.share, {}
+    with contextlib.closing(Program(args.program, corpus, setting, sessions=CLIENTS + 1)) as program:
         load(program, corpus)
         for which in INDEXES:
             program.index(which)
@@ -55,13 +55,13 @@ def figures(words, corpus, setting, turn):
     return rows
 
 
-def settings(words):
+def settings(args):
     """The figures of each row, for each number of documents and each pair. The pairs are measured in turn, again and again, so that a slow
     minute of the machine affects all of them."""
     found = {}
-    for count in words.pairs_documents:
-        corpus = words.corpus(count, shape="nested")
-        made = [[figures(words, corpus, setting, turn) for setting in PAIRS] for turn in range(words.repeat)]
+    for count in args.pairs_documents:
+        corpus = args.corpus(count, shape="nested")
+        made = [[figures(args, corpus, setting, turn) for setting in PAIRS] for turn in range(args.repeat)]
         found[count] = {title: [[turn[place][title] for turn in made] for place in range(len(PAIRS))] for title in made[0][0]}
     return found
 

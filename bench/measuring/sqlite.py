@@ -113,7 +113,7 @@ class SQLite:
     def settle(self):
         self.database.execute("ANALYZE")
 
-    def share(self):
+    def open_to_clients(self):
         """Copies the database for clients in processes of their own."""
         with opened(self.file("shared"), "NORMAL") as copy:
             self.database.backup(copy)
@@ -141,11 +141,11 @@ class SQLiteInC(SQLite):
     def pages(self):
         return self.bytes_on_pages
 
-    def share(self):
+    def open_to_clients(self):
         """Nothing to do: the clients open the same file."""
 
     def write_requests(self, requests, client):
-        """Writes the requests of a client to a file, and gives its name."""
+        """Writes the requests of a client to a file, and returns its name."""
         asked = asked_of(self.corpus)
         kinds = sorted({one.kind for one in requests})
         name = self.file(f"requests-{client}")
@@ -160,8 +160,8 @@ class SQLiteInC(SQLite):
     def run_lists(self, lists):
         locking = "EXCLUSIVE" if len(lists) == 1 else "NORMAL"
         names = [self.write_requests(requests, client) for client, requests in enumerate(lists)]
-        words = [[self.program, self.file("own"), locking, name] for name in names]
-        clients = [subprocess.Popen(one, stdin=subprocess.PIPE, stdout=subprocess.PIPE, text=True) for one in words]
+        args = [[self.program, self.file("own"), locking, name] for name in names]
+        clients = [subprocess.Popen(one, stdin=subprocess.PIPE, stdout=subprocess.PIPE, text=True) for one in args]
         if any(client.stdout.readline() != "ready\n" for client in clients):
             raise SystemExit("SQLite by C is not ready")
         for client in clients:

@@ -82,7 +82,7 @@ class Connection:
             greeting += self.socket.recv(128 - len(greeting))
 
     def exchange(self, text, count=1):
-        """Sends bytes, and gives what is read until the given number of answers have come."""
+        """Sends bytes, and returns what is read until the given number of answers have come."""
         self.socket.sendall(text)
         data, end = b"", 0
         for _ in range(count):
@@ -129,8 +129,8 @@ class Tarantool(Server):
         self.folder = tempfile.mkdtemp(prefix="bench-tarantool-")
         with open(os.path.join(self.folder, "start.lua"), "w") as file:
             file.write(SCRIPT)
-        words = [program(), "start.lua", str(self.port), corpus.path("text")]
-        self.process = subprocess.Popen(words, cwd=self.folder, stdin=subprocess.DEVNULL, stdout=subprocess.DEVNULL, stderr=subprocess.DEVNULL)
+        args = [program(), "start.lua", str(self.port), corpus.path("text")]
+        self.process = subprocess.Popen(args, cwd=self.folder, stdin=subprocess.DEVNULL, stdout=subprocess.DEVNULL, stderr=subprocess.DEVNULL)
         self.connection = self.connected()
 
     def first_client(self):

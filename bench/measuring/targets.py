@@ -105,6 +105,25 @@ def worker_share(row, columns, most):
     return figures
 
 
+def cells_at_most(part, most):
+    """The figures of a table of one row."""
+    def figures(measured):
+        for cells in measured.grid(part)["rows"].values():
+            yield from ((cell, cell <= most) for cell in cells)
+    return figures
+
+
+def many_indexes(most):
+    """The time of the most indexes, divided by that of the fewest, for each of the former."""
+    def figures(measured):
+        found = measured.grid("catalogs")
+        for cells in found["rows"].values():
+            few, many = (int(found["columns"][place].replace(",", "")) for place in (0, -1))
+            ratio = cells[-1] / many / (cells[0] / few)
+            yield ratio, ratio <= most
+    return figures
+
+
 def each(*parts):
     """The figures of several functions."""
     return lambda measured: [figure for part in parts for figure in part(measured)]
@@ -137,6 +156,8 @@ TARGETS = [
     ("four workers build an index on 1 and 16 shards in 0.45 of one's time, reshard in 0.6, read 16 shards without an index in 0.33",
      each(worker_share("index on two", [(0, 1), (2, 3)], 0.45), worker_share("reshard", [(0, 1)], 0.6),
           worker_share("without an index", [(2, 3)], 0.33))),
+    ("where the range decides, a row that a page skips takes at most 40 ns, with each pair of shards and workers", cells_at_most("skips", 40)),
+    ("on 64 shards one index of 1,000 takes at most 1.25 times as long to define as one of 250", many_indexes(1.25)),
 ]
 # so many figures are shown each; of more, the least and the greatest
 SHOWN = 6

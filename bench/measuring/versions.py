@@ -8,11 +8,11 @@ from . import postgres
 from .rust import CARGO
 
 
-def first_line(*words):
+def first_line(*args):
     """The first line that a program writes; None if it is not installed."""
-    if not words[0] or not shutil.which(words[0]):
+    if not args[0] or not shutil.which(args[0]):
         return None
-    done = subprocess.run(words, capture_output=True, text=True)
+    done = subprocess.run(args, capture_output=True, text=True)
     return (done.stdout or done.stderr).strip().split("\n")[0]
 
 

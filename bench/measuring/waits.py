@@ -101,17 +101,17 @@ def percentiles(times):
     return [times[min(len(times) - 1, int(len(times) * part))] * 1e6 for part in PARTS]
 
 
-def systems(words):
+def systems(args):
     """The functions that start each measured system: the program with one shard and one worker, and what is installed of the others."""
-    made = [lambda corpus: Program(words.program, corpus)]
-    made += [PlainRust] if "rust" in words.systems and built() else []
-    return made + ([PostgreSQL] if "postgres" in words.systems and programs() else [])
+    made = [lambda corpus: Program(args.program, corpus)]
+    made += [PlainRust] if "rust" in args.systems and built() else []
+    return made + ([PostgreSQL] if "postgres" in args.systems and programs() else [])
 
 
-def waits(words):
+def waits(args):
     """The table of a reader's waits, with a column for each system."""
-    corpus, seconds, columns = words.corpus(words.usual), SECONDS * words.share, {}
-    for make in systems(words):
+    corpus, seconds, columns = args.corpus(args.usual), SECONDS * args.share, {}
+    for make in systems(args):
         for what, beside in BESIDE.items():
             with contextlib.closing(make(corpus)) as system:
                 column = columns.setdefault(system.name, {})
@@ -140,10 +140,10 @@ def started(make, corpus, count):
     return statistics.median(times) * 1e3, statistics.median(sizes) / 1e3
 
 
-def starts(words):
+def starts(args):
     """The table of the times from the start to the first reply."""
-    made = {"{}/{}".format(*setting): lambda corpus, setting=setting: Program(words.program, corpus, setting) for setting in PAIRS}
-    made.update({"plain Rust": PlainRust} if "rust" in words.systems and built() else {})
-    found = [started(make, words.corpus(BULK), max(2, int(STARTS * words.share))) for make in made.values()]
+    made = {"{}/{}".format(*setting): lambda corpus, setting=setting: Program(args.program, corpus, setting) for setting in PAIRS}
+    made.update({"plain Rust": PlainRust} if "rust" in args.systems and built() else {})
+    found = [started(make, args.corpus(BULK), max(2, int(STARTS * args.share))) for make in made.values()]
     rows = dict(zip(("ms by the clock", "kB of memory"), map(list, zip(*found))))
     return grid("from the start to the first reply, without documents", made, rows)

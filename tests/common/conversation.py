@@ -46,10 +46,10 @@ class Expected:
     status: int
     body: bytes = b""
     members: dict = None
-    shards: frozenset = frozenset()
+    shard_counts: frozenset = frozenset()
 
-    def counts_at(self, shards):
-        return not self.shards or shards in self.shards
+    def applies_at(self, shards):
+        return not self.shard_counts or shards in self.shard_counts
 
     def is_met_by(self, reply):
         if reply.status != self.status or not reply.body.endswith(b"\n"):
@@ -70,15 +70,15 @@ class Exchange:
     line: int
     text: str
     message: bytes
-    usual: Expected = None
+    default: Expected = None
     expected: list = field(default_factory=list)
-    is_whole: bool = True
+    is_complete: bool = True
 
     def has_reply(self):
-        return bool(self.usual or self.expected) or not self.is_whole
+        return bool(self.default or self.expected) or not self.is_complete
 
     def expected_at(self, shards):
-        return [expected for expected in self.expected or [self.usual] if expected.counts_at(shards)]
+        return [expected for expected in self.expected or [self.default] if expected.applies_at(shards)]
 
 
 @dataclass
@@ -93,7 +93,7 @@ class Conversation:
 
     def add(self, exchange):
         waits = bool(self.group) and not self.group[-1].has_reply()
-        if waits and exchange.usual:
+        if waits and exchange.default:
             raise Malformed(f"a message without its reply: {self.group[-1].text}")
         self.group = [*self.group, exchange] if waits else [exchange]
         self.exchanges.append(exchange)
@@ -123,7 +123,7 @@ def with_revision(document):
 def bulk_of(line, text):
     documents, rest = values_in(text)
     if rest or not documents:
-        raise Malformed(f"no documents: {text}")
+        raise Malformed(f"not a list of documents: {text}")
     body = '{"docs":[%s],"new_edits":false}' % ",".join(map(with_revision, documents))
     return Exchange(line, f"+ {text}", post("_bulk_docs", body.encode()), Expected("201 []", 201, b"[]"))
 
@@ -132,7 +132,7 @@ def query_of(line, text):
     selectors, rest = values_in(text)
     ids = [json.loads(name) if name.startswith('"') else name for name in ID.findall(rest)]
     if len(selectors) != 1 or not ids or ("-" in ids and len(ids) > 1):
-        raise Malformed(f"no selector with the ids of its page: {text}")
+        raise Malformed(f"not a selector and the ids of its page: {text}")
     docs = [] if ids == ["-"] else [{"_id": name} for name in ids]
     body = '{"selector":%s,"fields":["_id"]}' % selectors[0]
     expected = Expected(f"200 with the docs {json.dumps(docs)}", 200, members={"docs": docs})
@@ -144,7 +144,7 @@ def message_of(line, text, more):
         return Exchange(line, f"> {text}", json.loads(text + more).encode())
     parts = re.fullmatch(r"([A-Z]+) (\S+)(?: (.*))?", text)
     if not parts:
-        raise Malformed(f"no method with a target: {text}")
+        raise Malformed(f"not a method and a target: {text}")
     method, target, body = parts[1], parts[2], (parts[3] or "") + more
     target = target if target.startswith("/") else f"/db/{target}"
     length = f"Content-Length: {len(body.encode())}\r\n" if body or method == "POST" else ""
@@ -155,18 +155,19 @@ def message_of(line, text, more):
 def expected_of(kind, text, more):
     parts = re.fullmatch(r"([0-9,]*) ([0-9]{3})(?: (.*))?", text)
     if not parts or int(parts[2]) not in PHRASES:
-        raise Malformed(f"no status with a body: {text}")
+        raise Malformed(f"not a status and a body: {text}")
     body = (parts[3] or "") + more
     expected = Expected(f"{parts[2]} {body}", int(parts[2]), body.encode())
     if kind == "~":
         expected.members = json.loads(body)
     if parts[1]:
-        expected.shards = frozenset(numbers_in(parts[1]))
+        expected.shard_counts = frozenset(numbers_in(parts[1]))
     return expected
 
 
 def entries_in(text):
-    """The number of each line, its first letter, and its text, joined with the lines that continue it, without their blanks."""
+    """Each entry as (line number, first character, rest of the line, list of its continuation lines, stripped). Skips empty lines and
+    comments."""
     entries = []
     for number, line in enumerate(text.splitlines(), start=1):
         if not line.strip() or line.startswith("# "):
@@ -192,11 +193,11 @@ def add_entry(conversation, line, kind, text, more):
     elif kind in "<~" and conversation.group:
         for exchange in conversation.group:
             if text == " none":
-                exchange.is_whole = False
+                exchange.is_complete = False
             else:
                 exchange.expected.append(expected_of(kind, text, "".join(more)))
     else:
-        raise Malformed(f"no line of a conversation: {kind}{text}")
+        raise Malformed(f"not a line of a conversation: {kind}{text}")
 
 
 def conversations_in(file):
@@ -208,7 +209,7 @@ def conversations_in(file):
             if kind == "#":
                 name = re.fullmatch(r"# ([a-z0-9-]+): .+", text)
                 if not name:
-                    raise Malformed(f"no name: {text}")
+                    raise Malformed(f"not a name and a description: {text}")
                 conversations.append(Conversation(name[1], file))
             elif not conversations:
                 raise Malformed("a line before the first conversation")
@@ -256,7 +257,7 @@ def with_reshards(exchanges, counts):
     resharded = []
     for before, after in itertools.pairwise(exchanges):
         resharded.append(before)
-        if before.is_whole and after.is_whole:
+        if before.is_complete and after.is_complete:
             body = '{"shards":%d}' % next(numbers)
             resharded.append(Exchange(after.line, f"> POST _placement {body}", post("_placement", body.encode()), done))
     return [*resharded, exchanges[-1]]
@@ -290,11 +291,11 @@ def faults_of_run(program, conversation, shards, workers, reshards=(), environme
     except subprocess.TimeoutExpired:
         return [(conversation.exchanges[0].line, f"the program did not end in {SECONDS} seconds")]
     replies, left = replies_in(output)
-    whole = [exchange for exchange in exchanges if exchange.is_whole]
+    complete = [exchange for exchange in exchanges if exchange.is_complete]
     last = exchanges[-1].line
-    faults = list(reply_faults(whole, replies, shards))
-    if left or len(replies) > len(whole):
-        faults.append((last, f"more was written: {len(replies) - len(whole)} replies, and {left[:200]!r}"))
+    faults = list(reply_faults(complete, replies, shards))
+    if left or len(replies) > len(complete):
+        faults.append((last, f"more was written: {len(replies) - len(complete)} replies, and {left[:200]!r}"))
     if ending != conversation.ending:
         faults.append((last, f"ended with {ending}, expected {conversation.ending}"))
     return faults
