@@ -21,7 +21,7 @@ answers_of [] = []
 answers_of (None ∷ rs) = answers_of rs
 answers_of (Some a ∷ rs) = a ∷ answers_of rs
 
--- from w the commands have these replies: a command that was refused memory counts as not given, and the others are answered by definition
+-- from w the commands get these replies. A command that was refused memory counts as not given; the others get the definition's answers
 pub record IsRun (w : World) (cs : List Asked) (rs : List (Option Answer)) (ends : World → Type 0) : Type 0 where
   pub one_each : length rs ≡ length cs
   pub replies : answers_of rs ≡ replies_of w (kept cs rs)

@@ -4,7 +4,7 @@ ghost use Rattle.mg_engine.specs.Commands.{Answer, Asked};
 ghost use Rattle.mg_engine.specs.Laws.{ReshardsChangeNoReply, ReshardsChangeNoWorld};
 ghost use Rattle.mg_engine.specs.Run.{kept, answers_of};
 
-/// Where memory suffices, `kept` are all commands and `answers_of` are all replies.
+/// If no command is refused memory, `kept` returns all commands and `answers_of` all answers.
 pub fn where_memory_suffices()
     ensures kept { (cs : List Asked) (answers : List Answer) → length answers ≡ length cs
         → kept cs (map Some answers) ≡ cs }

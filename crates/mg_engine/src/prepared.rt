@@ -1,4 +1,4 @@
-//! Commands that are prepared: a bulk is read ahead, for which no state is needed.
+//! Prepared commands. A bulk is read ahead; this needs no state.
 ghost use Rattle.std.specs.Prelude.{◌≡◌, IfOk};
 ghost use Rattle.mg_engine.specs.Ahead.{Does};
 ghost use Rattle.mg_engine.specs.View.{asked};

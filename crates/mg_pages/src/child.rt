@@ -57,7 +57,7 @@ fn copy<T: Drop, P: Drop>(child: &Child<T, P>) -> Result<Child<T, P>, AllocError
     Ok(Child { node, hint })
 }
 
-/// Prefetch, as `owners_of` is: reads the reference count of each child's node, and returns their sum, wrapped at 64 bits.
+/// Prefetch: reads the reference count of each child's node, so that cache misses overlap. Returns their sum, wrapped at 64 bits.
 pub fn owners_of_nodes<T: Drop, P: Drop>(parts: &[Child<T, P>]) -> usize {
     let mut owners = 0usize;
     for child in parts {

@@ -1,4 +1,4 @@
--- For private clauses: what a query asks of each shard, and what is first of all that they have.
+-- For private clauses: what a query asks of each shard, and which hits are the first of all shards together.
 use Rattle.std.specs.Prelude.{◌≡◌, ℕ, ◌+◌, true, false, List, Some, drop, is_some, map, option_map}
 use Rattle.mg_collate.specs.Row.{RowValue}
 use Rattle.mg_merge.specs.Merged.{merged}
@@ -22,14 +22,14 @@ use Rattle.mg_query.specs.declared.found.Asked.{Asked}
 abbrev pub IsDecidedBy : List Steps → NormalForm → Type 0
 IsDecidedBy columns normal = (is_some normal.rest ≡ false) × (decides_of normal.atoms columns ≡ true)
 
--- it is what the query asks
+-- the code's `Asked` is what the query asks of each shard
 pub record IsAskedBy (q : Query) (a : Asked) : Type 0 where
   pub normal : IsNormalOf q.selector a.normal
   pub range : a.range ≡ range_of a.normal.atoms (columns_of (source_seen a.source))
   pub after : a.after ≡ option_map row_at q.bookmark
   pub decided : a.is_decided ≡ true → IsDecidedBy (columns_of (source_seen a.source)) a.normal
 
--- the search is for it in each shard, and for as many rows as the page passes over and has
+-- the search asks a shard for this, and takes as many rows as the page skips and shows
 pub record IsSearchOf (q : Query) (a : Asked) (s : Search) : Type 0 where
   pub target : (ds : List IndexDefinition) → IsListed ds (source_seen a.source) → columns_at s.target ds ≡ Some (columns_of (source_seen a.source))
   pub normal : s.normal.now ≡ a.normal
@@ -38,7 +38,7 @@ pub record IsSearchOf (q : Query) (a : Asked) (s : Search) : Type 0 where
   pub take : s.take ≡ q.skip + q.limit
   pub direction : s.direction ≡ q.direction
 
--- what a shard lists of it
+-- the rows that a shard lists for the query
 abbrev pub rows_asked_of : Query → Asked → ShardView → List RowValue
 rows_asked_of q a = shard_rows a.normal (columns_of (source_seen a.source)) q
 
@@ -47,7 +47,7 @@ pub record AreFirst (q : Query) (a : Asked) (shards : List ShardView) (found : L
   pub rows : hit_rows found ≡ merged q.direction (q.skip + q.limit) (map (rows_asked_of q a) shards)
   pub hits : AreHitsIn shards found
 
--- the hits after the first `skip` of these are those that the page has at most, each of a document of one of the shards
+-- without the first `skip`, the hits are those that the page shows; each is of a document of one of the shards
 pub record AreOfPage (q : Query) (a : Asked) (shards : List ShardView) (skip : ℕ) (found : List Hit) : Type 0 where
   pub rows : hit_rows (drop skip found) ≡ drop q.skip (merged q.direction (q.skip + q.limit) (map (rows_asked_of q a) shards))
   pub hits : AreHitsIn shards found

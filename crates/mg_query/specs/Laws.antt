@@ -1,4 +1,4 @@
--- Pages that follow one another by their bookmarks: each answers the query, and together they join to the answer where no limit is taken.
+-- Pages that follow one another by their bookmarks: each answers the query, and together they show all that the query finds.
 use Rattle.std.specs.Prelude.{◌≡◌, ◌≢◌, ◌≤◌, ℕ, List, [], ◌∷◌, codes, map, Option, Some, None, option_map, Result, Ok}
 use Rattle.std.specs.List.{AllByRecursion}
 use Rattle.mg_value.specs.Value.{Value, member_of, text}
@@ -15,23 +15,23 @@ use Rattle.mg_query.specs.declared.error.QueryError.TheVariants.{BadBookmark}
 
 -- ---- a query and its bookmark
 
--- the query with its page beginning after a place, or with the first document, by this text as its bookmark
+-- the query with this place and this text as its bookmark; `None`: its page begins with the first document
 abbrev pub asked_after : Query → Option Place → List ℕ → Query
 asked_after q place t = record q { bookmark = place; given_bookmark = t }
 
--- the body is the other one with this text as its bookmark
+-- the body v has this text as its bookmark; its other members are those of `other`
 pub record HasBookmark (t : List ℕ) (v other : Value) : Type 0 where
   pub bookmark : member_of (codes "bookmark") v ≡ Some (text t)
   pub others : (name : List ℕ) → name ≢ codes "bookmark" → member_of name v ≡ member_of name other
 
--- such a body is read as the query with that bookmark, and refused where the text is none
+-- if `other` is read as a query, v is read as that query with its own bookmark, or refused if the text is not a bookmark
 abbrev pub BookmarksChangeNothingElse : Type 0
 BookmarksChangeNothingElse =
     (v other : Value) (t : List ℕ) (q : Query) → HasBookmark t v other → query_of other ≡ Ok q → query_of v ≡ or_fault BadBookmark (option_map (λ place. asked_after q place t) (bookmark_read t))
 
 -- ---- pages that follow one another
 
--- the answer to the query with this text as its bookmark, and none where the text is no bookmark
+-- the answer to the query with this text as its bookmark; `None` if the text is not a bookmark
 abbrev pub answer_with : List IndexDefinition → Query → List Candidate → List ℕ → Option (Result Page Unanswered)
 answer_with ds q cs t = option_map (λ place. answer_of ds (asked_after q place t) cs) (bookmark_read t)
 
@@ -52,7 +52,7 @@ from_first q = asked_after q None (codes "nil")
 abbrev pub place_at : Source → Query → Candidate → Place
 place_at s q c = record { ddoc = ddoc_of s; name = name_of s; direction = q.direction; key = (row_by (columns_of s) c).0; id = c.id }
 
--- the document's place is one that JSON text carries: the values of its key nest at most 125 deep, and all texts are UTF-8
+-- JSON text can carry the document's place
 abbrev pub HasPlace : Source → Query → Candidate → Type 0
 HasPlace s q c = CanBeSpelled (place_at s q c)
 
@@ -60,18 +60,18 @@ HasPlace s q c = CanBeSpelled (place_at s q c)
 abbrev pub CanBeReadBack : Source → Query → Candidate → Type 0
 CanBeReadBack s q c = bookmark_read (bookmark_at s q c) ≡ Some (Some (place_at s q c))
 
--- Where an index serves the query, nothing is passed over, the limit is at least 1, and this holds of each document: there are pages that
--- follow one another from the first on, and they show together what the query finds, in order.
+-- If an index serves the query without a bookmark, the query skips nothing, its limit is at least 1, and `Holds` is true of each
+-- document, then there are pages that follow one another from the first on. Together they show what the query finds, in order.
 abbrev pub PagesJoinWhere : (Source → Query → Candidate → Type 0) → Type 0
 PagesJoinWhere Holds =
     (ds : List IndexDefinition) (s : Source) (q : Query) (hs : Histories) → served_by ds (from_first q) ≡ Ok s → q.skip ≡ 0 → 1 ≤ q.limit → AllByRecursion (Holds s q) (candidates_of hs)
     → (pages : List Page) × Follow ds q (candidates_of hs) (codes "nil") pages
     × (joined (map (λ page. page.docs) pages) ≡ map (shown_of q) (candidates_found (columns_of s) (from_first q) (candidates_of hs)))
 
--- so it is where the key of each document nests at most 125 deep
+-- pages join if JSON text can carry the place of each document
 abbrev pub PagesJoin : Type 0
 PagesJoin = PagesJoinWhere HasPlace
 
--- and where each bookmark is read back, whatever the keys
+-- pages join if the bookmark of each document is read back as its place, whatever the keys
 abbrev pub PagesReadBackJoin : Type 0
 PagesReadBackJoin = PagesJoinWhere CanBeReadBack

@@ -1,5 +1,6 @@
--- The page that answers a query, after CouchDB's `_find`: of the documents that the selector holds of and that have each path of the
--- sort, in the order of the index that serves the query, what comes after the bookmark, and the bookmark of the last.
+-- The page that answers a query, after CouchDB's `_find`. The query finds the documents that match its selector, have each path of its
+-- sort, and come after its bookmark, in the order of the index that serves it. The page skips some, shows the next up to its limit, and
+-- has the bookmark of the last one.
 use Rattle.std.specs.Prelude.{ℕ, ◌==◌, List, [], ◌∷◌, Bool, true, false, ◌&&◌, codes, drop, filter, length, map, take, Option, Some, None, is_some, option_map, unwrap_or, Result, Ok, Err, if◌then◌else◌}
 use Rattle.std.specs.FinMap.{entries}
 use Rattle.std.specs.List.{filter_map, list_all}
@@ -59,7 +60,7 @@ name_of (defined d) = d.name
 
 -- ---- the order
 
--- the value of a column, null where it is missing: of a document that the query finds none is, as the law of ranges says
+-- the value of a column; null if it is missing. A document that the query finds misses none, as the law of ranges says
 abbrev pub value_at : Candidate → Steps → Value
 value_at c column = unwrap_or (part_of column c.form) null
 
@@ -67,7 +68,7 @@ value_at c column = unwrap_or (part_of column c.form) null
 abbrev pub row_by : List Steps → Candidate → RowValue
 row_by columns c = (items_of (map (value_at c) columns), c.id)
 
--- by the values of the columns, then by id, and the other way round where the direction is descending
+-- orders documents by the values of the columns, then by id; reversed if the direction is descending
 abbrev pub order_by : List Steps → Direction → Candidate → Candidate → Ordering
 order_by columns direction a b = directed_order direction (row_by columns a) (row_by columns b)
 
@@ -147,7 +148,7 @@ abbrev pub is_place_in : Source → Query → Place → Bool
 is_place_in s q p =
     is_ddoc p.ddoc (ddoc_of s) && (bytes_eq p.name (name_of s) && (is_same p.direction q.direction && (length (item_list p.key) == length (columns_of s))))
 
--- whether the bookmark is, if there is one
+-- whether the query's bookmark is a place in the index; true without a bookmark
 abbrev pub fits : Source → Query → Bool
 fits s q = option_map_or (is_place_in s q) q.bookmark true
 
@@ -155,7 +156,7 @@ fits s q = option_map_or (is_place_in s q) q.bookmark true
 abbrev pub served_by : List IndexDefinition → Query → Result Source Unanswered
 served_by ds q = option_map_or (λ s. if fits s q then Ok s else Err bad_bookmark) (choice_of ds (atoms_of q.selector) q.sort q.hint) (Err no_usable_index)
 
--- what f gives of it, or why the query is not answered
+-- the result of f for the index that serves the query, or why the query is not answered
 abbrev pub if_served : {A : Type 0} → (Source → A) → Result Source Unanswered → Result A Unanswered
 if_served f (Ok s) = Ok (f s)
 if_served f (Err why) = Err why

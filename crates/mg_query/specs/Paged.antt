@@ -26,8 +26,8 @@ pub record IsWithin (count most : ℕ) (work : Hand) : Type 0 where
   pub handed : All (λ n. n ≤ most) work.handed
   pub taken : work.taken ≡ min most (sum work.handed)
 
--- how many rows a shard hands over for a query, where these are the histories of its documents: as many as the query finds there, and
--- no more than the page passes over and may have
+-- how many rows a shard hands over for a query, by the histories of its documents: as many as the query finds there, but at most as many
+-- as the page skips and shows
 abbrev pub count_handed : List Steps → Query → Histories → ℕ
 count_handed columns q hs = min (q.skip + q.limit) (length (candidates_found columns q (candidates_of hs)))
 

@@ -1,5 +1,5 @@
--- How the body of a query is read, after CouchDB's `_find`. All shapes are settled first, then the selector's operators, then the
--- bookmark's text, and last that a sort has one direction.
+-- How the body of a query is read, after CouchDB's `_find`. Faults are looked for in this order: all shapes, the selector's operators,
+-- the bookmark's text, and a sort in both directions.
 use Rattle.std.specs.Prelude.{ℕ, pos, nat_le, List, [], ◌∷◌, Bool, false, codes, Option, Some, None, option_and_then, Result, Ok, Err, if◌then◌else◌}
 use Rattle.std.specs.List.{list_all}
 use Rattle.std.specs.Result.{result_err}
@@ -22,9 +22,9 @@ use Rattle.mg_index.specs.Reading.{each_of, field_path, field_direction, is_same
 use Rattle.mg_query.specs.declared.error.QueryError.{QueryError}
 use Rattle.mg_query.specs.declared.error.QueryError.TheVariants.{Shape, InvalidOperator, BadArg, BadBookmark, MixedSort, NoMemory}
 
--- what a query asks for: the paths of the parts that a page shows of a document, none where it shows the whole; how many documents,
--- and how many are passed over; its sort, which may be empty; which indexes it prefers; the place after which the page begins; and
--- whether conflicts are shown. Beside these stand the selector, the fields and the bookmark as they were given
+-- what a query asks for: its selector; the paths of the parts that a page shows of a document (empty: the whole); how many documents a
+-- page has at most, and how many it skips; its sort, which may be empty, and its direction; which indexes it prefers; the place after
+-- which the page begins; and whether conflicts are shown. It also has the selector, the fields and the bookmark as they were given
 pub record Query : Type 0 where
   pub selector : Selector
   pub fields : List Steps
@@ -107,7 +107,7 @@ abbrev pub one_direction : List Direction → Option Direction
 one_direction [] = Some Asc
 one_direction (d ∷ ds) = if list_all (is_same d) ds then Some d else None
 
--- `use_index`: a design document, or an array of none, of a design document, or of one and a name
+-- `use_index`: a design document, or an array: `[]`, `[ddoc]` or `[ddoc, name]`
 abbrev pub hint_given : Option Value → Option Hint
 hint_given None = Some no_hint
 hint_given (Some (text ddoc)) = Some (in_document (design_document ddoc))
@@ -131,7 +131,8 @@ conflicts_of (Some v) = None
 
 -- ---- the query
 
--- the members of a body whose shapes are right: of the sort its paths and its directions, of the selector and the bookmark what was given
+-- the members of a body, whose shapes are right. The sort is given by its paths and directions; the selector and the bookmark are not
+-- read yet
 pub record Shaped : Type 0 where
   pub selector : Value
   pub fields : List Steps
@@ -143,7 +144,7 @@ pub record Shaped : Type 0 where
   pub bookmark : List ℕ
   pub conflicts : Bool
 
--- none, or what f gives of the value
+-- `None`, or the result of f for the value
 infixl 10 ◌>>◌
 abbrev pub ◌>>◌ : {A B : Type 0} → Option A → (A → Option B) → Option B
 o >> f = option_and_then f o

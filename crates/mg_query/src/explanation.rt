@@ -16,7 +16,7 @@ use std::alloc::Global;
 
 /// How a query would be answered in a database of this name, over the indexes of the catalog:
 /// `{"dbname":..,"fields":..,"index":..,"limit":..,"range":..,"selector":..,"skip":..}`, with `fields` and `selector`
-/// as they were given, `"all_fields"` where no fields were, the index as it is listed, and the range of its keys.
+/// as they were given (`"all_fields"` if the fields are absent or empty), the index as it is listed, and the range of its keys.
 ///
 /// Errors: `NoUsableIndex` where no index serves the query, then `BadBookmark` where its bookmark is of another index
 /// or direction; `NoMemory` if an allocation fails.

@@ -1,4 +1,4 @@
-// The fault of a body that is found without memory: a wrong shape, and else the first fault of its selector.
+// Finds faults of a body without taking memory: a wrong shape, otherwise the first fault of its selector.
 ghost use Rattle.std.specs.Prelude.{◌≡◌, is_some, map};
 ghost use Rattle.std.specs.List.{list_all};
 ghost use Rattle.std.specs.Result.{result_err};
@@ -13,7 +13,7 @@ use mg_index::{field_direction, field_path};
 use mg_path::is_path;
 use mg_value::Json;
 
-// The fault of a body, if it has such a one.
+// A wrong shape, otherwise the first fault of the selector; `None` if there is neither. Later faults are not looked for.
 pub(crate) fn fault_of(body: &Json) -> Option<QueryError>
     ensures { result ≡ early_fault (view body.now) }
 {

@@ -209,8 +209,8 @@ fn page_hits<'a, R: Threads + Sync, G: Gate + Sync>(
     Ok((hits, query.skip))
 }
 
-// As `page_hits`, on the caller's thread. If the range decides, no document is looked up for a row that is skipped, and the
-// returned number is 0.
+// Finds what `page_hits` returns, on the caller's thread. If the range decides the selector, no document is looked up for a row that
+// is skipped, and the returned number is 0.
 fn find_alone<'a>(
     alloc: Global,
     query: &Query<'_>,

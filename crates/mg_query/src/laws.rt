@@ -3,21 +3,24 @@ ghost use Rattle.mg_query.specs.Laws.{BookmarksChangeNothingElse, PagesJoin, Pag
 
 use mg_bookmark::laws::what_is_spelled_is_read;
 
-/// Where a query is answered, nothing is passed over and the limit is at least 1: asked again and again, each time with the bookmark
-/// that the page before gave, it is answered by a page each time, until one is empty. These pages show together what the query
-/// finds, in order. The values of each document's key have to nest at most 125 deep, and all texts to be UTF-8.
+/// Pages join. Ask a query first without a bookmark, and then with the bookmark of each page, until a page is empty. If an index serves
+/// the query, it skips nothing and its limit is at least 1, then each answer is a page, and together the pages show what the query finds,
+/// in order. JSON text must be able to carry the place of each document (`CanBeSpelled`): the values of its key nest at most 125 deep,
+/// its numbers are i64, its objects have their names in order, and all texts are UTF-8.
 pub fn pages_join()
     ensures { PagesJoin }
 {
     what_is_spelled_is_read();
 }
 
-/// Pages join as `pages_join` says, also with other keys and texts, if each bookmark is read back as the place that it spells.
+/// Pages join for any keys and texts if the bookmark of each document is read back as the document's place. The query must meet the
+/// conditions of `pages_join`.
 pub fn pages_that_read_back_join()
     ensures { PagesReadBackJoin }
 {}
 
-/// A body that differs in its bookmark alone is read as the same query with that bookmark.
+/// Take a body that is read as a query. With another text as its bookmark it is read as the same query with that bookmark, or refused
+/// with `BadBookmark` if the text is not a bookmark.
 pub fn bookmarks_change_nothing_else()
     ensures { BookmarksChangeNothingElse }
 {}

@@ -16,7 +16,7 @@ const GREATEST_COUNT: i64 = 2_147_483_647;
 // The bookmark of a query that gives none.
 const NO_BOOKMARK: &str = "nil";
 
-// The members of a body whose shapes are right, but for paths and directions.
+// The members of a body. Their shapes are right; paths and directions are not checked yet.
 #[derive(Clone, Copy, Debug)]
 pub(crate) struct Members<'a> {
     pub(crate) selector: &'a Json,
@@ -29,7 +29,7 @@ pub(crate) struct Members<'a> {
     pub(crate) conflicts: bool,
 }
 
-// `use_index` as it is given: nothing, a design document, or one and a name.
+// `use_index` as it is given: nothing, a design document, or a design document and a name.
 #[derive(Clone, Copy, Debug)]
 pub(crate) enum GivenHint<'a> {
     None,
@@ -37,7 +37,7 @@ pub(crate) enum GivenHint<'a> {
     Both(&'a str, &'a str),
 }
 
-// The members, where their shapes are right.
+// The members of a body; `None` if one has a wrong shape. Paths and directions are not checked.
 pub(crate) fn members_in(body: &Json) -> Option<Members<'_>>
     ensures { option_map given_seen result ≡ given_of (view body.now) }
 {
@@ -61,7 +61,7 @@ pub(crate) fn members_in(body: &Json) -> Option<Members<'_>>
     })
 }
 
-// An object.
+// `selector`: an object, which must be there.
 fn selector_given<'a>(value: Option<&'a Json>) -> Option<&'a Json>
     ensures { option_map (λ v. view v.now) result ≡ selector_of (lent value.entry) }
 {
@@ -80,7 +80,7 @@ fn object_in(value: &Json) -> Option<&Json>
     }
 }
 
-// The items of an array, none where it is absent.
+// The items of a member that is an array; no items if it is absent.
 fn array_given<'a>(value: Option<&'a Json>) -> Option<&'a [Json]>
     ensures { option_map (λ items. map view items.now) result ≡ sort_fields (lent value.entry) }
 {
@@ -106,7 +106,7 @@ fn some_items(items: &[Json]) -> Option<&[Json]>
     Some(items)
 }
 
-// A whole number from 0 to the greatest count, and the one named here where it is absent.
+// `limit` or `skip`: a whole number from 0 to `GREATEST_COUNT`; `otherwise` if it is absent.
 fn count_given(otherwise: u32, value: Option<&Json>) -> Option<u32>
     ensures { result ≡ count_of otherwise (lent value.entry) }
 {
@@ -127,7 +127,7 @@ fn count_in(_otherwise: u32, count: i64) -> Option<u32>
     }
 }
 
-// A design document, or an array of none, one, or one and a name.
+// `use_index`: a design document, or an array: `[]`, `[ddoc]` or `[ddoc, name]`.
 fn hint_given<'a>(value: Option<&'a Json>) -> Option<GivenHint<'a>>
     ensures { option_map hint_seen result ≡ hint_of (lent value.entry) }
 {
@@ -171,7 +171,7 @@ fn hint_by_both<'a>(ddoc: &'a Json, name: &'a Json) -> Option<GivenHint<'a>>
     }
 }
 
-// A text; `nil` where it is null or absent.
+// `bookmark`: a text; `nil` if it is null or absent.
 fn bookmark_given<'a>(value: Option<&'a Json>) -> Option<&'a str>
     ensures { option_map (λ t. t.now) result ≡ bookmark_of (lent value.entry) }
 {
@@ -183,7 +183,7 @@ fn bookmark_given<'a>(value: Option<&'a Json>) -> Option<&'a str>
     }
 }
 
-// True or false; false where it is absent.
+// `conflicts`: true or false; false if it is absent.
 fn conflicts_given(value: Option<&Json>) -> Option<bool>
     ensures { result ≡ conflicts_of (lent value.entry) }
 {
@@ -198,7 +198,7 @@ impl GivenHint<'_> {
     ghost use Rattle.std.specs.Prelude.{IfOk};
     ghost use Rattle.mg_index.specs.View.{hint_of as hint_named};
 
-    // The hint, its texts copied, and the front of a design document put before one that lacks it.
+    // A copy of the hint, with `_design/` put before a design document that does not begin with it.
     pub(crate) fn named(self, alloc: Global) -> Result<Hint, NoMemory>
         ensures { IfOk result (λ hint. hint_named hint ≡ hint_seen self.entry) }
     {

@@ -52,7 +52,7 @@ impl<'a> Query<'a> {
     /// - `limit` and `skip`, whole numbers from 0 to 2,147,483,647; 25 and 0 if they are absent.
     /// - `sort`, an array whose items are paths, for ascending order, and `{path: "asc"}` or `{path: "desc"}`.
     /// - `fields`, an array whose items are paths. Without one, documents are shown whole.
-    /// - `use_index`, a design document, or an array of none, of one, or of one and a name.
+    /// - `use_index`, a design document, or an array: `[]`, `[ddoc]` or `[ddoc, name]`.
     /// - `conflicts`, true or false; `bookmark`, null or a text. Other members are ignored.
     ///
     /// Errors, in this order: `Shape` for any other body, or a path of `sort` or `fields` with an empty step; the
@@ -71,7 +71,7 @@ impl<'a> Query<'a> {
     }
 }
 
-// The fault of a body that is found without memory, if it has such a one, and else the fault that was met.
+// The fault of a body that is found without taking memory; if there is none, the fault that was met.
 fn first_fault(body: &Json, met: QueryError) -> QueryError
     ensures { result ≡ unwrap_or (early_fault (view body.now)) met }
 {

@@ -1,4 +1,4 @@
-// The index that serves a query, and whether a bookmark is of it.
+// Chooses the index that serves a query, and checks that the query's bookmark belongs to it.
 ghost use Rattle.std.specs.Prelude.{◌≡◌, List, Some, true, IfOk, length, option_map};
 ghost use Rattle.mg_value.specs.View.{view, items_view};
 ghost use Rattle.mg_value.specs.Value.{item_list};
@@ -38,7 +38,7 @@ pub(crate) enum Source<'a> {
     Defined(&'a IndexDef),
 }
 
-// The index that serves the query, if its bookmark is of that one.
+// The index that serves the query. Errors: `NoUsableIndex` if there is none, then `BadBookmark` if the query's bookmark does not fit it.
 pub(crate) fn served_by<'a>(
     query: &Query<'_>,
     normal: &Normal,
@@ -72,7 +72,7 @@ fn choose_source<'a>(
     }
 }
 
-// Whether the query's bookmark is of the index, if it has one.
+// Whether the query's bookmark belongs to the index, read in the query's direction; true without a bookmark.
 fn fits(source: Source<'_>, query: &Query<'_>) -> bool
     ensures { result ≡ fits_source (source_seen source.entry) (query_seen query.now) }
 {

@@ -1,4 +1,4 @@
-// The text of a page, part by part. Each of these gives the buffer that it takes, with its part behind.
+// Writes the text of a page, part by part. Each `with_` function takes a buffer and returns it with its part appended.
 ghost use Rattle.std.specs.Prelude.{◌≡◌, ◌++◌, List, [], ◌∷◌, IfOk, map, nat_lt, if◌then◌else◌};
 ghost use Rattle.json.specs.Print.{quoted};
 ghost use Rattle.mg_value.specs.Text.{compact};
@@ -69,7 +69,7 @@ fn with_documents(
     Ok(out)
 }
 
-// The comma before an item at this place.
+// The comma before an item at this position, which counts from 0; nothing before the first item.
 fn with_comma(mut out: Vec<u8>, place: usize) -> Result<Vec<u8>, NoMemory>
     ensures { IfOk result (λ b. b.items ≡ out.items ++ (if nat_lt 0 place then 44 ∷ [] else [])) }
 {
@@ -96,7 +96,7 @@ fn with_document(
     }
 }
 
-// The text of a document as it is served, which the shard has.
+// The text that the shard keeps of a document, as it is served.
 fn with_kept(mut out: Vec<u8>, hit: &Hit<'_>) -> Result<Vec<u8>, NoMemory>
     ensures { IfOk result (λ b. b.items ≡ out.items ++ hit_text hit.now) }
 {
@@ -104,7 +104,7 @@ fn with_kept(mut out: Vec<u8>, hit: &Hit<'_>) -> Result<Vec<u8>, NoMemory>
     Ok(out)
 }
 
-// The text of a document's parts, or of the document with its conflicts.
+// The text of what the page shows of a document, made from its value: for parts of it, or for its conflicts.
 fn with_shown(
     alloc: Global,
     query: &Query<'_>,

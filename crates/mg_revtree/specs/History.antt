@@ -42,7 +42,7 @@ all_links = flat_map (λ p. links p.revs)
 abbrev pub is_known : Revision → List Link → Bool
 is_known r = list_any (λ l. same_revision r l.rev)
 
--- the parent of a revision: what comes after it in the first path in which something does
+-- the parent of a revision: what comes after it in the first path in which something comes after it
 abbrev pub parent_of : Revision → List Link → Option Revision
 parent_of r [] = None
 parent_of r (l ∷ ls) = if same_revision r l.rev then option_or l.parent (parent_of r ls) else parent_of r ls

@@ -45,11 +45,11 @@ not_gt-le Less e = refl
 not_gt-le Equal e = refl
 not_gt-le Greater e = absurd cc
 
--- where the key of a row stands
+-- the side of the range on which the key of a row is
 abbrev pub place_row : Range → RowValue → RangeSide
 place_row range r = place_of range (item_list r.0)
 
--- the places of rows that are in order are in order
+-- if rows are in order, their sides of the range are in order
 places_rise : (range : Range) (x y : RowValue) → is_gt (row_value_order x y) ≡ false → place_rank (place_row range x) ≤ place_rank (place_row range y)
 places_rise range x y e =
     rows_together range (item_list x.0) (item_list y.0) x.1 y.1 (ap₂ (λ a b. is_le (row_value_order a b)) (same_row x) (same_row y) ∙ not_gt-le (row_value_order x y) e)
@@ -59,7 +59,7 @@ abbrev pub Follows : Direction → RangeSide → RangeSide → Type 0
 Follows Asc p q = place_rank p ≤ place_rank q
 Follows Desc p q = place_rank q ≤ place_rank p
 
--- nor does that of a row that comes later
+-- the side of a row does not come before that of an earlier row in a direction
 pub follows : (direction : Direction) (range : Range) (x y : RowValue) → NotAfter direction x y → Follows direction (place_row range x) (place_row range y)
 follows Asc range x y e = places_rise range x y e
 follows Desc range x y e = places_rise range y x (ap is_gt (row_value_order_total.antisymm y x) ∙ e)
@@ -138,6 +138,6 @@ id_rows a b =
     ap (λ o. ordering_then o (slice_cmp nat_cmp a b)) (items_order-item (text a) (text b) no_items no_items ∙ then_equal (value_order (text a) (text b)) ∙ text_order a b)
     ∙ twice (slice_cmp nat_cmp a b)
 
--- and a place among documents, or other things that have ids
+-- where a search begins is a place among documents, or other things that have ids
 pub begin_probes_ids : {T : Type 0} (id : T → List ℕ) (s : Search) → IsProbe (id_order id) (λ d. begin_at s (id_row (id d)))
 begin_probes_ids id s = λ x y l n. begin_probes s.direction s.range.now (after_of s) (id_row (id x)) (id_row (id y)) (id_rows (id x) (id y) ∙ l) n

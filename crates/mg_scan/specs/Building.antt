@@ -1,4 +1,4 @@
--- The lists of rows that a build makes, shard by shard. These words serve private clauses.
+-- For private clauses: the lists of rows that a build makes, shard by shard.
 use Rattle.std.specs.Prelude.{◌≡◌, ℕ, ◌+◌, List, Some, Result, IfOk, slice_get}
 use Rattle.mg_collate.specs.Row.{RowValue}
 use Rattle.mg_index.specs.Definition.{IndexDefinition}
@@ -15,6 +15,6 @@ HasRowsAt d shards i r = IfOk r (λ v. (s : ShardView) → slice_get shards i �
 abbrev pub AreRowsAt : IndexDefinition → List ShardView → List (Result (List RowValue) NoMemory) → Type 0
 AreRowsAt d shards rs = (i : ℕ) (r : Result (List RowValue) NoMemory) → slice_get rs i ≡ Some r → HasRowsAt d shards i r
 
--- each is what the index has in the shard that is as far behind a place
+-- the i-th is what the index has in the shard at place from + i
 abbrev pub AreRowsFrom : IndexDefinition → List ShardView → ℕ → List (Result (List RowValue) NoMemory) → Type 0
 AreRowsFrom d shards from rs = (i : ℕ) (r : Result (List RowValue) NoMemory) → slice_get rs i ≡ Some r → HasRowsAt d shards (from + i) r

@@ -64,7 +64,7 @@ pub record IsLeadSourceOf (search : Search) (s : ShardView) (source : LeadSource
   pub rows : lead_rows source.search source.left ≡ all_found_by (unasked search) s
   pub leads : (l : Lead) → IsLeadLeft source.shard.now source.left l → IsLeadOf s l
 
--- a source of these rows behind the first so many
+-- a source of these rows without the first n
 pub record IsLeadSourceBehind (n : ℕ) (search : Search) (s : ShardView) (source : LeadSource) : Type 0 where
   pub rows : lead_rows source.search source.left ≡ drop n (all_found_by (unasked search) s)
   pub leads : (l : Lead) → IsLeadLeft source.shard.now source.left l → IsLeadOf s l

@@ -44,7 +44,7 @@ pub record IsWithin (s : Search) (r : RowValue) : Type 0 where
   pub begun : reached s.direction s.range.now (after_of s) r ≡ true
   pub timely : is_late_row s.direction s.range.now r ≡ false
 
--- the search t, of which the page skips `left` rows, is the search s after another row, and has the page of s, which skips `skip` rows
+-- the search t is the search s after another row; if the range decides, the page of t that skips `left` rows is that of s that skips `skip`
 pub record HasPageOf (shards : List ShardView) (s : Search) (skip : ℕ) (t : Search) (left : ℕ) : Type 0 where
   pub same : t ≡ record s { after = t.after; take = t.take }
   pub take : t.take ≤ s.take

@@ -1,5 +1,5 @@
--- What a scan finds in a shard: of the rows of an index, which are made of the documents as a JSON index of CouchDB has them, those of
--- the documents that the selector holds of, in a range of keys, after a row, and no more than a number of them.
+-- What a scan finds in a shard: rows of an index, which has the rows of a JSON index of CouchDB. It finds the first rows, up to a number,
+-- whose key is in a range, which come after a given row, and whose document matches the selector.
 use Rattle.std.specs.Prelude.{ℕ, List, Bool, true, ◌&&◌, Option, Some, take, filter}
 use Rattle.std.specs.List.{filter_map}
 use Rattle.std.specs.Option.{option_map_or}
@@ -24,7 +24,7 @@ pub record Request : Type 0 where
   pub count : ℕ
   pub direction : Direction
 
--- the row comes after another in a direction; after none where there is none
+-- the row comes after another in a direction; true if there is no other
 abbrev pub comes_after : Direction → Option RowValue → RowValue → Bool
 comes_after direction after r = option_map_or (λ p. is_gt (directed_order direction r p)) after true
 
@@ -36,7 +36,7 @@ is_wanted q r = has_key q.range (item_list r.0) && comes_after q.direction q.aft
 abbrev pub asked_documents : Request → List ServedDocument → List ServedDocument
 asked_documents q ds = filter (λ d. normal_holds q.normal (Some d.1)) ds
 
--- what there is of it in a shard with these documents, however much
+-- all rows that match the request in a shard with these documents, without its limit
 abbrev pub all_scanned : Request → List ServedDocument → List RowValue
 all_scanned q ds = filter (is_wanted q) (sorted_rows q.direction (filter_map (row_of q.columns) (asked_documents q ds)))
 

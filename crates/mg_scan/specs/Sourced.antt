@@ -27,7 +27,7 @@ holds_for normal d = option_map_or (λ form. normal_holds normal (Some form)) (f
 abbrev pub row_among : Document → Option RowValue
 row_among d = option_map (λ key. (key, id_of d)) (option_and_then (row_key all_columns) (form_of d))
 
--- what is found from a document on, where its row is this, and this is found after it
+-- what is found from a document on, given its row and what is found after it
 abbrev pub walked_on : (RowValue → Bool) → Bool → Option RowValue → List RowValue → List RowValue
 walked_on late holds None rest = rest
 walked_on late holds (Some r) rest = if late r then [] else if holds then r ∷ rest else rest

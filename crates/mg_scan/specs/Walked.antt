@@ -14,15 +14,16 @@ use Rattle.mg_range.specs.declared.place.RangeSide.{RangeSide}
 use Rattle.mg_shard.specs.Documents.{KeptDocuments, form_at}
 use Rattle.mg_value.specs.Value.{item, item_list, no_items, text}
 
--- something that stands so to the row after which a search begins comes after it, if there is one
+-- this ordering puts an item past the row after which a search begins; true without such a row
 abbrev pub is_beyond : Direction → Option Ordering → Bool
 is_beyond direction order = option_map_or (λ o. is_gt (directed direction o)) order true
 
--- what stands so to a range, and to the row after which a search begins, is among what the search looks at, or comes later
+-- an item on this side of the range, and with this ordering against the row after which a search begins, is reached: the search looks
+-- at it, or it comes later
 abbrev pub reaches : Direction → RangeSide → Option Ordering → Bool
 reaches direction place order = not (is_early direction place) && is_beyond direction order
 
--- where a search begins, against something that stands so
+-- where a search begins, compared to an item on this side of the range and with this ordering against that row
 abbrev pub begin_order : Direction → RangeSide → Option Ordering → Ordering
 begin_order direction place order = directed direction (if reaches direction place order then Less else Greater)
 

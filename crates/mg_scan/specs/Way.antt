@@ -15,7 +15,7 @@ use Rattle.mg_shard.specs.Rows.{row_of}
 use Rattle.mg_shard.specs.Shard.{ShardView}
 use Rattle.mg_value.specs.Value.{item_list}
 
--- all that there is of a search in a shard, however much
+-- all that a search finds in a shard, without its limit
 abbrev pub all_found_by : Search → ShardView → List RowValue
 all_found_by s = all_found_in s.target (asked_by s)
 

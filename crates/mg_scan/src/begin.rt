@@ -54,8 +54,8 @@ impl<'a, X: Identified> Probe<Shared<X>> for Begin<'a> {
     }
 }
 
-// A number just below or above those of the rows with the value at which the range is entered: in the direction before them if they
-// may be in the range, else after them.
+// The hint next to those of the rows with the value at which the range is entered: in the search's direction just before them if they
+// may be in the range, else just after them. Without such a value, the hint at which the direction begins.
 fn row_hint(search: Search<'_>) -> u64 {
     let is_up = search.direction == Direction::Asc;
     match search.range.keys().entered_at(search.direction) {

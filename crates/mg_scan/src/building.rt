@@ -39,7 +39,7 @@ fn rows_at<R: Threads + Sync, G: Gate>(
 }
 
 // The rows that the index has in each shard, one shard after the other, each by this many workers.
-fn extracted_in_turn<R: Threads + Sync, G: Gate>(
+fn extract_in_turn<R: Threads + Sync, G: Gate>(
     rt: &R,
     alloc: Global,
     shards: &[Arc<Shard>],
@@ -59,7 +59,7 @@ fn extracted_in_turn<R: Threads + Sync, G: Gate>(
 }
 
 // The rows that the index has in some shards from the given one on, each extracted by a thread of its own with this many workers.
-fn extracted_at_once<R: Threads + Sync, G: Gate + Sync>(
+fn extract_at_once<R: Threads + Sync, G: Gate + Sync>(
     rt: &R,
     alloc: Global,
     shards: &[Arc<Shard>],
@@ -85,8 +85,9 @@ fn extracted_at_once<R: Threads + Sync, G: Gate + Sync>(
     Ok(rows)
 }
 
-// The rows that the index has in each shard, extracted by this many threads at a time. Workers that are left over help with the last shards.
-fn extracted_by_threads<R: Threads + Sync, G: Gate + Sync>(
+// The rows that the index has in each shard, extracted by this many threads at a time. Workers that are left over help with the last
+// shards.
+fn extract_by_threads<R: Threads + Sync, G: Gate + Sync>(
     rt: &R,
     alloc: Global,
     shards: &[Arc<Shard>],
@@ -103,14 +104,14 @@ fn extracted_by_threads<R: Threads + Sync, G: Gate + Sync>(
         let from = all.len();
         let count = workers.min(shards.len() - from);
         let each = workers / count;
-        let mut more = extracted_at_once(rt, alloc, shards, definition, from, count, each, gate)?;
+        let mut more = extract_at_once(rt, alloc, shards, definition, from, count, each, gate)?;
         all.append(&mut more)?;
     }
     Ok(all)
 }
 
 // The rows that the index has in each shard, extracted one shard after the other or several at once.
-fn extracted<R: Threads + Sync, G: Gate + Sync>(
+fn extract<R: Threads + Sync, G: Gate + Sync>(
     rt: &R,
     alloc: Global,
     shards: &[Arc<Shard>],
@@ -122,9 +123,9 @@ fn extracted<R: Threads + Sync, G: Gate + Sync>(
     ensures len { IfOk result (λ v. vec_len v ≡ length shards.now) }
 {
     if workers < 2 || shards.len() < 2 {
-        return extracted_in_turn(rt, alloc, shards, definition, workers, gate);
+        return extract_in_turn(rt, alloc, shards, definition, workers, gate);
     }
-    extracted_by_threads(rt, alloc, shards, definition, workers, gate)
+    extract_by_threads(rt, alloc, shards, definition, workers, gate)
 }
 
 // The shard with the index of these rows.
@@ -145,7 +146,7 @@ fn with_these(
 }
 
 // Takes out what was extracted from the i-th shard, and leaves a refusal in its place.
-fn taken(
+fn take_rows(
     given: &mut Vec<Result<Pages<RowBytes>, NoMemory>>,
     i: usize,
     shards: &[Arc<Shard>],
@@ -176,20 +177,20 @@ fn with_all(
     let mut built = Vec::new(alloc);
     let mut given = given;
     for i in 0..shards.len() {
-        let rows = taken(&mut given, i, shards, definition);
+        let rows = take_rows(&mut given, i, shards, definition);
         let shard = with_these(alloc, shards, definition, i, rows)?;
         built.push(shard)?;
     }
     Ok(built)
 }
 
-/// The shards, each with an index of this definition, which replaces one of its design document and name: what `Shard::with_index` makes
-/// of each, for every number of workers, from 1 to 32, and for every gate. One worker starts no thread. Several take a shard each; if there
-/// are twice as many workers as shards left, as many threads extract the rows of a large shard as there are processors. The definition is
-/// copied once, and the shards share it.
+/// Returns the shards, each with an index of this definition, which replaces one of the same design document and name, as
+/// `Shard::with_index` makes them. The result is the same for every number of workers, 1 to 32, and for every gate. One worker starts no
+/// thread. Several workers take a shard each; if there are at least twice as many workers as shards left, as many threads as there are
+/// processors extract the rows of a large shard. The definition is copied once, and the shards share it.
 ///
 /// The gate is passed before a shard's first document is read and after its last row is made.
-/// Errors: `NoMemory` if an allocation fails. Cost: each document once, and its row to its place.
+/// Errors: `NoMemory` if an allocation fails. Cost: that of `Shard::rows_for` and of `Shard::with_rows` for each shard.
 pub fn build<R: Threads + Sync, G: Gate + Sync>(
     rt: &R,
     alloc: Global,
@@ -201,7 +202,7 @@ pub fn build<R: Threads + Sync, G: Gate + Sync>(
     requires { (0 < workers) × (workers ≤ 32) }
     ensures { IfOk result (λ v. v.items ≡ map (with_index definition.now) (shards_seen shards.now)) }
 {
-    let given = extracted(rt, alloc, shards, definition, workers, gate)?;
+    let given = extract(rt, alloc, shards, definition, workers, gate)?;
     let shared = Arc::new(alloc, definition.copy(alloc)?)?;
     with_all(alloc, shards, &shared, given)
 }

@@ -9,7 +9,7 @@ pub enum Place {
     ShardDone(usize),
 }
 
-/// What is passed at places, for tests: a gate may count them, and may wait there.
+/// Code that a query or a build runs at each `Place`, for tests: a gate may count the places, and may wait there.
 pub trait Gate {
     /// Passes a place.
     fn at(&self, place: Place);

@@ -14,7 +14,7 @@ use mg_value::NoMemory;
 use std::alloc::Global;
 use std::sync::Arc;
 
-// A round passes over all but an eighth of the rows at most, so it takes eight steps a shard.
+// The first stride is an eighth of the rows that the page skips in each shard, each further one an eighth of the one before.
 const STEPS: usize = 8;
 
 // What is left of a search after rows were passed over.
@@ -193,8 +193,8 @@ fn after<'a>(search: Search<'a>, row: &'a RowBytes, take: usize) -> Search<'a>
     }
 }
 
-// A row among those that the page skips, near the last of them: of the rows that come in each shard after as many others as `stride`
-// says, again and again, the last that has too few rows of all shards before it to be one that the page shows.
+// A row among those that the page skips, near the last of them. In each shard a scout goes ahead by `stride` rows at a time; of the rows
+// that the scouts reach, in the order of the search, this is the last that has too few rows before it for the page to show it.
 fn row_near<'a>(
     alloc: Global,
     shards: &'a [Arc<Shard>],

@@ -45,7 +45,7 @@ pub(crate) fn bytes_of(alloc: Global, after: Option<&Row>) -> Result<Option<RowB
     }
 }
 
-// Whether a key of this place comes before the range in the direction.
+// Whether a key on this side of the range comes before it in the direction.
 fn is_early(direction: Direction, place: RangeSide) -> bool
     ensures { result ≡ stands_early direction place }
 {
@@ -56,7 +56,7 @@ fn is_early(direction: Direction, place: RangeSide) -> bool
     }
 }
 
-// Whether a key of this place comes after the range in the direction.
+// Whether a key on this side of the range comes after it in the direction.
 fn is_late(direction: Direction, place: RangeSide) -> bool
     ensures { result ≡ stands_late direction place }
 {
@@ -117,8 +117,8 @@ pub(crate) fn is_reached(search: Search<'_>, row: &RowBytes) -> bool
     !is_early && is_beyond(search.direction, row_order(row, search.after))
 }
 
-// Compares the place where the search begins to a row. Cost: a comparison of bytes with the end of the range, and one with the row after which it
-// begins, if there is one.
+// Compares the place where the search begins to a row. Cost: a comparison of bytes with the end of the range, and one with the row
+// after which it begins, if there is one.
 pub(crate) fn begin_at_row(search: Search<'_>, row: &RowBytes) -> Ordering
     ensures { result ≡ begin_at search.entry row.now }
 {

@@ -31,7 +31,7 @@ EachEditIsDecidedThere =
     (place : Placing) (drafts : List DraftView) (hs : Histories) (e : Edit) (d : DraftView) → slice_get drafts (place (id_in e) (length drafts)) ≡ Some d
     → DraftsStandFor place drafts hs → (gs : Histories) × DraftStandsFor d gs × (outcome_in gs e ≡ outcome_in hs e)
 
--- drafts stand for the histories after an edit where the one of its shard has taken it and the others are as they were
+-- drafts stand for the histories after an edit if the draft of its shard has applied it and the others are unchanged
 abbrev pub EachEditIsMadeThere : Type 0
 EachEditIsMadeThere =
     (place : Placing) (drafts : List DraftView) (hs : Histories) (e : Edit) (before after : DraftView) → slice_get drafts (place (id_in e) (length drafts)) ≡ Some before
@@ -46,7 +46,7 @@ ShardsBecomeDrafts =
     → (s : ShardView) × (slice_get shards i ≡ Some s) × ((gs : Histories) → ShardStandsFor s gs → DraftStandsFor d gs))
     → ShardsStandFor place shards hs → DraftsStandFor place drafts hs
 
--- and the other way round
+-- where each shard stands for what the draft in its place stands for, all shards stand for what all drafts do
 abbrev pub DraftsBecomeShards : Type 0
 DraftsBecomeShards =
     (place : Placing) (drafts : List DraftView) (shards : List ShardView) (hs : Histories) → length shards ≡ length drafts

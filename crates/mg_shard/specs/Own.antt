@@ -18,7 +18,7 @@ HasOwnId id form = (part : Value) → part_of (codes "_id" ∷ []) form ≡ Some
 
 -- ---- of the code's documents
 
--- so it is where there is a form
+-- if there is a form with an `_id`, that is this id
 abbrev pub IsServedOwn : List ℕ → Option Served → Type 0
 IsServedOwn id served = (s : Served) → served ≡ Some s → HasOwnId id s.form
 

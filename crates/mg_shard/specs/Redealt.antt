@@ -21,8 +21,8 @@ abbrev pub kept_in : List KeptDocuments → List ℕ → Option Kept
 kept_in [] id = None
 kept_in (ds ∷ more) id = option_or (kept_in more id) (get ds id)
 
--- the documents of some shards are dealt to others where each id that is kept is placed on one of these, and where each of these keeps
--- of the ids that are placed there what the former keep, and of other ids nothing
+-- the documents of some shards are dealt to new ones: each id that is kept is placed on one of the new shards, and each of these keeps,
+-- of the ids that are placed there, what the former shards keep, and nothing of other ids
 pub record AreRedealt (place : Placing) (from to : List KeptDocuments) : Type 0 where
   pub placed : (id : List ℕ) (d : Kept) → kept_in from id ≡ Some d → place id (length to) < length to
   pub each : (i : ℕ) (ds : KeptDocuments) → slice_get to i ≡ Some ds → (id : List ℕ)
@@ -47,7 +47,7 @@ IsPlace place n d i = (i ≡ place (id_of d) n) × (i < n)
 abbrev pub ArePlaces : Placing → ℕ → List Document → List ℕ → Type 0
 ArePlaces place n ds places = AllZip (IsPlace place n) ds places
 
--- for whatever placement gave these places: of the ids that are placed on the i-th shard what the documents keep, and of other ids nothing
+-- for every placement that gives these places: of the ids that are placed on the i-th shard, what the documents keep; nothing of others
 abbrev pub KeepsThose : List Document → List ℕ → ℕ → KeptDocuments → Type 0
 KeepsThose ds places i to =
     (place : Placing) (n : ℕ) → ArePlaces place n ds places → (id : List ℕ) → get to id ≡ cond (place id n == i) (last_kept ds id) None

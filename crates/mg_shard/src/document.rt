@@ -106,7 +106,8 @@ impl Document {
         }
     }
 
-    /// The compact text of that form, as it was made when the document was last edited. Takes no memory.
+    /// The compact text of the form in which it is served, if it is not deleted. The text was made when the document was last edited.
+    /// Takes no memory.
     pub fn text(&self) -> Option<&[u8]>
         ensures { option_map (λ t. t.now) result ≡ option_map compact (form_of self.now) }
     {
@@ -126,8 +127,8 @@ impl Document {
         }
     }
 
-    /// The key of its row in the list of all documents: its id, if it is served with an `_id`, which is then this id; else
-    /// `None`. Takes no memory. Cost: constant.
+    /// Its id, which is the key of its row in the list of all documents; `None` if it is not served with an `_id`: it then has no
+    /// such row. Takes no memory. Cost: constant.
     pub fn id_key(&self) -> Option<&str>
         ensures key { option_map (λ id. item (text id.now) no_items) result
             ≡ option_and_then (row_key all_columns) (form_of self.now) }

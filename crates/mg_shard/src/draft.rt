@@ -14,7 +14,7 @@ ghost use Rattle.mg_shard.specs.Histories.{Histories, history_at};
 
 use crate::document::Document;
 use crate::entry::IndexEntry;
-use crate::indexes::{listed, mend_all, paged};
+use crate::indexes::{list_in_pages, listed, mend_all};
 use crate::reply::EditReply;
 use crate::shard::Shard;
 use mg_doc::{Edit, EditError};
@@ -123,7 +123,7 @@ impl<'a> Draft<'a> {
 }
 
 // What becomes of an edit that needs no copy of the tree: it is refused, or its path is known whole. `None` for any other edit.
-fn looked(edit: &Edit, tree: &RevTree) -> Result<Option<EditReply>, NoMemory>
+fn look(edit: &Edit, tree: &RevTree) -> Result<Option<EditReply>, NoMemory>
     ensures { IfOk result (λ o. (h : History) → StandsFor tree.now h
         → IfSome o (λ r. (outcome_seen r ≡ outcome_of h edit.now) × StandsFor tree.now (edited h edit.now))) }
 {
@@ -136,8 +136,8 @@ fn looked(edit: &Edit, tree: &RevTree) -> Result<Option<EditReply>, NoMemory>
     }
 }
 
-// What `looked` finds for an edit of the document with this tree; `None` if there is no such document yet.
-fn looked_at(edit: &Edit, tree: Option<&RevTree>) -> Result<Option<EditReply>, NoMemory>
+// What `look` finds for an edit of the document with this tree; `None` if there is no such document yet.
+fn look_if_there(edit: &Edit, tree: Option<&RevTree>) -> Result<Option<EditReply>, NoMemory>
     ensures { IfOk result
         (λ o. (ds : KeptDocuments) (hs : Histories) (id : List ℕ)
         → option_map (λ t. t.now) tree.entry ≡ tree_at ds id → StandsAt id (get ds id) (get hs id)
@@ -145,13 +145,13 @@ fn looked_at(edit: &Edit, tree: Option<&RevTree>) -> Result<Option<EditReply>, N
         × StandsAt id (get ds id) (Some (edited (history_at hs id) edit.now)))) }
 {
     match tree {
-        Some(tree) => Ok(looked(edit, tree)?),
+        Some(tree) => Ok(look(edit, tree)?),
         None => Ok(None),
     }
 }
 
 // A copy of the document's tree; an empty tree if there is no such document yet.
-fn copied(alloc: Global, tree: Option<&RevTree>) -> Result<RevTree, NoMemory>
+fn copy_tree(alloc: Global, tree: Option<&RevTree>) -> Result<RevTree, NoMemory>
     ensures { IfOk result
         (λ t. (ds : KeptDocuments) (hs : Histories) (id : List ℕ)
         → option_map (λ t. t.now) tree.entry ≡ tree_at ds id → StandsAt id (get ds id) (get hs id)
@@ -163,8 +163,12 @@ fn copied(alloc: Global, tree: Option<&RevTree>) -> Result<RevTree, NoMemory>
     }
 }
 
-// What becomes of an edit, and the tree that it leaves, into which its body is moved.
-fn applied(alloc: Global, edit: Edit, mut tree: RevTree) -> Result<(EditReply, RevTree), NoMemory>
+// Applies an edit to a tree, into which its body moves. Returns what became of the edit, and the tree after it.
+fn apply_edit(
+    alloc: Global,
+    edit: Edit,
+    mut tree: RevTree,
+) -> Result<(EditReply, RevTree), NoMemory>
     ensures { IfOk result
         (λ r. (h : History) → StandsFor tree h → (outcome_seen r.0 ≡ outcome_of h edit)
         × StandsFor r.1 (edited h edit)) }
@@ -191,7 +195,7 @@ fn edit_touched(
         → (t : Tree) × StandsFor t (edited h edit)
         × (touched_of touched.new.entries ≡ insert (touched_of touched.old.entries) (string_bytes id) t)) }
 {
-    let (reply, tree) = applied(alloc, edit, tree)?;
+    let (reply, tree) = apply_edit(alloc, edit, tree)?;
     drop(touched.insert(id, tree)?);
     Ok(reply)
 }
@@ -213,13 +217,13 @@ fn edit_first(
 {
     let id = id_in(&edit);
     let before = shard.tree(id);
-    let look = looked_at(&edit, before)?;
+    let look = look_if_there(&edit, before)?;
     if let Some(known) = look {
         return Ok(known);
     }
     let key = String::from_str(alloc, id)?;
-    let tree = copied(alloc, before)?;
-    let (reply, tree) = applied(alloc, edit, tree)?;
+    let tree = copy_tree(alloc, before)?;
+    let (reply, tree) = apply_edit(alloc, edit, tree)?;
     if !reply.is_done() {
         return Ok(reply);
     }
@@ -237,7 +241,7 @@ fn kept(alloc: Global, shard: &Shard, touched: BTreeMap<String, RevTree>) -> Res
     let documents = shard.documents.share(alloc)?;
     let own = listed(alloc, &shard.indexes)?;
     let (documents, mended) = keep_all(alloc, documents, own, touched)?;
-    let indexes = paged(alloc, &mended)?;
+    let indexes = list_in_pages(alloc, &mended)?;
     Ok(Shard { documents, indexes })
 }
 

@@ -68,7 +68,11 @@ fn rows_of_run(
 }
 
 // Lists of rows as one list, with room for `count` rows, one list after the other.
-fn joined(alloc: Global, count: usize, lists: Vec<Vec<RowBytes>>) -> Result<Vec<RowBytes>, NoMemory>
+fn join_lists(
+    alloc: Global,
+    count: usize,
+    lists: Vec<Vec<RowBytes>>,
+) -> Result<Vec<RowBytes>, NoMemory>
     ensures { IfOk result (λ rows. rows.items ≡ flat_map (λ list. list.items) lists.items) }
 {
     let mut all = Vec::with_capacity(alloc, count)?;
@@ -102,8 +106,8 @@ fn lists_by_threads<R: Threads + Sync>(
     lists
 }
 
-/// The rows of the documents of these pages, of those that are served and have every column, in the order of the documents, extracted by
-/// several threads. There is room for `count` rows.
+/// Extracts, by several threads, the rows of the documents of these pages that are served and have every column, in the order of the
+/// documents. The list gets room for `count` rows.
 ///
 /// Errors: `NoMemory` if an allocation fails. Cost: the bytes of each row, shared among as many threads as there are processors.
 pub(crate) fn rows_by_threads<R: Threads + Sync>(
@@ -117,7 +121,7 @@ pub(crate) fn rows_by_threads<R: Threads + Sync>(
         ≡ filter_map (row_of columns.now) (served_docs (lent_elements runs.now))) }
 {
     let lists = lists_by_threads(rt, alloc, columns, runs)?;
-    let rows = joined(alloc, count, lists)?;
+    let rows = join_lists(alloc, count, lists)?;
     Ok(rows)
 }
 

@@ -18,7 +18,7 @@ use mg_value::NoMemory;
 use std::alloc::Global;
 use std::sync::Arc;
 
-// Puts the parts of a document at the columns together in the scratch that is lent, and says whether each of them is there.
+// Collects the parts of a document at the columns in the lent scratch, and returns whether the document has all of them.
 fn key_in(scratch: &mut KeyBytes, columns: &[Path], form: &Part<'_>) -> Result<bool, NoMemory>
     ensures { IfOk result (λ all. cond all (Some scratch.new) None ≡ row_key columns.now form.now) }
 {
@@ -32,10 +32,10 @@ fn key_in(scratch: &mut KeyBytes, columns: &[Path], form: &Part<'_>) -> Result<b
     Ok(true)
 }
 
-/// The row of a document in an index with these columns, if the document has them all, put together in the scratch that is lent.
+/// The row of a document in an index with these columns, if the document has them all. The key is built in the lent scratch.
 ///
-/// Errors: `NoMemory` if an allocation fails. Cost: the bytes of the key, and a block of memory where the row is too long to stand
-/// in its own value.
+/// Errors: `NoMemory` if an allocation fails. Cost: the bytes of the key, and a block of memory if the row is too long to be stored
+/// in the value itself.
 pub(crate) fn row_in(
     alloc: Global,
     scratch: &mut KeyBytes,
@@ -104,8 +104,8 @@ fn have_same_key(columns: &[Path], form: &Part<'_>, other: &Part<'_>) -> bool
     true
 }
 
-// Whether a document has the same row in both forms, or in neither, as far as the lent parts show; `None` is the form of a deleted
-// document. Takes no memory.
+// Whether a document is known to have the same row with both forms, or no row with either. `None`: the document is not served.
+// Takes no memory.
 fn have_same_row(columns: &[Path], form: Option<&Packed>, other: Option<&Packed>) -> bool
     ensures { result ≡ true → HaveSameRow columns.now (option_map (λ v. v.now) form.entry)
         (option_map (λ v. v.now) other.entry) }
@@ -155,7 +155,8 @@ fn change_rows(
     Ok(())
 }
 
-// Makes the change of one row in rows that other shards may share and keep as they are. Without either row nothing is copied.
+// Takes a row out and puts one in, if they are given. If other shards share the rows, they keep them unchanged, and a copy of the
+// top is changed instead. If neither row is given, nothing is copied.
 fn change_shared(
     alloc: Global,
     rows: &mut Arc<Pages<RowBytes>>,
@@ -180,9 +181,9 @@ fn change_shared(
 /// Mends the rows of an index for a change of the document with this id from one form to another.
 ///
 /// Errors: `NoMemory` if an allocation fails; the rows are then useless.
-/// Cost: a look at the parts of both forms at the columns. If these differ: both rows, put together in the lent scratch, the way to
-/// both, and once the top of pages that others share. A row that stays takes no memory, unless one of its columns holds an array or
-/// an object.
+/// Cost: a comparison of both forms at the columns. If they are not known to be equal: both rows, built in the lent scratch, the
+/// way to each, and a copy of the top of the pages if others share it. A row that stays takes no memory, unless one of its columns
+/// holds an array or an object.
 pub(crate) fn mend_rows(
     alloc: Global,
     scratch: &mut KeyBytes,
@@ -208,9 +209,9 @@ pub(crate) fn mend_rows(
     Ok(())
 }
 
-/// Pages of rows, each of which stands once among them.
+/// Sorts rows by key and id into pages; no row may occur twice. All pages but the last are full.
 ///
-/// Errors: `NoMemory` if an allocation fails. Cost: the rows sorted, and a step a row. The pages are full, but for the last.
+/// Errors: `NoMemory` if an allocation fails. Cost: a sort of the rows, and a step for each.
 pub(crate) fn pages_of(alloc: Global, rows: Vec<RowBytes>) -> Result<Pages<RowBytes>, NoMemory>
     requires { (z : RowValue) → times row_value_order z rows.items ≤ 1 }
     ensures { IfOk result (λ pages. pages ≡ sorted row_value_order rows.items) }

@@ -1,4 +1,4 @@
-//! The indexes of a shard: the rows that an index has, and shards with an index more or less.
+//! The indexes of a shard: how their rows are made, and how an index is added or removed.
 ghost use Rattle.std.specs.Prelude.{◌≡◌, IfOk};
 ghost use Rattle.std.specs.Arc.{arc_value};
 ghost use Rattle.std.specs.List.{filter_map};
@@ -62,12 +62,12 @@ impl Shard {
         Ok(pages)
     }
 
-    /// The rows that an index of this definition has in this shard, by key and id: what `with_rows` asks for, the same for every number
-    /// of workers. One worker starts no thread, and nor does a shard of fewer than 1,000 documents; otherwise as many threads
-    /// extract the rows, sort them and put them into pages as there are processors.
+    /// The rows that an index of this definition has in this shard, by key and id, for `with_rows`. They are the same for every number
+    /// of workers. With one worker, or fewer than 1,000 documents, no thread is started; otherwise as many threads as there are
+    /// processors extract the rows, sort them and put them into pages.
     ///
-    /// Errors: `NoMemory` if an allocation fails. Cost: each document once, the bytes of its row, the rows sorted, and a step a row. A row
-    /// takes memory of its own only where it is too long to stand in its own value.
+    /// Errors: `NoMemory` if an allocation fails. Cost: a step for each document, the bytes of its row, a sort of the rows, and a step
+    /// for each. A row takes a block of memory only if it is too long to be stored in the value itself.
     pub fn rows_for<R: Threads + Sync>(
         &self,
         rt: &R,
@@ -115,8 +115,8 @@ impl Shard {
         self.with(alloc, definition, rows)
     }
 
-    /// The shard with an index, as for `with_index`, whose rows the caller brings: those that `rows_for` gives. The definition is shared,
-    /// not copied.
+    /// The shard with an index of this definition and these rows, which must be those that `rows_for` returns. It replaces an index of
+    /// the same design document and name. The definition is shared, not copied.
     ///
     /// Errors: `NoMemory` if an allocation fails. Cost: that of `share`, a look-up, and a copy of one page of the list of indexes.
     pub fn with_rows(

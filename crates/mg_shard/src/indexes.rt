@@ -34,7 +34,10 @@ pub(crate) fn listed(
 /// Pages of these indexes, which are a catalog: the list of a shard.
 ///
 /// Errors: `NoMemory` if an allocation fails. Cost: their number.
-pub(crate) fn paged(alloc: Global, indexes: &[IndexEntry]) -> Result<Pages<IndexEntry>, NoMemory>
+pub(crate) fn list_in_pages(
+    alloc: Global,
+    indexes: &[IndexEntry],
+) -> Result<Pages<IndexEntry>, NoMemory>
     requires { IsCatalog (definitions_of indexes.now) }
     ensures { IfOk result (λ p. p ≡ indexes.now) }
 {
@@ -56,8 +59,8 @@ pub(crate) fn rows_there<'a>(
     }
 }
 
-/// The indexes and this one in its place; it replaces one of the same design document and name. All pages but those on the way to
-/// its place are shared.
+/// The indexes with this one inserted; it replaces an index of the same design document and name. All pages but those on the way to
+/// it are shared.
 ///
 /// Errors: `NoMemory` if an allocation fails. Cost: one look-up, and a copy of the page of the list where the index belongs.
 pub(crate) fn with(
@@ -99,11 +102,10 @@ fn form_in<'a>(documents: &'a Pages<Shared<Document>>, id: &str) -> Option<&'a P
     }
 }
 
-/// Mends the rows of all indexes for a document that is put among others, where it replaces one with the same id.
+/// Mends the rows of all indexes for a document that is inserted; it replaces the document with the same id, if there is one.
 ///
 /// Errors: `NoMemory` if an allocation fails; the indexes are then useless.
-/// Cost: for each index a look at the parts that the document had and has at its columns; if these differ, both rows, put together
-/// in the lent scratch, and the ways to them. An index whose row stays takes no memory.
+/// Cost: a look-up of the document, and that of `mend_rows` for each index.
 pub(crate) fn mend_all(
     alloc: Global,
     scratch: &mut KeyBytes,

@@ -46,8 +46,8 @@ fn add_documents<'a>(shard: &'a Shard, all: &mut Vec<&'a Shared<Document>>) -> R
     Ok(())
 }
 
-/// The place of each of these documents among the given number of shards. The caller's thread asks the placement, which threads need not
-/// be able to share.
+/// The place of each of these documents among the given number of shards. Only the caller's thread asks the placement, which
+/// therefore need not be `Sync`.
 ///
 /// Errors: `NoMemory` if an allocation fails. Cost: the placement of each document.
 pub(crate) fn places_of<P: Placement>(
@@ -67,7 +67,7 @@ pub(crate) fn places_of<P: Placement>(
     Ok(places)
 }
 
-// Puts a document among those of a shard, where that is the document's own.
+// Inserts a document among those of the shard `place`, if its own shard, `own`, is that one.
 fn put_if(
     alloc: Global,
     there: &mut Pages<Shared<Document>>,

@@ -16,9 +16,9 @@ pub trait Placement {
 }
 
 /// The placement by MD5: the first eight bytes of the digest of the id's UTF-8 bytes, as a big-endian
-/// number, and of it the remainder by the number of shards.
+/// number, modulo the number of shards.
 ///
-/// Cost: the length of the id, and nothing where there is one shard. Takes no memory. Source: RFC 1321.
+/// Cost: the length of the id; constant if there is one shard. Takes no memory. Source: RFC 1321.
 #[derive(Clone, Copy, Drop, Debug)]
 pub struct Md5Placement;
 

@@ -15,7 +15,7 @@ ghost use Rattle.mg_shard.specs.Shard.{ShardView, shards_seen};
 use crate::document::Document;
 use crate::entry::IndexEntry;
 use crate::extracted::MANY_DOCUMENTS;
-use crate::indexes::{listed, paged};
+use crate::indexes::{list_in_pages, listed};
 use crate::placed::{all_documents, documents_at, places_of};
 use crate::placement::Placement;
 use crate::shard::Shard;
@@ -31,11 +31,12 @@ use std::thread::Threads;
 /// gives, whatever placement dealt it before. Each new shard has the rows of all indexes that these shards have. Documents, trees and
 /// definitions are shared with the lent shards, not copied.
 ///
-/// The shards are the same for every number of workers. No thread is started with one worker, or for fewer than 1,000 documents; otherwise a thread
-/// for each shard makes it. If there are twice as many workers as shards, further threads extract and sort the rows of each.
+/// The shards are the same for every number of workers. With one worker, or fewer than 1,000 documents, no thread is started;
+/// otherwise each shard is made by a thread of its own. If there are at least twice as many workers as shards, further threads extract
+/// and sort the rows of each shard that has 1,000 documents or more.
 ///
-/// Errors: `NoMemory` if an allocation fails. Cost: for each document its placement and the way to its place, and for each index the
-/// bytes of its row, and each shard's rows sorted.
+/// Errors: `NoMemory` if an allocation fails. Cost: for each document its placement, an insertion, and the bytes of its row in each
+/// index; and a sort of the rows of each shard.
 pub fn redeal<P: Placement, R: Threads + Sync>(
     rt: &R,
     alloc: Global,
@@ -47,7 +48,7 @@ pub fn redeal<P: Placement, R: Threads + Sync>(
     requires { 0 < count }
     ensures number { IfOk result (λ v. length v.items ≡ count) }
 
-    // Each document is kept where it is placed, and nowhere else: where several of the former shards keep one id, the last of them gives it.
+    // Each document is kept where it is placed, and nowhere else. If several former shards keep one id, the last of them counts.
     ensures documents { IfOk result
         (λ v. AreRedealt (P.place placement.now) (documents_in (shards_seen shards.now))
         (documents_in v.items)) }
@@ -68,7 +69,7 @@ pub fn redeal<P: Placement, R: Threads + Sync>(
     let places: &[usize] = &found;
     let first = first_indexes(alloc, shards)?;
     let indexes: &[IndexEntry] = &first;
-    let made = all_made(rt, alloc, documents, places, indexes, count, workers)?;
+    let made = make_all(rt, alloc, documents, places, indexes, count, workers)?;
     Ok(made)
 }
 
@@ -120,7 +121,7 @@ fn indexes_over<R: Threads + Sync>(
 }
 
 // A shard of these documents with indexes of these definitions.
-fn indexed<R: Threads + Sync>(
+fn index_documents<R: Threads + Sync>(
     rt: &R,
     alloc: Global,
     documents: Pages<Shared<Document>>,
@@ -136,12 +137,12 @@ fn indexed<R: Threads + Sync>(
         indexes: Pages::new(alloc),
     };
     let own = indexes_over(rt, alloc, &bare, indexes, workers)?;
-    let indexes = paged(alloc, &own)?;
+    let indexes = list_in_pages(alloc, &own)?;
     Ok(Shard { documents, indexes })
 }
 
 // One of the new shards: the documents that are placed there, with indexes of these definitions.
-fn made<R: Threads + Sync>(
+fn make_shard<R: Threads + Sync>(
     rt: &R,
     alloc: Global,
     documents: &[&Shared<Document>],
@@ -155,11 +156,11 @@ fn made<R: Threads + Sync>(
     ensures { IfOk result (IsMade (documents_seen documents.now) places.now (definitions_of indexes.now) place) }
 {
     let there = documents_at(alloc, documents, places, place)?;
-    indexed(rt, alloc, there, indexes, workers)
+    index_documents(rt, alloc, there, indexes, workers)
 }
 
 // The new shards one after the other, each made by this many workers.
-fn made_in_turn<R: Threads + Sync>(
+fn make_in_turn<R: Threads + Sync>(
     rt: &R,
     alloc: Global,
     documents: &[&Shared<Document>],
@@ -176,7 +177,7 @@ fn made_in_turn<R: Threads + Sync>(
 {
     let mut shards = Vec::with_capacity(alloc, count)?;
     for i in 0..count {
-        shards.push(made(rt, alloc, documents, places, indexes, i, workers)?)?;
+        shards.push(make_shard(rt, alloc, documents, places, indexes, i, workers)?)?;
     }
     Ok(shards)
 }
@@ -193,7 +194,7 @@ fn all_of(alloc: Global, results: Vec<Result<Shard, NoMemory>>) -> Result<Vec<Sh
 }
 
 // The new shards, each made by a thread of its own with this many workers.
-fn made_at_once<R: Threads + Sync>(
+fn make_at_once<R: Threads + Sync>(
     rt: &R,
     alloc: Global,
     documents: &[&Shared<Document>],
@@ -216,14 +217,14 @@ fn made_at_once<R: Threads + Sync>(
             requires { IsSync R.row × (length places.now ≡ length documents.now)
                 × IsCatalog (definitions_of indexes.now) }
             ensures { IfOk result (IsMade (documents_seen documents.entry.now) places.entry.now (definitions_of indexes.entry.now) place) }
-        { made(rt, alloc, documents, places, indexes, place, workers) },
+        { make_shard(rt, alloc, documents, places, indexes, place, workers) },
     )?;
     let shards = all_of(alloc, results)?;
     Ok(shards)
 }
 
 // The new shards, each with indexes of these definitions.
-fn all_made<R: Threads + Sync>(
+fn make_all<R: Threads + Sync>(
     rt: &R,
     alloc: Global,
     documents: &[&Shared<Document>],
@@ -240,9 +241,9 @@ fn all_made<R: Threads + Sync>(
         (λ v. AreMade (documents_seen documents.now) places.now (definitions_of indexes.now) v.items) }
 {
     if workers < 2 {
-        return made_in_turn(rt, alloc, documents, places, indexes, count, workers);
+        return make_in_turn(rt, alloc, documents, places, indexes, count, workers);
     }
-    made_at_once(
+    make_at_once(
         rt,
         alloc,
         documents,

@@ -34,10 +34,10 @@ use std::alloc::Global;
 use std::cmp::Ordering;
 use std::marker::Model;
 
-/// Documents by their ids and the rows of indexes, in shared pages: a share of a shard costs its tops alone, and an edit copies a
-/// document, a row or two for each index, and the ways to them.
+/// Documents by their ids and the rows of indexes, in shared pages: sharing a shard copies only the top levels, and an edit copies a
+/// document, a row or two for each index, and the pages on the way to them.
 ///
-/// The rows of each index are those of the served documents from scratch, by key and id, after any edits.
+/// After any edits, the rows of each index are those that an index made from scratch of the served documents has, by key and id.
 #[derive(Drop)]
 pub struct Shard {
     pub(crate) documents: Pages<Shared<Document>>,
@@ -104,8 +104,8 @@ impl Shard {
         }
     }
 
-    /// The compact text of that form, as it was made when the document was last edited. Takes no memory.
-    /// Cost: one look-up.
+    /// The compact text of the form in which the document of an id is served, if it is there and not deleted. The text was made when
+    /// the document was last edited. Takes no memory. Cost: one look-up.
     pub fn served_text(&self, id: &str) -> Option<&[u8]>
         ensures { option_map (λ t. t.now) result ≡ option_map compact (form_at self.now.documents id.now) }
     {
@@ -199,11 +199,11 @@ impl Shard {
         }
     }
 
-    /// The shard after edits that have ids, applied in order, and what became of each. A refusal of memory leaves this shard.
+    /// Applies edits that have ids, in order, and returns the shard after them and what became of each. This shard does not change.
     ///
     /// Errors: `NoMemory` if an allocation fails. Cost: a copy of each edit, whose body is moved into its document's tree; and for
     /// each document that they touch a copy of its tree, its form and text, and the pages on the way to it. A bulk that touches
-    /// none copies only the top level. A draft takes edits by value, without a copy of each.
+    /// none copies only the top levels. `Draft::edit` takes an edit by value, and does not copy it.
     pub fn apply(&self, alloc: Global, edits: &[Edit]) -> Result<(Shard, Vec<EditReply>), NoMemory>
         ensures stands { IfOk result
             (λ r. (hs : Histories) → StandFor self.now.documents hs

@@ -11,8 +11,8 @@ use Rattle.mg_shard.proofs.Redealing.{all_dealt, as_many, first_definitions, mad
 use Rattle.mg_shard.proofs.Together.{seen_length}
 use Rattle.mg_shard.proofs.redealt.redeal.Goals as goal
 
-pub all_made-requires-clause-number : goal.all_made-requires-clause-number
-all_made-requires-clause-number g c κs within =
+pub make_all-requires-clause-number : goal.make_all-requires-clause-number
+make_all-requires-clause-number g c κs within =
     let ds = c.deref-documents.result.now in
     ap length c.deref-places.ensures.value ∙ as_many (g.P.Placement.place c.args.placement.now) c.args.count (documents_seen ds) c.in_ok-found.found.items c.in_ok-found.ensures
     ∙ seen_length ds

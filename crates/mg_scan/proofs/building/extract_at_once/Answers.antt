@@ -7,7 +7,7 @@ use Rattle.mg_rows.proofs.row.RowBytes.TheSendSync as rows
 use Rattle.mg_shard.specs.Shard.{shards_seen}
 use Rattle.mg_scan.proofs.Builds.{rows-called}
 use Rattle.mg_scan.proofs.Lent.{build_sync}
-use Rattle.mg_scan.proofs.building.extracted_at_once.Goals as goal
+use Rattle.mg_scan.proofs.building.extract_at_once.Goals as goal
 
 -- the rows that threads hand over, and what they look at, may cross
 pub map_indices-requires-send-X : goal.map_indices-requires-send-X

@@ -4,7 +4,7 @@ use Rattle.std.specs.Vec.Iter.{into_iter_items}
 use Rattle.std.specs.declared.alloc.Global.{Global}
 use Rattle.std.specs.declared.vec.Vec.{Vec}
 use Rattle.mg_collate.specs.Row.{RowValue}
-use Rattle.mg_shard.proofs.extracted.joined.Given as goal
+use Rattle.mg_shard.proofs.extracted.join_lists.Given as goal
 
 -- what is left decides
 abbrev pub invariant-loop-list : goal.invariant-loop-list

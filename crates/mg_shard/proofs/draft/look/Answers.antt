@@ -4,7 +4,7 @@ use Rattle.mg_revtree.specs.Tree.{StandsFor}
 use Rattle.mg_doc.specs.Edit.{outcome_of}
 use Rattle.mg_doc.specs.declared.error.Refused.TheVariants.{BadHistory, Conflict}
 use Rattle.mg_shard.proofs.Touched.{refused_leaves}
-use Rattle.mg_shard.proofs.draft.looked.Goals as goal
+use Rattle.mg_shard.proofs.draft.look.Goals as goal
 
 pub returns-in-Err-Conflict : goal.returns-in-Err-Conflict
 returns-in-Err-Conflict c = λ h st.

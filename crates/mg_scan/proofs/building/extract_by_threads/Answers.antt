@@ -1,7 +1,7 @@
 use Rattle.std.proofs.Common.{◌∙◌, arith}
 use Rattle.mg_shard.specs.Shard.{shards_seen}
 use Rattle.mg_scan.proofs.Builds.{rows-joined}
-use Rattle.mg_scan.proofs.building.extracted_by_threads.Goals as goal
+use Rattle.mg_scan.proofs.building.extract_by_threads.Goals as goal
 
 pub loop-alloc-preserved : goal.loop-alloc-preserved
 loop-alloc-preserved g c =

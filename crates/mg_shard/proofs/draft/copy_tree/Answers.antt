@@ -4,7 +4,7 @@ use Rattle.mg_revtree.specs.History.{History}
 use Rattle.mg_revtree.specs.Tree.{StandsFor}
 use Rattle.mg_revtree.specs.declared.tree.RevTree.{RevTree}
 use Rattle.mg_shard.proofs.Standing.{tree_absent, tree_there}
-use Rattle.mg_shard.proofs.draft.copied.Goals as goal
+use Rattle.mg_shard.proofs.draft.copy_tree.Goals as goal
 
 pub returns-in_ok-copy-in-Some : goal.returns-in_ok-copy-in-Some
 returns-in_ok-copy-in-Some c = λ ds hs id is st.
