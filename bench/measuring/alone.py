@@ -154,7 +154,7 @@ def shown_after(program, skip, count):
 
 def catalogs(args):
     """The table of the time that it takes to define many indexes on 64 shards."""
-    numbers = [max(5, int(min(1, 10 * args.share) * count)) for count in MANY_INDEXES]
+    numbers = [max(5, int(min(1, 20 * args.share) * count)) for count in MANY_INDEXES]
     seconds = [defined(args, number) for number in numbers]
     return grid(f"indexes of {BULK:,} documents on 64 shards", [f"{number:,}" for number in numbers], {"seconds by the clock": seconds})
 

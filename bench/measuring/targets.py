@@ -157,7 +157,7 @@ TARGETS = [
      each(worker_share("index on two", [(0, 1), (2, 3)], 0.45), worker_share("reshard", [(0, 1)], 0.6),
           worker_share("without an index", [(2, 3)], 0.33))),
     ("where the range decides, a row that a page skips takes at most 40 ns, with each pair of shards and workers", cells_at_most("skips", 40)),
-    ("on 64 shards one index of 1,000 takes at most 1.25 times as long to define as one of 250", many_indexes(1.25)),
+    ("on 64 shards an index takes at most 1.25 times as long to define if there are four times as many", many_indexes(1.25)),
 ]
 # so many figures are shown each; of more, the least and the greatest
 SHOWN = 6
