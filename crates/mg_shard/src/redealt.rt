@@ -35,8 +35,8 @@ use std::thread::Threads;
 /// otherwise each shard is made by a thread of its own. If there are at least twice as many workers as shards, further threads extract
 /// and sort the rows of each shard that has 1,000 documents or more.
 ///
-/// Errors: `NoMemory` if an allocation fails. Cost: for each document its placement, an insertion, and the bytes of its row in each
-/// index; and a sort of the rows of each shard.
+/// Errors: `NoMemory` if an allocation fails. Cost: for each document its placement, a step for each new shard, an insertion, and the
+/// bytes of its row in each index; and a sort of the rows of each shard.
 pub fn redeal<P: Placement, R: Threads + Sync>(
     rt: &R,
     alloc: Global,
