@@ -4,7 +4,7 @@ use Rattle.std.proofs.lemmas.Cmp.{nat_list_cmp_total, tied_itself}
 use Rattle.std.specs.Cmp.Lexicographic.{slice_cmp}
 use Rattle.std.specs.FinMap.{IsAntisymmetric, nat_cmp-IsAntisymmetric, slice_cmp-IsAntisymmetric}
 use Rattle.std.specs.Ordering.{match_ordering}
-use Rattle.mg_value.specs.Value.{Value, null, flag, whole, text, list, object, Members, no_members, member, get_member, member_of, put, with_member, without, without_member}
+use Rattle.mg_value.specs.Value.{Value, null, flag, whole, text, list, object, Members, no_members, member, get_member, member_of, put, without}
 use Rattle.mg_revtree.specs.Body.{as_form, bare, IsBare, IsFormOf}
 
 -- ---- the member that was put in

@@ -20,3 +20,4 @@ pub mod Fits
 pub mod Replicas
 pub mod Leafless
 pub mod Bodies
+pub mod Firsts

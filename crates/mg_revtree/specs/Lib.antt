@@ -10,3 +10,4 @@ pub mod Losers
 pub mod Known
 pub mod Body
 pub mod Block
+pub mod Growth

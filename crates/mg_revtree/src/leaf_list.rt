@@ -102,6 +102,17 @@ pub fn add_leaf(leaves: &mut Vec<SharedLeaf>, leaf: SharedLeaf)
     drop(leaves.insert(at, leaf));
 }
 
+/// The leaves, lent. Cost: their number.
+pub fn lent_leaves(alloc: Global, leaves: &[SharedLeaf]) -> Result<Vec<&Leaf>, NoMemory>
+    ensures { IfOk result (λ found. map (λ l. l.now) found.items ≡ leaves.now) }
+{
+    let mut found = Vec::with_capacity(alloc, leaves.len())?;
+    for shared in leaves {
+        found.push(shared.leaf())?;
+    }
+    Ok(found)
+}
+
 /// The leaves that are not deleted. If there are none, no memory is needed.
 pub fn kept_among(alloc: Global, leaves: &[SharedLeaf]) -> Result<Vec<&Leaf>, NoMemory>
     ensures kept { IfOk result

@@ -5,6 +5,8 @@ mod body;
 mod capacity;
 mod error;
 mod form;
+mod grown;
+mod growth;
 mod history;
 pub mod laws;
 mod leaf;

@@ -1,7 +1,7 @@
 ghost use Rattle.std.specs.Prelude.{◌≡◌, Err, IfOk, IsSome, None, Some, string_bytes};
 ghost use Rattle.std.specs.Char.{is_ascii_digit};
 ghost use Rattle.std.specs.List.{list_all};
-ghost use Rattle.mg_revtree.specs.Revision.{is_id_byte, is_revision_id, position_of, revision_of, revision_order, revision_text};
+ghost use Rattle.mg_revtree.specs.Revision.{is_id_byte, is_revision_id, position_of, revision_of, revision_order, revision_text, same_revision};
 
 use crate::error::RevError;
 use mg_value::NoMemory;
@@ -76,6 +76,13 @@ impl Rev {
         ensures { result ≡ revision_order (pos, id.now) self.now }
     {
         pos.cmp(&self.pos).then(id.cmp(self.id.as_bytes()))
+    }
+
+    // Whether the revision is that of the given position and id.
+    pub(crate) fn is(&self, pos: u32, id: &[u8]) -> bool
+        ensures { result ≡ same_revision (pos, id.now) self.now }
+    {
+        self.against(pos, id).is_eq()
     }
 
     /// A copy of the revision. Cost: the length of the id.

@@ -1,21 +1,20 @@
-ghost use Rattle.std.specs.Prelude.{◌≡◌, ◌+◌, ◌<◌, ◌≤◌, [], Err, IfOk, IfSome, IsOk, IsOkUnless, Ok, OnErr, OnOk, false, is_some, length, map, option_copied, string_bytes, true};
+ghost use Rattle.std.specs.Prelude.{◌≡◌, ◌+◌, ◌<◌, ◌≤◌, ◌++◌, [], Err, IfOk, IfSome, IsOk, IsOkUnless, Ok, OnErr, OnOk, false, is_some, length, map, option_copied, string_bytes, true};
 ghost use Rattle.mg_value.specs.View.{view};
 ghost use Rattle.mg_revtree.specs.Revision.{run_from};
 ghost use Rattle.mg_revtree.specs.Body.{IsFormOf};
 ghost use Rattle.mg_revtree.specs.History.{History as Paths, first_of, fits, is_whole, leaves_of, winner_of};
+ghost use Rattle.mg_revtree.specs.Growth.{empty_tree, first_tree};
 ghost use Rattle.mg_revtree.specs.Tree.{AreLeaves, AreLosers, AreRanked, StandsFor};
 ghost use Rattle.mg_revtree.specs.Losers.{losers_of};
 ghost use Rattle.mg_revtree.specs.Changes.{Decides, extension, found_of, next_position, path_of, position_below, refusal_of, with_path};
 ghost use Rattle.mg_revtree.specs.Steps.{base_in, ids_over};
 
-use crate::body::Body;
-use crate::capacity::reserve;
 use crate::error::{MergeError, Merged, TreeError, TreeRefusal};
 use crate::form::Form;
+use crate::growth::Growth;
 use crate::history::History;
 use crate::leaf::{Leaf, SharedLeaf};
-use crate::leaf_list::{add_leaf, copy_leaves, is_leaf, kept_among, unleaf};
-use crate::links::Known;
+use crate::leaf_list::{is_leaf, kept_among, lent_leaves};
 use crate::revision::Rev;
 use mg_value::{Json, NoMemory};
 use std::alloc::Global;
@@ -52,22 +51,24 @@ fn ids_over(alloc: Global, id: String, parent: Option<&Rev>) -> Result<Vec<Strin
 /// The revision tree of a document: its known revisions with their parents, and its leaves with their deletion marks
 /// and bodies. A contract speaks of every history that the tree stands for.
 ///
-/// A body is kept once, at its leaf, in one block of memory. The id of a revision is kept once; once more if both the older
-/// and the newer list of known revisions have it; and once more if it is a leaf.
+/// A body is kept once, at its leaf, in one block of memory. A tree of one revision, as most documents have, is its leaf and
+/// takes nothing else. In any other tree the id of a revision is kept once; once more if both the older and the newer list of known
+/// revisions have it; and once more if it is a leaf.
 #[derive(Drop)]
 pub struct RevTree {
-    links: Known,
-    leaves: Vec<SharedLeaf>,
+    alloc: Global,
+    growth: Growth,
 }
 
 impl Model for RevTree {
+    ghost use Rattle.mg_revtree.specs.Growth.{tree_in};
     ghost use Rattle.mg_revtree.specs.Tree.{Tree, tree_code};
 
     ghost Value = { Tree };
 
     ghost coded = { tree_code };
 
-    ghost view = { λ t. record { links = t.links; leaves = t.leaves.items } };
+    ghost view = { λ t. tree_in t.growth };
 }
 
 impl RevTree {
@@ -76,8 +77,8 @@ impl RevTree {
         ensures { StandsFor result [] }
     {
         RevTree {
-            links: Known::new(alloc),
-            leaves: Vec::new(alloc),
+            alloc,
+            growth: Growth::Empty,
         }
     }
 
@@ -86,10 +87,11 @@ impl RevTree {
         ensures winner { (h : Paths) → StandsFor self.now h → option_copied result ≡ winner_of h }
         ensures first { option_copied result ≡ first_of self.now.leaves }
     {
-        if self.leaves.is_empty() {
+        let leaves = self.growth.leaves();
+        if leaves.is_empty() {
             return None;
         }
-        Some(self.leaves[0].leaf())
+        Some(leaves[0].leaf())
     }
 
     /// Moves the winner's body into the block of the form in which the document is served, so that both take one block. The body
@@ -99,11 +101,7 @@ impl RevTree {
         requires { IfSome (first_of self.old.leaves) (λ l. IsFormOf l.body form) }
         ensures { self.new ≡ self.old }
     {
-        if self.leaves.is_empty() {
-            return;
-        }
-        let winner = &mut self.leaves[0];
-        winner.move_into(form);
+        self.growth.share_form(form);
     }
 
     /// The leaves, best first. Cost: their number.
@@ -113,11 +111,7 @@ impl RevTree {
         ensures list { IfOk result
             (λ found. (h : Paths) → StandsFor self.now h → map (λ l. l.now) found.items ≡ leaves_of h) }
     {
-        let alloc = *self.leaves.allocator();
-        let mut found = Vec::with_capacity(alloc, self.leaves.len())?;
-        for leaf in &self.leaves {
-            found.push(leaf.leaf())?;
-        }
+        let found = lent_leaves(self.alloc, self.growth.leaves())?;
         Ok(found)
     }
 
@@ -130,22 +124,22 @@ impl RevTree {
             (λ found. (h : Paths) → StandsFor self.now h → map (λ l. l.now) found.items ≡ losers_of h) }
         ensures none { (h : Paths) → StandsFor self.now h → losers_of h ≡ [] → IsOk result }
     {
-        let alloc = *self.leaves.allocator();
-        if self.leaves.is_empty() {
-            return Ok(Vec::new(alloc));
+        let leaves = self.growth.leaves();
+        if leaves.is_empty() {
+            return Ok(Vec::new(self.alloc));
         }
-        Ok(kept_among(alloc, &self.leaves[1..])?)
+        Ok(kept_among(self.alloc, &leaves[1..])?)
     }
 
-    /// A copy of the tree. It shares the leaves with their bodies, and all known revisions but the newer ones. Cost: copies the
-    /// two blocks of the newer known revisions, which are at most 64, or about four times the square root of the number of
-    /// older ones, and increments one reference count for each leaf.
+    /// A copy of the tree. It shares the leaves with their bodies, and all known revisions but the newer ones. Cost: one reference
+    /// count for each leaf; and for a tree of more than one revision, copies of the two blocks of the newer known revisions, which
+    /// are at most 64, or about four times the square root of the number of older ones.
     pub fn copy(&self, alloc: Global) -> Result<RevTree, NoMemory>
         ensures { IfOk result (λ tree. tree ≡ self.now) }
     {
         Ok(RevTree {
-            links: self.links.copy(alloc)?,
-            leaves: copy_leaves(alloc, &self.leaves)?,
+            alloc,
+            growth: self.growth.copy(alloc)?,
         })
     }
 
@@ -155,7 +149,7 @@ impl RevTree {
         ensures { (h : Paths) → StandsFor self.now h → result ≡ fits h path.now }
     {
         let (start, ids) = path.run();
-        self.links.fits(start, ids)
+        self.growth.fits(start, ids)
     }
 
     /// Whether a path is known whole: each of its revisions is known, with the parent that the path gives it. To merge such a
@@ -164,7 +158,7 @@ impl RevTree {
         ensures { (h : Paths) → StandsFor self.now h → result ≡ is_whole h path.now }
     {
         let (start, ids) = path.run();
-        self.links.holds(start, ids)
+        self.growth.holds(start, ids)
     }
 
     /// The position of a new revision over the leaf `parent`; without a parent, 1 in a tree without leaves. Takes no memory.
@@ -176,7 +170,7 @@ impl RevTree {
             → result ≡ next_position h (option_copied parent.entry) }
         ensures above { IfOk result (λ n. n ≡ position_below (option_copied parent.entry) + 1) }
     {
-        match position_under(&self.leaves, parent) {
+        match position_under(self.growth.leaves(), parent) {
             Some(below) => below.checked_add(1).ok_or(TreeRefusal::Full),
             None => Err(TreeRefusal::NotLeaf),
         }
@@ -208,10 +202,10 @@ impl RevTree {
         ensures err { OnErr result (self.new ≡ self.old) }
     {
         let (start, ids) = path.run();
-        if self.links.holds(start, ids) {
+        if self.growth.holds(start, ids) {
             return Ok(Merged::Known);
         }
-        if !self.links.fits(start, ids) {
+        if !self.growth.fits(start, ids) {
             return Err(MergeError::BadHistory);
         }
         Ok(self.accept(start, ids, deleted, body)?)
@@ -235,23 +229,26 @@ impl RevTree {
             → m ≡ found_of h (run_from start (map string_bytes ids.now))) }
         ensures err { OnErr result (self.new ≡ self.old) }
     {
-        let id = &ids[0];
-        let known = self.links.knows(start, id);
+        if ids.len() > 1 || !self.growth.is_empty() {
+            return self.growth.accept(self.alloc, start, ids, deleted, body);
+        }
         let rev = Rev {
             pos: start,
-            id: id.clone()?,
+            id: ids[0].clone()?,
         };
-        let alloc = *self.leaves.allocator();
-        let body = Body::of(alloc, &body)?;
-        let leaf = SharedLeaf::new(alloc, Leaf { rev, deleted, body })?;
-        reserve(&mut self.leaves, 1)?;
-        self.links.join(start, ids)?;
-        unleaf(&mut self.leaves, start, ids);
-        if known {
-            return Ok(Merged::Known);
-        }
-        add_leaf(&mut self.leaves, leaf);
+        self.begin(rev, deleted, &body)?;
         Ok(Merged::New)
+    }
+
+    // Makes the first revision of a tree without revisions.
+    fn begin(&mut self, rev: Rev, deleted: bool, body: &Json) -> Result<(), NoMemory>
+        requires { self.old ≡ empty_tree }
+        ensures begun { OnOk result
+            (self.new ≡ first_tree (record { rev = rev; deleted = deleted; body = view body.now })) }
+        ensures err { OnErr result (self.new ≡ self.old) }
+    {
+        self.growth = Growth::first(self.alloc, rev, deleted, body)?;
+        Ok(())
     }
 
     /// Makes a new revision over the leaf `parent`; without a parent, at position 1 in a tree without leaves. The caller gives
@@ -275,11 +272,34 @@ impl RevTree {
         ensures err { OnErr result (self.new ≡ self.old) }
     {
         let pos = self.next_position(parent)?;
-        if self.links.knows(pos, &id) {
+        if self.growth.knows(pos, &id) {
             return Err(TreeError::Known);
         }
-        let ids = ids_over(*self.leaves.allocator(), id, parent)?;
-        self.accept(pos, &ids, deleted, body)?;
+        self.place(pos, parent, id, deleted, body)?;
+        Ok(())
+    }
+
+    // Makes a new revision at its position over its parent.
+    fn place(
+        &mut self,
+        pos: u32,
+        parent: Option<&Rev>,
+        id: String,
+        deleted: bool,
+        body: Json,
+    ) -> Result<(), NoMemory>
+        requires { pos ≡ position_below (option_copied parent) + 1 }
+        ensures accepted { OnOk result ((h : Paths) → StandsFor self.old h
+            → StandsFor self.new
+            (with_path h (extension (option_copied parent.entry) (string_bytes id) deleted (view body)))) }
+        ensures err { OnErr result (self.new ≡ self.old) }
+    {
+        if parent.is_none() && self.growth.is_empty() {
+            self.begin(Rev { pos, id }, deleted, &body)?;
+            return Ok(());
+        }
+        let ids = ids_over(self.alloc, id, parent)?;
+        self.growth.accept(self.alloc, pos, &ids, deleted, body)?;
         Ok(())
     }
 }

@@ -1,44 +1,23 @@
-use Rattle.std.proofs.Common.{◌≡◌, ◌∙◌, true, false, not, filter, Some, None, is_some, map, string_bytes, sym, ap, subst, List, ℕ, arith}
-use Rattle.mg_value.specs.Value.{Value}
+use Rattle.std.proofs.Common.{◌≡◌, ◌∙◌, OnOk, List, ℕ, [], ◌∷◌, length, map, string_bytes, true, ap, sym, subst, arith}
 use Rattle.mg_value.specs.View.{view}
 use Rattle.mg_revtree.specs.Revision.{Revision, run_from}
-use Rattle.mg_revtree.specs.History.{Leaf, all_links, is_known, has_child, links, newest_of, ranked_with}
-use Rattle.mg_revtree.specs.Tree.{AreApart, AreRanked, Tree, StandsFor, find, leaf_in}
-use Rattle.mg_revtree.proofs.Runs.{newest_is, run_is, length-map}
-use Rattle.mg_revtree.proofs.Step.{found_known, stands_known, stands_new, unknown_no_leaf}
-use Rattle.mg_revtree.proofs.Ranks.{are_ranked-filter}
-use Rattle.mg_revtree.specs.Changes.{path_of}
+use Rattle.mg_revtree.specs.History.{History}
+use Rattle.mg_revtree.specs.Growth.{empty_tree, first_tree, is_empty, tree_in}
+use Rattle.mg_revtree.specs.Tree.{StandsFor, Tree}
+use Rattle.mg_revtree.specs.Changes.{path_of, with_path}
+use Rattle.mg_revtree.proofs.Firsts.{empty_is, one_run, stands_first}
 use Rattle.mg_revtree.proofs.tree.RevTree.accept.Goals as goal
 
-pub returns-then-known-clause-accepted : goal.returns-then-known-clause-accepted
-returns-then-known-clause-accepted c = λ h stands.
-    let kept = c.self.inside.links in
-    let leaves = c.self.inside.leaves.items in
-    let rs = run_from c.args.start (map string_bytes c.args.ids.now) in
-    let q : Revision = (c.args.start, string_bytes c.index-ids-0.result) in
-    let s : StandsFor (record { links = kept; leaves = leaves }) h = subst (λ (t : Tree). StandsFor t h) (sym c.self.view_is) stands in
-    let newest : newest_of rs ≡ Some q = newest_is string_bytes c.args.start c.args.ids.now c.index-ids-0.result c.requires.some c.index-ids-0.is in
-    let left = c.unleaf.new.leaves.items in
-    let unleafed : left ≡ filter (λ l. not (has_child l.rev (links rs))) leaves = subst (λ (v : List Leaf). left ≡ filter (λ l. not (has_child l.rev (links rs))) v) c.reserve.ensures.items (c.unleaf.ensures.kept (subst AreRanked (sym c.reserve.ensures.items) s.leaves.ranked) (subst AreApart (sym c.reserve.ensures.items) s.leaves.apart)) in
-    let k : is_some (find q kept) ≡ true = sym (c.knows-known.ensures s.nodes.sorted) ∙ c.if-known.true in
-    stands_known h rs c.args.deleted (view c.args.body) q kept c.join.new.self leaves left newest s (c.in_ok-join.ensures.nodes (all_links h) s.nodes) unleafed k
+pub returns-then-ids-gt1-clause-accepted : goal.returns-then-ids-gt1-clause-accepted
+returns-then-ids-gt1-clause-accepted c =
+    subst (λ (t : Tree). OnOk c.accept.result ((h : History) → StandsFor t h → StandsFor (tree_in c.accept.new.self) (with_path h (path_of (run_from c.args.start (map string_bytes c.args.ids.now)) c.args.deleted (view c.args.body))))) c.self.view_is c.accept.ensures.accepted
 
 pub returns-clause-accepted : goal.returns-clause-accepted
 returns-clause-accepted c = λ h stands.
-    let kept = c.self.inside.links in
-    let leaves = c.self.inside.leaves.items in
-    let rs = run_from c.args.start (map string_bytes c.args.ids.now) in
     let q : Revision = (c.args.start, string_bytes c.index-ids-0.result) in
-    let s : StandsFor (record { links = kept; leaves = leaves }) h = subst (λ (t : Tree). StandsFor t h) (sym c.self.view_is) stands in
-    let newest : newest_of rs ≡ Some q = newest_is string_bytes c.args.start c.args.ids.now c.index-ids-0.result c.requires.some c.index-ids-0.is in
-    let left = c.unleaf.new.leaves.items in
-    let unleafed : left ≡ filter (λ l. not (has_child l.rev (links rs))) leaves = subst (λ (v : List Leaf). left ≡ filter (λ l. not (has_child l.rev (links rs))) v) c.reserve.ensures.items (c.unleaf.ensures.kept (subst AreRanked (sym c.reserve.ensures.items) s.leaves.ranked) (subst AreApart (sym c.reserve.ensures.items) s.leaves.apart)) in
-    let k : is_some (find q kept) ≡ false = sym (c.knows-known.ensures s.nodes.sorted) ∙ c.if-known.false in
-    let leaf : Leaf = record { rev = q; deleted = c.args.deleted; body = view c.args.body } in
-    let u : is_known q (all_links h) ≡ false = sym (found_known q (all_links h) kept (s.nodes.same q)) ∙ k in
-    let made : c.in_ok-leaf.leaf ≡ leaf = c.in_ok-leaf.ensures ∙ ap (λ (t : List ℕ). (let l : Leaf = record { rev = (c.args.start, t); deleted = c.args.deleted; body = c.in_ok-body.body } in l)) c.in_ok-clone.ensures.cases
-    ∙ ap (λ (v : Value). (let l : Leaf = record { rev = q; deleted = c.args.deleted; body = v } in l)) c.in_ok-body.ensures in
-    let ordered : AreRanked left = subst AreRanked (sym unleafed) (are_ranked-filter (λ l. not (has_child l.rev (links rs))) leaves s.leaves.ranked) in
-    let none : leaf_in q left ≡ None = rw unleafed (unknown_no_leaf h (path_of rs c.args.deleted (view c.args.body)) q newest leaves s.leaves.same u) in
-    let more : c.add_leaf.new.leaves.items ≡ ranked_with leaf left = c.add_leaf.ensures ordered (subst (λ (l : Leaf). leaf_in l.rev left ≡ None) (sym made) none) ∙ ap (λ (l : Leaf). ranked_with l left) made in
-    stands_new h rs c.args.deleted (view c.args.body) q kept c.join.new.self leaves left newest s (c.in_ok-join.ensures.nodes (all_links h) s.nodes) unleafed k (run_is c.args.start (map string_bytes c.args.ids.now) (omega (arith, length-map string_bytes c.args.ids.now, c.requires.run))) c.add_leaf.new.leaves.items more
+    let one : length c.args.ids.now ≡ 1 = omega (arith, c.if-ids-gt1.false, c.requires.some) in
+    let run : run_from c.args.start (map string_bytes c.args.ids.now) ≡ q ∷ [] = one_run string_bytes c.args.start c.args.ids.now c.index-ids-0.result one c.index-ids-0.is in
+    let none : is_empty c.self.inside.growth ≡ true = cc in
+    let empty : c.args.self.now ≡ empty_tree = sym c.self.view_is ∙ empty_is c.self.inside.growth none in
+    let made : c.begin.new.self ≡ first_tree (record { rev = q; deleted = c.args.deleted; body = view c.args.body }) = c.in_ok-begin.ensures.begun ∙ ap (λ (t : List ℕ). first_tree (record { rev = (c.args.start, t); deleted = c.args.deleted; body = view c.args.body })) c.in_ok-clone.ensures.cases in
+    subst (λ (rs : List Revision). StandsFor c.begin.new.self (with_path h (path_of rs c.args.deleted (view c.args.body)))) (sym run) (subst (λ (t : Tree). StandsFor t (with_path h (path_of (q ∷ []) c.args.deleted (view c.args.body)))) (sym made) (stands_first h q c.args.deleted (view c.args.body) (subst (λ (t : Tree). StandsFor t h) empty stands)))

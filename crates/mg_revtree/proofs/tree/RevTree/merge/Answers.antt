@@ -2,6 +2,7 @@ use Rattle.std.proofs.Common.{◌≡◌, ◌∙◌, true, List, ap, map, string_
 use Rattle.mg_value.specs.View.{view}
 use Rattle.mg_revtree.specs.Revision.{Revision}
 use Rattle.mg_revtree.specs.History.{all_links, fits, is_whole, links}
+use Rattle.mg_revtree.specs.Growth.{tree_in}
 use Rattle.mg_revtree.specs.Tree.{StandsFor, Tree}
 use Rattle.mg_revtree.specs.Changes.{found_of, path_of, with_path}
 use Rattle.mg_revtree.specs.declared.error.Merged.TheVariants.{Known}
@@ -11,19 +12,19 @@ use Rattle.mg_revtree.proofs.tree.RevTree.merge.Goals as goal
 
 pub returns-then-holds-clause-accepted : goal.returns-then-holds-clause-accepted
 returns-then-holds-clause-accepted c = λ h stands.
-    let s : StandsFor (record { links = c.self.inside.links; leaves = c.self.inside.leaves.items }) h = subst (λ (t : Tree). StandsFor t h) (sym c.self.view_is) stands in
+    let s : StandsFor (tree_in c.self.inside.growth) h = subst (λ (t : Tree). StandsFor t h) (sym c.self.view_is) stands in
     let whole : is_whole h c.args.path.now ≡ true = ap (is_whole h) c.run-start.ensures.run ∙ sym (c.holds.ensures (all_links h) s.nodes) ∙ c.if-holds.true in
     whole_stands c.args.self.now h c.args.path.now c.args.deleted (view c.args.body) whole stands
 
 pub returns-then-holds-clause-found : goal.returns-then-holds-clause-found
 returns-then-holds-clause-found c = λ h stands.
-    let s : StandsFor (record { links = c.self.inside.links; leaves = c.self.inside.leaves.items }) h = subst (λ (t : Tree). StandsFor t h) (sym c.self.view_is) stands in
+    let s : StandsFor (tree_in c.self.inside.growth) h = subst (λ (t : Tree). StandsFor t h) (sym c.self.view_is) stands in
     let whole : is_whole h c.args.path.now ≡ true = ap (is_whole h) c.run-start.ensures.run ∙ sym (c.holds.ensures (all_links h) s.nodes) ∙ c.if-holds.true in
     subst (λ (rs : List Revision). Known ≡ found_of h rs) (sym c.run-start.ensures.run) (whole_found h c.run-start.result.0 (map string_bytes c.run-start.result.1.now) (omega (arith, length-map string_bytes c.run-start.result.1.now, c.run-start.ensures.some)) (ap (is_whole h) (sym c.run-start.ensures.run) ∙ whole))
 
 pub returns-then-holds-clause-refused : goal.returns-then-holds-clause-refused
 returns-then-holds-clause-refused c = λ h stands misfit.
-    let s : StandsFor (record { links = c.self.inside.links; leaves = c.self.inside.leaves.items }) h = subst (λ (t : Tree). StandsFor t h) (sym c.self.view_is) stands in
+    let s : StandsFor (tree_in c.self.inside.growth) h = subst (λ (t : Tree). StandsFor t h) (sym c.self.view_is) stands in
     let whole : is_whole h c.args.path.now ≡ true = ap (is_whole h) c.run-start.ensures.run ∙ sym (c.holds.ensures (all_links h) s.nodes) ∙ c.if-holds.true in
     absurd (let fitting : fits h c.args.path.now ≡ true = whole_fits (all_links h) (links c.args.path.now) whole in cc (fitting, misfit))
 

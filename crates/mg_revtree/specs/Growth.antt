@@ -1,0 +1,33 @@
+-- For private clauses: how far a tree has grown.
+use Rattle.std.specs.Prelude.{List, [], ◌∷◌, Bool, false, true, None}
+use Rattle.mg_revtree.specs.Revision.{Revision, same_revision}
+use Rattle.mg_revtree.specs.History.{Leaf}
+use Rattle.mg_revtree.specs.Tree.{Tree}
+use Rattle.mg_revtree.specs.declared.growth.Growth.{Growth}
+use Rattle.mg_revtree.specs.declared.growth.Growth.TheVariants.{Empty, First, Grown}
+
+-- the tree without revisions
+abbrev pub empty_tree : Tree
+empty_tree = record { links = []; leaves = [] }
+
+-- the tree of one revision, which has no parent
+abbrev pub first_tree : Leaf → Tree
+first_tree leaf = record { links = record { rev = leaf.rev; parent = None } ∷ []; leaves = leaf ∷ [] }
+
+-- the tree that has grown so far
+abbrev pub tree_in : Growth → Tree
+tree_in Empty = empty_tree
+tree_in (First leaf) = first_tree leaf
+tree_in (Grown grown) = grown.value
+
+-- whether it has no revision
+abbrev pub is_empty : Growth → Bool
+is_empty Empty = true
+is_empty (First leaf) = false
+is_empty (Grown grown) = false
+
+-- whether a run is this revision alone
+abbrev pub is_run_of : Revision → List Revision → Bool
+is_run_of q [] = false
+is_run_of q (r ∷ []) = same_revision r q
+is_run_of q (r ∷ s ∷ rs) = false

@@ -1,0 +1,138 @@
+//! Trees of more than one revision.
+ghost use Rattle.std.specs.Prelude.{◌≡◌, ◌+◌, ◌<◌, ◌≤◌, [], ◌∷◌, IfOk, IfSome, OnErr, OnOk, length, map, string_bytes};
+ghost use Rattle.mg_value.specs.View.{view};
+ghost use Rattle.mg_revtree.specs.Revision.{run_from};
+ghost use Rattle.mg_revtree.specs.Body.{IsFormOf};
+ghost use Rattle.mg_revtree.specs.History.{History as Paths, first_of, links};
+ghost use Rattle.mg_revtree.specs.Growth.{first_tree};
+ghost use Rattle.mg_revtree.specs.Tree.{AreNodes, StandsFor};
+ghost use Rattle.mg_revtree.specs.Changes.{found_of, path_of, with_path};
+
+use crate::body::Body;
+use crate::capacity::reserve;
+use crate::error::Merged;
+use crate::form::Form;
+use crate::leaf::{Leaf, SharedLeaf};
+use crate::leaf_list::{add_leaf, copy_leaves, unleaf};
+use crate::links::Known;
+use crate::revision::Rev;
+use mg_value::{Json, NoMemory};
+use std::alloc::Global;
+use std::marker::Model;
+use std::slice;
+
+/// The known revisions of a tree, and its leaves, best first.
+#[derive(Drop)]
+pub(crate) struct Grown {
+    pub(crate) links: Known,
+    pub(crate) leaves: Vec<SharedLeaf>,
+}
+
+impl Model for Grown {
+    ghost use Rattle.mg_revtree.specs.Tree.{Tree, tree_code};
+
+    ghost Value = { Tree };
+
+    ghost coded = { tree_code };
+
+    ghost view = { λ t. record { links = t.links; leaves = t.leaves.items } };
+}
+
+impl Grown {
+    /// Lists without revisions. Takes no memory.
+    pub fn new(alloc: Global) -> Grown
+        ensures { StandsFor result [] }
+    {
+        Grown {
+            links: Known::new(alloc),
+            leaves: Vec::new(alloc),
+        }
+    }
+
+    /// The lists of a tree of one revision.
+    pub fn of_first(alloc: Global, first: &SharedLeaf) -> Result<Grown, NoMemory>
+        ensures { IfOk result
+            (λ grown. (h : Paths) → StandsFor (first_tree first.now) h → StandsFor grown h) }
+    {
+        let links = links_of(alloc, &first.leaf().rev)?;
+        let leaves = leaves_of(alloc, first)?;
+        Ok(Grown { links, leaves })
+    }
+
+    /// Moves the winner's body into the block of its form, if no copy of the tree shares the winner. Takes no memory.
+    pub fn share_form(&mut self, form: Form)
+        requires { IfSome (first_of self.old.leaves) (λ l. IsFormOf l.body form) }
+        ensures { self.new ≡ self.old }
+    {
+        if self.leaves.is_empty() {
+            return;
+        }
+        let winner = &mut self.leaves[0];
+        winner.move_into(form);
+    }
+
+    /// A copy that shares the leaves with their bodies, and all known revisions but the newer ones.
+    pub fn copy(&self, alloc: Global) -> Result<Grown, NoMemory>
+        ensures { IfOk result (λ grown. grown ≡ self.now) }
+    {
+        Ok(Grown {
+            links: self.links.copy(alloc)?,
+            leaves: copy_leaves(alloc, &self.leaves)?,
+        })
+    }
+
+    /// Accepts a run that fits, given by its start and its ids, newest first. An error leaves the lists as they were.
+    pub fn accept(
+        &mut self,
+        start: u32,
+        ids: &[String],
+        deleted: bool,
+        body: Json,
+    ) -> Result<Merged, NoMemory>
+        requires some { 0 < length ids.now }
+        requires run { length ids.now ≤ start + 1 }
+        ensures accepted { OnOk result ((h : Paths) → StandsFor self.old h
+            → StandsFor self.new
+            (with_path h (path_of (run_from start (map string_bytes ids.now)) deleted (view body)))) }
+        ensures found { IfOk result
+            (λ m. (h : Paths) → StandsFor self.old h
+            → m ≡ found_of h (run_from start (map string_bytes ids.now))) }
+        ensures err { OnErr result (self.new ≡ self.old) }
+    {
+        let id = &ids[0];
+        let known = self.links.knows(start, id);
+        let rev = Rev {
+            pos: start,
+            id: id.clone()?,
+        };
+        let alloc = *self.leaves.allocator();
+        let body = Body::of(alloc, &body)?;
+        let leaf = SharedLeaf::new(alloc, Leaf { rev, deleted, body })?;
+        reserve(&mut self.leaves, 1)?;
+        self.links.join(start, ids)?;
+        unleaf(&mut self.leaves, start, ids);
+        if known {
+            return Ok(Merged::Known);
+        }
+        add_leaf(&mut self.leaves, leaf);
+        Ok(Merged::New)
+    }
+}
+
+// The known revisions of a tree that has this one alone.
+fn links_of(alloc: Global, rev: &Rev) -> Result<Known, NoMemory>
+    ensures { IfOk result (λ known. AreNodes known (links (rev.now ∷ []))) }
+{
+    let mut known = Known::new(alloc);
+    known.join(rev.pos, slice::from_ref(&rev.id))?;
+    Ok(known)
+}
+
+// The leaves of a tree that has this one alone, with capacity for one more.
+fn leaves_of(alloc: Global, first: &SharedLeaf) -> Result<Vec<SharedLeaf>, NoMemory>
+    ensures { IfOk result (λ leaves. leaves.items ≡ first.now ∷ []) }
+{
+    let mut leaves = Vec::with_capacity(alloc, 2)?;
+    leaves.push(first.share()?)?;
+    Ok(leaves)
+}
