@@ -19,12 +19,10 @@ pub fn text_hint(text: &str) -> u64 {
 
 // The hint of a text of fewer than eight bytes.
 fn short_hint(bytes: &[u8]) -> u64 {
-    let mut hint = 0u64;
-    for i in 0..8usize {
-        let byte = bytes.get(i).copied().unwrap_or(0);
-        hint = (hint << 8) | u64::from(byte);
-    }
-    hint
+    let mut padded = [0; 8];
+    let len = bytes.len().min(8);
+    padded[..len].copy_from_slice(&bytes[..len]);
+    u64::from_be_bytes(padded)
 }
 
 /// The next place that a search looks at: the guess, then the places beside it, and then the middle.

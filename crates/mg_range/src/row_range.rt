@@ -13,7 +13,7 @@ ghost use Rattle.mg_range.specs.View.{limit_seen, span_seen};
 use crate::range::KeyRange;
 use crate::span::{Limit, Span};
 use mg_collate::Direction;
-use mg_rows::{Bound, Edge, KeyBytes, RowBytes};
+use mg_rows::{Bound, Edge, KeyBytes, RowBytes, value_hint};
 use mg_value::{Json, NoMemory};
 use std::alloc::Global;
 use std::marker::Model;
@@ -31,6 +31,9 @@ pub(crate) struct SpanEnds {
 pub struct RowRange<'a> {
     keys: &'a KeyRange,
     ends: Option<SpanEnds>,
+    // the hints of where the range is entered upwards and downwards
+    up: u64,
+    down: u64,
 }
 
 impl<'a> Model for RowRange<'a> {
@@ -55,7 +58,12 @@ impl KeyRange {
         ensures { IfOk result (λ r. r ≡ self.now) }
     {
         let ends = ends_if(alloc, &self.span)?;
-        Ok(RowRange { keys: self, ends })
+        Ok(RowRange {
+            keys: self,
+            ends,
+            up: entry_hint(self, Direction::Asc),
+            down: entry_hint(self, Direction::Desc),
+        })
     }
 }
 
@@ -65,6 +73,15 @@ impl<'a> RowRange<'a> {
         ensures { result.now ≡ self.now }
     {
         self.keys
+    }
+
+    /// The hint of where the range is entered in the direction, in the order of the hints of rows: a search of rows looks there first. It
+    /// was made with the range. Takes no memory.
+    pub fn entry_hint(&self, direction: Direction) -> u64 {
+        match direction {
+            Direction::Asc => self.up,
+            Direction::Desc => self.down,
+        }
     }
 
     /// Whether the row comes before the range in the direction. Every row is above an empty range: early in
@@ -107,6 +124,18 @@ impl<'a> RowRange<'a> {
             Some(ends) => is_past(ends, row),
             None => true,
         }
+    }
+}
+
+// The hint next to those of the rows with the value at which the range is entered: in the direction just before them if they may be in
+// the range, else just after them. Without such a value, the hint at which the direction begins.
+fn entry_hint(keys: &KeyRange, direction: Direction) -> u64 {
+    let is_up = direction == Direction::Asc;
+    match keys.entered_at(direction) {
+        Some((value, inclusive)) if is_up == inclusive => value_hint(Some(value)).saturating_sub(1),
+        Some((value, _)) => value_hint(Some(value)).saturating_add(1),
+        None if is_up => 0,
+        None => u64::MAX,
     }
 }
 

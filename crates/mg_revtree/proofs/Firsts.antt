@@ -3,10 +3,10 @@ use Rattle.std.proofs.Common.{◌≡◌, ◌∙◌, ℕ, ◌-◌, ◌<◌, ◌&&
 use Rattle.mg_value.specs.Value.{Value}
 use Rattle.mg_revtree.specs.Revision.{Revision, run_from, same_revision}
 use Rattle.mg_revtree.specs.History.{Leaf, Link, History, all_links, are_held, fit, is_known, links, newest_of}
-use Rattle.mg_revtree.specs.Growth.{empty_tree, first_tree, is_empty, is_run_of, tree_in}
+use Rattle.mg_revtree.specs.Growth.{empty_tree, first_tree, is_empty, is_run_of, line_tree, tree_in}
 use Rattle.mg_revtree.specs.declared.growth.Growth.{Growth}
-use Rattle.mg_revtree.specs.declared.growth.Growth.TheVariants.{Empty, First, Grown}
-use Rattle.mg_revtree.specs.Tree.{AreNodes, StandsFor, find, node}
+use Rattle.mg_revtree.specs.declared.growth.Growth.TheVariants.{Empty, First, Line, Grown}
+use Rattle.mg_revtree.specs.Tree.{AreNodes, StandsFor, Tree, find, node}
 use Rattle.mg_revtree.specs.Steps.{agrees_found, held_found, put}
 use Rattle.mg_revtree.specs.Changes.{found_of, path_of, with_path}
 use Rattle.mg_revtree.specs.declared.error.Merged.TheVariants.{New}
@@ -119,8 +119,13 @@ nothing_known = record { same = λ r. refl; sorted = tt }
 pub empty_is : (g : Growth) → is_empty g ≡ true → tree_in g ≡ empty_tree
 empty_is Empty e = refl
 empty_is (First leaf) e = cc
+empty_is (Line leaf known) e = cc
 empty_is (Grown grown) e = cc
 
 pub none_copied : {X : Type 0} (o : Option (Bor X)) → is_some o ≡ false → option_copied o ≡ None
 none_copied None e = refl
 none_copied (Some x) e = cc
+
+-- a tree of one leaf
+pub line_is : (t : Tree) (known : List Link) (l : Leaf) → known ≡ t.links → t.leaves ≡ l ∷ [] → t ≡ line_tree known l
+line_is t known l e f = ap (λ (ls : List Leaf). (let u : Tree = record { links = t.links; leaves = ls } in u)) f ∙ ap (λ (ks : List Link). line_tree ks l) (sym e)

@@ -126,7 +126,7 @@ fn copy_body(alloc: Global, block: &Block) -> Result<Json, NoMemory>
 fn copy_bare(alloc: Global, form: &Form) -> Result<Json, NoMemory>
     ensures { IfOk result (λ value. view value ≡ bare form.now) }
 {
-    let mut body = form.packed().part().copy(alloc)?;
+    let mut body = form.written().part().copy(alloc)?;
     drop(body.take("_id"));
     drop(body.take("_rev"));
     Ok(body)
@@ -187,14 +187,14 @@ fn make_form(alloc: Global, body: &Packed, id: &str, rev: &str) -> Result<Form, 
 {
     let revised = body.with_text(alloc, "_rev", rev)?;
     let form = revised.with_text(alloc, "_id", id)?;
-    Form::of(alloc, form)
+    Form::of(alloc, &form)
 }
 
 // Whether the member with this name is this text.
 fn has_text(form: &Form, name: &str, text: &str) -> bool
     ensures { result ≡ true → member_of name.now form.now ≡ Some (string text.now) }
 {
-    match form.packed().part().member(name) {
+    match form.written().part().member(name) {
         Some(part) => is_text(&part, text),
         None => false,
     }

@@ -1,14 +1,14 @@
-use mg_packed::Packed;
+use mg_packed::{Packed, Written};
 use mg_value::NoMemory;
 use std::alloc::Global;
 use std::marker::Model;
 use std::sync::Arc;
 
-/// The form in which a document is served, in one block of memory that several owners share, such as the document and the
-/// winner in its revision tree. Contracts see the form as a value.
+/// The form in which a document is served, with its text, in one block of memory that several owners share, such as the document and
+/// the winner in its revision tree. Contracts see the form as a value.
 #[derive(Drop)]
 pub struct Form {
-    block: Arc<Packed>,
+    block: Arc<Written>,
 }
 
 impl Model for Form {
@@ -26,17 +26,17 @@ impl Model for Form {
 impl Form {
     ghost use Rattle.std.specs.Prelude.{◌≡◌, IfOk};
 
-    // Puts a form where others can share it.
-    pub(crate) fn of(alloc: Global, form: Packed) -> Result<Form, NoMemory>
-        ensures { IfOk result (λ shared. shared ≡ form) }
+    // Puts a form, with its text, where others can share it.
+    pub(crate) fn of(alloc: Global, form: &Packed) -> Result<Form, NoMemory>
+        ensures { IfOk result (λ shared. shared ≡ form.now) }
     {
         Ok(Form {
-            block: Arc::new(alloc, form)?,
+            block: Arc::new(alloc, Written::of(alloc, form)?)?,
         })
     }
 
-    /// The block. Takes no memory.
-    pub fn packed(&self) -> &Packed
+    /// The block, with the form and its text. Takes no memory.
+    pub fn written(&self) -> &Written
         ensures { result.now ≡ self.now }
     {
         &self.block

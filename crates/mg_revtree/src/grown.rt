@@ -4,7 +4,7 @@ ghost use Rattle.mg_value.specs.View.{view};
 ghost use Rattle.mg_revtree.specs.Revision.{run_from};
 ghost use Rattle.mg_revtree.specs.Body.{IsFormOf};
 ghost use Rattle.mg_revtree.specs.History.{History as Paths, first_of, links};
-ghost use Rattle.mg_revtree.specs.Growth.{first_tree};
+ghost use Rattle.mg_revtree.specs.Growth.{first_tree, line_tree};
 ghost use Rattle.mg_revtree.specs.Tree.{AreNodes, StandsFor};
 ghost use Rattle.mg_revtree.specs.Changes.{found_of, path_of, with_path};
 
@@ -19,7 +19,7 @@ use crate::revision::Rev;
 use mg_value::{Json, NoMemory};
 use std::alloc::Global;
 use std::marker::Model;
-use std::slice;
+use std::{mem, slice};
 
 /// The known revisions of a tree, and its leaves, best first.
 #[derive(Drop)]
@@ -57,6 +57,34 @@ impl Grown {
         let links = links_of(alloc, &first.leaf().rev)?;
         let leaves = leaves_of(alloc, first)?;
         Ok(Grown { links, leaves })
+    }
+
+    /// The lists of a tree of one leaf with these known revisions.
+    pub fn of_line(alloc: Global, leaf: &SharedLeaf, known: &Known) -> Result<Grown, NoMemory>
+        ensures { IfOk result (λ grown. grown ≡ line_tree known.now leaf.now) }
+    {
+        Ok(Grown {
+            links: known.copy(alloc)?,
+            leaves: leaves_of(alloc, leaf)?,
+        })
+    }
+
+    /// This leaf alone, without a known revision.
+    pub fn without_links(alloc: Global, leaf: &SharedLeaf) -> Result<Grown, NoMemory>
+        ensures { IfOk result (λ grown. grown ≡ line_tree [] leaf.now) }
+    {
+        Ok(Grown {
+            links: Known::new(alloc),
+            leaves: leaves_of(alloc, leaf)?,
+        })
+    }
+
+    /// Exchanges its known revisions for others. Takes no memory.
+    pub fn exchange(&mut self, known: &mut Known)
+        ensures given { self.new ≡ record self.old { links = known.old } }
+        ensures taken { known.new ≡ self.old.links }
+    {
+        mem::swap(&mut self.links, known);
     }
 
     /// Moves the winner's body into the block of its form, if no copy of the tree shares the winner. Takes no memory.
@@ -135,4 +163,16 @@ fn leaves_of(alloc: Global, first: &SharedLeaf) -> Result<Vec<SharedLeaf>, NoMem
     let mut leaves = Vec::with_capacity(alloc, 2)?;
     leaves.push(first.share()?)?;
     Ok(leaves)
+}
+
+/// The only leaf of these lists. Takes no memory.
+pub(crate) fn only_leaf(grown: Box<Grown>) -> SharedLeaf
+    requires { length grown.value.leaves ≡ 1 }
+    ensures { grown.value.leaves ≡ result ∷ [] }
+{
+    let Grown {
+        links: _,
+        mut leaves,
+    } = Box::into_inner(grown);
+    leaves.swap_remove(0)
 }

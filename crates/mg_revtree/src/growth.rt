@@ -1,18 +1,19 @@
 //! How far a tree has grown: to one revision, or beyond.
-ghost use Rattle.std.specs.Prelude.{◌≡◌, ◌<◌, ◌≤◌, ◌+◌, List, [], ◌∷◌, IfOk, IfSome, OnErr, OnOk, is_some, length, map, string_bytes};
+ghost use Rattle.std.specs.Prelude.{◌≡◌, ◌<◌, ◌≤◌, ◌+◌, List, [], ◌∷◌, IfOk, IfSome, OnErr, OnOk, is_some, length, map, option_map, string_bytes};
 ghost use Rattle.mg_value.specs.View.{view};
 ghost use Rattle.mg_revtree.specs.Revision.{run_from};
 ghost use Rattle.mg_revtree.specs.Body.{IsFormOf};
 ghost use Rattle.mg_revtree.specs.History.{History as Paths, Link, are_held, first_of, fit, links};
-ghost use Rattle.mg_revtree.specs.Growth.{first_tree, is_empty, is_run_of, tree_in};
+ghost use Rattle.mg_revtree.specs.Growth.{after_line, first_tree, is_empty, is_run_of, line_tree, tree_in};
 ghost use Rattle.mg_revtree.specs.Tree.{AreNodes, AreSorted, StandsFor, find};
 ghost use Rattle.mg_revtree.specs.Changes.{found_of, path_of, with_path};
 
 use crate::body::Body;
 use crate::error::Merged;
 use crate::form::Form;
-use crate::grown::Grown;
+use crate::grown::{Grown, only_leaf};
 use crate::leaf::{Leaf, SharedLeaf};
+use crate::links::Known;
 use crate::revision::Rev;
 use mg_value::{Json, NoMemory};
 use std::alloc::Global;
@@ -25,7 +26,9 @@ pub(crate) enum Growth {
     Empty,
     // one revision, which has no parent and is the leaf
     First(SharedLeaf),
-    // the lists of all known revisions and of the leaves
+    // one leaf, and all known revisions: so a document is that was edited, if it has no conflict
+    Line(SharedLeaf, Box<Known>),
+    // all known revisions, and a list of the leaves
     Grown(Box<Grown>),
 }
 
@@ -36,7 +39,8 @@ impl Growth {
     {
         match self {
             Growth::Empty => &[],
-            Growth::First(first) => slice::from_ref(first),
+            Growth::First(leaf) => slice::from_ref(leaf),
+            Growth::Line(leaf, _) => slice::from_ref(leaf),
             Growth::Grown(grown) => &grown.leaves,
         }
     }
@@ -48,7 +52,8 @@ impl Growth {
     {
         match self {
             Growth::Empty => false,
-            Growth::First(first) => first.leaf().rev.is(pos, id.as_bytes()),
+            Growth::First(leaf) => leaf.leaf().rev.is(pos, id.as_bytes()),
+            Growth::Line(_, known) => known.knows(pos, id),
             Growth::Grown(grown) => grown.links.knows(pos, id),
         }
     }
@@ -62,6 +67,7 @@ impl Growth {
         match self {
             Growth::Empty => true,
             Growth::First(_) => true,
+            Growth::Line(_, known) => known.fits(start, ids),
             Growth::Grown(grown) => grown.links.fits(start, ids),
         }
     }
@@ -75,7 +81,8 @@ impl Growth {
     {
         match self {
             Growth::Empty => false,
-            Growth::First(first) => is_run_of(&first.leaf().rev, start, ids),
+            Growth::First(leaf) => is_run_of(&leaf.leaf().rev, start, ids),
+            Growth::Line(_, known) => known.holds(start, ids),
             Growth::Grown(grown) => grown.links.holds(start, ids),
         }
     }
@@ -87,7 +94,8 @@ impl Growth {
     {
         match self {
             Growth::Empty => {}
-            Growth::First(first) => first.move_into(form),
+            Growth::First(leaf) => leaf.move_into(form),
+            Growth::Line(leaf, _) => leaf.move_into(form),
             Growth::Grown(grown) => grown.share_form(form),
         }
     }
@@ -98,7 +106,8 @@ impl Growth {
     {
         match self {
             Growth::Empty => Ok(Growth::Empty),
-            Growth::First(first) => Ok(Growth::First(first.share()?)),
+            Growth::First(leaf) => Ok(Growth::First(leaf.share()?)),
+            Growth::Line(leaf, known) => Ok(Growth::Line(leaf.share()?, copy_boxed(alloc, known)?)),
             Growth::Grown(grown) => Ok(Growth::Grown(Box::new(alloc, grown.copy(alloc)?)?)),
         }
     }
@@ -142,13 +151,47 @@ impl Growth {
             → m ≡ found_of h (run_from start (map string_bytes ids.now))) }
         ensures err { OnErr result (tree_in self.new ≡ tree_in self.old) }
     {
-        if let Growth::Grown(grown) = self {
-            return grown.accept(start, ids, deleted, body);
+        match self {
+            Growth::Grown(grown) => grown.accept(start, ids, deleted, body),
+            Growth::Line(leaf, known) => {
+                let (merged, grown) = accept_on_line(
+                    alloc, leaf, known, start, ids, deleted, body,
+                )?;
+                match grown {
+                    Some(grown) => *self = Growth::Grown(grown),
+                    None => {}
+                }
+                Ok(merged)
+            }
+            _ => {
+                let (growth, merged) = self.accepted(alloc, start, ids, deleted, body)?;
+                *self = growth;
+                Ok(merged)
+            }
         }
+    }
+
+    // A copy that has accepted a run.
+    fn accepted(
+        &self,
+        alloc: Global,
+        start: u32,
+        ids: &[String],
+        deleted: bool,
+        body: Json,
+    ) -> Result<(Growth, Merged), NoMemory>
+        requires some { 0 < length ids.now }
+        requires run { length ids.now ≤ start + 1 }
+        ensures accepted { IfOk result (λ r. (h : Paths) → StandsFor (tree_in self.now) h
+            → StandsFor (tree_in r.0)
+            (with_path h (path_of (run_from start (map string_bytes ids.now)) deleted (view body)))) }
+        ensures found { IfOk result (λ r. (h : Paths) → StandsFor (tree_in self.now) h
+            → r.1 ≡ found_of h (run_from start (map string_bytes ids.now))) }
+    {
         let mut grown = self.grown(alloc)?;
         let merged = grown.accept(start, ids, deleted, body)?;
-        *self = Growth::Grown(Box::new(alloc, grown)?);
-        Ok(merged)
+        let growth = settled(alloc, grown)?;
+        Ok((growth, merged))
     }
 
     // A copy in lists.
@@ -157,10 +200,67 @@ impl Growth {
     {
         match self {
             Growth::Empty => Ok(Grown::new(alloc)),
-            Growth::First(first) => Grown::of_first(alloc, first),
+            Growth::First(leaf) => Grown::of_first(alloc, leaf),
+            Growth::Line(leaf, known) => Grown::of_line(alloc, leaf, known),
             Growth::Grown(grown) => grown.copy(alloc),
         }
     }
+}
+
+// A copy of known revisions.
+fn copy_boxed(alloc: Global, known: &Known) -> Result<Box<Known>, NoMemory>
+    ensures { IfOk result (λ copy. copy.value ≡ known.now) }
+{
+    Ok(Box::new(alloc, known.copy(alloc)?)?)
+}
+
+// A line if there is one leaf, else the lists.
+fn settled(alloc: Global, grown: Grown) -> Result<Growth, NoMemory>
+    ensures { IfOk result (λ growth. tree_in growth ≡ grown) }
+{
+    if grown.leaves.len() != 1 {
+        return Ok(Growth::Grown(Box::new(alloc, grown)?));
+    }
+    let Grown { links, mut leaves } = grown;
+    let known = Box::new(alloc, links)?;
+    Ok(Growth::Line(leaves.swap_remove(0), known))
+}
+
+// Accepts a run on a line, given by its leaf and all known revisions. Returns the lists that take the line's place, if it has no longer one
+// leaf. An error leaves the line as it was.
+fn accept_on_line(
+    alloc: Global,
+    leaf: &mut SharedLeaf,
+    known: &mut Known,
+    start: u32,
+    ids: &[String],
+    deleted: bool,
+    body: Json,
+) -> Result<(Merged, Option<Box<Grown>>), NoMemory>
+    requires some { 0 < length ids.now }
+    requires run { length ids.now ≤ start + 1 }
+    ensures accepted { IfOk result (λ r. (h : Paths) → StandsFor (line_tree known.old leaf.old) h
+        → StandsFor (after_line (option_map (λ b. b.value) r.1) known.new leaf.new)
+        (with_path h (path_of (run_from start (map string_bytes ids.now)) deleted (view body)))) }
+    ensures found { IfOk result (λ r. (h : Paths) → StandsFor (line_tree known.old leaf.old) h
+        → r.0 ≡ found_of h (run_from start (map string_bytes ids.now))) }
+    ensures err { OnErr result (line_tree known.new leaf.new ≡ line_tree known.old leaf.old) }
+{
+    let mut grown = Box::new(alloc, Grown::without_links(alloc, leaf)?)?;
+    grown.exchange(known);
+    let merged = match grown.accept(start, ids, deleted, body) {
+        Ok(merged) => merged,
+        Err(refused) => {
+            grown.exchange(known);
+            return Err(refused);
+        }
+    };
+    if grown.leaves.len() != 1 {
+        return Ok((merged, Some(grown)));
+    }
+    grown.exchange(known);
+    *leaf = only_leaf(grown);
+    Ok((merged, None))
 }
 
 // Whether a run, given by its start and its ids, is this revision alone.

@@ -2,7 +2,7 @@
 use crate::search::{Search, begin_at_id, begin_at_row};
 use mg_collate::Direction;
 use mg_pages::{Identified, Keyed, Probe, Shared, text_hint};
-use mg_rows::{RowBytes, value_hint};
+use mg_rows::RowBytes;
 use mg_value::Json;
 use std::cmp::Ordering;
 
@@ -24,7 +24,7 @@ impl<'a> Probe<RowBytes> for Begin<'a> {
     fn hint(&self) -> u64 {
         match self.search.after {
             Some(after) => Keyed::hint(after),
-            None => row_hint(self.search),
+            None => self.search.range.entry_hint(self.search.direction),
         }
     }
 
@@ -54,19 +54,7 @@ impl<'a, X: Identified> Probe<Shared<X>> for Begin<'a> {
     }
 }
 
-// The hint next to those of the rows with the value at which the range is entered: in the search's direction just before them if they
-// may be in the range, else just after them. Without such a value, the hint at which the direction begins.
-fn row_hint(search: Search<'_>) -> u64 {
-    let is_up = search.direction == Direction::Asc;
-    match search.range.keys().entered_at(search.direction) {
-        Some((value, inclusive)) if is_up == inclusive => value_hint(Some(value)).saturating_sub(1),
-        Some((value, _)) => value_hint(Some(value)).saturating_add(1),
-        None if is_up => 0,
-        None => u64::MAX,
-    }
-}
-
-// The number of the id at which the range is entered.
+// The hint of the id at which the range is entered.
 fn id_hint(search: Search<'_>) -> u64 {
     match search.range.keys().entered_at(search.direction) {
         Some((Json::Text(id), _)) => text_hint(id.as_str()),

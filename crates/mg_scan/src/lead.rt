@@ -36,7 +36,7 @@ fn hit_of_lead<'a>(lead: Lead<'a>) -> Option<Hit<'a>>
     ensures lent { IfSome result (IsHitOf lead.entry.shard.now.documents) }
 {
     let document = lead.shard.document(lead.row.id())?;
-    let form = document.packed()?;
+    let form = document.written()?;
     let text = document.text()?;
     Some(Hit {
         row: lead.row,

@@ -42,7 +42,7 @@ pub(crate) fn hit_of<'a>(
     ensures lent { (ds : KeptDocuments) → get ds (lent_row row.entry).1 ≡ Some (kept_of document.now)
         → IfSome result (IsHitOf ds) }
 {
-    let form = document.packed()?;
+    let form = document.written()?;
     let text = document.text()?;
     if !normal.holds_of(form.part()) {
         return None;

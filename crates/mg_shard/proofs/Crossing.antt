@@ -4,11 +4,14 @@ use Rattle.std.proofs.Crossing.{crosses}
 use Rattle.std.proofs.MapsCrossing.{crosses as maps}
 use Rattle.mg_index.proofs.definition.IndexDef.TheSendSync as definition
 use Rattle.mg_packed.proofs.packed.Packed.TheSendSync as packed
+use Rattle.mg_packed.proofs.written.Written.TheSendSync as written
 use Rattle.mg_pages.proofs.element.Shared.TheSendSync as element
 use Rattle.mg_pages.proofs.pages.Pages.TheSendSync as pages
 use Rattle.mg_revtree.specs.contracts.body.Block as Block
 use Rattle.mg_revtree.specs.contracts.body.Body as Body
 use Rattle.mg_revtree.specs.contracts.form.Form as Form
+use Rattle.mg_revtree.specs.contracts.grown.Grown as Grown
+use Rattle.mg_revtree.specs.contracts.growth.Growth as Growth
 use Rattle.mg_revtree.specs.contracts.leaf.Leaf as Leaf
 use Rattle.mg_revtree.specs.contracts.leaf.SharedLeaf as Shared
 use Rattle.mg_revtree.specs.contracts.tree.RevTree as RevTree
@@ -21,10 +24,10 @@ use Rattle.mg_shard.specs.contracts.served.Served as Served
 use Rattle.mg_shard.specs.contracts.shard.Shard as Shard
 
 pub form_send : IsSend Form.the_row
-form_send = search (sendable, crosses, maps, packed.the_send, packed.the_sync) depth 40
+form_send = search (sendable, crosses, maps, written.the_send, written.the_sync) depth 40
 
 pub form_sync : IsSync Form.the_row
-form_sync = search (sendable, crosses, maps, packed.the_send, packed.the_sync) depth 40
+form_sync = search (sendable, crosses, maps, written.the_send, written.the_sync) depth 40
 
 pub block_send : IsSend Block.the_row
 block_send = search (sendable, crosses, maps, packed.the_send, form_send) depth 40
@@ -50,11 +53,23 @@ shared_send = search (sendable, crosses, maps, leaf_send, leaf_sync) depth 40
 pub shared_sync : IsSync Shared.the_row
 shared_sync = search (sendable, crosses, maps, leaf_send, leaf_sync) depth 40
 
+pub grown_send : IsSend Grown.the_row
+grown_send = search (sendable, crosses, maps, shared_send, shared_sync, links.the_send, links.the_sync) depth 40
+
+pub grown_sync : IsSync Grown.the_row
+grown_sync = search (sendable, crosses, maps, shared_send, shared_sync, links.the_send, links.the_sync) depth 40
+
+pub growth_send : IsSend Growth.the_row
+growth_send = search (sendable, crosses, maps, grown_send, shared_send, shared_sync, links.the_send, links.the_sync) depth 40
+
+pub growth_sync : IsSync Growth.the_row
+growth_sync = search (sendable, crosses, maps, grown_sync, shared_send, shared_sync, links.the_send, links.the_sync) depth 40
+
 pub tree_send : IsSend RevTree.the_row
-tree_send = search (sendable, crosses, maps, shared_send, shared_sync, links.the_send, links.the_sync) depth 40
+tree_send = search (sendable, crosses, maps, growth_send) depth 40
 
 pub tree_sync : IsSync RevTree.the_row
-tree_sync = search (sendable, crosses, maps, shared_send, shared_sync, links.the_send, links.the_sync) depth 40
+tree_sync = search (sendable, crosses, maps, growth_sync) depth 40
 
 pub served_send : IsSend Served.the_row
 served_send = search (sendable, crosses, maps, form_send) depth 40

@@ -7,7 +7,7 @@ ghost use Rattle.mg_shard.specs.Own.{IsServedOwn, IsServedOwn-prop};
 
 use crate::served::Served;
 use mg_doc::served_packed;
-use mg_packed::{Packed, Part};
+use mg_packed::{Part, Written};
 use mg_pages::Identified;
 use mg_revtree::RevTree;
 use mg_value::NoMemory;
@@ -42,7 +42,7 @@ fn served_in(alloc: Global, id: &str, tree: &mut RevTree) -> Result<Option<Serve
     ensures tree { tree.new ≡ tree.old }
 {
     match served_packed(alloc, id, tree)? {
-        Some(form) => Ok(Some(Served::of(alloc, form)?)),
+        Some(form) => Ok(Some(Served::of(form))),
         None => Ok(None),
     }
 }
@@ -90,18 +90,18 @@ impl Document {
     pub fn form(&self) -> Option<Part<'_>>
         ensures { result ≡ form_of self.now }
     {
-        match self.packed() {
+        match self.written() {
             Some(form) => Some(form.part()),
             None => None,
         }
     }
 
-    /// The block in which that form is kept. Takes no memory.
-    pub fn packed(&self) -> Option<&Packed>
+    /// The block in which that form is kept with its text. Takes no memory.
+    pub fn written(&self) -> Option<&Written>
         ensures { option_map (λ v. v.now) result ≡ form_of self.now }
     {
         match &self.served {
-            Some(served) => Some(served.form.packed()),
+            Some(served) => Some(served.form.written()),
             None => None,
         }
     }
@@ -112,7 +112,7 @@ impl Document {
         ensures { option_map (λ t. t.now) result ≡ option_map compact (form_of self.now) }
     {
         match &self.served {
-            Some(served) => Some(&served.text),
+            Some(served) => Some(served.form.written().text()),
             None => None,
         }
     }

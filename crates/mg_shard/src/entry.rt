@@ -4,7 +4,7 @@ ghost use Rattle.mg_index.specs.Catalog.{definition_order};
 
 use crate::index::mend_rows;
 use mg_index::IndexDef;
-use mg_packed::Packed;
+use mg_packed::Written;
 use mg_pages::{Element, Keyed, Pages, Probe, text_hint};
 use mg_rows::{KeyBytes, RowBytes};
 use mg_value::NoMemory;
@@ -144,8 +144,8 @@ impl IndexEntry {
         alloc: Global,
         scratch: &mut KeyBytes,
         id: &str,
-        before: Option<&Packed>,
-        after: Option<&Packed>,
+        before: Option<&Written>,
+        after: Option<&Written>,
     ) -> Result<(), NoMemory>
         ensures definition { OnOk result (self.new.0 ≡ self.old.0) }
         ensures rows { OnOk result ((ds : KeptDocuments) (d : Kept)

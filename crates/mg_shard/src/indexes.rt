@@ -9,7 +9,7 @@ ghost use Rattle.mg_pages.specs.Order.{inserted};
 
 use crate::document::Document;
 use crate::entry::{IndexEntry, IndexName};
-use mg_packed::Packed;
+use mg_packed::Written;
 use mg_pages::{Element, Pages, Shared};
 use mg_rows::{KeyBytes, RowBytes};
 use mg_value::NoMemory;
@@ -93,11 +93,11 @@ pub(crate) fn without(
 }
 
 // The form in which the document with this id is served; `None` if there is no such document, or it is deleted.
-fn form_in<'a>(documents: &'a Pages<Shared<Document>>, id: &str) -> Option<&'a Packed>
+fn form_in<'a>(documents: &'a Pages<Shared<Document>>, id: &str) -> Option<&'a Written>
     ensures { option_map (λ v. v.now) result ≡ form_at (shown documents.now) id.now }
 {
     match documents.get(&id) {
-        Some(document) => document.get().packed(),
+        Some(document) => document.get().written(),
         None => None,
     }
 }
@@ -120,7 +120,7 @@ pub(crate) fn mend_all(
         (kept_of document.now))) indexes.new) }
 {
     let before = form_in(documents, &document.id);
-    let after = document.packed();
+    let after = document.written();
     for i in 0..indexes.len() {
         let index = &mut indexes[i];
         index.mend(alloc, scratch, &document.id, before, after)?;

@@ -28,7 +28,7 @@ loop-i-preserved c =
       definitions = same_definitions xs l.i x y at c.in_ok-mend.ensures.definition ∙ l.invariant.definitions;
       mended = λ h. mended_more old new xs l.i x y at within
           (λ were.
-          c.in_ok-mend.ensures.rows old d (c.form_in-before.ensures ∙ ap (form_at old) (c.deref.ensures ∙ sym c.deref-in-loop-i.ensures)) c.packed-after.ensures were
+          c.in_ok-mend.ensures.rows old d (c.form_in-before.ensures ∙ ap (form_at old) (c.deref.ensures ∙ sym c.deref-in-loop-i.ensures)) c.written-after.ensures were
           ∙ ap (λ i. rows_of y.0.columns (docs_of (insert old i d))) c.deref-in-loop-i.ensures)
           (l.invariant.mended h);
     }

@@ -16,6 +16,6 @@ returns-in-Empty c = λ ls nodes.
 pub returns-in-First : goal.returns-in-First
 returns-in-First c = λ ls nodes.
     let some : 0 < length (map string_bytes c.args.ids.now) = omega (arith, length-map string_bytes c.args.ids.now, c.requires) in
-    let rev : c.behind-first.inside.rev ≡ c.in-First.first.rev = ap (λ (l : Leaf). l.rev) (c.behind-first.view_is ∙ c.leaf.ensures) in
+    let rev : c.behind-leaf.inside.rev ≡ c.in-First.leaf.rev = ap (λ (l : Leaf). l.rev) (c.behind-leaf.view_is ∙ c.leaf.ensures) in
     c.is_run_of.ensures ∙ ap (λ (q : Revision). is_run_of q (run_from c.args.start (map string_bytes c.args.ids.now))) rev
-    ∙ alone_held c.in-First.first.rev c.args.start (map string_bytes c.args.ids.now) ls some (subst (λ (g : Growth). AreNodes (tree_in g).links ls) c.in-First.is nodes)
+    ∙ alone_held c.in-First.leaf.rev c.args.start (map string_bytes c.args.ids.now) ls some (subst (λ (g : Growth). AreNodes (tree_in g).links ls) c.in-First.is nodes)

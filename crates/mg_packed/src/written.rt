@@ -1,0 +1,66 @@
+use crate::packed::Packed;
+use crate::part::Part;
+use mg_value::NoMemory;
+use std::alloc::Global;
+use std::marker::Model;
+
+/// A JSON value in one block of memory, with its compact text behind it. A clause sees the value.
+///
+/// The block is exactly as long as the bytes of a `Packed` and the text.
+#[derive(Drop)]
+pub struct Written {
+    bytes: Vec<u8>,
+    // where the text begins
+    end: usize,
+}
+
+impl Model for Written {
+    ghost use Rattle.mg_value.specs.Value.{Value as JsonValue};
+    ghost use Rattle.mg_value.specs.Code.{value_code};
+    ghost use Rattle.mg_packed.specs.Read.{value_in};
+    ghost use Rattle.mg_packed.specs.Written.{IsWritten};
+
+    ghost Value = { JsonValue };
+
+    ghost coded = { value_code };
+
+    ghost view = { λ written. value_in written.bytes.items };
+
+    ghost invariant = { λ written. IsWritten written.bytes.items written.end };
+}
+
+impl Written {
+    ghost use Rattle.std.specs.Prelude.{◌≡◌, IfOk};
+    ghost use Rattle.mg_value.specs.Text.{compact};
+
+    /// The value of a block, with its text.
+    ///
+    /// Errors: `NoMemory` if an allocation fails. Cost: the length of the text, and a copy of the bytes and the text.
+    pub fn of(alloc: Global, packed: &Packed) -> Result<Written, NoMemory>
+        ensures { IfOk result (λ written. written ≡ packed.now) }
+    {
+        let text = packed.part().text(alloc)?;
+        let front = packed.as_bytes();
+        let mut bytes = Vec::with_capacity(alloc, front.len().saturating_add(text.len()))?;
+        bytes.extend_from_slice(front)?;
+        bytes.extend_from_slice(&text)?;
+        Ok(Written {
+            bytes,
+            end: front.len(),
+        })
+    }
+
+    /// The whole value as a part. Cost: constant; no memory is taken.
+    pub fn part(&self) -> Part<'_>
+        ensures { result ≡ self.now }
+    {
+        Part::at(&self.bytes)
+    }
+
+    /// The compact text of the value. Cost: constant; no memory is taken.
+    pub fn text(&self) -> &[u8]
+        ensures { result.now ≡ compact self.now }
+    {
+        &self.bytes[self.end..]
+    }
+}
