@@ -17,10 +17,6 @@ pub(crate) trait Begins<T: Ranked> {
     fn count(&self) -> usize
         ensures { result ≡ length (lists self.now) };
 
-    // Whether a list has nothing left. It says only where the list is looked for first.
-    fn is_at_end(&self, list: usize) -> bool
-        requires { list < length (lists self.now) };
-
     // Compares the first rows of two lists, in the direction's order; a list at its end is after all others.
     fn begin(&self, list: usize, other: usize, direction: Direction) -> Ordering
         requires list { list < length (lists self.now) }
@@ -36,10 +32,6 @@ impl<'a, T: Ranked> Begins<T> for Vec<&'a [T]> {
         self.len()
     }
 
-    fn is_at_end(&self, list: usize) -> bool {
-        self[list].is_empty()
-    }
-
     fn begin(&self, list: usize, other: usize, direction: Direction) -> Ordering {
         begin(self[list].first(), self[other].first(), direction)
     }
@@ -51,10 +43,6 @@ impl<T: Ranked> Begins<T> for Vec<Option<T>> {
 
     fn count(&self) -> usize {
         self.len()
-    }
-
-    fn is_at_end(&self, list: usize) -> bool {
-        self[list].is_none()
     }
 
     fn begin(&self, list: usize, other: usize, direction: Direction) -> Ordering {

@@ -52,8 +52,7 @@ pub(crate) fn enter<T: Ranked, B: Begins<T>>(
     Ok(())
 }
 
-// The place at which the number keeps the queue in order, by binary search. A list that is at its end is first compared with the last one,
-// since most of the others come before it.
+// The place at which the number keeps the queue in order, by binary search.
 fn place_of<T: Ranked, B: Begins<T>>(
     queue: &[usize],
     lists: &B,
@@ -68,11 +67,10 @@ fn place_of<T: Ranked, B: Begins<T>>(
     ensures place { insert queue.now result list
         ≡ sorted_with (turn_order (order_by T.row_of direction) (B.lists lists.now)) list queue.now }
 {
-    let at_end = lists.is_at_end(list);
     let mut low = 0;
     let mut high = queue.len();
     while low < high {
-        let middle = middle_or_last(low, high, at_end && high == queue.len());
+        let middle = low + (high - low) / 2;
         if turn(lists, list, queue[middle], direction).is_gt() {
             low = middle + 1;
         } else {
@@ -94,17 +92,4 @@ fn turn<T: Ranked, B: Begins<T>>(
     ensures { result ≡ turn_order (order_by T.row_of direction) (B.lists lists.now) list other }
 {
     lists.begin(list, other, direction).then(list.cmp(&other))
-}
-
-// The middle of a range of places, or its last place.
-fn middle_or_last(low: usize, high: usize, last: bool) -> usize
-    requires { low < high }
-    ensures low { low ≤ result }
-    ensures high { result < high }
-{
-    if last {
-        high - 1
-    } else {
-        low + (high - low) / 2
-    }
 }

@@ -1,4 +1,4 @@
-use Rattle.std.proofs.Common.{◌≡◌, get_or, is_gt, true, false, arith}
+use Rattle.std.proofs.Common.{◌≡◌, ◌+◌, ◌-◌, ◌/◌, get_or, is_gt, true, false, arith}
 use Rattle.std.proofs.lemmas.Cmp.{upto}
 use Rattle.mg_merge.specs.Merged.{order_by}
 use Rattle.mg_merge.specs.Rests.{turn_order}
@@ -12,7 +12,7 @@ loop-low-preserved-then-is_gt g c =
     let turns = turn_order order (g.B.Begins.lists c.args.lists.now) in
     let total = turn_total order (by_total g.T.Ranked.row_of c.args.direction) (g.B.Begins.lists c.args.lists.now) in
     let queue = c.args.queue.now in
-    let middle = c.middle_or_last-middle.result in
+    let middle = c.loop-low.low + (c.loop-low.high - c.loop-low.low) / 2 in
     let after : is_gt (turns c.args.list (get_or queue middle 0)) ≡ true = gt_of_result (turns c.args.list (get_or queue middle 0)) c.turn.result c.is_gt.result true c.turn.ensures c.is_gt.ensures c.if-is_gt.true in
     record {
       halves = omega arith;
@@ -27,7 +27,7 @@ loop-low-preserved g c =
     let turns = turn_order order (g.B.Begins.lists c.args.lists.now) in
     let total = turn_total order (by_total g.T.Ranked.row_of c.args.direction) (g.B.Begins.lists c.args.lists.now) in
     let queue = c.args.queue.now in
-    let middle = c.middle_or_last-middle.result in
+    let middle = c.loop-low.low + (c.loop-low.high - c.loop-low.low) / 2 in
     let before : is_gt (turns c.args.list (get_or queue middle 0)) ≡ false = gt_of_result (turns c.args.list (get_or queue middle 0)) c.turn.result c.is_gt.result false c.turn.ensures c.is_gt.ensures c.if-is_gt.false in
     record {
       halves = omega arith;
