@@ -3,13 +3,13 @@ use mg_selector::{Op, Sense};
 
 /// A selector in which only operators are negated.
 #[derive(Debug, Drop)]
-pub(crate) enum Form {
+pub(crate) enum Condition {
     /// All of these.
-    All(Vec<Form>),
+    All(Vec<Condition>),
     /// Some of these; an empty list holds.
-    Any(Vec<Form>),
-    /// The form on the part at the path.
-    At(Path, Box<Form>),
+    Any(Vec<Condition>),
+    /// The condition on the part at the path.
+    At(Path, Box<Condition>),
     /// An operator on the current part, in a sense.
     Ask(Op, Sense),
 }
