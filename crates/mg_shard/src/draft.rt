@@ -118,7 +118,7 @@ impl<'a> Draft<'a> {
         if self.touched.is_empty() {
             return Ok(None);
         }
-        Ok(Some(kept(alloc, self.shard, self.touched)?))
+        Ok(Some(keep_trees(alloc, self.shard, self.touched)?))
     }
 }
 
@@ -232,7 +232,11 @@ fn edit_first(
 }
 
 // A shard with each of these trees under its id.
-fn kept(alloc: Global, shard: &Shard, touched: BTreeMap<String, RevTree>) -> Result<Shard, NoMemory>
+fn keep_trees(
+    alloc: Global,
+    shard: &Shard,
+    touched: BTreeMap<String, RevTree>,
+) -> Result<Shard, NoMemory>
     ensures stands { IfOk result
         (λ s. (hs : Histories) → TouchedStandFor shard.now.documents (touched_of touched.entries) hs
         → StandFor s.documents hs) }

@@ -27,7 +27,7 @@ fn agrees(known: &Known, pos: u32, id: &String, parent: Option<&String>) -> bool
         ≡ agrees_found (find (pos, string_bytes id.now) known.now) (option_map
         (λ p. (pos - 1, string_bytes p)) (option_copied parent.entry)) }
 {
-    match (known.kept(pos, id.as_bytes()), parent) {
+    match (known.look_up_parent(pos, id.as_bytes()), parent) {
         (Some(Some(kept)), Some(given)) => kept.cmp(given.as_bytes()).is_eq(),
         _ => true,
     }
@@ -54,7 +54,7 @@ fn holds(known: &Known, pos: u32, id: &String, parent: Option<&String>) -> bool
         ≡ held_found (find (pos, string_bytes id.now) known.now) (option_map
         (λ p. (pos - 1, string_bytes p)) (option_copied parent.entry)) }
 {
-    match (known.kept(pos, id.as_bytes()), parent) {
+    match (known.look_up_parent(pos, id.as_bytes()), parent) {
         (Some(Some(kept)), Some(given)) => kept.cmp(given.as_bytes()).is_eq(),
         (Some(_), None) => true,
         _ => false,

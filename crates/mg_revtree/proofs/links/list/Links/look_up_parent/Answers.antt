@@ -5,7 +5,7 @@ use Rattle.mg_revtree.specs.Nodes.{link_in}
 use Rattle.mg_revtree.specs.declared.links.node.Node.{Node}
 use Rattle.mg_revtree.proofs.Find.{gap_none}
 use Rattle.mg_revtree.proofs.Texts.{kept-at}
-use Rattle.mg_revtree.proofs.links.list.Links.kept.Goals as goal
+use Rattle.mg_revtree.proofs.links.list.Links.look_up_parent.Goals as goal
 
 pub returns-in-Ok : goal.returns-in-Ok
 returns-in-Ok c = λ sorted.

@@ -3,7 +3,7 @@ use Rattle.mg_shard.specs.Documents.{shown}
 use Rattle.mg_shard.specs.Draft.{TouchedStandFor, touched_of}
 use Rattle.mg_shard.specs.Shard.{ShardView}
 use Rattle.mg_shard.specs.declared.document.Document.{Document}
-use Rattle.mg_shard.proofs.draft.kept.Goals as goal
+use Rattle.mg_shard.proofs.draft.keep_trees.Goals as goal
 
 pub returns-clause-stands : goal.returns-clause-stands
 returns-clause-stands c = λ hs st.
