@@ -3,7 +3,7 @@ ghost use Rattle.mg_revtree.specs.Revision.{run_from};
 ghost use Rattle.mg_revtree.specs.History.{Link, fit, are_held, links};
 ghost use Rattle.mg_revtree.specs.Tree.{AreNodes, AreSorted, find};
 ghost use Rattle.mg_revtree.specs.Nodes.{links_in};
-ghost use Rattle.mg_revtree.specs.Steps.{IsGap, IsPlace, agrees_found, held_found};
+ghost use Rattle.mg_revtree.specs.Steps.{IsGap, IsLinkAt, agrees_found, held_found};
 
 use crate::links::known::Known;
 use crate::links::node::Node;
@@ -13,7 +13,7 @@ pub fn place(texts: &[u8], nodes: &[Node], pos: u32, id: &[u8]) -> Result<usize,
     ensures found { IfOk result
         (λ i. (i < length nodes.now)
         × (AreSorted (links_in texts.now nodes.now)
-        → IsPlace (pos, id.now) (links_in texts.now nodes.now) i)) }
+        → IsLinkAt (pos, id.now) (links_in texts.now nodes.now) i)) }
     ensures absent { IfErr result
         (λ i. (i ≤ length nodes.now)
         × (AreSorted (links_in texts.now nodes.now) → IsGap (pos, id.now) (links_in texts.now nodes.now) i)) }
