@@ -14,7 +14,7 @@ ghost use Rattle.mg_shard.specs.Histories.{Histories, history_at};
 
 use crate::document::Document;
 use crate::entry::IndexEntry;
-use crate::indexes::{list_in_pages, listed, mend_all};
+use crate::indexes::{list_in_pages, mend_all, share_indexes};
 use crate::reply::EditReply;
 use crate::shard::Shard;
 use mg_doc::{Edit, EditError};
@@ -243,7 +243,7 @@ fn keep_trees(
     ensures indexes { IfOk result (λ s. s.definitions ≡ shard.now.definitions) }
 {
     let documents = shard.documents.share(alloc)?;
-    let own = listed(alloc, &shard.indexes)?;
+    let own = share_indexes(alloc, &shard.indexes)?;
     let (documents, mended) = keep_all(alloc, documents, own, touched)?;
     let indexes = list_in_pages(alloc, &mended)?;
     Ok(Shard { documents, indexes })

@@ -1,6 +1,6 @@
 use Rattle.mg_index.specs.Catalog.{definition_at}
 use Rattle.mg_scan.proofs.Begun.{none_begun, rows_begun}
-use Rattle.mg_scan.proofs.left.rows_of.Goals as goal
+use Rattle.mg_scan.proofs.left.left_in_index.Goals as goal
 
 pub returns-in-Some : goal.returns-in-Some
 returns-in-Some c =

@@ -1,5 +1,5 @@
 use Rattle.mg_scan.proofs.Builds.{rows_there, shard_at}
-use Rattle.mg_scan.proofs.building.rows_at.Goals as goal
+use Rattle.mg_scan.proofs.building.extract_at.Goals as goal
 
 pub returns : goal.returns
 returns g c =

@@ -1,5 +1,5 @@
 use Rattle.std.proofs.Common.{◌≡◌, ◌++◌, length}
-use Rattle.mg_shard.proofs.indexes.listed.Given as goal
+use Rattle.mg_shard.proofs.indexes.share_indexes.Given as goal
 
 -- the indexes so far, and those that are left
 abbrev pub invariant-loop-index : goal.invariant-loop-index
