@@ -4,7 +4,7 @@ use Rattle.std.specs.Option.{option_to_list}
 use Rattle.std.specs.Result.{IsErrAnd, result_err}
 use Rattle.mg_value.specs.Value.{Value}
 use Rattle.mg_revtree.specs.Revision.{Revision}
-use Rattle.mg_revtree.specs.History.{History, newest_of, fits, all_links}
+use Rattle.mg_revtree.specs.History.{Paths, newest_of, fits, all_links}
 use Rattle.mg_revtree.specs.Changes.{Decides, extension, may_extend, next_position, next_revision, path_of, position_below, refusal_of, run_over, with_path}
 use Rattle.mg_revtree.specs.Tree.{Tree, StandsFor}
 use Rattle.mg_revtree.specs.declared.error.MergeError.{MergeError}
@@ -37,24 +37,24 @@ told_error BadHistory = refl
 
 -- ---- a path of a replica
 
-replicated_ok : (h : History) (run : List Revision) (r : Revision) → newest_of run ≡ Some r → fits h run ≡ true → (rs : List Revision) × (replicated h run ≡ Ok (r, rs)) × (run ≡ r ∷ rs)
+replicated_ok : (h : Paths) (run : List Revision) (r : Revision) → newest_of run ≡ Some r → fits h run ≡ true → (rs : List Revision) × (replicated h run ≡ Ok (r, rs)) × (run ≡ r ∷ rs)
 replicated_ok h [] r n f = absurd cc
 replicated_ok h (q ∷ qs) r n f =
     let e : q ≡ r = cc in
     (qs, rw f (ap (λ x. Ok (x, qs)) e), ap (λ x. x ∷ qs) e)
 
-pub merged : (h : History) (d : Bool) (b : Value) (run : List Revision) (r : Revision) (t : Tree) → newest_of run ≡ Some r → fits h run ≡ true → StandsFor t (with_path h (path_of run d b))
+pub merged : (h : Paths) (d : Bool) (b : Value) (run : List Revision) (r : Revision) (t : Tree) → newest_of run ≡ Some r → fits h run ≡ true → StandsFor t (with_path h (path_of run d b))
     → Brings h d b (replicated h run) (Ok r) t
 merged h d b run r t n f s =
     let k = replicated_ok h run r n f in
     let P : List Revision → Type 0 = λ x. StandsFor t (with_path h (path_of x d b)) in
     (k.0, k.1, subst P k.2 s)
 
-misfits : (h : History) (run : List Revision) → fits h run ≡ false → replicated h run ≡ Err BadHistory
+misfits : (h : Paths) (run : List Revision) → fits h run ≡ false → replicated h run ≡ Err BadHistory
 misfits h [] f = refl
 misfits h (q ∷ qs) f = rw f refl
 
-pub not_merged : (h : History) (run : List Revision) (x : MergeError) → (fits h run ≡ true → x ≡ merge_refused) → Missing (replicated h run) (refusal_told (error_of_merge x))
+pub not_merged : (h : Paths) (run : List Revision) (x : MergeError) → (fits h run ≡ true → x ≡ merge_refused) → Missing (replicated h run) (refusal_told (error_of_merge x))
 not_merged h run misfit f = elim (two (fits h run)) [
   | inl t ↦ absurd (let e : misfit ≡ merge_refused = f t in cc)
   | inr n ↦ misfits h run n
@@ -86,7 +86,7 @@ no_refusal None u d = refl
 no_refusal (Some refusal) u d = absurd cc
 
 -- a revision that may be made has a position
-has_position : (h : History) (base : Option Revision) (id : List ℕ) → refusal_of h base id ≡ None → (position_below base == 4294967295) ≡ false
+has_position : (h : Paths) (base : Option Revision) (id : List ℕ) → refusal_of h base id ≡ None → (position_below base == 4294967295) ≡ false
 has_position h base id e = elim (two (may_extend h base)) [
   | inr f ↦ absurd (let n : Some NotLeaf ≡ None = rw f at e in cc)
   | inl m ↦ elim (two (position_below base == 4294967295)) [
@@ -99,7 +99,7 @@ run_over-older : (r : Revision) (base : Option Revision) → run_over r base ≡
 run_over-older r None = refl
 run_over-older r (Some q) = refl
 
-made_now : (h : History) (d : Bool) (b : Value) (base : Option Revision) (n : ℕ) (t : Tree) → refusal_of h base (digest_of d base b) ≡ None
+made_now : (h : Paths) (d : Bool) (b : Value) (base : Option Revision) (n : ℕ) (t : Tree) → refusal_of h base (digest_of d base b) ≡ None
     → ((position_below base == 4294967295) ≡ false → n ≡ position_below base + 1) → StandsFor t (with_path h (extension base (digest_of d base b) d b))
     → Brings h d b (made_on h d b base) (Ok (n, digest_of d base b)) t
 made_now h d b base n t r p s =
@@ -108,7 +108,7 @@ made_now h d b base n t r p s =
     let Q : ℕ → Type 0 = λ m. Brings h d b (made_on h d b base) (Ok (m, digest_of d base b)) t in
     subst Q (sym at) (option_to_list base, ap (λ o. unless (option_map refused_by o) (made_over base (digest_of d base b))) r, subst P (run_over-older (next_revision base (digest_of d base b)) base) s)
 
-pub made_over_base : (h : History) (d : Bool) (b : Value) (base : Option Revision) (id copy : List ℕ) (n : ℕ) (t : Tree) → id ≡ digest_of d base b → copy ≡ id → refusal_of h base id ≡ None
+pub made_over_base : (h : Paths) (d : Bool) (b : Value) (base : Option Revision) (id copy : List ℕ) (n : ℕ) (t : Tree) → id ≡ digest_of d base b → copy ≡ id → refusal_of h base id ≡ None
     → ((position_below base == 4294967295) ≡ false → n ≡ position_below base + 1) → StandsFor t (with_path h (extension base id d b))
     → Brings h d b (made_on h d b base) (Ok (n, copy)) t
 made_over_base h d b base id copy n t e f r p s =
@@ -118,34 +118,34 @@ made_over_base h d b base id copy n t e f r p s =
     subst Q (sym (f ∙ e)) (made_now h d b base n t (subst R e r) p (subst S e s))
 
 -- where there is nothing to extend
-pub no_base : (h : History) (d : Bool) (b : Value) (named : Option Revision) (o : Option Refused) → Missing (base_found h named) o → Missing (extended_by h d b named) o
+pub no_base : (h : Paths) (d : Bool) (b : Value) (named : Option Revision) (o : Option Refused) → Missing (base_found h named) o → Missing (extended_by h d b named) o
 no_base h d b named None k = tt
 no_base h d b named (Some refused) k = ap (made_found h d b) k
 
 -- where there is a base
-pub found_made : (h : History) (d : Bool) (b : Value) (named base : Option Revision) (r : Result Revision EditError) (t : Tree) → base_found h named ≡ Ok base
+pub found_made : (h : Paths) (d : Bool) (b : Value) (named base : Option Revision) (r : Result Revision EditError) (t : Tree) → base_found h named ≡ Ok base
     → Brings h d b (made_on h d b base) r t → Brings h d b (extended_by h d b named) r t
 found_made h d b named base r t e k = let P : Result Accepted Refused → Type 0 = λ s. Brings h d b s r t in subst P (sym (ap (made_found h d b) e)) k
 
 -- the steps of the code make what an edit makes
-pub extended_is : (h : History) (d : Bool) (b : Value) (named : Option Revision) → extended_by h d b named ≡ extended h d b named
+pub extended_is : (h : Paths) (d : Bool) (b : Value) (named : Option Revision) → extended_by h d b named ≡ extended h d b named
 extended_is h d b named = elim (two (is_unnamed h named)) [ inl t ↦ rw t refl | inr f ↦ rw f refl ]
 
-pub first_is : (h : History) (named : Option Revision) → unplaced h (base_found h named) ≡ first_refusal h (New named)
+pub first_is : (h : Paths) (named : Option Revision) → unplaced h (base_found h named) ≡ first_refusal h (New named)
 first_is h named = elim (two (is_unnamed h named)) [ inl t ↦ rw t refl | inr f ↦ rw f refl ]
 
 -- why nothing is made over a base, as far as it is known before the revision is made
-pub base_refused : (h : History) (named : Option Revision) (refused : Refused) → base_found h named ≡ Err refused → first_refusal h (New named) ≡ Some refused
+pub base_refused : (h : Paths) (named : Option Revision) (refused : Refused) → base_found h named ≡ Err refused → first_refusal h (New named) ≡ Some refused
 base_refused h named refused e = sym (first_is h named) ∙ ap (unplaced h) e
 
-pub place_refused : (h : History) (named base : Option Revision) (refusal : TreeRefusal) → base_found h named ≡ Ok base → Err refusal ≡ next_position h base → first_refusal h (New named) ≡ Some (refused_by refusal)
+pub place_refused : (h : Paths) (named base : Option Revision) (refusal : TreeRefusal) → base_found h named ≡ Ok base → Err refusal ≡ next_position h base → first_refusal h (New named) ≡ Some (refused_by refusal)
 place_refused h named base refusal e k = sym (first_is h named) ∙ ap (unplaced h) e ∙ ap (λ o. option_map refused_by (result_err o)) (sym k)
 
-pub not_refused_yet : (h : History) (named base : Option Revision) (n : ℕ) → base_found h named ≡ Ok base → Ok n ≡ next_position h base → first_refusal h (New named) ≡ None
+pub not_refused_yet : (h : Paths) (named base : Option Revision) (n : ℕ) → base_found h named ≡ Ok base → Ok n ≡ next_position h base → first_refusal h (New named) ≡ None
 not_refused_yet h named base n e k = sym (first_is h named) ∙ ap (unplaced h) e ∙ ap (λ o. option_map refused_by (result_err o)) (sym k)
 
 -- what is refused before a revision is made is refused
-unplaced_over : (h : History) (d : Bool) (b : Value) (base : Option Revision) (o : Result ℕ TreeRefusal) (refused : Refused) → next_position h base ≡ o → option_map refused_by (result_err o) ≡ Some refused → made_on h d b base ≡ Err refused
+unplaced_over : (h : Paths) (d : Bool) (b : Value) (base : Option Revision) (o : Result ℕ TreeRefusal) (refused : Refused) → next_position h base ≡ o → option_map refused_by (result_err o) ≡ Some refused → made_on h d b base ≡ Err refused
 unplaced_over h d b base (Ok n) refused e k = absurd cc
 unplaced_over h d b base (Err refusal) refused e k =
     let id = digest_of d base b in
@@ -153,11 +153,11 @@ unplaced_over h d b base (Err refusal) refused e k =
     let is : refusal_of h base id ≡ Some refusal = sym (refused_position h base id refusal (sym e)) in
     ap (λ o. unless (option_map refused_by o) (made_over base id)) is ∙ ap Err same
 
-unplaced_found : (h : History) (d : Bool) (b : Value) (base : Result (Option Revision) Refused) (refused : Refused) → unplaced h base ≡ Some refused → made_found h d b base ≡ Err refused
+unplaced_found : (h : Paths) (d : Bool) (b : Value) (base : Result (Option Revision) Refused) (refused : Refused) → unplaced h base ≡ Some refused → made_found h d b base ≡ Err refused
 unplaced_found h d b (Err x) refused k = let e : x ≡ refused = cc in ap Err e
 unplaced_found h d b (Ok base) refused k = unplaced_over h d b base (next_position h base) refused refl k
 
-pub refuses_new : (h : History) (e : Edit) (named : Option Revision) (x : EditError) (refused : Refused) → e.change ≡ New named → first_refusal h (New named) ≡ Some refused → x ≡ error_of refused → Refuses h e (refusal_told x)
+pub refuses_new : (h : Paths) (e : Edit) (named : Option Revision) (x : EditError) (refused : Refused) → e.change ≡ New named → first_refusal h (New named) ≡ Some refused → x ≡ error_of refused → Refuses h e (refusal_told x)
 refuses_new h e named x refused is k to =
     let P : Option Refused → Type 0 = Refuses h e in
     let made : extended h e.deleted e.body named ≡ Err refused =
@@ -167,7 +167,7 @@ refuses_new h e named x refused is k to =
 
 -- ---- the look-up of a replica's path
 
-module _ (h : History) (e : Edit) (run : List Revision) (is : e.change ≡ Replica run) (t : Tree) where
+module _ (h : Paths) (e : Edit) (run : List Revision) (is : e.change ≡ Replica run) (t : Tree) where
   accepted_run : accepted_by h e ≡ replicated h run
   accepted_run = rw is refl
 
@@ -182,20 +182,20 @@ module _ (h : History) (e : Edit) (run : List Revision) (is : e.change ≡ Repli
       let f : fits h run ≡ true = whole_fits (all_links h) _ k.1 in
       let d = replicated_ok h run r k.0 f in
       let said : accepted_by h e ≡ Ok (r, d.0) = accepted_run ∙ d.1 in
-      let P : History → Type 0 = StandsFor t in
+      let P : Paths → Type 0 = StandsFor t in
       let Q : List Revision → Type 0 = λ x. StandsFor t (with_path h (path_of x e.deleted e.body)) in
       (ap newest_accepted said, subst P (sym (ap (history_after h e) said)) (subst Q d.2 (whole_stands t h run e.deleted e.body k.1 s)))
 
 -- memory runs out for a path that fits
-pub looks_want : (h : History) (run : List Revision) (r : Result (Option Revision) EditError) → fits h run ≡ true → IsErrAnd r (λ x. x ≡ no_memory) → LooksFor h run r
+pub looks_want : (h : Paths) (run : List Revision) (r : Result (Option Revision) EditError) → fits h run ≡ true → IsErrAnd r (λ x. x ≡ no_memory) → LooksFor h run r
 looks_want h run (Ok o) f k = absurd k
 looks_want h run (Err x) f k = let P : EditError → Type 0 = λ y. Misfits h run (refusal_told y) in subst P (sym k) f
 
 -- ---- either
 
-pub applied : (h : History) (e : Edit) (r : Result Revision EditError) (t : Tree) → first_refusal h e.change ≡ None → Brings h e.deleted e.body (accepted_by h e) r t → Applied h e r t
+pub applied : (h : Paths) (e : Edit) (r : Result Revision EditError) (t : Tree) → first_refusal h e.change ≡ None → Brings h e.deleted e.body (accepted_by h e) r t → Applied h e r t
 applied h e (Ok r) t first k =
-    let P : History → Type 0 = StandsFor t in
+    let P : Paths → Type 0 = StandsFor t in
     (ap newest_accepted k.1, subst P (sym (ap (history_after h e) k.1)) k.2)
 applied h e (Err conflict) t first k = ap newest_accepted k
 applied h e (Err bad_history) t first k = ap newest_accepted k

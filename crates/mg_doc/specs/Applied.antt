@@ -1,7 +1,7 @@
 -- What applying an edit to a tree gives, for each history that the tree stands for.
 use Rattle.std.specs.Prelude.{◌≡◌, Bool, false, Option, Some, None, Result, Ok, Err}
 use Rattle.mg_revtree.specs.Revision.{Revision}
-use Rattle.mg_revtree.specs.History.{History, is_whole}
+use Rattle.mg_revtree.specs.History.{Paths, is_whole}
 use Rattle.mg_revtree.specs.Tree.{Tree, StandsFor}
 use Rattle.mg_doc.specs.Document.{Edit}
 use Rattle.mg_doc.specs.Edit.{edited, first_refusal, outcome_of}
@@ -24,23 +24,23 @@ error_of Conflict = conflict
 error_of BadHistory = bad_history
 
 -- an error of an edit is right: it is the edit's refusal; or memory ran out, and the edit is not refused before that
-abbrev pub Refuses : History → Edit → Option Refused → Type 0
+abbrev pub Refuses : Paths → Edit → Option Refused → Type 0
 Refuses h e (Some refused) = outcome_of h e ≡ Err refused
 Refuses h e None = first_refusal h e.change ≡ None
 
 -- the outcome of the edit, after which the tree stands for the edited history, or its error
-abbrev pub Applied : History → Edit → Result Revision EditError → Tree → Type 0
+abbrev pub Applied : Paths → Edit → Result Revision EditError → Tree → Type 0
 Applied h e (Ok r) t = (outcome_of h e ≡ Ok r) × StandsFor t (edited h e)
 Applied h e (Err x) t = Refuses h e (refusal_told x)
 
 -- whether a change is a replica's path that is known whole, which changes nothing
-abbrev pub is_known : History → Change → Bool
+abbrev pub is_known : Paths → Change → Bool
 is_known h (New named) = false
 is_known h (Replica run) = is_whole h run
 
 -- what is foreseen of an edit: it is a path that is known whole, so that the tree already stands for the edited
 -- history; or it is no such path, and is not refused so far; or its error
-abbrev pub Foreseen : History → Edit → Result (Option Revision) EditError → Tree → Type 0
+abbrev pub Foreseen : Paths → Edit → Result (Option Revision) EditError → Tree → Type 0
 Foreseen h e (Ok (Some r)) t = (outcome_of h e ≡ Ok r) × StandsFor t (edited h e)
 Foreseen h e (Ok None) t = (first_refusal h e.change ≡ None) × (is_known h e.change ≡ false)
 Foreseen h e (Err x) t = Refuses h e (refusal_told x)

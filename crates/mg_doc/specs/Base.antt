@@ -3,7 +3,7 @@ use Rattle.std.specs.Prelude.{◌≡◌, true, false, Bool, List, Option, Some, 
 use Rattle.std.specs.Result.{result_err}
 use Rattle.mg_value.specs.Value.{Value}
 use Rattle.mg_revtree.specs.Revision.{Revision}
-use Rattle.mg_revtree.specs.History.{History, fits, is_whole, newest_of}
+use Rattle.mg_revtree.specs.History.{Paths, fits, is_whole, newest_of}
 use Rattle.mg_revtree.specs.Changes.{next_position, refusal_of}
 use Rattle.mg_doc.specs.Applied.{refusal_told}
 use Rattle.mg_doc.specs.Brought.{Missing}
@@ -14,25 +14,25 @@ use Rattle.mg_doc.specs.declared.error.Refused.{Refused}
 use Rattle.mg_doc.specs.declared.error.Refused.TheVariants.{BadHistory, Conflict}
 
 -- the base that is extended, or why the edit is refused
-abbrev pub base_found : History → Option Revision → Result (Option Revision) Refused
+abbrev pub base_found : Paths → Option Revision → Result (Option Revision) Refused
 base_found h named = if is_unnamed h named then Err Conflict else Ok (base_of h named)
 
 -- what is made over a base
-abbrev pub made_on : History → Bool → Value → Option Revision → Result Accepted Refused
+abbrev pub made_on : Paths → Bool → Value → Option Revision → Result Accepted Refused
 made_on h deleted body base =
     unless (option_map refused_by (refusal_of h base (digest_of deleted base body))) (made_over base (digest_of deleted base body))
 
 -- what is made over the base that is found
-abbrev pub made_found : History → Bool → Value → Result (Option Revision) Refused → Result Accepted Refused
+abbrev pub made_found : Paths → Bool → Value → Result (Option Revision) Refused → Result Accepted Refused
 made_found h deleted body (Ok base) = made_on h deleted body base
 made_found h deleted body (Err refused) = Err refused
 
 -- a new edit, by the steps of the code
-abbrev pub extended_by : History → Bool → Value → Option Revision → Result Accepted Refused
+abbrev pub extended_by : Paths → Bool → Value → Option Revision → Result Accepted Refused
 extended_by h deleted body named = made_found h deleted body (base_found h named)
 
 -- why nothing is made over the base that is found, as far as it is known before the revision is made
-abbrev pub unplaced : History → Result (Option Revision) Refused → Option Refused
+abbrev pub unplaced : Paths → Result (Option Revision) Refused → Option Refused
 unplaced h (Ok base) = option_map refused_by (result_err (next_position h base))
 unplaced h (Err refused) = Some refused
 
@@ -42,12 +42,12 @@ CopyIs said (Ok base) = said ≡ Ok base
 CopyIs said (Err x) = Missing said (refusal_told x)
 
 -- a reported refusal of a path is that it does not fit; without a refusal the path fits
-abbrev pub Misfits : History → List Revision → Option Refused → Type 0
+abbrev pub Misfits : Paths → List Revision → Option Refused → Type 0
 Misfits h run (Some refused) = (refused ≡ BadHistory) × (fits h run ≡ false)
 Misfits h run None = fits h run ≡ true
 
 -- the look-up of a path: it is known whole; or it is not, but fits; or it does not fit
-abbrev pub LooksFor : History → List Revision → Result (Option Revision) EditError → Type 0
+abbrev pub LooksFor : Paths → List Revision → Result (Option Revision) EditError → Type 0
 LooksFor h run (Ok (Some r)) = (newest_of run ≡ Some r) × (is_whole h run ≡ true)
 LooksFor h run (Ok None) = (fits h run ≡ true) × (is_whole h run ≡ false)
 LooksFor h run (Err x) = Misfits h run (refusal_told x)

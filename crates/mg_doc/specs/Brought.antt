@@ -2,7 +2,7 @@
 use Rattle.std.specs.Prelude.{◌≡◌, List, ◌∷◌, Bool, Option, Some, None, Result, Ok, Err}
 use Rattle.mg_value.specs.Value.{Value}
 use Rattle.mg_revtree.specs.Revision.{Revision}
-use Rattle.mg_revtree.specs.History.{History}
+use Rattle.mg_revtree.specs.History.{Paths}
 use Rattle.mg_revtree.specs.Changes.{path_of, with_path}
 use Rattle.mg_revtree.specs.Tree.{Tree, StandsFor}
 use Rattle.mg_doc.specs.Applied.{refusal_told}
@@ -16,6 +16,6 @@ Missing said (Some refused) = said ≡ Err refused
 Missing said None = Unit {0}
 
 -- a path is accepted, and the tree then stands for the history with it; or an error says why it is not
-abbrev pub Brings : History → Bool → Value → Result Accepted Refused → Result Revision EditError → Tree → Type 0
+abbrev pub Brings : Paths → Bool → Value → Result Accepted Refused → Result Revision EditError → Tree → Type 0
 Brings h deleted body said (Ok r) t = (rs : List Revision) × (said ≡ Ok (r, rs)) × StandsFor t (with_path h (path_of (r ∷ rs) deleted body))
 Brings h deleted body said (Err x) t = Missing said (refusal_told x)

@@ -2,7 +2,7 @@
 use Rattle.std.specs.Prelude.{List, [], ◌∷◌, codes, map}
 use Rattle.mg_value.specs.Value.{Value, text, list, with_member}
 use Rattle.mg_value.specs.View.{items_of}
-use Rattle.mg_revtree.specs.History.{History, Leaf}
+use Rattle.mg_revtree.specs.History.{Paths, Leaf}
 use Rattle.mg_revtree.specs.Losers.{losers_of}
 use Rattle.mg_revtree.specs.Revision.{revision_text}
 
@@ -16,5 +16,5 @@ with_losers [] v = v
 with_losers (l ∷ ls) v = with_member (codes "_conflicts") (list (items_of (map leaf_text (l ∷ ls)))) v
 
 -- a document of this history with its conflicts
-abbrev pub with_conflicts_of : History → Value → Value
+abbrev pub with_conflicts_of : Paths → Value → Value
 with_conflicts_of h v = with_losers (losers_of h) v

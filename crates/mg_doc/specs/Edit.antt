@@ -4,7 +4,7 @@ use Rattle.std.specs.Option.{option_to_list}
 use Rattle.std.specs.Result.{result_err}
 use Rattle.mg_value.specs.Value.{Value}
 use Rattle.mg_revtree.specs.Revision.{Revision}
-use Rattle.mg_revtree.specs.History.{History, Leaf, winner_of, fits}
+use Rattle.mg_revtree.specs.History.{Paths, Leaf, winner_of, fits}
 use Rattle.mg_revtree.specs.Changes.{path_of, with_path, next_position, next_revision, refusal_of}
 use Rattle.mg_revtree.specs.declared.error.TreeRefusal.{TreeRefusal}
 use Rattle.mg_revtree.specs.declared.error.TreeRefusal.TheVariants.{NotLeaf, Full, Known}
@@ -27,11 +27,11 @@ is_alive None = false
 is_alive (Some l) = not l.deleted
 
 -- whether it names no revision, though its document is there
-abbrev pub is_unnamed : History → Option Revision → Bool
+abbrev pub is_unnamed : Paths → Option Revision → Bool
 is_unnamed h named = is_none named && is_alive (winner_of h)
 
 -- its base: the revision that it names, or else the winner's, if there is a winner
-abbrev pub base_of : History → Option Revision → Option Revision
+abbrev pub base_of : Paths → Option Revision → Option Revision
 base_of h None = option_map (λ l. l.rev) (winner_of h)
 base_of h (Some r) = Some r
 
@@ -42,7 +42,7 @@ refused_by Full = BadHistory
 refused_by Known = Conflict
 
 -- why it is refused, if it is: it names no revision, though its document is there; or its base refuses a revision of this id
-abbrev pub refusal_over : History → Option Revision → List ℕ → Option Refused
+abbrev pub refusal_over : Paths → Option Revision → List ℕ → Option Refused
 refusal_over h named id = if is_unnamed h named then Some Conflict else option_map refused_by (refusal_of h (base_of h named) id)
 
 -- the path that it brings: the revision of this id, and after it the base, if there is one
@@ -55,7 +55,7 @@ unless None accepted = Ok accepted
 unless (Some refused) accepted = Err refused
 
 -- the path that it brings, its id the digest over its base and its body; or why it is refused
-abbrev pub extended : History → Bool → Value → Option Revision → Result Accepted Refused
+abbrev pub extended : Paths → Bool → Value → Option Revision → Result Accepted Refused
 extended h deleted body named =
     let base = base_of h named in
     let id = digest_of deleted base body in
@@ -64,27 +64,27 @@ extended h deleted body named =
 -- ---- an edit that a replica made
 
 -- its path is accepted if it fits
-abbrev pub replicated : History → List Revision → Result Accepted Refused
+abbrev pub replicated : Paths → List Revision → Result Accepted Refused
 replicated h [] = Err BadHistory
 replicated h (r ∷ rs) = if fits h (r ∷ rs) then Ok (r, rs) else Err BadHistory
 
 -- ---- either
 
 -- the accepted path, or why the edit is refused
-abbrev pub accepted_of : History → Bool → Value → Change → Result Accepted Refused
+abbrev pub accepted_of : Paths → Bool → Value → Change → Result Accepted Refused
 accepted_of h deleted body (New named) = extended h deleted body named
 accepted_of h deleted body (Replica run) = replicated h run
 
-abbrev pub accepted_by : History → Edit → Result Accepted Refused
+abbrev pub accepted_by : Paths → Edit → Result Accepted Refused
 accepted_by h e = accepted_of h e.deleted e.body e.change
 
 -- the history with the accepted path
-abbrev pub history_after : History → Edit → Result Accepted Refused → History
+abbrev pub history_after : Paths → Edit → Result Accepted Refused → Paths
 history_after h e (Ok a) = with_path h (path_of (a.0 ∷ a.1) e.deleted e.body)
 history_after h e (Err refused) = h
 
 -- the history after the edit; a refusal leaves it as it was
-abbrev pub edited : History → Edit → History
+abbrev pub edited : Paths → Edit → Paths
 edited h e = history_after h e (accepted_by h e)
 
 -- the newest revision of the accepted path
@@ -93,12 +93,12 @@ newest_accepted (Ok a) = Ok a.0
 newest_accepted (Err refused) = Err refused
 
 -- the revision that the edit brings, or why it is refused
-abbrev pub outcome_of : History → Edit → Result Revision Refused
+abbrev pub outcome_of : Paths → Edit → Result Revision Refused
 outcome_of h e = newest_accepted (accepted_by h e)
 
 -- ---- what is refused before a revision is made
 
 -- every refusal but that of a made revision that is already known
-abbrev pub first_refusal : History → Change → Option Refused
+abbrev pub first_refusal : Paths → Change → Option Refused
 first_refusal h (New named) = if is_unnamed h named then Some Conflict else option_map refused_by (result_err (next_position h (base_of h named)))
 first_refusal h (Replica run) = if fits h run then None else Some BadHistory

@@ -2,7 +2,7 @@
 use Rattle.std.specs.Prelude.{ℕ, List, codes, Option, Some, None, option_and_then, if◌then◌else◌}
 use Rattle.mg_value.specs.Value.{Value, text, with_member}
 use Rattle.mg_revtree.specs.Revision.{revision_text}
-use Rattle.mg_revtree.specs.History.{History, Leaf, winner_of}
+use Rattle.mg_revtree.specs.History.{Paths, Leaf, winner_of}
 
 -- a leaf's body with the document's id and its revision
 abbrev pub served_form : List ℕ → Leaf → Value
@@ -13,5 +13,5 @@ abbrev pub shown_leaf : List ℕ → Leaf → Option Value
 shown_leaf id l = if l.deleted then None else Some (served_form id l)
 
 -- the served document of an id, if its winner is not deleted
-abbrev pub served_of : List ℕ → History → Option Value
+abbrev pub served_of : List ℕ → Paths → Option Value
 served_of id h = option_and_then (shown_leaf id) (winner_of h)

@@ -1,6 +1,6 @@
 ghost use Rattle.std.specs.Prelude.{◌≡◌, IfOk, IfSome, IsOk, None, option_map};
 ghost use Rattle.mg_value.specs.View.{view};
-ghost use Rattle.mg_revtree.specs.History.{History as Paths, Leaf as Winner, first_of};
+ghost use Rattle.mg_revtree.specs.History.{Paths, Leaf as Winner, first_of};
 ghost use Rattle.mg_revtree.specs.Tree.{StandsFor};
 ghost use Rattle.mg_doc.specs.Served.{served_form as form_of, served_of};
 

@@ -20,7 +20,7 @@ use Rattle.mg_path.specs.Part.{part_of}
 use Rattle.mg_query.specs.Page.{Candidate, candidates_of}
 use Rattle.mg_query.specs.Served.{AreWhole}
 use Rattle.mg_query.proofs.Kept.{IsKnown, all_known}
-use Rattle.mg_revtree.specs.History.{History, Leaf, Path, all_links, has_child, is_at, marked, newest_of, winner_of}
+use Rattle.mg_revtree.specs.History.{Paths, Leaf, Path, all_links, has_child, is_at, marked, newest_of, winner_of}
 use Rattle.mg_revtree.specs.Revision.{Revision, revision_text}
 use Rattle.mg_revtree.proofs.Winners.{winner_is_best}
 use Rattle.mg_shard.specs.Edits.{after_edit, after_edits, history_put, id_in, outcome_in}
@@ -104,19 +104,19 @@ numbered_objects n (e ∷ es) h =
 
 -- ---- histories
 
-with_object : (h : History) (p : Path) → HasObjects h → is_object p.body ≡ true → HasObjects (h ++ p ∷ [])
+with_object : (h : Paths) (p : Path) → HasObjects h → is_object p.body ≡ true → HasObjects (h ++ p ∷ [])
 with_object [] p hs o = (o, tt)
 with_object (q ∷ h) p hs o = (hs.0, with_object h p hs.1 o)
 
-after_object : (h : History) (e : Edit) (r : Result Accepted Refused) → HasObjects h → is_object e.body ≡ true → HasObjects (history_after h e r)
+after_object : (h : Paths) (e : Edit) (r : Result Accepted Refused) → HasObjects h → is_object e.body ≡ true → HasObjects (history_after h e r)
 after_object h e (Ok a) hs o = with_object h (record { revs = a.0 ∷ a.1; deleted = e.deleted; body = e.body }) hs o
 after_object h e (Err x) hs o = hs
 
-at_objects : (o : Option History) → ((h : History) → o ≡ Some h → HasObjects h) → HasObjects (unwrap_or o [])
+at_objects : (o : Option Paths) → ((h : Paths) → o ≡ Some h → HasObjects h) → HasObjects (unwrap_or o [])
 at_objects None each = tt
 at_objects (Some h) each = each h refl
 
-put_object : (b : Bool) (new : History) (o : Option History) (h : History) → cond b (Some new) o ≡ Some h → HasObjects new → ((h : History) → o ≡ Some h → HasObjects h) → HasObjects h
+put_object : (b : Bool) (new : Paths) (o : Option Paths) (h : Paths) → cond b (Some new) o ≡ Some h → HasObjects new → ((h : Paths) → o ≡ Some h → HasObjects h) → HasObjects h
 put_object true new o h e n each = subst HasObjects (the_some new h e) n
 put_object false new o h e n each = each h e
 
@@ -141,7 +141,7 @@ still_objects hs n es had bring = after_objects hs (numbered n es) had (numbered
 pub none_at_first : HaveObjects finite.empty
 none_at_first = record { each = λ id h at. none_of (get finite.empty id) h (get-empty bytes_cmp id) at }
   where
-    none_of : (o : Option History) (h : History) → o ≡ None → o ≡ Some h → HasObjects h
+    none_of : (o : Option Paths) (h : Paths) → o ≡ None → o ≡ Some h → HasObjects h
     none_of None h e f = absurd cc
     none_of (Some x) h e f = absurd cc
 
@@ -156,7 +156,7 @@ marked_here : (b : Bool) (p : Path) (o : Option (Bool × Value)) (m : Bool × Va
 marked_here true p o m good rest e = subst (λ (x : Bool × Value). is_object x.1 ≡ true) (the_some (p.deleted, p.body) m e) good
 marked_here false p o m good rest e = rest m e
 
-marked_object : (r : Revision) (h : History) (m : Bool × Value) → HasObjects h → marked r h ≡ Some m → is_object m.1 ≡ true
+marked_object : (r : Revision) (h : Paths) (m : Bool × Value) → HasObjects h → marked r h ≡ Some m → is_object m.1 ≡ true
 marked_object r [] m hs e = absurd cc
 marked_object r (p ∷ h) m hs e = marked_here (is_at r (newest_of p.revs)) p (marked r h) m hs.0 (λ m e. marked_object r h m hs.1 e) e
 
@@ -164,7 +164,7 @@ leaf_here : (b : Bool) (o : Option (Bool × Value)) (m : Bool × Value) → ((m 
 leaf_here true o m each e = absurd cc
 leaf_here false o m each e = each m e
 
-winner_object : (h : History) (l : Leaf) → HasObjects h → winner_of h ≡ Some l → IsGood l
+winner_object : (h : Paths) (l : Leaf) → HasObjects h → winner_of h ≡ Some l → IsGood l
 winner_object h l hs e =
     leaf_here (has_child l.rev (all_links h)) (marked l.rev h) (l.deleted, l.body) (λ m k. marked_object l.rev h m hs k) (winner_is_best h l e).0
 

@@ -2,7 +2,7 @@
 use Rattle.std.specs.Prelude.{ℕ, List, [], ◌∷◌, Bool, true, false, codes, Option, Some, None, is_some, option_map, unwrap_or, Result, Ok, Err, if◌then◌else◌}
 use Rattle.std.specs.FinMap as finite
 use Rattle.mg_value.specs.Value.{Value, list}
-use Rattle.mg_revtree.specs.History.{History}
+use Rattle.mg_revtree.specs.History.{Paths}
 use Rattle.mg_doc.specs.Conflicts.{with_conflicts_of}
 use Rattle.mg_doc.specs.Document.{Edit}
 use Rattle.mg_doc.specs.Served.{served_of}
@@ -144,7 +144,7 @@ explained w (Err e) = refused (refusal_of_query e)
 -- ---- `GET` of a document
 
 -- a document of this history, with its conflicts where they are asked for
-abbrev pub with_asked : Bool → History → Value → Value
+abbrev pub with_asked : Bool → Paths → Value → Value
 with_asked true h v = with_conflicts_of h v
 with_asked false h v = v
 
@@ -154,7 +154,7 @@ shown_or_deleted (Some v) = done v
 shown_or_deleted None = refused Deleted
 
 -- the served document; `deleted` where there is a history and none is served, `missing` where there is no history
-abbrev pub got : List ℕ → Bool → Option History → Answer
+abbrev pub got : List ℕ → Bool → Option Paths → Answer
 got id conflicts (Some h) = shown_or_deleted (option_map (with_asked conflicts h) (served_of id h))
 got id conflicts None = refused Missing
 

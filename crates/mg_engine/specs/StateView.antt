@@ -14,7 +14,7 @@ abbrev pub state_shown : Inside → Shown
 state_shown s = record { name = string_bytes (arc_value s.name); catalog = arc_value s.catalog; shards = shards_seen s.shards.items; counter = s.counter }
 
 -- there is a shard, and each has the rows of exactly the catalog's indexes
-pub record IsWhole (s : Inside) : Type 0 where
+pub record IsIndexed (s : Inside) : Type 0 where
   pub some : 0 < length s.shards.items
   pub rows : HaveRows (arc_value s.catalog) (shards_seen s.shards.items)
 

@@ -2,7 +2,7 @@
 ghost use Rattle.std.specs.Prelude.{◌≡◌, ◌<◌, IfOk, Option, Some, length, slice_get};
 ghost use Rattle.std.specs.FinMap as finite;
 ghost use Rattle.std.specs.FinMap.{get};
-ghost use Rattle.mg_revtree.specs.History.{History};
+ghost use Rattle.mg_revtree.specs.History.{Paths};
 ghost use Rattle.mg_revtree.specs.Tree.{StandsFor};
 ghost use Rattle.mg_doc.specs.Conflicts.{with_conflicts_of};
 ghost use Rattle.mg_shard.specs.Documents.{StandsAt, form_of};
@@ -59,7 +59,7 @@ fn shard_of<'a, P: Placement>(placement: &P, shards: &'a [Arc<Shard>], id: &str)
 
 // The reply to a `GET` of a document that is placed on this shard.
 fn get_from(alloc: Global, shard: &Shard, id: &str, conflicts: bool) -> Result<Reply, NoMemory>
-    ensures { IfOk result (λ r. (o : Option History) → StandsAt id.now (get shard.now.documents id.now) o
+    ensures { IfOk result (λ r. (o : Option Paths) → StandsAt id.now (get shard.now.documents id.now) o
         → said r ≡ Some (got id.now conflicts o)) }
 {
     let Some(document) = shard.document(id) else {
@@ -79,7 +79,7 @@ fn get_from(alloc: Global, shard: &Shard, id: &str, conflicts: bool) -> Result<R
 // The line of a document with its conflicts.
 fn conflicted_line(alloc: Global, form: &Part<'_>, tree: &RevTree) -> Result<Vec<u8>, NoMemory>
     ensures { IfOk result
-        (λ b. (h : History) → StandsFor tree.now h → b.items ≡ line_of (with_conflicts_of h form.now)) }
+        (λ b. (h : Paths) → StandsFor tree.now h → b.items ≡ line_of (with_conflicts_of h form.now)) }
 {
     let document = form.copy(alloc)?;
     let shown = with_conflicts(alloc, document, tree)?;

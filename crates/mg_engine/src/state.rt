@@ -31,11 +31,11 @@ impl Model for State {
 
     ghost coded = { shown_code };
 
-    ghost use Rattle.mg_engine.specs.StateView.{IsWhole, state_shown};
+    ghost use Rattle.mg_engine.specs.StateView.{IsIndexed, state_shown};
 
     ghost view = { state_shown };
 
-    ghost invariant = { IsWhole };
+    ghost invariant = { IsIndexed };
 }
 
 impl State {

@@ -14,8 +14,8 @@ use Rattle.mg_http.specs.declared.sessions.inbox.Stop.{Stop}
 use Rattle.mg_http.specs.declared.sessions.inbox.Stop.TheVariants as stop
 use Rattle.mg_http.specs.declared.sessions.SessionEnd.{SessionEnd}
 use Rattle.mg_http.specs.declared.sessions.SessionEnd.TheVariants.{Eof, Closed, Refused, ReadFault, WriteFault, Limit}
-use Rattle.mg_http.specs.declared.request.target.Target.{Target}
-use Rattle.mg_http.specs.declared.request.target.Target.TheVariants as target
+use Rattle.mg_http.specs.declared.request.target.RequestTarget.{RequestTarget}
+use Rattle.mg_http.specs.declared.request.target.RequestTarget.TheVariants as target
 use Rattle.mg_http.specs.Device.{WritesPrefix}
 use Rattle.mg_http.specs.Inbox.{unanswered}
 use Rattle.mg_http.specs.Reply.{reply_text}
@@ -24,8 +24,8 @@ use Rattle.mg_http.specs.Message.{Message, HasHead, IsNoHead, CanGoOn, IsPartHea
 use Rattle.mg_http.specs.Session.{Call, Exchange, Serves, Converses}
 use Rattle.mg_http.specs.Target.{Request, body, asks, refuses}
 
--- the request that a `Target` of the code means
-abbrev pub request_in : Target → Request
+-- the request that a `RequestTarget` of the code means
+abbrev pub request_in : RequestTarget → Request
 request_in (target.Body endpoint) = body endpoint
 request_in (target.Asks command) = asks (engine.asked command)
 request_in (target.Refuses refusal) = refuses refusal
@@ -46,7 +46,7 @@ IsBodyFramed asked request (Ok n) = (asked ≡ framed request n) × (n ≤ 83886
 IsBodyFramed asked request (Err refusal) = asked ≡ unframed refusal
 
 -- the code's framing of a message is right: its target and the length of its body; or a refusal before the body, or out of memory
-abbrev pub IsFramedBy : Asks → Result (Target × ℕ) Refusal → Type 0
+abbrev pub IsFramedBy : Asks → Result (RequestTarget × ℕ) Refusal → Type 0
 IsFramedBy asked (Ok f) = (asked ≡ framed (request_in f.0) f.1) × (f.1 ≤ 8388608)
 IsFramedBy asked (Err refusal) = (asked ≡ unframed refusal) ⊎ (refusal ≡ OutOfMemory)
 

@@ -19,7 +19,7 @@ use mg_engine::Refusal;
 pub(crate) use routes::Endpoint;
 use std::alloc::Global;
 pub(crate) use table::Table;
-pub(crate) use target::Target;
+pub(crate) use target::RequestTarget;
 
 /// The most bytes of a head.
 pub(crate) const MAX_HEAD: usize = 16_384;

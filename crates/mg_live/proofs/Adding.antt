@@ -7,7 +7,7 @@ use prog.Atomic.{either}
 use Rattle.logbook.specs.Pages.{Cell, cell, keeps, no_nib, step, Moves, Goes}
 use Rattle.mg_live.specs.declared.markers.Entry.{Entry}
 use Rattle.mg_live.specs.Rules.{IsKept, Adds}
-use Rattle.mg_live.proofs.Fronts.{prefix_whole}
+use Rattle.mg_live.proofs.Prefixes.{prefix_whole}
 
 abbrev pub shown : List Entry → List Entry
 shown log = []

@@ -29,7 +29,7 @@ use Rattle.mg_live.specs.contracts.database.Waiting as Waiting
 use Rattle.mg_live.specs.contracts.desk.Desk as Desk
 use Rattle.mg_live.specs.contracts.desk.Desk.TheInside as desk
 use Rattle.mg_live.specs.contracts.tally.Tally.TheInside as tally
-use Rattle.mg_live.proofs.commit_log.Prefix.TheSendSync as front
+use Rattle.mg_live.proofs.commit_log.Prefix.TheSendSync as prefix
 use Rattle.mg_live.specs.contracts.markers.Ours as Ours
 use Rattle.mg_live.specs.contracts.markers.OursProtocolSnapshotUnit.TheImpl as protocol_of
 use Rattle.mg_live.specs.contracts.publication.SnapshotAbsorbUnit.TheImpl as absorb_of
@@ -68,10 +68,10 @@ module _ (P : RattleType) (s : IsSend P) (y : IsSync P) where
   point_sync = declared_sync (Point.the_type P) (Arc-sync (Engine.the_row P) engine_send engine_sync, (search sendable depth 10, tt))
 
   pub snapshot_send : IsSend (Snapshot.the_row P)
-  snapshot_send = declared_send (Snapshot.the_type P) (point_send, (front.the_send, tt))
+  snapshot_send = declared_send (Snapshot.the_type P) (point_send, (prefix.the_send, tt))
 
   pub snapshot_sync : IsSync (Snapshot.the_row P)
-  snapshot_sync = declared_sync (Snapshot.the_type P) (point_sync, (front.the_sync, tt))
+  snapshot_sync = declared_sync (Snapshot.the_type P) (point_sync, (prefix.the_sync, tt))
 
 tally_send : (D : RattleType) (l : ledger.Ghosts D.Denot) → IsSend (Tally.the_row D l)
 tally_send D l = view_send _ _ _ _ _ (declared_send (tally.the_type D l) (search sendable depth 10, (share.the_send D l, tt)))
@@ -126,7 +126,7 @@ module _ (D C P : RattleType) (d : database.Ghosts D.Denot) (l : ledger.Ghosts D
     (
       send,
       (
-        front.the_send,
+        prefix.the_send,
         (
           tally_send D l,
           (

@@ -1,4 +1,4 @@
-mod Fronts
+mod Prefixes
 mod Adding
 mod Publishing
 pub mod Crossing

@@ -23,7 +23,7 @@ use Rattle.mg_live.specs.declared.commit_log.Prefix.{Prefix}
 use Rattle.mg_machine.specs.declared.point.Point.{Point}
 use Rattle.mg_live.specs.declared.snapshot.Snapshot.{Snapshot}
 use Rattle.mg_machine.proofs.Beginnings.{itself, two}
-use Rattle.mg_live.proofs.Fronts.{longer_second}
+use Rattle.mg_live.proofs.Prefixes.{longer_second}
 
 -- ---- the same snapshot in another place
 
@@ -34,10 +34,10 @@ same_point name p q cs at engine commits = record {
   commits = commits ∙ at.commits;
 }
 
-pub same_snapshot : {P : Type 0} {place : P → List ℕ → ℕ → ℕ} (book : Book) (name : List ℕ) (opened : ℕ) (s t : Snapshot P) → IsOf place book name opened s → t.front ≡ s.front → arc_value t.point.engine ≡ arc_value s.point.engine → t.point.commits ≡ s.point.commits → IsOf place book name opened t
-same_snapshot {place = place} book name opened s t is front engine commits =
-    let seen : commits_of t ≡ commits_of s = ap (λ (f : Prefix). commits_seen f.seen.log) front in record {
-      book = ap (λ f. f.seen.book) front ∙ is.book;
+pub same_snapshot : {P : Type 0} {place : P → List ℕ → ℕ → ℕ} (book : Book) (name : List ℕ) (opened : ℕ) (s t : Snapshot P) → IsOf place book name opened s → t.prefix ≡ s.prefix → arc_value t.point.engine ≡ arc_value s.point.engine → t.point.commits ≡ s.point.commits → IsOf place book name opened t
+same_snapshot {place = place} book name opened s t is prefix engine commits =
+    let seen : commits_of t ≡ commits_of s = ap (λ (f : Prefix). commits_seen f.seen.log) prefix in record {
+      book = ap (λ f. f.seen.book) prefix ∙ is.book;
       after = subst (λ (cs : List Commit). IsAfter place name t.point cs) (sym seen) (same_point name s.point t.point (commits_of s) is.after engine commits);
       dealt = subst (λ (cs : List Commit). IsDealt opened t.point cs) (sym seen) (rw engine is.dealt);
     }

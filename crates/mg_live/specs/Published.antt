@@ -22,7 +22,7 @@ pub record Standing : Type 0 where
   pub tally : ℕ
 
 abbrev pub standing : List Commit → Prefix → ℕ → Standing
-standing cs front tally = record { published = cs; seen = commits_seen front.seen.log; tally = tally }
+standing cs prefix tally = record { published = cs; seen = commits_seen prefix.seen.log; tally = tally }
 
 -- a write is answered after the published commits, of which its seat had seen a prefix. If it is accepted, it is published as the last
 -- commit, and its seat's tally counts it

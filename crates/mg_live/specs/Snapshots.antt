@@ -10,7 +10,7 @@ use Rattle.mg_live.specs.declared.snapshot.Snapshot.{Snapshot}
 
 -- the commits that a snapshot stands after
 abbrev pub commits_of : {P : Type 0} → Snapshot P → List Commit
-commits_of s = commits_seen s.front.seen.log
+commits_of s = commits_seen s.prefix.seen.log
 
 -- what a snapshot's engine holds
 abbrev pub shown_of : {P : Type 0} → Snapshot P → Shown
@@ -19,7 +19,7 @@ shown_of s = (arc_value s.point.engine).1
 -- a snapshot of the database with this commit log and name, whose documents are placed by `place` and which was opened with `opened`
 -- shards: its point stands after its commits
 pub record IsOf {P : Type 0} (place : P → List ℕ → ℕ → ℕ) (history : Book) (name : List ℕ) (opened : ℕ) (s : Snapshot P) : Type 0 where
-  pub book : s.front.seen.book ≡ history
+  pub book : s.prefix.seen.book ≡ history
   pub after : IsAfter place name s.point (commits_of s)
   pub dealt : IsDealt opened s.point (commits_of s)
 

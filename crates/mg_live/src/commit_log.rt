@@ -53,7 +53,7 @@ pub struct Prefix {
 #[derive(Drop)]
 pub struct CommitLog {
     pub(crate) head: Head,
-    pub(crate) front: Prefix,
+    pub(crate) prefix: Prefix,
 }
 
 impl Model for CommitLog {
@@ -64,9 +64,9 @@ impl Model for CommitLog {
 
     ghost use Rattle.mg_live.specs.Rules.{head_of};
 
-    ghost view = { λ h. h.front.seen.book };
+    ghost view = { λ h. h.prefix.seen.book };
 
-    ghost invariant = { λ h. (h.head.word ≡ head_of h.front.seen.book) × (h.front.seen.log ≡ []) };
+    ghost invariant = { λ h. (h.head.word ≡ head_of h.prefix.seen.book) × (h.prefix.seen.log ≡ []) };
 }
 
 impl CommitLog {
@@ -76,17 +76,17 @@ impl CommitLog {
         let word = Word::tracked(0, &mut first);
         CommitLog {
             head: Head { word },
-            front: Prefix { count: 0, seen },
+            prefix: Prefix { count: 0, seen },
         }
     }
 
     // The word of the log, and its empty prefix.
     pub(crate) fn parts(self) -> (Head, Prefix)
         ensures head { result.0.word ≡ head_of self }
-        ensures front { (result.1.seen.book ≡ self) × (result.1.seen.log ≡ []) }
+        ensures prefix { (result.1.seen.book ≡ self) × (result.1.seen.log ≡ []) }
     {
-        let CommitLog { head, front } = self;
-        (head, front)
+        let CommitLog { head, prefix } = self;
+        (head, prefix)
     }
 }
 
@@ -124,7 +124,7 @@ impl Prefix {
     }
 
     /// The longer of two prefixes of one log. Both are prefixes of it.
-    #[tactic(auto, using(crate::proofs::Fronts::begins_itself))]
+    #[tactic(auto, using(crate::proofs::Prefixes::begins_itself))]
     pub(crate) fn longer(self, other: &Prefix) -> Prefix
         requires { self.seen.book ≡ other.now.seen.book }
         ensures book { result.seen.book ≡ self.seen.book }

@@ -91,48 +91,49 @@ where
         write: &Write,
         prepared: Prepared,
         tally: &mut Tally<D>,
-        front: &mut Prefix,
+        prefix: &mut Prefix,
     ) -> (Reply, Option<Snapshot<P>>)
         requires write { is_write (asked write.now.command.value) ≡ true }
         requires prepared { prepared ≡ asked write.now.command.value }
         requires some { 1 ≤ write.now.workers }
         requires most { write.now.workers ≤ 32 }
-        requires here { (front.old.seen.book ≡ D.history) × (head.now.word ≡ head_of D.history) }
-        ensures here { front.new.seen.book ≡ D.history }
+        requires here { (prefix.old.seen.book ≡ D.history) × (head.now.word ≡ head_of D.history) }
+        ensures here { prefix.new.seen.book ≡ D.history }
         ensures publishes { Publishes D.db (write.now.seat, asked write.now.command.value)
-            (standing self.old front.old tally.old) (said result.0) (standing self.new front.new tally.new) }
+            (standing self.old prefix.old tally.old) (said result.0)
+            (standing self.new prefix.new tally.new) }
     {
         let now = self.writer.published();
-        if !front.begins(&now.front) {
+        if !prefix.begins(&now.prefix) {
             return (Reply::NoMemory, None);
         }
         let (reply, next) = now.next::<D, R>(rt, alloc, head, write, prepared);
         let Some(next) = next else {
             match reply {
                 Reply::NoMemory => {}
-                Reply::Full { .. } => *front = now.front.again(),
+                Reply::Full { .. } => *prefix = now.prefix.again(),
             }
             return (reply, None);
         };
-        *front = next.front.again();
+        *prefix = next.prefix.again();
         tally.add(&mut self.book);
         let before = publish(rt, &mut self.writer, next);
         (reply, Some(before))
     }
 
     // Lets a seat catch up with what is published. Returns false, and changes nothing, if the seat is ahead of it.
-    pub(crate) fn catch_up(&self, front: &mut Prefix) -> bool
-        requires { front.old.seen.book ≡ D.history }
-        ensures here { front.new.seen.book ≡ D.history }
-        ensures caught_up { MatchBool result ((commits_seen front.new.seen.log ≡ self.now)
-            × IsPrefix (commits_seen front.old.seen.log) self.now) (front.new ≡ front.old) }
+    pub(crate) fn catch_up(&self, prefix: &mut Prefix) -> bool
+        requires { prefix.old.seen.book ≡ D.history }
+        ensures here { prefix.new.seen.book ≡ D.history }
+        ensures caught_up { MatchBool result ((commits_seen prefix.new.seen.log ≡ self.now)
+            × IsPrefix (commits_seen prefix.old.seen.log) self.now) (prefix.new ≡ prefix.old) }
         ensures published { IsPublished P.place D.db D.shards self.now }
     {
         let now = self.writer.published();
-        if !front.begins(&now.front) {
+        if !prefix.begins(&now.prefix) {
             return false;
         }
-        *front = now.front.again();
+        *prefix = now.prefix.again();
         true
     }
 
@@ -148,9 +149,9 @@ where
     {
         self.book.audit(all);
         let now = self.writer.published();
-        if !seen.begins(&now.front) {
+        if !seen.begins(&now.prefix) {
             unreachable!();
         }
-        now.front.len()
+        now.prefix.len()
     }
 }

@@ -81,7 +81,7 @@ where
 {
     shared: SharedDesk<D, C, P>,
     factory: Factory<Snapshot<P>, (), Ours<D, P>>,
-    front: Prefix,
+    prefix: Prefix,
     all: Share<D>,
 }
 
@@ -114,13 +114,13 @@ where
     requires shards { (1 ≤ shards) × (shards ≤ 64) }
     requires seats { (1 ≤ seats) × (seats ≤ 16) }
     ensures all { IfOk result (λ s. (s.all.parts ≡ D.parts) × (s.all.amount ≡ 0)) }
-    ensures front { IfOk result (λ s. (s.front.seen.book ≡ D.history) × (s.front.seen.log ≡ [])) }
+    ensures prefix { IfOk result (λ s. (s.prefix.seen.book ≡ D.history) × (s.prefix.seen.log ≡ [])) }
 {
-    let (head, front) = history.parts();
+    let (head, prefix) = history.parts();
     let (book, all) = blank.open::<D>();
     let first = Snapshot {
         point: Point::first(alloc, db, placement, shards)?,
-        front: front.again(),
+        prefix: prefix.again(),
     };
     let second = first.again()?;
     let writer: SnapshotWriter<D, P> = Writer::new(alloc, first, second, seats)?;
@@ -136,7 +136,7 @@ where
     Ok(Start {
         shared,
         factory: factory?,
-        front,
+        prefix,
         all,
     })
 }
@@ -161,7 +161,7 @@ where
     ensures { MatchBool result (IsAhead seats.now made) (All (λ s. length s.seen ≤ made) seats.now) }
 {
     for seat in seats {
-        if u128::from(seat.front.len()) > made {
+        if u128::from(seat.prefix.len()) > made {
             return true;
         }
     }
@@ -184,7 +184,7 @@ where
 {
     let mut longest = first.again();
     for seat in seats {
-        longest = longest.longer(&seat.front);
+        longest = longest.longer(&seat.prefix);
     }
     longest
 }
@@ -239,7 +239,7 @@ where
         let Start {
             shared,
             factory,
-            front,
+            prefix,
             mut all,
         } = begin(ends, alloc, blank, history, db, placement, shards, seats)?;
         let shared = Arc::new(alloc, shared)?;
@@ -248,7 +248,7 @@ where
             let seat = Seat {
                 number,
                 alloc,
-                front: front.again(),
+                prefix: prefix.again(),
                 tally: Tally::new(&mut all),
                 reader: Some(factory.reader()?),
                 shared: Arc::try_clone(&shared)?,
@@ -257,7 +257,7 @@ where
         }
         let live = Live {
             shared,
-            first: front,
+            first: prefix,
             rest: all,
             seats,
         };

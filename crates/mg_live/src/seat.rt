@@ -48,7 +48,7 @@ where
 {
     pub(crate) number: usize,
     pub(crate) alloc: Global,
-    pub(crate) front: Prefix,
+    pub(crate) prefix: Prefix,
     pub(crate) tally: Tally<D>,
     pub(crate) reader: Option<SnapshotReader<D, P>>,
     pub(crate) shared: Arc<SharedDesk<D, C, P>>,
@@ -67,15 +67,16 @@ where
 
     ghost use Rattle.mg_live.specs.View.{commits_seen};
 
-    ghost view = { λ s. record { number = s.number; seen = commits_seen s.front.seen.log; tally = s.tally } };
+    ghost view = { λ s.
+        record { number = s.number; seen = commits_seen s.prefix.seen.log; tally = s.tally } };
 
-    ghost invariant = { λ s. s.front.seen.book ≡ D.history };
+    ghost invariant = { λ s. s.prefix.seen.book ≡ D.history };
 }
 
 /// The commits that a seat has seen, for another seat to `learn`.
 #[derive(Drop)]
 pub struct Seen<D: Database> {
-    front: Prefix,
+    prefix: Prefix,
     of: PhantomData<D>,
 }
 
@@ -90,9 +91,9 @@ impl<D: Database> Model for Seen<D> {
 
     ghost use Rattle.mg_live.specs.View.{commits_seen};
 
-    ghost view = { λ s. commits_seen s.front.seen.log };
+    ghost view = { λ s. commits_seen s.prefix.seen.log };
 
-    ghost invariant = { λ s. s.front.seen.book ≡ D.history };
+    ghost invariant = { λ s. s.prefix.seen.book ≡ D.history };
 }
 
 impl<D: Database, C: Ends, P: Placement + Drop> Seat<D, C, P>
@@ -112,10 +113,10 @@ where
         let (reader, snapshot) = look(reader);
         self.reader = Some(reader);
         let snapshot = snapshot?;
-        if !self.front.begins(&snapshot.front) {
+        if !self.prefix.begins(&snapshot.prefix) {
             return Err(NoMemory);
         }
-        self.front = snapshot.front.again();
+        self.prefix = snapshot.prefix.again();
         Ok(snapshot)
     }
 
@@ -201,7 +202,7 @@ where
         let Seat {
             number,
             alloc,
-            front,
+            prefix,
             tally,
             shared,
             ..
@@ -219,7 +220,7 @@ where
                 &write,
                 prepared,
                 tally,
-                front,
+                prefix,
             )
         };
         drop(before);
@@ -236,11 +237,11 @@ where
         ensures refused { OnErr result (self.new ≡ self.old) }
     {
         let desk = self.shared.desk.lock(rt);
-        if !desk.catch_up(&mut self.front) {
+        if !desk.catch_up(&mut self.prefix) {
             return Err(NoMemory);
         }
         Ok(Seen {
-            front: self.front.again(),
+            prefix: self.prefix.again(),
             of: PhantomData,
         })
     }
@@ -249,8 +250,8 @@ where
     pub fn learn(&mut self, seen: &Seen<D>)
         ensures { Learned self.old seen.now self.new }
     {
-        if self.front.begins(&seen.front) {
-            self.front = seen.front.again();
+        if self.prefix.begins(&seen.prefix) {
+            self.prefix = seen.prefix.again();
         }
     }
 }

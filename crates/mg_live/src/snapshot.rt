@@ -23,7 +23,7 @@ use std::thread::Threads;
 #[derive(Drop)]
 pub struct Snapshot<P = Md5Placement> {
     pub(crate) point: Point<P>,
-    pub(crate) front: Prefix,
+    pub(crate) prefix: Prefix,
 }
 
 impl<P: Placement + Drop> Snapshot<P> {
@@ -45,7 +45,7 @@ impl<P: Placement + Drop> Snapshot<P> {
 
     // A copy of this snapshot, which shares the engine.
     pub(crate) fn again(&self) -> Result<Snapshot<P>, AllocError>
-        ensures front { IfOk result (λ s. s.front ≡ self.now.front) }
+        ensures prefix { IfOk result (λ s. s.prefix ≡ self.now.prefix) }
         ensures engine { IfOk result (λ s. arc_value s.point.engine ≡ arc_value self.now.point.engine) }
         ensures commits { IfOk result (λ s. s.point.commits ≡ self.now.point.commits) }
     {
@@ -53,7 +53,7 @@ impl<P: Placement + Drop> Snapshot<P> {
         let commits = self.point.commits;
         Ok(Snapshot {
             point: Point { engine, commits },
-            front: self.front.again(),
+            prefix: self.prefix.again(),
         })
     }
 
@@ -85,10 +85,10 @@ impl<P: Placement + Drop> Snapshot<P> {
         if !accepts(&reply) {
             return (reply, None);
         }
-        let Some(front) = self.front.with(head, write) else {
+        let Some(prefix) = self.prefix.with(head, write) else {
             return (Reply::NoMemory, None);
         };
-        (reply, Some(Snapshot { point, front }))
+        (reply, Some(Snapshot { point, prefix }))
     }
 }
 

@@ -46,10 +46,10 @@ firsts_at [] k = refl
 firsts_at (head ∷ heads) zero = refl
 firsts_at (head ∷ heads) (suc k) = firsts_at heads k
 
-rows_at : {X Y : Type 0} (row : X → Y) (heads : List (Option X)) (k : ℕ) → get_or (map (option_map row) heads) k None ≡ option_map row (get_or heads k None)
-rows_at row [] k = refl
-rows_at row (head ∷ heads) zero = refl
-rows_at row (head ∷ heads) (suc k) = rows_at row heads k
+head_row_at : {X Y : Type 0} (row : X → Y) (heads : List (Option X)) (k : ℕ) → get_or (map (option_map row) heads) k None ≡ option_map row (get_or heads k None)
+head_row_at row [] k = refl
+head_row_at row (head ∷ heads) zero = refl
+head_row_at row (head ∷ heads) (suc k) = head_row_at row heads k
 
 -- what was left before is what was pulled, and then what is left now
 pub was_remaining : {X : Type 0} (row : X → RowValue) (pulled : Option X) (old new : List RowValue) → IfSome pulled (λ x. old ≡ row x ∷ new) → IfNone pulled (old ≡ []) → old ≡ remaining (option_map row pulled) new
@@ -70,7 +70,7 @@ begins_at : {X : Type 0} (row : X → RowValue) (direction : Direction) (heads :
     ≡ begin_order (order_by row direction) (get_or (firsts_of heads) j []) (get_or (firsts_of heads) k [])
 begins_at row direction heads rests j k h l m =
     let size = length-map heads (option_map row) in
-    let at : (i : ℕ) → i < length heads → get_or (all_remaining (map (option_map row) heads) rests) i [] ≡ remaining (option_map row (get_or heads i None)) (get_or rests i []) = λ i n. all_remaining_at (map (option_map row) heads) rests i (size ∙ h) (omega (arith, size, n)) ∙ ap (λ o. remaining o (get_or rests i [])) (rows_at row heads i) in
+    let at : (i : ℕ) → i < length heads → get_or (all_remaining (map (option_map row) heads) rests) i [] ≡ remaining (option_map row (get_or heads i None)) (get_or rests i []) = λ i n. all_remaining_at (map (option_map row) heads) rests i (size ∙ h) (omega (arith, size, n)) ∙ ap (λ o. remaining o (get_or rests i [])) (head_row_at row heads i) in
     ap₂ (begin_order (directed_order direction)) (at j l) (at k m)
     ∙ sym (begins_alike row direction (get_or heads j None) (get_or heads k None) (get_or rests j []) (get_or rests k []))
     ∙ sym (ap₂ (begin_order (order_by row direction)) (firsts_at heads j) (firsts_at heads k))
@@ -93,7 +93,7 @@ front : {X : Type 0} (row : X → RowValue) (heads : List (Option X)) (rests : L
     → get_or (all_remaining (map (option_map row) heads) rests) p [] ≡ remaining (option_map row (get_or heads p None)) (get_or rests p [])
 front row heads rests p h l =
     let size = length-map heads (option_map row) in
-    all_remaining_at (map (option_map row) heads) rests p (size ∙ h) (omega (arith, size, l)) ∙ ap (λ o. remaining o (get_or rests p [])) (rows_at row heads p)
+    all_remaining_at (map (option_map row) heads) rests p (size ∙ h) (omega (arith, size, l)) ∙ ap (λ o. remaining o (get_or rests p [])) (head_row_at row heads p)
 
 -- where the first source of the queue has nothing left, no source has
 pub all_ended : {X : Type 0} (row : X → RowValue) (direction : Direction) (heads : List (Option X)) (rests : List (List RowValue)) (p : ℕ) (queue : List ℕ) → length heads ≡ length rests

@@ -1,6 +1,6 @@
 pub mod Atoms
 pub mod Code
-pub mod Form
+pub mod Condition
 pub mod Laws
 pub mod Normal
 pub mod Stands

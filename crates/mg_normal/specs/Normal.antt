@@ -7,26 +7,26 @@ use Rattle.mg_selector.specs.Meaning.{holds_in}
 use Rattle.mg_selector.specs.Selector.{Selector}
 use Rattle.mg_selector.specs.declared.sense.Sense.TheVariants.{Plain}
 use Rattle.mg_normal.specs.Atoms.{Atom, atoms_of, atom_holds}
-use Rattle.mg_normal.specs.Code.{atom_code, form_code}
-use Rattle.mg_normal.specs.Form.{Form, form_holds}
+use Rattle.mg_normal.specs.Code.{atom_code, condition_code}
+use Rattle.mg_normal.specs.Condition.{Condition, condition_holds}
 
 -- a normal form: its atoms, and what it asks besides, if anything
 pub record NormalForm : Type 0 where
   pub atoms : List Atom
-  pub rest : Option Form
+  pub rest : Option Condition
 
 -- a normal form is stored as the pair of them
 abbrev pub normal_code : Coded NormalForm
-normal_code = code_by (List Atom × Option Form) (coded× (coded_list atom_code) (coded_option form_code)) (λ n. (n.atoms, n.rest)) (λ p. record { atoms = p.0; rest = p.1 }) (λ _. refl)
+normal_code = code_by (List Atom × Option Condition) (coded× (coded_list atom_code) (coded_option condition_code)) (λ n. (n.atoms, n.rest)) (λ p. record { atoms = p.0; rest = p.1 }) (λ _. refl)
 
 -- each of the atoms holds of the document
 abbrev pub all_hold : Option Value → List Atom → Bool
 all_hold x atoms = list_all (atom_holds x) atoms
 
--- the form holds of the document; true without a form
-abbrev pub rest_holds : Option Form → Option Value → Bool
+-- the condition holds of the document; true without a condition
+abbrev pub rest_holds : Option Condition → Option Value → Bool
 rest_holds None x = true
-rest_holds (Some f) x = form_holds f x
+rest_holds (Some f) x = condition_holds f x
 
 -- the normal form holds of the document, which may be missing
 abbrev pub normal_holds : NormalForm → Option Value → Bool

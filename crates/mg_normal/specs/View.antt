@@ -1,33 +1,33 @@
--- The form that a `Form` stands for, and the atom that an `Atom` stands for.
+-- The condition that a `Condition` stands for, and the atom that an `Atom` stands for.
 use Rattle.std.specs.Prelude.{Bool, true, false, List, [], ◌∷◌, map, string_bytes}
 use Rattle.mg_selector.specs.View.{operator_of}
 use Rattle.mg_selector.specs.declared.sense.Sense.{Sense}
 use Rattle.mg_selector.specs.declared.sense.Sense.TheVariants.{Plain, Negated}
 use Rattle.mg_normal.specs.Atoms.{Atom as AtomValue}
-use Rattle.mg_normal.specs.Form.{Form as FormValue, Forms, all_of, any_of, within, asked, no_forms, form}
+use Rattle.mg_normal.specs.Condition.{Condition as ConditionValue, Conditions, all_of, any_of, within, asked, no_conditions, condition}
 use Rattle.mg_normal.specs.declared.atom.Atom.{Atom}
-use Rattle.mg_normal.specs.declared.form.Form.{Form, fold-Form}
-use Rattle.mg_normal.specs.declared.form.Form.TheOpen.{Form-F}
+use Rattle.mg_normal.specs.declared.condition.Condition.{Condition, fold-Condition}
+use Rattle.mg_normal.specs.declared.condition.Condition.TheOpen.{Condition-F}
 
--- the forms in a list
-abbrev pub forms_of : List FormValue → Forms
-forms_of [] = no_forms
-forms_of (f ∷ fs) = form f (forms_of fs)
+-- the conditions in a list
+abbrev pub conditions_of : List ConditionValue → Conditions
+conditions_of [] = no_conditions
+conditions_of (f ∷ fs) = condition f (conditions_of fs)
 
--- one level of a form, with what is inside already seen
-abbrev pub form_step : Form-F FormValue → FormValue
-form_step (Form-F.All fs) = all_of (forms_of fs.items)
-form_step (Form-F.Any fs) = any_of (forms_of fs.items)
-form_step (Form-F.At path f) = within path f.value
-form_step (Form-F.Ask o sense) = asked (operator_of o) sense
+-- one level of a condition, with what is inside already seen
+abbrev pub condition_step : Condition-F ConditionValue → ConditionValue
+condition_step (Condition-F.All fs) = all_of (conditions_of fs.items)
+condition_step (Condition-F.Any fs) = any_of (conditions_of fs.items)
+condition_step (Condition-F.At path f) = within path f.value
+condition_step (Condition-F.Ask o sense) = asked (operator_of o) sense
 
--- the form that a `Form` stands for
-abbrev pub form_of : Form → FormValue
-form_of = fold-Form FormValue form_step
+-- the condition that a `Condition` stands for
+abbrev pub condition_of : Condition → ConditionValue
+condition_of = fold-Condition ConditionValue condition_step
 
--- the forms that a list of `Form` stands for
-abbrev pub forms_view : List Form → Forms
-forms_view fs = forms_of (map form_of fs)
+-- the conditions that a list of `Condition` stands for
+abbrev pub conditions_view : List Condition → Conditions
+conditions_view fs = conditions_of (map condition_of fs)
 
 -- the sense that an atom's mark names
 abbrev pub sense_of : Bool → Sense

@@ -2,7 +2,7 @@
 #![tactic(auto)]
 
 mod atom;
-mod form;
+mod condition;
 pub mod laws;
 mod meaning;
 mod normal;

@@ -1,40 +1,41 @@
 ghost use Rattle.std.specs.Prelude.{◌≡◌, ◌||◌, Some, option_map};
-ghost use Rattle.mg_normal.specs.Form.{form_holds, every_form, some_form, is_no_forms};
+ghost use Rattle.mg_normal.specs.Condition.{condition_holds, every_condition, some_condition, is_no_conditions};
 ghost use Rattle.mg_normal.specs.Normal.{rest_holds};
-ghost use Rattle.mg_normal.specs.View.{form_of, forms_view};
+ghost use Rattle.mg_normal.specs.View.{condition_of, conditions_view};
 
-use crate::form::Form;
+use crate::condition::Condition;
 use mg_value::{LentValue, lend_part};
 
-// Whether the form holds of the document; true without a form.
-pub(crate) fn rest_holds<L: LentValue>(rest: Option<&Form>, document: L) -> bool
-    ensures { result ≡ rest_holds (option_map (λ f. form_of f.now) rest.entry) (Some (L.value document)) }
+// Whether the condition holds of the document; true without a condition.
+pub(crate) fn rest_holds<L: LentValue>(rest: Option<&Condition>, document: L) -> bool
+    ensures { result ≡ rest_holds (option_map (λ f. condition_of f.now) rest.entry)
+        (Some (L.value document)) }
 {
     match rest {
-        Some(form) => holds(form, Some(document)),
+        Some(condition) => holds(condition, Some(document)),
         None => true,
     }
 }
 
-// Whether the form holds of the part, which may be missing.
+// Whether the condition holds of the part, which may be missing.
 #[cycle(holds)]
-fn holds<L: LentValue>(form: &Form, part: Option<L>) -> bool
-    ensures { result ≡ form_holds (form_of form.now) (option_map L.value part) }
+fn holds<L: LentValue>(condition: &Condition, part: Option<L>) -> bool
+    ensures { result ≡ condition_holds (condition_of condition.now) (option_map L.value part) }
 {
-    match form {
-        Form::All(forms) => every_form(forms, part),
-        Form::Any(forms) => some_form(forms, part),
-        Form::At(path, inner) => holds(inner, path.get_in(part)),
-        Form::Ask(op, sense) => op.holds_of(*sense, part),
+    match condition {
+        Condition::All(conditions) => every_condition(conditions, part),
+        Condition::Any(conditions) => some_condition(conditions, part),
+        Condition::At(path, inner) => holds(inner, path.get_in(part)),
+        Condition::Ask(op, sense) => op.holds_of(*sense, part),
     }
 }
 
 #[cycle(holds)]
-fn every_form<L: LentValue>(forms: &[Form], part: Option<L>) -> bool
-    ensures { result ≡ every_form (forms_view forms.now) (option_map L.value part) }
+fn every_condition<L: LentValue>(conditions: &[Condition], part: Option<L>) -> bool
+    ensures { result ≡ every_condition (conditions_view conditions.now) (option_map L.value part) }
 {
-    for form in forms {
-        if !holds(form, lend_part(&part)) {
+    for condition in conditions {
+        if !holds(condition, lend_part(&part)) {
             return false;
         }
     }
@@ -43,14 +44,14 @@ fn every_form<L: LentValue>(forms: &[Form], part: Option<L>) -> bool
 
 // True also for an empty list.
 #[cycle(holds)]
-fn some_form<L: LentValue>(forms: &[Form], part: Option<L>) -> bool
-    ensures { result ≡ (is_no_forms (forms_view forms.now)
-        || some_form (forms_view forms.now) (option_map L.value part)) }
+fn some_condition<L: LentValue>(conditions: &[Condition], part: Option<L>) -> bool
+    ensures { result ≡ (is_no_conditions (conditions_view conditions.now)
+        || some_condition (conditions_view conditions.now) (option_map L.value part)) }
 {
-    for form in forms {
-        if holds(form, lend_part(&part)) {
+    for condition in conditions {
+        if holds(condition, lend_part(&part)) {
             return true;
         }
     }
-    forms.is_empty()
+    conditions.is_empty()
 }

@@ -5,7 +5,7 @@ ghost use Rattle.mg_normal.specs.Normal.{IsNormalOf, normal_holds};
 ghost use Rattle.mg_normal.specs.View.{atoms_view};
 
 use crate::atom::{Atom, all_hold};
-use crate::form::Form;
+use crate::condition::Condition;
 use crate::meaning::rest_holds;
 use crate::pushed::push_inwards;
 use crate::rest::take_atoms;
@@ -22,7 +22,7 @@ use std::marker::Model;
 #[derive(Debug, Drop)]
 pub struct Normal {
     atoms: Vec<Atom>,
-    rest: Option<Form>,
+    rest: Option<Condition>,
 }
 
 impl Model for Normal {
@@ -33,9 +33,9 @@ impl Model for Normal {
     ghost coded = { normal_code };
 
     ghost use Rattle.std.specs.Prelude.{option_map};
-    ghost use Rattle.mg_normal.specs.View.{atoms_view, form_of};
+    ghost use Rattle.mg_normal.specs.View.{atoms_view, condition_of};
 
-    ghost view = { λ n. record { atoms = atoms_view n.atoms.items; rest = option_map form_of n.rest } };
+    ghost view = { λ n. record { atoms = atoms_view n.atoms.items; rest = option_map condition_of n.rest } };
 }
 
 impl Normal {
@@ -47,10 +47,10 @@ impl Normal {
     pub fn of(alloc: Global, selector: &Sel) -> Result<Normal, NoMemory>
         ensures { IfOk result (λ normal. IsNormalOf (selector_of selector.now) normal) }
     {
-        let form = push_inwards(alloc, selector, Sense::Plain)?;
+        let condition = push_inwards(alloc, selector, Sense::Plain)?;
         let mut steps = Vec::new(alloc);
         let mut atoms = Vec::new(alloc);
-        let rest = take_atoms(alloc, form, &mut steps, &mut atoms)?;
+        let rest = take_atoms(alloc, condition, &mut steps, &mut atoms)?;
         Ok(Normal { atoms, rest })
     }
 

@@ -4,18 +4,18 @@ ghost use Rattle.mg_selector.specs.Selector.{members, every, some};
 ghost use Rattle.mg_selector.specs.View.{selector_of, arms_view};
 ghost use Rattle.mg_normal.specs.Atoms.{atoms_in, arms_atoms};
 ghost use Rattle.mg_normal.specs.Stands.{Says, AllSay, no_atoms};
-ghost use Rattle.mg_normal.specs.View.{form_of, forms_view};
+ghost use Rattle.mg_normal.specs.View.{condition_of, conditions_view};
 
-use crate::form::Form;
+use crate::condition::Condition;
 use mg_selector::{Sel, Sense};
 use mg_value::NoMemory;
 use std::alloc::Global;
 
-/// The form of the selector in the sense, with its negations pushed inwards to the operators.
+/// The condition of the selector in the sense, with its negations pushed inwards to the operators.
 #[cycle(push_inwards)]
-pub(crate) fn push_inwards(alloc: Global, sel: &Sel, sense: Sense) -> Result<Form, NoMemory>
-    ensures { IfOk result (λ form. Says (holds_in (selector_of sel.now) sense)
-        (atoms_in (selector_of sel.now) sense) (form_of form)) }
+pub(crate) fn push_inwards(alloc: Global, sel: &Sel, sense: Sense) -> Result<Condition, NoMemory>
+    ensures { IfOk result (λ condition. Says (holds_in (selector_of sel.now) sense)
+        (atoms_in (selector_of sel.now) sense) (condition_of condition)) }
 {
     match sel {
         Sel::Members(arms) => object(alloc, arms, sense),
@@ -25,17 +25,17 @@ pub(crate) fn push_inwards(alloc: Global, sel: &Sel, sense: Sense) -> Result<For
         Sel::Not(inner) => push_inwards(alloc, inner, sense.flip()),
         Sel::At(path, inner) => {
             let inner = push_inwards(alloc, inner, sense)?;
-            Ok(Form::At(path.copy(alloc)?, Box::new(alloc, inner)?))
+            Ok(Condition::At(path.copy(alloc)?, Box::new(alloc, inner)?))
         }
-        Sel::Ask(op) => Ok(Form::Ask(op.copy(alloc)?, sense)),
+        Sel::Ask(op) => Ok(Condition::Ask(op.copy(alloc)?, sense)),
     }
 }
 
 // An object of one member is that member.
 #[cycle(push_inwards)]
-fn object(alloc: Global, arms: &[Sel], sense: Sense) -> Result<Form, NoMemory>
-    ensures { IfOk result (λ form. Says (holds_in (members (arms_view arms.now)) sense)
-        (atoms_in (members (arms_view arms.now)) sense) (form_of form)) }
+fn object(alloc: Global, arms: &[Sel], sense: Sense) -> Result<Condition, NoMemory>
+    ensures { IfOk result (λ condition. Says (holds_in (members (arms_view arms.now)) sense)
+        (atoms_in (members (arms_view arms.now)) sense) (condition_of condition)) }
 {
     match arms {
         [only] => push_inwards(alloc, only, sense),
@@ -44,9 +44,9 @@ fn object(alloc: Global, arms: &[Sel], sense: Sense) -> Result<Form, NoMemory>
 }
 
 #[cycle(push_inwards)]
-fn conjunction(alloc: Global, arms: &[Sel], sense: Sense) -> Result<Form, NoMemory>
-    ensures { IfOk result (λ form. Says (holds_in (every (arms_view arms.now)) sense)
-        (atoms_in (every (arms_view arms.now)) sense) (form_of form)) }
+fn conjunction(alloc: Global, arms: &[Sel], sense: Sense) -> Result<Condition, NoMemory>
+    ensures { IfOk result (λ condition. Says (holds_in (every (arms_view arms.now)) sense)
+        (atoms_in (every (arms_view arms.now)) sense) (condition_of condition)) }
 {
     match sense {
         Sense::Plain => all_of(alloc, arms, sense),
@@ -55,9 +55,9 @@ fn conjunction(alloc: Global, arms: &[Sel], sense: Sense) -> Result<Form, NoMemo
 }
 
 #[cycle(push_inwards)]
-fn disjunction(alloc: Global, arms: &[Sel], sense: Sense) -> Result<Form, NoMemory>
-    ensures { IfOk result (λ form. Says (holds_in (some (arms_view arms.now)) sense)
-        (atoms_in (some (arms_view arms.now)) sense) (form_of form)) }
+fn disjunction(alloc: Global, arms: &[Sel], sense: Sense) -> Result<Condition, NoMemory>
+    ensures { IfOk result (λ condition. Says (holds_in (some (arms_view arms.now)) sense)
+        (atoms_in (some (arms_view arms.now)) sense) (condition_of condition)) }
 {
     match sense {
         Sense::Plain => any_of(alloc, arms, sense),
@@ -67,30 +67,31 @@ fn disjunction(alloc: Global, arms: &[Sel], sense: Sense) -> Result<Form, NoMemo
 
 // All arms, each in the sense.
 #[cycle(push_inwards)]
-fn all_of(alloc: Global, arms: &[Sel], sense: Sense) -> Result<Form, NoMemory>
-    ensures { IfOk result (λ form. Says (every_arm (arms_view arms.now) sense)
-        (arms_atoms (arms_view arms.now) sense) (form_of form)) }
+fn all_of(alloc: Global, arms: &[Sel], sense: Sense) -> Result<Condition, NoMemory>
+    ensures { IfOk result (λ condition. Says (every_arm (arms_view arms.now) sense)
+        (arms_atoms (arms_view arms.now) sense) (condition_of condition)) }
 {
-    Ok(Form::All(push_arms(alloc, arms, sense)?))
+    Ok(Condition::All(push_arms(alloc, arms, sense)?))
 }
 
 // Some arm in the sense; an empty list holds.
 #[cycle(push_inwards)]
-fn any_of(alloc: Global, arms: &[Sel], sense: Sense) -> Result<Form, NoMemory>
-    ensures { IfOk result (λ form. Says
+fn any_of(alloc: Global, arms: &[Sel], sense: Sense) -> Result<Condition, NoMemory>
+    ensures { IfOk result (λ condition. Says
         (λ x. is_no_arms (arms_view arms.now) || some_arm (arms_view arms.now) sense x)
-        no_atoms (form_of form)) }
+        no_atoms (condition_of condition)) }
 {
-    Ok(Form::Any(push_arms(alloc, arms, sense)?))
+    Ok(Condition::Any(push_arms(alloc, arms, sense)?))
 }
 
 #[cycle(push_inwards)]
-fn push_arms(alloc: Global, arms: &[Sel], sense: Sense) -> Result<Vec<Form>, NoMemory>
-    ensures { IfOk result (λ forms. AllSay (arms_view arms.now) sense (forms_view forms.items)) }
+fn push_arms(alloc: Global, arms: &[Sel], sense: Sense) -> Result<Vec<Condition>, NoMemory>
+    ensures { IfOk result
+        (λ conditions. AllSay (arms_view arms.now) sense (conditions_view conditions.items)) }
 {
-    let mut forms = Vec::with_capacity(alloc, arms.len())?;
+    let mut conditions = Vec::with_capacity(alloc, arms.len())?;
     for arm in arms {
-        forms.push(push_inwards(alloc, arm, sense)?)?;
+        conditions.push(push_inwards(alloc, arm, sense)?)?;
     }
-    Ok(forms)
+    Ok(conditions)
 }

@@ -1,41 +1,41 @@
 ghost use Rattle.std.specs.Prelude.{◌≡◌, ◌++◌, IfOk, OnOk, map, option_map, string_bytes};
-ghost use Rattle.mg_normal.specs.Form.{within};
-ghost use Rattle.mg_normal.specs.Stands.{form_atoms, forms_atoms, rest_of, rests_of};
-ghost use Rattle.mg_normal.specs.View.{form_of, forms_view, atoms_view};
+ghost use Rattle.mg_normal.specs.Condition.{within};
+ghost use Rattle.mg_normal.specs.Stands.{condition_atoms, conditions_atoms, rest_of, rests_of};
+ghost use Rattle.mg_normal.specs.View.{condition_of, conditions_view, atoms_view};
 
 use crate::atom::{Atom, is_negated};
-use crate::form::Form;
+use crate::condition::Condition;
 use mg_path::Path;
 use mg_value::{NoMemory, copy_texts};
 use std::alloc::Global;
 
-// Moves the operators that have to hold for the form to hold into atoms, on the part at the steps, and
-// returns what else the form asks, if anything. On success the steps are as they were. On an error, some
+// Moves the operators that have to hold for the condition to hold into atoms, on the part at the steps, and
+// returns what else the condition asks, if anything. On success the steps are as they were. On an error, some
 // atoms may have been added, and some steps.
 #[cycle(take_atoms)]
 pub(crate) fn take_atoms(
     alloc: Global,
-    form: Form,
+    condition: Condition,
     steps: &mut Vec<String>,
     atoms: &mut Vec<Atom>,
-) -> Result<Option<Form>, NoMemory>
+) -> Result<Option<Condition>, NoMemory>
     ensures atoms { OnOk result (atoms_view atoms.new.items ≡ atoms_view atoms.old.items
-        ++ form_atoms (form_of form) (map string_bytes steps.old.items)) }
+        ++ condition_atoms (condition_of condition) (map string_bytes steps.old.items)) }
     ensures steps { OnOk result
         (map string_bytes steps.new.items ≡ map string_bytes steps.old.items) }
-    ensures rest { IfOk result (λ rest. option_map form_of rest ≡ rest_of (form_of form)) }
+    ensures rest { IfOk result (λ rest. option_map condition_of rest ≡ rest_of (condition_of condition)) }
 {
-    match form {
-        Form::All(forms) => {
-            let rest = take_all(alloc, forms, steps, atoms)?;
+    match condition {
+        Condition::All(conditions) => {
+            let rest = take_all(alloc, conditions, steps, atoms)?;
             if rest.is_empty() {
                 return Ok(None);
             }
-            Ok(Some(Form::All(rest)))
+            Ok(Some(Condition::All(rest)))
         }
-        Form::Any(forms) => Ok(Some(Form::Any(forms))),
-        Form::At(path, inner) => take_below(alloc, path, Box::into_inner(inner), steps, atoms),
-        Form::Ask(op, sense) => {
+        Condition::Any(conditions) => Ok(Some(Condition::Any(conditions))),
+        Condition::At(path, inner) => take_below(alloc, path, Box::into_inner(inner), steps, atoms),
+        Condition::Ask(op, sense) => {
             atoms.push(Atom {
                 steps: copy_texts(alloc, steps)?,
                 op,
@@ -46,45 +46,45 @@ pub(crate) fn take_atoms(
     }
 }
 
-// What is left of each form; a form of which nothing is left is dropped.
+// What is left of each condition; a condition of which nothing is left is dropped.
 #[cycle(take_atoms)]
 fn take_all(
     alloc: Global,
-    forms: Vec<Form>,
+    conditions: Vec<Condition>,
     steps: &mut Vec<String>,
     atoms: &mut Vec<Atom>,
-) -> Result<Vec<Form>, NoMemory>
+) -> Result<Vec<Condition>, NoMemory>
     ensures atoms { OnOk result (atoms_view atoms.new.items ≡ atoms_view atoms.old.items
-        ++ forms_atoms (forms_view forms.items) (map string_bytes steps.old.items)) }
+        ++ conditions_atoms (conditions_view conditions.items) (map string_bytes steps.old.items)) }
     ensures steps { OnOk result
         (map string_bytes steps.new.items ≡ map string_bytes steps.old.items) }
     ensures rest { IfOk result
-        (λ rest. forms_view rest.items ≡ rests_of (forms_view forms.items)) }
+        (λ rest. conditions_view rest.items ≡ rests_of (conditions_view conditions.items)) }
 {
     let mut rest = Vec::new(alloc);
-    for form in forms {
-        if let Some(left) = take_atoms(alloc, form, steps, atoms)? {
+    for condition in conditions {
+        if let Some(left) = take_atoms(alloc, condition, steps, atoms)? {
             rest.push(left)?;
         }
     }
     Ok(rest)
 }
 
-// Does what `take_atoms` does, for a form on the part at the path.
+// Does what `take_atoms` does, for a condition on the part at the path.
 #[cycle(take_atoms)]
 fn take_below(
     alloc: Global,
     path: Path,
-    inner: Form,
+    inner: Condition,
     steps: &mut Vec<String>,
     atoms: &mut Vec<Atom>,
-) -> Result<Option<Form>, NoMemory>
+) -> Result<Option<Condition>, NoMemory>
     ensures atoms { OnOk result (atoms_view atoms.new.items ≡ atoms_view atoms.old.items
-        ++ form_atoms (form_of inner) (map string_bytes steps.old.items ++ path)) }
+        ++ condition_atoms (condition_of inner) (map string_bytes steps.old.items ++ path)) }
     ensures steps { OnOk result
         (map string_bytes steps.new.items ≡ map string_bytes steps.old.items) }
-    ensures rest { IfOk result (λ rest. option_map form_of rest
-        ≡ option_map (within path) (rest_of (form_of inner))) }
+    ensures rest { IfOk result (λ rest. option_map condition_of rest
+        ≡ option_map (within path) (rest_of (condition_of inner))) }
 {
     let above = steps.len();
     extend(steps, path.steps())?;
@@ -93,7 +93,7 @@ fn take_below(
     let Some(rest) = rest else {
         return Ok(None);
     };
-    Ok(Some(Form::At(path, Box::new(alloc, rest)?)))
+    Ok(Some(Condition::At(path, Box::new(alloc, rest)?)))
 }
 
 // Appends copies of more steps. On an error, some of them may have been appended.

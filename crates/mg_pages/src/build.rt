@@ -7,7 +7,7 @@ use crate::child::{Child, child_of, copy_children};
 use crate::keyed::Keyed;
 use crate::level::{Level, count_of};
 use crate::page::{Page, page_of};
-use crate::part::{LIMIT, Part};
+use crate::subtree::{LIMIT, Subtree};
 use std::alloc::{AllocError, Global};
 
 /// Groups the elements into pages. All pages but the last are full.
@@ -31,7 +31,7 @@ pub fn make_pages<T: Keyed>(
 }
 
 /// Groups the parts into levels. All levels but the last are full.
-pub fn group<T: Keyed, P: Part<T>>(
+pub fn group<T: Keyed, P: Subtree<T>>(
     alloc: Global,
     parts: &[Child<T, P>],
 ) -> Result<Vec<Child<T, Level<T, P>>>, AllocError>

@@ -8,7 +8,7 @@ ghost use Rattle.mg_pages.specs.Parts.{IsLast, node_value, child_value, child_se
 use crate::element::room_for;
 use crate::hint::number_of;
 use crate::keyed::{Keyed, Probe};
-use crate::part::Part;
+use crate::subtree::Subtree;
 use std::alloc::{AllocError, Global};
 use std::sync::Arc;
 
@@ -27,7 +27,7 @@ pub struct Child<T, P> {
 }
 
 // Makes a node of a part.
-fn node_of<T: Keyed, P: Part<T>>(part: P) -> Result<Node<T, P>, AllocError>
+fn node_of<T: Keyed, P: Subtree<T>>(part: P) -> Result<Node<T, P>, AllocError>
     requires { P.is_whole part }
     ensures whole { IfOk result (λ n. child_whole P.is_whole P.seen (node_value n)) }
     ensures seen { IfOk result (λ n. child_seen P.seen (node_value n) ≡ P.seen part) }
@@ -37,7 +37,7 @@ fn node_of<T: Keyed, P: Part<T>>(part: P) -> Result<Node<T, P>, AllocError>
 }
 
 /// Makes a child of a part.
-pub fn child_of<T: Keyed, P: Part<T>>(alloc: Global, part: P) -> Result<Child<T, P>, AllocError>
+pub fn child_of<T: Keyed, P: Subtree<T>>(alloc: Global, part: P) -> Result<Child<T, P>, AllocError>
     requires { P.is_whole part }
     ensures whole { IfOk result (λ c. child_whole P.is_whole P.seen (child_value c)) }
     ensures seen { IfOk result (λ c. child_seen P.seen (child_value c) ≡ P.seen part) }
@@ -97,7 +97,7 @@ fn last_with<T: Keyed>(last: &T, element: &T) -> Result<T, AllocError>
 }
 
 // The last element of a part that ends with `last`, after the element that ties with a key is removed.
-fn last_without<T: Keyed, P: Part<T>, Q: Probe<T>>(
+fn last_without<T: Keyed, P: Subtree<T>, Q: Probe<T>>(
     part: &P,
     last: &T,
     key: &Q,
@@ -122,7 +122,7 @@ fn last_without<T: Keyed, P: Part<T>, Q: Probe<T>>(
 }
 
 // A node with a copy of the part.
-fn own_node<T: Keyed, P: Part<T>>(
+fn own_node<T: Keyed, P: Subtree<T>>(
     alloc: Global,
     node: &Node<T, P>,
 ) -> Result<Node<T, P>, AllocError>
@@ -137,7 +137,7 @@ fn own_node<T: Keyed, P: Part<T>>(
 }
 
 // Puts an element into a part, and returns whether it replaced one that ties.
-fn put_in_node<T: Keyed, P: Part<T>>(
+fn put_in_node<T: Keyed, P: Subtree<T>>(
     alloc: Global,
     node: &mut Node<T, P>,
     element: T,
@@ -159,7 +159,7 @@ fn put_in_node<T: Keyed, P: Part<T>>(
 }
 
 // Removes the element that ties with a key from a part, and returns whether the part is then empty.
-fn take_out_of_node<T: Keyed, P: Part<T>, Q: Probe<T>>(
+fn take_out_of_node<T: Keyed, P: Subtree<T>, Q: Probe<T>>(
     alloc: Global,
     node: &mut Node<T, P>,
     key: &Q,
@@ -183,7 +183,7 @@ fn take_out_of_node<T: Keyed, P: Part<T>, Q: Probe<T>>(
 }
 
 // Like `put_in_node`, but copies the node first where others share it.
-fn put_shared<T: Keyed, P: Part<T>>(
+fn put_shared<T: Keyed, P: Subtree<T>>(
     alloc: Global,
     node: &mut Arc<Node<T, P>>,
     element: T,
@@ -209,7 +209,7 @@ fn put_shared<T: Keyed, P: Part<T>>(
 }
 
 // Like `take_out_of_node`, but copies the node first where others share it.
-fn take_out_shared<T: Keyed, P: Part<T>, Q: Probe<T>>(
+fn take_out_shared<T: Keyed, P: Subtree<T>, Q: Probe<T>>(
     alloc: Global,
     node: &mut Arc<Node<T, P>>,
     key: &Q,
@@ -237,7 +237,7 @@ fn take_out_shared<T: Keyed, P: Part<T>, Q: Probe<T>>(
 }
 
 /// Puts an element into a child, which is copied if others share it, and returns whether it replaced one that ties.
-pub fn put_into<T: Keyed, P: Part<T>>(
+pub fn put_into<T: Keyed, P: Subtree<T>>(
     alloc: Global,
     child: &mut Child<T, P>,
     element: T,
@@ -259,7 +259,7 @@ pub fn put_into<T: Keyed, P: Part<T>>(
 
 /// Removes the element that ties with a key from a child, which is copied if others share it, and returns whether the child is
 /// then empty.
-pub fn take_out_of<T: Keyed, P: Part<T>, Q: Probe<T>>(
+pub fn take_out_of<T: Keyed, P: Subtree<T>, Q: Probe<T>>(
     alloc: Global,
     child: &mut Child<T, P>,
     key: &Q,

@@ -9,7 +9,7 @@ ghost use Rattle.mg_pages.specs.Parts.{children, child_seen, child_value, child_
 use crate::child::{Child, Node, child_of, copy_children, owners_of_nodes, put_into, take_out_of};
 use crate::hint::next_guess;
 use crate::keyed::{Keyed, Probe};
-use crate::part::{LIMIT, Part};
+use crate::subtree::{LIMIT, Subtree};
 use std::alloc::{AllocError, Global};
 
 /// Parts in order, each with its last element beside it, and the number of elements that they have in all.
@@ -27,7 +27,7 @@ impl<T: Drop, P: Drop> Drop for Level<T, P> {
 }
 
 // The place of the first part whose last element has a hint that is not below the key's.
-fn guess_among<T: Keyed, P: Part<T>, Q: Probe<T>>(parts: &[Child<T, P>], key: &Q) -> usize {
+fn guess_among<T: Keyed, P: Subtree<T>, Q: Probe<T>>(parts: &[Child<T, P>], key: &Q) -> usize {
     if parts.len() < 2 {
         return 0;
     }
@@ -47,7 +47,7 @@ fn guess_among<T: Keyed, P: Part<T>, Q: Probe<T>>(parts: &[Child<T, P>], key: &Q
 
 // The part where a key belongs: the elements of earlier parts are below the key, those of later parts above it.
 // Cost: the logarithm of the number of parts, in comparisons with last elements. It reads no part.
-fn place<T: Keyed, P: Part<T>, Q: Probe<T>>(parts: &[Child<T, P>], key: &Q) -> usize
+fn place<T: Keyed, P: Subtree<T>, Q: Probe<T>>(parts: &[Child<T, P>], key: &Q) -> usize
     requires some { 0 < length parts.now }
     requires whole { AreWhole (child_whole P.is_whole P.seen) (children parts.now) }
     requires sorted { Ascends T.order (flat_map (child_seen P.seen) (children parts.now)) }
@@ -72,7 +72,7 @@ fn place<T: Keyed, P: Part<T>, Q: Probe<T>>(parts: &[Child<T, P>], key: &Q) -> u
 }
 
 /// How many elements the parts have in all. Cost: a read of the count of each part.
-pub fn count_of<T: Keyed, P: Part<T>>(parts: &[Child<T, P>]) -> usize
+pub fn count_of<T: Keyed, P: Subtree<T>>(parts: &[Child<T, P>]) -> usize
     requires whole { AreWhole (child_whole P.is_whole P.seen) (children parts.now) }
     requires few { length (flat_map (child_seen P.seen) (children parts.now)) < 2 ^ 64 }
     ensures { result ≡ length (flat_map (child_seen P.seen) (children parts.now)) }
@@ -95,7 +95,7 @@ fn count_after_put(more: usize, had: bool) -> usize
 }
 
 // The first elements of the parts from the i-th on, up to the end of their page; empty where there is no such part.
-fn run_from<T: Keyed, P: Part<T>>(parts: &[Child<T, P>], i: usize) -> &[T]
+fn run_from<T: Keyed, P: Subtree<T>>(parts: &[Child<T, P>], i: usize) -> &[T]
     requires { AreWhole (child_whole P.is_whole P.seen) (children parts.now) }
     ensures run { IsRun result.now (flat_map (child_seen P.seen) (drop i (children parts.now))) }
     ensures some { i < length parts.now → 0 < length result.now }
@@ -109,7 +109,7 @@ fn run_from<T: Keyed, P: Part<T>>(parts: &[Child<T, P>], i: usize) -> &[T]
 }
 
 // The last elements of the parts before the i-th, from the start of their page; empty where there is no such part.
-fn run_upto<T: Keyed, P: Part<T>>(parts: &[Child<T, P>], i: usize) -> &[T]
+fn run_upto<T: Keyed, P: Subtree<T>>(parts: &[Child<T, P>], i: usize) -> &[T]
     requires whole { AreWhole (child_whole P.is_whole P.seen) (children parts.now) }
     requires within { i ≤ length parts.now }
     ensures run { IsEndRun result.now (flat_map (child_seen P.seen) (take i (children parts.now))) }
@@ -126,7 +126,7 @@ fn run_upto<T: Keyed, P: Part<T>>(parts: &[Child<T, P>], i: usize) -> &[T]
 
 /// The page of the element at a place, counted over all the parts, and its place in that page. Cost: a read of the count of each
 /// part before it.
-pub fn page_among<T: Keyed, P: Part<T>>(parts: &[Child<T, P>], place: usize) -> (&[T], usize)
+pub fn page_among<T: Keyed, P: Subtree<T>>(parts: &[Child<T, P>], place: usize) -> (&[T], usize)
     requires whole { AreWhole (child_whole P.is_whole P.seen) (children parts.now) }
     requires within { place < length (flat_map (child_seen P.seen) (children parts.now)) }
     ensures { IsPageAt result.0.now result.1 place (flat_map (child_seen P.seen) (children parts.now)) }
@@ -144,7 +144,7 @@ pub fn page_among<T: Keyed, P: Part<T>>(parts: &[Child<T, P>], place: usize) -> 
 }
 
 /// Removes the element that ties with a key from the parts, and its part where that is then empty.
-pub fn take_out_of_parts<T: Keyed, P: Part<T>, Q: Probe<T>>(
+pub fn take_out_of_parts<T: Keyed, P: Subtree<T>, Q: Probe<T>>(
     alloc: Global,
     parts: &mut Vec<Child<T, P>>,
     key: &Q,
@@ -187,7 +187,7 @@ fn replace<T: Drop, P: Drop>(
 }
 
 // Splits a part if it has no room for an element, and returns whether it did.
-fn make_room<T: Keyed, P: Part<T>>(
+fn make_room<T: Keyed, P: Subtree<T>>(
     alloc: Global,
     parts: &mut Vec<Child<T, P>>,
     i: usize,
@@ -216,7 +216,7 @@ fn make_room<T: Keyed, P: Part<T>>(
 }
 
 // Finds the part where an element belongs, and splits it if it has no room.
-fn with_room<T: Keyed, P: Part<T>>(
+fn with_room<T: Keyed, P: Subtree<T>>(
     alloc: Global,
     parts: &mut Vec<Child<T, P>>,
     element: &T,
@@ -245,7 +245,7 @@ fn with_room<T: Keyed, P: Part<T>>(
     Ok(i)
 }
 
-impl<T: Keyed, P: Part<T>> Part<T> for Level<T, P> {
+impl<T: Keyed, P: Subtree<T>> Subtree<T> for Level<T, P> {
     ghost use Rattle.std.specs.List.{flat_map};
     ghost use Rattle.mg_pages.specs.Parts.{children, child_seen, level_whole};
 

@@ -15,9 +15,9 @@ mod level;
 mod new_page;
 mod page;
 mod pages;
-mod part;
 mod runs;
 mod sides;
+mod subtree;
 
 pub use back::Back;
 pub use element::{Element, Shared};

@@ -10,7 +10,7 @@ use crate::keyed::Keyed;
 use crate::level::{Level, count_of};
 use crate::page::{Page, page_of};
 use crate::pages::Pages;
-use crate::part::LIMIT;
+use crate::subtree::LIMIT;
 use mg_value::NoMemory;
 use std::alloc::{AllocError, Global};
 use std::marker::Model;

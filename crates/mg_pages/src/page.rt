@@ -6,7 +6,7 @@ ghost use Rattle.mg_pages.specs.Search.{IsTie, IsGap};
 use crate::element::{Element, copy_elements, owners_of};
 use crate::hint::{Hints, next_guess, number_of};
 use crate::keyed::{Keyed, Probe};
-use crate::part::{LIMIT, Part};
+use crate::subtree::{LIMIT, Subtree};
 use std::alloc::{AllocError, Global};
 use std::cmp::Ordering;
 
@@ -56,7 +56,7 @@ pub fn page_of<T: Keyed>(alloc: Global, elements: &[T]) -> Result<Page<T>, Alloc
     Ok(Page { elements, hints })
 }
 
-impl<T: Keyed> Part<T> for Page<T> {
+impl<T: Keyed> Subtree<T> for Page<T> {
     ghost use Rattle.std.specs.Prelude.{is_some, ◌<◌, length};
 
     ghost seen = { λ p. p.elements.items };

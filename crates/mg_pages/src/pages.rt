@@ -12,8 +12,8 @@ use crate::iter::Iter;
 use crate::keyed::{Keyed, Probe};
 use crate::level::{Level, page_among, take_out_of_parts};
 use crate::page::Page;
-use crate::part::Part;
 use crate::sides::{Over, Under};
+use crate::subtree::Subtree;
 use mg_value::NoMemory;
 use std::alloc::{AllocError, Global};
 use std::marker::Model;
@@ -22,7 +22,7 @@ use std::marker::Model;
 type Root<T> = Level<T, Level<T, Level<T, Page<T>>>>;
 
 // Makes a level of one part.
-fn level_of<T: Keyed, P: Part<T>>(alloc: Global, part: P) -> Result<Level<T, P>, AllocError>
+fn level_of<T: Keyed, P: Subtree<T>>(alloc: Global, part: P) -> Result<Level<T, P>, AllocError>
     requires { P.is_whole part }
     ensures whole { IfOk result (λ l. level_whole P.is_whole P.seen l) }
     ensures seen { IfOk result (λ l. level_seen P.seen l ≡ P.seen part) }

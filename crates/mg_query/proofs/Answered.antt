@@ -26,7 +26,7 @@ use Rattle.mg_query.specs.Query.{Query}
 use Rattle.mg_query.specs.Served.{AreWhole}
 use Rattle.mg_query.proofs.Candidates.{document, documents_of, found_by}
 use Rattle.mg_query.proofs.Dealt.{dealt}
-use Rattle.mg_query.proofs.Gathered.{IsFoundBy, listed, rows_asked, rows_of_page}
+use Rattle.mg_query.proofs.Gathered.{IsFoundBy, listed_rows, rows_asked, rows_of_page}
 
 -- the row comes after the place that the bookmark names, if there is one
 abbrev pub follows : Query → RowValue → Bool
@@ -47,7 +47,7 @@ all_found_by complete q columns holds same usable (c ∷ cs) h = (found_by compl
 -- over all documents that the histories serve, wherever these are placed.
 pub rows_of_answer : RangesAreComplete → (q : Query) (columns : List Steps) (holds : Option Value → Bool) → ((x : Option Value) → holds x ≡ holds_in q.selector Plain x) → is_usable (atoms_of q.selector) q.sort columns ≡ true
     → (place : Placing) (shards : List ShardView) (hs : Histories) → ShardsStandFor place shards hs → AreWhole (candidates_of hs)
-    → drop q.skip (merged q.direction (q.skip + q.limit) (map (λ ds. take (q.skip + q.limit) (listed (λ d. holds (Some d.1)) (row_of columns) (is_wanted_by q columns) q.direction ds)) (map (λ s. docs_of s.documents) shards)))
+    → drop q.skip (merged q.direction (q.skip + q.limit) (map (λ ds. take (q.skip + q.limit) (listed_rows (λ d. holds (Some d.1)) (row_of columns) (is_wanted_by q columns) q.direction ds)) (map (λ s. docs_of s.documents) shards)))
     ≡ map (row_by columns) (page_rows columns q (candidates_of hs))
 rows_of_answer complete q columns holds same usable place shards hs stands whole =
     let rows = rows_asked (λ d. holds (Some d.1)) (row_of columns) (is_wanted_by q columns) in

@@ -7,7 +7,7 @@ use Rattle.mg_value.specs.Value.{Value, item_list, null}
 use Rattle.mg_value.specs.View.{items_of}
 use Rattle.mg_collate.specs.Row.{RowValue}
 use Rattle.mg_doc.specs.Served.{served_of}
-use Rattle.mg_revtree.specs.History.{History}
+use Rattle.mg_revtree.specs.History.{Paths}
 use Rattle.mg_path.specs.Part.{part_of}
 use Rattle.mg_path.specs.Equal.{path_eq}
 use Rattle.mg_selector.specs.Meaning.{holds_in}
@@ -35,13 +35,13 @@ pub shown_first : {E X : Type 0} (f : E → Option X) (e : E) (es : List E) (o :
 shown_first f e es None h = rw h
 shown_first f e es (Some x) h = rw h
 
-one_document : (id : List ℕ) (h : History) (o : Option Value) (rest : List Candidate) (more : List ServedDocument) → map document rest ≡ more
+one_document : (id : List ℕ) (h : Paths) (o : Option Value) (rest : List Candidate) (more : List ServedDocument) → map document rest ≡ more
     → map document (option_to_list (option_map (λ form. record { id = id; form = form; history = h }) o) ++ rest) ≡ option_to_list (option_map (λ form. (id, form)) o) ++ more
 one_document id h None rest more k = k
 one_document id h (Some form) rest more k = ap (λ ds. (id, form) ∷ ds) k
 
 -- the candidates are the served documents
-pub documents_of : (es : List (List ℕ × History)) → map document (filter_map candidate_of es) ≡ filter_map served_entry es
+pub documents_of : (es : List (List ℕ × Paths)) → map document (filter_map candidate_of es) ≡ filter_map served_entry es
 documents_of [] = refl
 documents_of (e ∷ es) =
     ap (map document) (shown_first candidate_of e es (candidate_of e) refl)

@@ -20,7 +20,7 @@ use Rattle.mg_collate.specs.Sorted.{sorted_with, sorted}
 use Rattle.mg_collate.proofs.Directed.{directed_total, directed_ties}
 use Rattle.mg_collate.proofs.Sorting.{NoneBelow, Rises, rises_sorted}
 use Rattle.mg_doc.specs.Served.{served_of}
-use Rattle.mg_revtree.specs.History.{History}
+use Rattle.mg_revtree.specs.History.{Paths}
 use Rattle.mg_bookmark.specs.Bookmark.{Place, spelled}
 use Rattle.mg_bookmark.specs.Reading.{bookmark_read}
 use Rattle.mg_value.specs.Value.{Value, item_list}
@@ -89,27 +89,27 @@ both false b h = absurd h
 less_differ : (id other : List ℕ) → T (is_lt (bytes_cmp id other)) → id ≡ other → ⊥
 less_differ id other h e = subst (λ o. T (is_lt o)) (tied_itself nat_list_cmp_total id) (subst (λ x. T (is_lt (bytes_cmp id x))) (sym e) h)
 
-abbrev candidate : List ℕ → History → Value → Candidate
+abbrev candidate : List ℕ → Paths → Value → Candidate
 candidate id h form = record { id = id; form = form; history = h }
 
-above_one : (c : Candidate) (id : List ℕ) (h : History) (o : Option Value) (rest : List Candidate) → (c.id ≡ id → ⊥) → AllByRecursion (Differ c) rest
+above_one : (c : Candidate) (id : List ℕ) (h : Paths) (o : Option Value) (rest : List Candidate) → (c.id ≡ id → ⊥) → AllByRecursion (Differ c) rest
     → AllByRecursion (Differ c) (option_to_list (option_map (candidate id h) o) ++ rest)
 above_one c id h None rest k m = m
 above_one c id h (Some form) rest k m = (k, m)
 
-all_above : (c : Candidate) (es : List (List ℕ × History)) → T (below_all bytes_cmp c.id es) → AllByRecursion (Differ c) (filter_map candidate_of es)
+all_above : (c : Candidate) (es : List (List ℕ × Paths)) → T (below_all bytes_cmp c.id es) → AllByRecursion (Differ c) (filter_map candidate_of es)
 all_above c [] h = tt
 all_above c (e ∷ es) h =
     let p = both (is_lt (bytes_cmp c.id e.0)) (below_all bytes_cmp c.id es) h in
     subst (AllByRecursion (Differ c)) (sym (shown_first candidate_of e es (candidate_of e) refl))
     (above_one c e.0 e.1 (served_of e.0 e.1) (filter_map candidate_of es) (less_differ c.id e.0 p.0) (all_above c es p.1))
 
-apart_one : (id : List ℕ) (h : History) (o : Option Value) (rest : List Candidate) → ((form : Value) → AllByRecursion (Differ (candidate id h form)) rest) → Apart rest
+apart_one : (id : List ℕ) (h : Paths) (o : Option Value) (rest : List Candidate) → ((form : Value) → AllByRecursion (Differ (candidate id h form)) rest) → Apart rest
     → Apart (option_to_list (option_map (candidate id h) o) ++ rest)
 apart_one id h None rest k m = m
 apart_one id h (Some form) rest k m = (k form, m)
 
-apart_entries : (es : List (List ℕ × History)) → T (is_sorted bytes_cmp es) → Apart (filter_map candidate_of es)
+apart_entries : (es : List (List ℕ × Paths)) → T (is_sorted bytes_cmp es) → Apart (filter_map candidate_of es)
 apart_entries [] h = tt
 apart_entries (e ∷ es) h =
     let p = both (below_all bytes_cmp e.0 es) (is_sorted bytes_cmp es) h in

@@ -12,7 +12,7 @@ use Rattle.mg_merge.specs.Sharding.{Document, rows_of}
 use Rattle.mg_normal.specs.Atoms.{atoms_of}
 use Rattle.mg_normal.specs.Normal.{IsNormalOf, NormalForm, normal_holds}
 use Rattle.mg_range.specs.Laws.{RangesAreComplete}
-use Rattle.mg_revtree.specs.History.{History}
+use Rattle.mg_revtree.specs.History.{Paths}
 use Rattle.mg_scan.specs.Hit.{hit_row, hit_rows}
 use Rattle.mg_scan.specs.declared.hit.Hit.{Hit}
 use Rattle.mg_shard.specs.Dealt.{Placing, ShardsStandFor, histories_on}
@@ -38,12 +38,12 @@ all_split : {X : Type 0} (P : X → Type 0) (xs ys : List X) → AllByRecursion 
 all_split P [] ys h = (tt, h)
 all_split P (x ∷ xs) ys h = let more = all_split P xs ys h.1 in ((h.0, more.0), more.1)
 
-whole_if : (b : Bool) (e : List ℕ × History) (es : List (List ℕ × History)) → AreWhole (option_to_list (candidate_of e)) → AreWhole (filter_map candidate_of es) → AreWhole (filter_map candidate_of (cond b (e ∷ es) es))
+whole_if : (b : Bool) (e : List ℕ × Paths) (es : List (List ℕ × Paths)) → AreWhole (option_to_list (candidate_of e)) → AreWhole (filter_map candidate_of es) → AreWhole (filter_map candidate_of (cond b (e ∷ es) es))
 whole_if false e es h k = k
 whole_if true e es h k =
     subst AreWhole (sym (shown_first candidate_of e es (candidate_of e) refl)) (all_append HasIdAndRev (option_to_list (candidate_of e)) (filter_map candidate_of es) h k)
 
-whole_kept : (kept : List ℕ × History → Bool) (es : List (List ℕ × History)) → AreWhole (filter_map candidate_of es) → AreWhole (filter_map candidate_of (filter kept es))
+whole_kept : (kept : List ℕ × Paths → Bool) (es : List (List ℕ × Paths)) → AreWhole (filter_map candidate_of es) → AreWhole (filter_map candidate_of (filter kept es))
 whole_kept kept [] h = tt
 whole_kept kept (e ∷ es) h =
     let parts = all_split HasIdAndRev (option_to_list (candidate_of e)) (filter_map candidate_of es) (subst AreWhole (shown_first candidate_of e es (candidate_of e) refl) h) in

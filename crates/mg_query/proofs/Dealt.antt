@@ -12,7 +12,7 @@ use Rattle.std.specs.FinMap.Entries.{where_key, find-where_key, is_sorted-where_
 use Rattle.std.specs.List.{AllByRecursion, filter, filter_map}
 use Rattle.std.specs.List.Sorted.{IsPermutation}
 use Rattle.mg_merge.specs.Merged.{joined}
-use Rattle.mg_revtree.specs.History.{History}
+use Rattle.mg_revtree.specs.History.{Paths}
 use Rattle.mg_shard.specs.Dealt.{Placing, ShardsStandFor, histories_on}
 use Rattle.mg_shard.specs.Documents.{docs_of}
 use Rattle.mg_shard.specs.Histories.{Histories, served_documents, served_entry}
@@ -108,19 +108,19 @@ some_either false x o h = h
 some_first : {X : Type 0} (b : Bool) (x : X) (o : Option X) → b ≡ true → is_some (cond b (Some x) o) ≡ true
 some_first b x o h = rw h
 
-found_after : (before : List (List ℕ × History)) (e : List ℕ × History) (es : List (List ℕ × History)) → is_some (find bytes_cmp e.0 (before ++ e ∷ es)) ≡ true
+found_after : (before : List (List ℕ × Paths)) (e : List ℕ × Paths) (es : List (List ℕ × Paths)) → is_some (find bytes_cmp e.0 (before ++ e ∷ es)) ≡ true
 found_after [] e es = some_first (eq_by_cmp bytes_cmp e.0 e.0) e.1 (find bytes_cmp e.0 es) (ap is_eq (tied_itself nat_list_cmp_total e.0))
 found_after (x ∷ before) e es = some_either (eq_by_cmp bytes_cmp e.0 x.0) x.1 (find bytes_cmp e.0 (before ++ e ∷ es)) (found_after before e es)
 
-each_found : (before es : List (List ℕ × History)) → AllByRecursion (λ e. is_some (find bytes_cmp e.0 (before ++ es)) ≡ true) es
+each_found : (before es : List (List ℕ × Paths)) → AllByRecursion (λ e. is_some (find bytes_cmp e.0 (before ++ es)) ≡ true) es
 each_found before [] = tt
 each_found before (e ∷ es) =
     (found_after before e es, subst (λ all. AllByRecursion (λ x. is_some (find bytes_cmp x.0 all) ≡ true) es) (append_assoc before (e ∷ []) es) (each_found (before ++ e ∷ []) es))
 
 -- each id that has a history is placed where it may be
-all_within : (place : Placing) (n : ℕ) (hs : Histories) → ((id : List ℕ) (h : History) → get hs id ≡ Some h → place id n < n) → AllByRecursion (λ e. place e.0 n < n) (entries hs)
+all_within : (place : Placing) (n : ℕ) (hs : Histories) → ((id : List ℕ) (h : Paths) → get hs id ≡ Some h → place id n < n) → AllByRecursion (λ e. place e.0 n < n) (entries hs)
 all_within place n hs h =
-    let placed_at = λ (e : List ℕ × History) (k : is_some (find bytes_cmp e.0 (entries hs)) ≡ true). let v = some_value (find bytes_cmp e.0 (entries hs)) k in h e.0 v.0 (get-entries hs e.0 ∙ v.1) in
+    let placed_at = λ (e : List ℕ × Paths) (k : is_some (find bytes_cmp e.0 (entries hs)) ≡ true). let v = some_value (find bytes_cmp e.0 (entries hs)) k in h e.0 v.0 (get-entries hs e.0 ∙ v.1) in
     all_weaker (λ e. is_some (find bytes_cmp e.0 (entries hs)) ≡ true) (λ e. place e.0 n < n) placed_at (entries hs) (each_found [] (entries hs))
 
 -- the documents that shards keep to be served are all that are served

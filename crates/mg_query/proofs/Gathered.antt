@@ -20,8 +20,8 @@ abbrev pub rows_asked : (Document → Bool) → (Document → Option RowValue) �
 rows_asked asked row wanted d = filter wanted (cond (asked d) (option_to_list (row d)) [])
 
 -- what a list of documents lists: the wanted ones of the sorted rows of those that are asked for
-abbrev pub listed : (Document → Bool) → (Document → Option RowValue) → (RowValue → Bool) → Direction → List Document → List RowValue
-listed asked row wanted direction ds = filter wanted (sorted_rows direction (filter_map row (filter asked ds)))
+abbrev pub listed_rows : (Document → Bool) → (Document → Option RowValue) → (RowValue → Bool) → Direction → List Document → List RowValue
+listed_rows asked row wanted direction ds = filter wanted (sorted_rows direction (filter_map row (filter asked ds)))
 
 filter_append : {X : Type 0} (p : X → Bool) (xs ys : List X) → filter p (xs ++ ys) ≡ filter p xs ++ filter p ys
 filter_append p [] ys = refl
@@ -44,13 +44,13 @@ rows_of_each asked row wanted (d ∷ ds) =
     ∙ ap (λ rs. rows_asked asked row wanted d ++ rs) (rows_of_each asked row wanted ds)
 
 pub listed_sorted : (asked : Document → Bool) (row : Document → Option RowValue) (wanted : RowValue → Bool) (direction : Direction) (ds : List Document)
-    → listed asked row wanted direction ds ≡ rows_of direction (rows_asked asked row wanted) ds
+    → listed_rows asked row wanted direction ds ≡ rows_of direction (rows_asked asked row wanted) ds
 listed_sorted asked row wanted direction ds =
     filter_sorted (directed_order direction) (directed_total direction) (directed_ties direction) wanted (filter_map row (filter asked ds))
     ∙ ap (sorted_rows direction) (rows_of_each asked row wanted ds)
 
 cut_listed : (asked : Document → Bool) (row : Document → Option RowValue) (wanted : RowValue → Bool) (direction : Direction) (count : ℕ) (shards : List (List Document))
-    → map (λ ds. take count (listed asked row wanted direction ds)) shards ≡ map (take count) (lists_of direction (rows_asked asked row wanted) shards)
+    → map (λ ds. take count (listed_rows asked row wanted direction ds)) shards ≡ map (take count) (lists_of direction (rows_asked asked row wanted) shards)
 cut_listed asked row wanted direction count [] = refl
 cut_listed asked row wanted direction count (ds ∷ shards) = ap₂ (λ x xs. take count x ∷ xs) (listed_sorted asked row wanted direction ds) (cut_listed asked row wanted direction count shards)
 
@@ -62,7 +62,7 @@ lists_in_order direction rows shards =
 -- the first rows of what the shards list, each cut at their number, are the first rows of all documents
 first_of_shards : (asked : Document → Bool) (row : Document → Option RowValue) (wanted : RowValue → Bool) (direction : Direction) (count : ℕ) (documents : List Document) (shards : List (List Document))
     → IsPermutation documents (joined shards)
-    → merged direction count (map (λ ds. take count (listed asked row wanted direction ds)) shards) ≡ take count (rows_of direction (rows_asked asked row wanted) documents)
+    → merged direction count (map (λ ds. take count (listed_rows asked row wanted direction ds)) shards) ≡ take count (rows_of direction (rows_asked asked row wanted) documents)
 first_of_shards asked row wanted direction count documents shards h =
     let rows = rows_asked asked row wanted in
     ap (merged direction count) (cut_listed asked row wanted direction count shards)
@@ -94,7 +94,7 @@ module _ {X : Type 0} (f : X → RowValue) (document : X → Document) (picked :
   -- the rows of a page: what the shards list is cut at so many and merged, and the first of them are passed over
   pub rows_of_page : (asked : Document → Bool) (row : Document → Option RowValue) (wanted : RowValue → Bool) → rows ≡ rows_asked asked row wanted
       → (direction : Direction) (skip limit : ℕ) (xs : List X) (shards : List (List Document)) → IsPermutation (map document xs) (joined shards) → AllByRecursion IsFoundBy xs
-      → drop skip (merged direction (skip + limit) (map (λ ds. take (skip + limit) (listed asked row wanted direction ds)) shards))
+      → drop skip (merged direction (skip + limit) (map (λ ds. take (skip + limit) (listed_rows asked row wanted direction ds)) shards))
       ≡ map f (take limit (drop skip (filter (λ x. after (f x)) (sorted (λ x y. directed_order direction (f x) (f y)) (filter picked xs)))))
   rows_of_page asked row wanted same direction skip limit xs shards h k =
       let found = filter (λ x. after (f x)) (sorted (λ x y. directed_order direction (f x) (f y)) (filter picked xs)) in

@@ -43,7 +43,7 @@ use Rattle.mg_query.specs.Query.{Query}
 use Rattle.mg_query.specs.Served.{AreWhole, IsListed, source_seen}
 use Rattle.mg_query.specs.declared.found.Asked.{Asked}
 use Rattle.mg_query.proofs.Answered.{is_wanted_by, rows_of_answer}
-use Rattle.mg_query.proofs.Gathered.{listed, listed_sorted, lists_in_order, rows_asked}
+use Rattle.mg_query.proofs.Gathered.{listed_rows, listed_sorted, lists_in_order, rows_asked}
 
 follows_same : (o : Option Place) (direction : Direction) (r : RowValue)
     → option_map_or (λ p. is_gt (directed_order direction r p)) (option_map row_at o) true ≡ option_map_or (λ p. is_gt (directed_order direction r (p.key, p.id))) o true
@@ -143,7 +143,7 @@ module _ (q : Query) (columns : List Steps) (normal : NormalForm) (is : IsNormal
   asked_here d = normal_holds normal (Some d.1)
 
   abbrev listed_here : List Document → List RowValue
-  listed_here ds = listed asked_here (row_of columns) (is_wanted_by q columns) q.direction ds
+  listed_here ds = listed_rows asked_here (row_of columns) (is_wanted_by q columns) q.direction ds
 
   pub shard_listed : (s : ShardView) → shard_rows normal columns q s ≡ take most (listed_here (docs_of s.documents))
   shard_listed s =

@@ -10,7 +10,7 @@ use Rattle.mg_collate.specs.declared.direction.Direction.{Direction}
 use Rattle.mg_doc.specs.Served.{served_of}
 use Rattle.mg_index.specs.Definition.{Steps}
 use Rattle.mg_merge.specs.Merged.{contents_of, joined, merged_by, order_by}
-use Rattle.mg_revtree.specs.History.{History}
+use Rattle.mg_revtree.specs.History.{Paths}
 use Rattle.mg_revtree.specs.Tree.{StandsFor}
 use Rattle.mg_scan.specs.Hit.{AreHitsIn, AreHitsOf, IsHitIn, IsHitOf, hit_document, hit_form, hit_row, hit_text}
 use Rattle.mg_scan.specs.declared.hit.Hit.{Hit}
@@ -27,7 +27,7 @@ use Rattle.mg_query.proofs.Kept.{IsKnown, all_known, kept_history}
 -- ---- what a hit lends is of the history of its id
 
 record IsOf (hs : Histories) (h : Hit) : Type 0 where
-  history : History
+  history : Paths
   known : get hs (hit_row h).1 ≡ Some history
   tree : StandsFor (kept_of (hit_document h)).0 history
   form : Some (hit_form h) ≡ served_of (hit_row h).1 history

@@ -14,7 +14,7 @@ use Rattle.mg_index.specs.Definition.{Steps}
 use Rattle.mg_index.specs.Reading.{each_of, field_direction}
 use Rattle.mg_query.specs.Laws.{BookmarksChangeNothingElse, HasBookmark, asked_after}
 use Rattle.mg_selector.specs.Fault.{◌>>=◌, or_fault}
-use Rattle.mg_query.specs.Query.{Query, Shaped, ◌>>◌, bookmark_given, conflicts_of, count_of, fields_of, hint_given, one_direction, query_with, selector_given, selector_or_fault, shaped, sort_fields, sort_path, rendered_fields_of}
+use Rattle.mg_query.specs.Query.{Query, Shaped, ◌>>◌, bookmark_given, conflicts_of, count_of, fields_of, hint_given, one_direction, query_with, selector_given, selector_or_fault, shaped, items_given, sort_path, rendered_fields_of}
 use Rattle.mg_query.specs.declared.error.QueryError.{QueryError}
 use Rattle.mg_query.specs.declared.error.QueryError.TheVariants.{BadBookmark, MixedSort, Shape}
 
@@ -56,7 +56,7 @@ all_marked (Some a) (Some f) (Some l) (Some k) (Some s) h b c m t e = behind_mar
 
 -- the members of a body, by what it has under each name
 abbrev from_members : Option Value → Option Value → Option Value → Option Value → Option Value → Option Value → Option Value → Option Value → Option Shaped
-from_members a f l k s h b c = all_of (selector_given a) (fields_of f) (count_of 25 l) (count_of 0 k) (sort_fields s) (hint_given h) (bookmark_given b) (conflicts_of c)
+from_members a f l k s h b c = all_of (selector_given a) (fields_of f) (count_of 25 l) (count_of 0 k) (items_given s) (hint_given h) (bookmark_given b) (conflicts_of c)
 
 differ : (a b : List ℕ) → bytes_eq a b ≡ false → a ≢ b
 differ a b f e = let t : bytes_eq a b ≡ true = (bytes_eq-Decides a b).1 e in cc
@@ -74,7 +74,7 @@ shaped_marked v w t m h e =
     ∙ ap₂ (λ x y. from_members (b (codes "selector")) (b (codes "fields")) x y (a (codes "sort")) (a (codes "use_index")) (a (codes "bookmark")) (a (codes "conflicts"))) (same (codes "limit") refl) (same (codes "skip") refl)
     ∙ ap₂ (λ x y. from_members (b (codes "selector")) (b (codes "fields")) (b (codes "limit")) (b (codes "skip")) x y (a (codes "bookmark")) (a (codes "conflicts"))) (same (codes "sort") refl) (same (codes "use_index") refl)
     ∙ ap₂ (λ x y. from_members (b (codes "selector")) (b (codes "fields")) (b (codes "limit")) (b (codes "skip")) (b (codes "sort")) (b (codes "use_index")) x y) h.bookmark (same (codes "conflicts") refl)
-    ∙ all_marked (selector_given (b (codes "selector"))) (fields_of (b (codes "fields"))) (count_of 25 (b (codes "limit"))) (count_of 0 (b (codes "skip"))) (sort_fields (b (codes "sort"))) (hint_given (b (codes "use_index")))
+    ∙ all_marked (selector_given (b (codes "selector"))) (fields_of (b (codes "fields"))) (count_of 25 (b (codes "limit"))) (count_of 0 (b (codes "skip"))) (items_given (b (codes "sort"))) (hint_given (b (codes "use_index")))
     (bookmark_given (b (codes "bookmark"))) (conflicts_of (b (codes "conflicts"))) m t e
 
 -- ---- the query

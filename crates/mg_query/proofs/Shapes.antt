@@ -8,11 +8,11 @@ use Rattle.mg_index.specs.Definition.{Steps}
 use Rattle.mg_index.specs.Reading.{each_of, field_direction}
 use Rattle.mg_query.specs.Given.{Given, given, parsed, query_given}
 use Rattle.mg_selector.specs.Fault.{◌>>=◌, or_fault}
-use Rattle.mg_query.specs.Query.{Shaped, path_of, query_of, query_with, shaped, sort_fields, selector_given, count_of, hint_given, bookmark_given, conflicts_of, fields_of, sort_path}
+use Rattle.mg_query.specs.Query.{Shaped, path_of, query_of, query_with, shaped, items_given, selector_given, count_of, hint_given, bookmark_given, conflicts_of, fields_of, sort_path}
 use Rattle.mg_query.specs.declared.error.QueryError.TheVariants.{Shape as wrong_shape}
 
 -- the paths of the fields
-fields_lent : (fields : Option Value) → fields_of fields ≡ option_and_then (each_of path_of) (sort_fields fields)
+fields_lent : (fields : Option Value) → fields_of fields ≡ option_and_then (each_of path_of) (items_given fields)
 fields_lent None = refl
 fields_lent (Some (list vs)) = refl
 fields_lent (Some v) = refl
@@ -105,8 +105,8 @@ members_given v =
     let m = λ (name : List ℕ). member_of name v in
     let limit = count_of 25 (m (codes "limit")) in
     let skip = count_of 0 (m (codes "skip")) in
-    ap (λ (f : Option (List Steps)). after_fields (selector_given (m (codes "selector"))) f limit skip (sort_fields (m (codes "sort"))) (hint_given (m (codes "use_index"))) (bookmark_given (m (codes "bookmark"))) (conflicts_of (m (codes "conflicts")))) (fields_lent (m (codes "fields")))
-    ∙ all_from (selector_given (m (codes "selector"))) (sort_fields (m (codes "fields"))) limit skip (sort_fields (m (codes "sort"))) (hint_given (m (codes "use_index"))) (bookmark_given (m (codes "bookmark"))) (conflicts_of (m (codes "conflicts")))
+    ap (λ (f : Option (List Steps)). after_fields (selector_given (m (codes "selector"))) f limit skip (items_given (m (codes "sort"))) (hint_given (m (codes "use_index"))) (bookmark_given (m (codes "bookmark"))) (conflicts_of (m (codes "conflicts")))) (fields_lent (m (codes "fields")))
+    ∙ all_from (selector_given (m (codes "selector"))) (items_given (m (codes "fields"))) limit skip (items_given (m (codes "sort"))) (hint_given (m (codes "use_index"))) (bookmark_given (m (codes "bookmark"))) (conflicts_of (m (codes "conflicts")))
 
 -- the query of members that are lent
 pub of_lent : (v : Value) (g : Given) → given v ≡ Some g → query_of v ≡ query_given (member_of (codes "fields") v) g

@@ -11,7 +11,7 @@ use Rattle.mg_bookmark.specs.Bookmark.{spelled}
 use Rattle.mg_collate.specs.Row.{RowValue}
 use Rattle.mg_index.specs.Choice.{Source}
 use Rattle.mg_index.specs.Definition.{Steps}
-use Rattle.mg_revtree.specs.History.{History}
+use Rattle.mg_revtree.specs.History.{Paths}
 use Rattle.mg_revtree.specs.Tree.{StandsFor, Tree}
 use Rattle.mg_scan.specs.Hit.{hit_document, hit_form, hit_row}
 use Rattle.mg_scan.specs.declared.hit.Hit.{Hit}
@@ -30,7 +30,7 @@ ok_weaker (Err e) P Q f h = h
 
 -- what is shown of a form and a tree is what is shown of the candidate that the hit lends
 pub shown_hit : (q : Query) (columns : List Steps) (h : Hit) (c : Candidate) (form : Value) (tree : Tree) (v : Value)
-    → ((id : List ℕ) (p : History) → StandsFor tree p → v ≡ shown_of q (record { id = id; form = form; history = p })) → form ≡ hit_form h → tree ≡ (kept_of (hit_document h)).0 → Lends columns h c → v ≡ shown_of q c
+    → ((id : List ℕ) (p : Paths) → StandsFor tree p → v ≡ shown_of q (record { id = id; form = form; history = p })) → form ≡ hit_form h → tree ≡ (kept_of (hit_document h)).0 → Lends columns h c → v ≡ shown_of q c
 shown_hit q columns h c form tree v s f t l =
     s c.id c.history (subst (λ x. StandsFor x c.history) (sym t) l.tree) ∙ ap (λ x. shown_of q (record { id = c.id; form = x; history = c.history })) (f ∙ l.form)
 

@@ -9,7 +9,7 @@ use Rattle.mg_index.specs.Definition.{design_document}
 use Rattle.mg_index.specs.Reading.{each_of, field_direction}
 use Rattle.mg_selector.specs.Reading.{reading}
 use Rattle.mg_selector.specs.Fault.{◌>>=◌, or_fault}
-use Rattle.mg_query.specs.Query.{Query, Shaped, query_with, selector_or_fault, path_of, sort_path, sort_fields, selector_given, count_of, hint_given, bookmark_given, conflicts_of}
+use Rattle.mg_query.specs.Query.{Query, Shaped, query_with, selector_or_fault, path_of, sort_path, items_given, selector_given, count_of, hint_given, bookmark_given, conflicts_of}
 use Rattle.mg_query.specs.declared.error.QueryError.{QueryError}
 use Rattle.mg_query.specs.declared.error.QueryError.TheVariants.{Shape as wrong_shape}
 use Rattle.mg_query.specs.declared.member.Members as code
@@ -35,9 +35,9 @@ given v =
     (conflicts_of (member_of (codes "conflicts") v)))
     (bookmark_given (member_of (codes "bookmark") v)))
     (hint_given (member_of (codes "use_index") v)))
-    (sort_fields (member_of (codes "sort") v)))
+    (items_given (member_of (codes "sort") v)))
     (count_of 0 (member_of (codes "skip") v))) (count_of 25 (member_of (codes "limit") v)))
-    (sort_fields (member_of (codes "fields") v)))
+    (items_given (member_of (codes "fields") v)))
     (selector_given (member_of (codes "selector") v))
 
 -- the members with these paths and directions

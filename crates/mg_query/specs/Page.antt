@@ -14,7 +14,7 @@ use Rattle.mg_path.specs.Part.{part_of, projection_of}
 use Rattle.mg_collate.specs.declared.direction.Direction.{Direction}
 use Rattle.mg_collate.specs.Row.{RowValue, directed_order}
 use Rattle.mg_collate.specs.Sorted.{sorted}
-use Rattle.mg_revtree.specs.History.{History}
+use Rattle.mg_revtree.specs.History.{Paths}
 use Rattle.mg_doc.specs.Served.{served_of}
 use Rattle.mg_doc.specs.Conflicts.{with_conflicts_of}
 use Rattle.mg_selector.specs.Meaning.{holds_in}
@@ -31,10 +31,10 @@ use Rattle.mg_query.specs.Query.{Query}
 pub record Candidate : Type 0 where
   pub id : List ℕ
   pub form : Value
-  pub history : History
+  pub history : Paths
 
 -- the document of an id with this history, if it is served
-abbrev pub candidate_of : List ℕ × History → Option Candidate
+abbrev pub candidate_of : List ℕ × Paths → Option Candidate
 candidate_of e = option_map (λ form. record { id = e.0; form = form; history = e.1 }) (served_of e.0 e.1)
 
 -- all documents that are served, in the order of their ids

@@ -96,11 +96,12 @@ count_of otherwise (Some v) = None
 abbrev pub sort_path : Value → Option Steps
 sort_path v = option_and_then steps_of (field_path v)
 
--- `sort`, an array of path texts, which are ascending, and of `{path: "asc"}` or `{path: "desc"}`: its fields
-abbrev pub sort_fields : Option Value → Option (List Value)
-sort_fields None = Some []
-sort_fields (Some (list vs)) = Some (item_list vs)
-sort_fields (Some v) = None
+-- the items of `sort` or `fields`, an array; no items if it is absent. A field of `sort` is a path text, which is ascending, or
+-- `{path: "asc"}` or `{path: "desc"}`
+abbrev pub items_given : Option Value → Option (List Value)
+items_given None = Some []
+items_given (Some (list vs)) = Some (item_list vs)
+items_given (Some v) = None
 
 -- the direction that all share; ascending if there are none
 abbrev pub one_direction : List Direction → Option Direction
@@ -156,7 +157,7 @@ shaped v =
     fields_of (member_of (codes "fields") v) >> (λ fields.
     count_of 25 (member_of (codes "limit") v) >> (λ limit.
     count_of 0 (member_of (codes "skip") v) >> (λ skip.
-    sort_fields (member_of (codes "sort") v) >> (λ sorted.
+    items_given (member_of (codes "sort") v) >> (λ sorted.
     each_of sort_path sorted >> (λ sort.
     each_of field_direction sorted >> (λ directions.
     hint_given (member_of (codes "use_index") v) >> (λ hint.

@@ -3,7 +3,7 @@ ghost use Rattle.std.specs.Prelude.{◌≡◌, Some, map, option_map};
 ghost use Rattle.mg_value.specs.Value.{item, list, no_items, whole};
 ghost use Rattle.mg_value.specs.View.{view, items_view};
 ghost use Rattle.mg_query.specs.Given.{given as given_of, given_seen, hint_seen};
-ghost use Rattle.mg_query.specs.Query.{bookmark_given as bookmark_of, conflicts_of, count_of, hint_given as hint_of, selector_given as selector_of, sort_fields};
+ghost use Rattle.mg_query.specs.Query.{bookmark_given as bookmark_of, conflicts_of, count_of, hint_given as hint_of, selector_given as selector_of, items_given};
 ghost use Rattle.mg_query.specs.Seen.{lent};
 
 use mg_index::{Hint, design_document};
@@ -82,7 +82,7 @@ fn object_in(value: &Json) -> Option<&Json>
 
 // The items of a member that is an array; no items if it is absent.
 fn array_given<'a>(value: Option<&'a Json>) -> Option<&'a [Json]>
-    ensures { option_map (λ items. map view items.now) result ≡ sort_fields (lent value.entry) }
+    ensures { option_map (λ items. map view items.now) result ≡ items_given (lent value.entry) }
 {
     match value {
         None => Some(&[]),
@@ -91,7 +91,7 @@ fn array_given<'a>(value: Option<&'a Json>) -> Option<&'a [Json]>
 }
 
 fn items_in(value: &Json) -> Option<&[Json]>
-    ensures { option_map (λ items. map view items.now) result ≡ sort_fields (Some (view value.now)) }
+    ensures { option_map (λ items. map view items.now) result ≡ items_given (Some (view value.now)) }
 {
     match value {
         Json::List(items) => some_items(items),
@@ -101,7 +101,7 @@ fn items_in(value: &Json) -> Option<&[Json]>
 
 fn some_items(items: &[Json]) -> Option<&[Json]>
     ensures { option_map (λ items. map view items.now) result
-        ≡ sort_fields (Some (list (items_view items.now))) }
+        ≡ items_given (Some (list (items_view items.now))) }
 {
     Some(items)
 }

@@ -1,7 +1,7 @@
 // What a page shows of a document, and the bookmark of a row.
 ghost use Rattle.std.specs.Prelude.{◌≡◌, ℕ, List, IfOk, string_bytes};
 ghost use Rattle.mg_value.specs.View.{view, items_view};
-ghost use Rattle.mg_revtree.specs.History.{History as Paths};
+ghost use Rattle.mg_revtree.specs.History.{Paths};
 ghost use Rattle.mg_revtree.specs.Tree.{StandsFor};
 ghost use Rattle.mg_bookmark.specs.Bookmark.{spelled};
 ghost use Rattle.mg_query.specs.Page.{ddoc_of, name_of, projected, shown_of};

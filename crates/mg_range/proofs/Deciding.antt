@@ -5,7 +5,7 @@ use Rattle.std.specs.List.{cons_option, filter, filter_map, list_all}
 use Rattle.mg_value.specs.Value.{Value}
 use Rattle.mg_path.specs.Part.{part_of}
 use Rattle.mg_normal.specs.Atoms.{Atom, atom_holds}
-use Rattle.mg_normal.specs.Form.{Form}
+use Rattle.mg_normal.specs.Condition.{Condition}
 use Rattle.mg_normal.specs.Normal.{NormalForm, all_hold, normal_holds, rest_holds}
 use Rattle.mg_index.specs.Bound.{bound_on, is_fixed}
 use Rattle.mg_index.specs.Definition.{Steps}
@@ -123,7 +123,7 @@ pub decides_form : RangeDecidesForm
 decides_form n columns v key none all e =
     let atoms = n.atoms in
     let holds = atom_holds (Some v) in
-    ap (λ (o : Option Form). all_hold (Some v) atoms && rest_holds o (Some v)) (none_besides n.rest none)
+    ap (λ (o : Option Condition). all_hold (Some v) atoms && rest_holds o (Some v)) (none_besides n.rest none)
     ∙ sym (and_true (all_hold (Some v) atoms))
     ∙ decides_atoms atoms columns v key e
     ∙ ap (λ t. has_key (range_of atoms columns) key && t) (left_hold (is_decided atoms columns) holds atoms ∙ none_left (is_decided atoms columns) holds atoms all)

@@ -8,7 +8,7 @@ use Rattle.mg_revtree.specs.declared.error.TreeError.TheVariants.{NoMemory as no
 use Rattle.mg_revtree.specs.declared.error.TreeRefusal.{TreeRefusal}
 use Rattle.mg_revtree.specs.declared.error.TreeRefusal.TheVariants.{NotLeaf, Full, Known}
 use Rattle.mg_revtree.specs.Revision.{Revision, run_from}
-use Rattle.mg_revtree.specs.History.{History, Link, all_links, Leaf, is_known}
+use Rattle.mg_revtree.specs.History.{Paths, Link, all_links, Leaf, is_known}
 use Rattle.mg_revtree.specs.Tree.{AreLeaves}
 use Rattle.mg_revtree.specs.Changes.{Decides, error_of, may_extend, next_position, next_revision, position_below, refusal_of, run_over}
 use Rattle.mg_revtree.specs.Steps.{base_in, ids_over}
@@ -20,7 +20,7 @@ pub run_over_is : (base : Option Revision) (id : List ℕ) → run_from (positio
 run_over_is None id = refl
 run_over_is (Some q) id = let e : q.0 + 1 - 1 ≡ q.0 = omega arith in ap (λ (m : ℕ). (let rs : List Revision = (q.0 + 1, id) ∷ (m, q.1) ∷ [] in rs)) e
 
-pub base_is : (h : History) (ls : List Leaf) → AreLeaves h ls → (base : Option Revision) → base_in ls base ≡ may_extend h base
+pub base_is : (h : Paths) (ls : List Leaf) → AreLeaves h ls → (base : Option Revision) → base_in ls base ≡ may_extend h base
 base_is h [] leaves None = sym (ap is_none (no_winner h leaves))
 base_is h (l ∷ ls) leaves None = sym (ap is_none (first_wins h l ls leaves))
 base_is h [] leaves (Some q) = ap is_some (leaves.same q)
@@ -28,11 +28,11 @@ base_is h (l ∷ ls) leaves (Some q) = ap is_some (leaves.same q)
 
 -- ---- where a new revision may be made
 
-pub position_refused : (h : History) (base : Option Revision) → may_extend h base ≡ false → Err NotLeaf ≡ next_position h base
+pub position_refused : (h : Paths) (base : Option Revision) → may_extend h base ≡ false → Err NotLeaf ≡ next_position h base
 position_refused h base e = rw e refl
 
 -- the position above the one below, or none
-pub position_is : (h : History) (base : Option Revision) (n : ℕ) (o : Option ℕ) (r : Result ℕ TreeRefusal) → may_extend h base ≡ true → n ≡ position_below base → SomeIff o (n + 1 < 2 ^ 32) (n + 1) → n < 2 ^ 32 → r ≡ ok_or o Full → r ≡ next_position h base
+pub position_is : (h : Paths) (base : Option Revision) (n : ℕ) (o : Option ℕ) (r : Result ℕ TreeRefusal) → may_extend h base ≡ true → n ≡ position_below base → SomeIff o (n + 1 < 2 ^ 32) (n + 1) → n < 2 ^ 32 → r ≡ ok_or o Full → r ≡ next_position h base
 position_is h base n None r e is none fits to =
     let top : n ≡ 4294967295 = omega (arith, none, fits) in
     let t : (position_below base == 4294967295) ≡ true = grind (arith, nat_tests) in
@@ -54,19 +54,19 @@ abbrev pub refusal_at : Result ℕ TreeRefusal → List ℕ → List Link → Op
 refusal_at (Err refusal) id ls = Some refusal
 refusal_at (Ok n) id ls = if is_known (n, id) ls then Some Known else None
 
-pub refusal_is : (h : History) (base : Option Revision) (id : List ℕ) → refusal_at (next_position h base) id (all_links h) ≡ refusal_of h base id
+pub refusal_is : (h : Paths) (base : Option Revision) (id : List ℕ) → refusal_at (next_position h base) id (all_links h) ≡ refusal_of h base id
 refusal_is h base id = elim (two (may_extend h base)) [
   | inl t ↦ elim (two (position_below base == 4294967295)) [ inl u ↦ rw (t, u) refl | inr u ↦ rw (t, u) refl ]
   | inr f ↦ rw f refl
 ]
 
-pub refused_position : (h : History) (base : Option Revision) (id : List ℕ) (refusal : TreeRefusal) → Err refusal ≡ next_position h base → Some refusal ≡ refusal_of h base id
+pub refused_position : (h : Paths) (base : Option Revision) (id : List ℕ) (refusal : TreeRefusal) → Err refusal ≡ next_position h base → Some refusal ≡ refusal_of h base id
 refused_position h base id refusal e = ap (λ p. refusal_at p id (all_links h)) e ∙ refusal_is h base id
 
-pub refused_known : (h : History) (base : Option Revision) (id : List ℕ) (n : ℕ) → Ok n ≡ next_position h base → is_known (n, id) (all_links h) ≡ true → Some Known ≡ refusal_of h base id
+pub refused_known : (h : Paths) (base : Option Revision) (id : List ℕ) (n : ℕ) → Ok n ≡ next_position h base → is_known (n, id) (all_links h) ≡ true → Some Known ≡ refusal_of h base id
 refused_known h base id n e k = (let t : Some Known ≡ refusal_at (Ok n) id (all_links h) = rw k refl in t) ∙ ap (λ p. refusal_at p id (all_links h)) e ∙ refusal_is h base id
 
-pub not_refused : (h : History) (base : Option Revision) (id : List ℕ) (n : ℕ) → Ok n ≡ next_position h base → is_known (n, id) (all_links h) ≡ false → None ≡ refusal_of h base id
+pub not_refused : (h : Paths) (base : Option Revision) (id : List ℕ) (n : ℕ) → Ok n ≡ next_position h base → is_known (n, id) (all_links h) ≡ false → None ≡ refusal_of h base id
 not_refused h base id n e k = (let t : None ≡ refusal_at (Ok n) id (all_links h) = rw k refl in t) ∙ ap (λ p. refusal_at p id (all_links h)) e ∙ refusal_is h base id
 
 -- ---- the result of an extension

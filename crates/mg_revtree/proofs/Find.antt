@@ -10,7 +10,7 @@ use Rattle.mg_revtree.specs.Revision.{Revision, revision_order, same_revision}
 use Rattle.std.specs.Option.{option_or}
 use Rattle.mg_revtree.specs.History.{Link}
 use Rattle.mg_revtree.specs.Tree.{find, IsBelow, AreSorted}
-use Rattle.mg_revtree.specs.Steps.{put, IsPlace, IsGap}
+use Rattle.mg_revtree.specs.Steps.{put, IsLinkAt, IsGap}
 use Rattle.mg_revtree.proofs.Same.{two, same_is, apart, revision_total, less_apart, equal_same}
 
 -- ---- links in order
@@ -55,7 +55,7 @@ module _ {A : Type 0} (f : A → Link) where
   ]
 
   -- an equal one is at its place
-  pub place_found : (r : Revision) (xs : List A) (i : ℕ) → i < length xs → AreSorted (map f xs) → HoldsAt (λ (x : A). revision_order (f x).rev r ≡ Equal) xs i → IsPlace r (map f xs) i
+  pub place_found : (r : Revision) (xs : List A) (i : ℕ) → i < length xs → AreSorted (map f xs) → HoldsAt (λ (x : A). revision_order (f x).rev r ≡ Equal) xs i → IsLinkAt r (map f xs) i
   place_found r [] i lt s h = absurd (omega arith)
   place_found r (x ∷ xs) zero lt s h = equal_same (f x).rev r (h x)
   place_found r (x ∷ xs) (suc i) lt s h =
@@ -75,7 +75,7 @@ module _ {A : Type 0} (f : A → Link) where
       (h.0 0 x (omega arith) (omega arith), gap_found r xs i (omega arith) (λ k d lo hi. h.0 (suc k) d (omega arith) (omega arith), λ k d lo hi. h.1 (suc k) d (omega arith) (omega arith)))
 
   -- what a binary search answers
-  pub searched : (r : Revision) (xs : List A) (o : Result ℕ ℕ) → IsSearchInRange o (length xs) → IsBinarySearchResult (λ (x : A). revision_order (f x).rev r) xs o → IfOk o (λ i. (i < length xs) × (AreSorted (map f xs) → IsPlace r (map f xs) i)) × IfErr o (λ i. (i ≤ length xs) × (AreSorted (map f xs) → IsGap r (map f xs) i))
+  pub searched : (r : Revision) (xs : List A) (o : Result ℕ ℕ) → IsSearchInRange o (length xs) → IsBinarySearchResult (λ (x : A). revision_order (f x).rev r) xs o → IfOk o (λ i. (i < length xs) × (AreSorted (map f xs) → IsLinkAt r (map f xs) i)) × IfErr o (λ i. (i ≤ length xs) × (AreSorted (map f xs) → IsGap r (map f xs) i))
   searched r xs (Ok i) bound by = ((bound, λ s. place_found r xs i bound s by), tt)
   searched r xs (Err i) bound by = (tt, (bound, λ s. gap_found r xs i bound (by (rising xs r s))))
 
@@ -112,7 +112,7 @@ sorted-set x y (l ∷ ls) (suc i) is e h = (below_set l.rev x y ls i is e h.0, s
 -- ---- what is found
 
 -- a link put at its revision's place
-pub find-set : (l x y : Link) (ls : List Link) (i : ℕ) → IsPlace l.rev ls i → x ≡ get_or ls i x → y ≡ record x { parent = option_or x.parent l.parent } → (r : Revision) → find r (set ls i y) ≡ put l r (find r ls)
+pub find-set : (l x y : Link) (ls : List Link) (i : ℕ) → IsLinkAt l.rev ls i → x ≡ get_or ls i x → y ≡ record x { parent = option_or x.parent l.parent } → (r : Revision) → find r (set ls i y) ≡ put l r (find r ls)
 find-set l x y [] i place is to r = absurd place
 find-set l x y (z ∷ ls) zero place is to r =
     let e : l.rev ≡ z.rev = same_is l.rev z.rev place in
@@ -138,13 +138,13 @@ find-insert l (y ∷ ls) (suc i) none r =
       | inr f ↦ rw f (find-insert l ls i n r)
     ]
 
-pub place_find : (r : Revision) (ls : List Link) (i : ℕ) (x : Link) → IsPlace r ls i → x ≡ get_or ls i x → find r ls ≡ Some x.parent
+pub place_find : (r : Revision) (ls : List Link) (i : ℕ) (x : Link) → IsLinkAt r ls i → x ≡ get_or ls i x → find r ls ≡ Some x.parent
 place_find r [] i x place is = absurd place
 place_find r (y ∷ ls) zero x place is = let e : x.parent ≡ y.parent = ap (λ (z : Link). z.parent) is in rw (place, e) refl
 place_find r (y ∷ ls) (suc i) x place is = rw (place.0) (place_find r ls i x place.1 is)
 
 -- the one at a revision's place has that revision
-pub place_is : (r : Revision) (ls : List Link) (i : ℕ) (x : Link) → IsPlace r ls i → x ≡ get_or ls i x → x.rev ≡ r
+pub place_is : (r : Revision) (ls : List Link) (i : ℕ) (x : Link) → IsLinkAt r ls i → x ≡ get_or ls i x → x.rev ≡ r
 place_is r [] i x place is = absurd place
 place_is r (y ∷ ls) zero x place is = ap (λ (z : Link). z.rev) is ∙ sym (same_is r y.rev place)
 place_is r (y ∷ ls) (suc i) x place is = place_is r ls i x place.1 is

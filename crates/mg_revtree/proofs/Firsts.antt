@@ -2,7 +2,7 @@
 use Rattle.std.proofs.Common.{◌≡◌, ◌∙◌, ℕ, ◌-◌, ◌<◌, ◌&&◌, Bool, true, false, Option, Some, None, List, [], ◌∷◌, ◌++◌, append-nil, Bor, inl, inr, is_some, option_copied, get_or, length, map, refl, ap, sym, subst, arith}
 use Rattle.mg_value.specs.Value.{Value}
 use Rattle.mg_revtree.specs.Revision.{Revision, run_from, same_revision}
-use Rattle.mg_revtree.specs.History.{Leaf, Link, History, all_links, are_held, fit, is_known, links, newest_of}
+use Rattle.mg_revtree.specs.History.{Leaf, Link, Paths, all_links, are_held, fit, is_known, links, newest_of}
 use Rattle.mg_revtree.specs.Growth.{empty_tree, first_tree, is_empty, is_run_of, line_tree, tree_in}
 use Rattle.mg_revtree.specs.declared.growth.Growth.{Growth}
 use Rattle.mg_revtree.specs.declared.growth.Growth.TheVariants.{Empty, First, Line, Grown}
@@ -21,13 +21,13 @@ alone q = record { rev = q; parent = None }
 -- ---- the first revision of a tree
 
 -- in a tree without revisions none is known
-unknown_in_none : (h : History) (q : Revision) → AreNodes [] (all_links h) → is_known q (all_links h) ≡ false
+unknown_in_none : (h : Paths) (q : Revision) → AreNodes [] (all_links h) → is_known q (all_links h) ≡ false
 unknown_in_none h q nodes = sym (found_known q (all_links h) [] (nodes.same q))
 
-pub found_first : (h : History) (q : Revision) → AreNodes [] (all_links h) → New ≡ found_of h (q ∷ [])
+pub found_first : (h : Paths) (q : Revision) → AreNodes [] (all_links h) → New ≡ found_of h (q ∷ [])
 found_first h q nodes = rw (unknown_in_none h q nodes) refl
 
-joined_first : (h : History) (q : Revision) → AreNodes [] (all_links h) → AreNodes (alone q ∷ []) (all_links h ++ links (q ∷ []))
+joined_first : (h : Paths) (q : Revision) → AreNodes [] (all_links h) → AreNodes (alone q ∷ []) (all_links h ++ links (q ∷ []))
 joined_first h q nodes = record {
   same = λ r.
       let none : None ≡ node r (all_links h ++ []) = nodes.same r ∙ ap (node r) (sym (append-nil (all_links h))) in
@@ -36,7 +36,7 @@ joined_first h q nodes = record {
 }
 
 -- a tree without revisions stands for one more path after its first revision is made
-pub stands_first : (h : History) (q : Revision) (d : Bool) (b : Value) → StandsFor empty_tree h → StandsFor (first_tree (record { rev = q; deleted = d; body = b })) (with_path h (path_of (q ∷ []) d b))
+pub stands_first : (h : Paths) (q : Revision) (d : Bool) (b : Value) → StandsFor empty_tree h → StandsFor (first_tree (record { rev = q; deleted = d; body = b })) (with_path h (path_of (q ∷ []) d b))
 stands_first h q d b stands =
     let l : Leaf = record { rev = q; deleted = d; body = b } in
     stands_new h (q ∷ []) d b q [] (alone q ∷ []) [] [] refl stands (joined_first h q stands.nodes) refl refl (λ r e. refl) (l ∷ []) refl
@@ -48,7 +48,7 @@ node_alone : (q r : Revision) → node r (links (q ∷ [])) ≡ find r (alone q 
 node_alone q r = elim (two (same_revision r q)) [ inl t ↦ rw t refl | inr f ↦ rw f refl ]
 
 -- lists that have the leaf's revision alone stand for what its tree stands for
-pub stands_grown : (h : History) (l : Leaf) (kept : List Link) → AreNodes kept (links (l.rev ∷ [])) → StandsFor (first_tree l) h → StandsFor (record { links = kept; leaves = l ∷ [] }) h
+pub stands_grown : (h : Paths) (l : Leaf) (kept : List Link) → AreNodes kept (links (l.rev ∷ [])) → StandsFor (first_tree l) h → StandsFor (record { links = kept; leaves = l ∷ [] }) h
 stands_grown h l kept joined stands = record {
   nodes = record {
     same = λ r. joined.same r ∙ node_alone l.rev r ∙ stands.nodes.same r;

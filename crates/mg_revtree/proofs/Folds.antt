@@ -8,7 +8,7 @@ use Rattle.mg_revtree.specs.Revision.{Revision, revision_order}
 use Rattle.mg_revtree.specs.History.{Link}
 use Rattle.mg_revtree.specs.Tree.{AreSorted}
 use Rattle.mg_revtree.specs.Nodes.{AreWithin, Grows, NodeWithin, link_in, text_of_part}
-use Rattle.mg_revtree.specs.Steps.{IsGap, IsPlace}
+use Rattle.mg_revtree.specs.Steps.{IsGap, IsLinkAt}
 use Rattle.mg_revtree.specs.Known.{AreBelow, with_link, with_links}
 use Rattle.mg_revtree.specs.declared.links.node.Node.{Node}
 use Rattle.mg_revtree.specs.declared.links.node.IdPart.{IdPart}
@@ -78,7 +78,7 @@ module _ (t : List ℕ) (made older : List Node) (i : ℕ) where
           let k : NodeWithin n kept = subst (NodeWithin n) (sym is) (node-within n older i kept lt h) in
           subst (NodeWithin n) (sym joined) (k.0, or_within n kept.parent x.parent k.1 w.1)
 
-      module _ (sorted : AreSorted (map (link_in t) older)) (place : IsPlace (link_in t x).rev (map (link_in t) older) i) where
+      module _ (sorted : AreSorted (map (link_in t) older)) (place : IsLinkAt (link_in t x).rev (map (link_in t) older) i) where
         pub links_joined : map (link_in t) ((made ++ take i older) ++ now ∷ []) ++ map (link_in t) (drop (i + 1) older) ≡ map (link_in t) made ++ with_link (link_in t x) (map (link_in t) older)
         links_joined =
             let l = map (link_in t) older in

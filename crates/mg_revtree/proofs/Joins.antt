@@ -2,7 +2,7 @@
 use Rattle.std.proofs.Common.{◌≡◌, true, false, ◌||◌, ◌&&◌, Option, Some, None, List, [], ◌∷◌, ◌++◌, inl, inr, refl, ap, sym, ◌∙◌, append_assoc}
 use Rattle.mg_revtree.specs.Revision.{Revision, same_revision}
 use Rattle.std.specs.Option.{option_or}
-use Rattle.mg_revtree.specs.History.{Link, History, agrees, gives, is_known, parent_of, has_child, is_at, links, all_links}
+use Rattle.mg_revtree.specs.History.{Link, Paths, agrees, gives, is_known, parent_of, has_child, is_at, links, all_links}
 use Rattle.mg_revtree.specs.Tree.{node}
 use Rattle.mg_revtree.specs.Steps.{agrees_found, held_found, put}
 use Rattle.mg_revtree.proofs.Same.{two, same_is}
@@ -26,7 +26,7 @@ pub has_child-append : (r : Revision) (ls ms : List Link) → has_child r (ls ++
 has_child-append r [] ms = refl
 has_child-append r (l ∷ ls) ms = elim (two (is_at r l.parent)) [ inl t ↦ rw t refl | inr f ↦ rw f (has_child-append r ls ms) ]
 
-pub all_links-append : (h g : History) → all_links (h ++ g) ≡ all_links h ++ all_links g
+pub all_links-append : (h g : Paths) → all_links (h ++ g) ≡ all_links h ++ all_links g
 all_links-append [] g = refl
 all_links-append (p ∷ h) g = rw (all_links-append h g) (sym (append_assoc (links p.revs) (all_links h) (all_links g)))
 

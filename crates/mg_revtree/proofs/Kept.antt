@@ -7,7 +7,7 @@ use Rattle.std.specs.Option.{option_flatten, option_or}
 use Rattle.mg_revtree.specs.Revision.{Revision, revision_order, same_revision}
 use Rattle.mg_revtree.specs.History.{Link, is_known, parent_of}
 use Rattle.mg_revtree.specs.Tree.{AreNodes, AreSorted, IsBelow, find, node}
-use Rattle.mg_revtree.specs.Steps.{IsGap, IsPlace, joined, put}
+use Rattle.mg_revtree.specs.Steps.{IsGap, IsLinkAt, joined, put}
 use Rattle.mg_revtree.specs.Known.{AreBelow, parent_below, with_link, with_links}
 use Rattle.mg_revtree.proofs.Same.{two, same_is, apart, revision_total}
 use Rattle.mg_revtree.proofs.Find.{below_none}
@@ -39,7 +39,7 @@ gap_above r [] (suc i) h = absurd h
 gap_above r (l ∷ ls) (suc i) h = (h.0, gap_above r ls i h.1)
 
 -- a revision below links is below the one at a place among them
-place_above : (a r : Revision) (ls : List Link) (i : ℕ) → IsBelow a ls → IsPlace r ls i → revision_order a r ≡ Less
+place_above : (a r : Revision) (ls : List Link) (i : ℕ) → IsBelow a ls → IsLinkAt r ls i → revision_order a r ≡ Less
 place_above a r [] i h place = absurd place
 place_above a r (l ∷ ls) zero h place = let e : l.rev ≡ r = sym (same_is r l.rev place) in subst (λ (x : Revision). revision_order a x ≡ Less) e h.0
 place_above a r (l ∷ ls) (suc i) h place = place_above a r ls i h.1 place.1
@@ -53,7 +53,7 @@ same_equal a b h = go (revision_order a b) refl
     go Greater e = absurd (let f : is_eq (revision_order a b) ≡ false = ap is_eq e in cc)
 
 -- joined to the one of its revision
-pub place_with : (l x : Link) (ls : List Link) (i : ℕ) → AreSorted ls → IsPlace l.rev ls i → x ≡ get_or ls i x → take i ls ++ record x { parent = option_or x.parent l.parent } ∷ drop (suc i) ls ≡ with_link l ls
+pub place_with : (l x : Link) (ls : List Link) (i : ℕ) → AreSorted ls → IsLinkAt l.rev ls i → x ≡ get_or ls i x → take i ls ++ record x { parent = option_or x.parent l.parent } ∷ drop (suc i) ls ≡ with_link l ls
 place_with l x [] i s place is = absurd place
 place_with l x (m ∷ ms) zero s place is =
     let e : revision_order l.rev m.rev ≡ Equal = same_equal l.rev m.rev place in
@@ -63,7 +63,7 @@ place_with l x (m ∷ ms) (suc i) s place is =
     rw e (ap (λ xs. m ∷ xs) (place_with l x ms i s.1 place.1 is))
 
 -- those before it are below it
-pub place_below : (r : Revision) (ls : List Link) (i : ℕ) → AreSorted ls → IsPlace r ls i → AreBelow r (take i ls)
+pub place_below : (r : Revision) (ls : List Link) (i : ℕ) → AreSorted ls → IsLinkAt r ls i → AreBelow r (take i ls)
 place_below r [] i s place = absurd place
 place_below r (l ∷ ls) zero s place = tt
 place_below r (l ∷ ls) (suc i) s place = (place_above l.rev r ls i s.0 place.1, place_below r ls i s.1 place.1)

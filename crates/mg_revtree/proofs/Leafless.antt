@@ -5,7 +5,7 @@ use Rattle.std.proofs.lemmas.Option.{cond_some}
 use Rattle.std.proofs.lemmas.Bool.Decides.{nat_tests}
 use Rattle.mg_value.specs.Value.{Value}
 use Rattle.mg_revtree.specs.Revision.{Revision, is_revision_id, run_from, same_revision}
-use Rattle.mg_revtree.specs.History.{Link, History, all_links, has_child, is_known, links, marked, winner_of}
+use Rattle.mg_revtree.specs.History.{Link, Paths, all_links, has_child, is_known, links, marked, winner_of}
 use Rattle.mg_revtree.specs.Changes.{next_revision, run_over}
 use Rattle.mg_revtree.specs.Laws.{Falls, AllFall, NoWinnerNothingKnown, PathsFall}
 use Rattle.mg_revtree.proofs.Same.{two, same_is, same_refl}
@@ -32,7 +32,7 @@ child_in_run r (a ∷ b ∷ rs) falls h = elim (two (same_revision r b)) [
       (d.0, ap (λ x. same_revision d.0 a || x) d.1 ∙ or_true (same_revision d.0 a), d.2)
 ]
 
-child_above : (r : Revision) (h : History) → AllFall h → has_child r (all_links h) ≡ true → IsAbove r (all_links h)
+child_above : (r : Revision) (h : Paths) → AllFall h → has_child r (all_links h) ≡ true → IsAbove r (all_links h)
 child_above r [] fall e = cc
 child_above r (p ∷ h) fall e =
     let f : has_child r (links p.revs) || has_child r (all_links h) ≡ true = sym (has_child-append r (links p.revs) (all_links h)) ∙ e in
@@ -58,7 +58,7 @@ under_top r (l ∷ ls) k = elim (two (same_revision r l.rev)) [
 ]
 
 -- a known revision that is nobody's parent is a leaf
-no_top : (h : History) → winner_of h ≡ None → (r : Revision) → is_known r (all_links h) ≡ true → has_child r (all_links h) ≡ false → ⊥
+no_top : (h : Paths) → winner_of h ≡ None → (r : Revision) → is_known r (all_links h) ≡ true → has_child r (all_links h) ≡ false → ⊥
 no_top h none r known f = leaf (marked r h) refl (leaf_marked r h known f)
   where
     leaf : (m : Option (Bool × Value)) → marked r h ≡ m → is_some (marked r h) ≡ true → ⊥
@@ -66,7 +66,7 @@ no_top h none r known f = leaf (marked r h) refl (leaf_marked r h known f)
     leaf (Some m) e s = no_winner_leaf h (record { rev = r; deleted = m.0; body = m.1 }) none (rw (f, e) refl)
 
 -- from a known revision up to one that is nobody's parent
-climbs : (h : History) → AllFall h → winner_of h ≡ None → (fuel : ℕ) (r : Revision) → is_known r (all_links h) ≡ true → top (all_links h) ≤ r.0 + fuel → ⊥
+climbs : (h : Paths) → AllFall h → winner_of h ≡ None → (fuel : ℕ) (r : Revision) → is_known r (all_links h) ≡ true → top (all_links h) ≤ r.0 + fuel → ⊥
 climbs h fall none zero r known le = elim (two (has_child r (all_links h))) [
   | inr f ↦ no_top h none r known f
   | inl t ↦

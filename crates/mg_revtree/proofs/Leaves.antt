@@ -4,7 +4,7 @@ use Rattle.std.specs.declared.cmp.Ordering.{Ordering}
 use Rattle.std.specs.declared.cmp.Ordering.TheVariants.{Less, Equal, Greater}
 use Rattle.mg_value.specs.Value.{Value}
 use Rattle.mg_revtree.specs.Revision.{Revision, same_revision}
-use Rattle.mg_revtree.specs.History.{Link, Leaf, History, is_known, has_child, is_at, newest_of, links, all_links, marked, leaf_order, ranked_with}
+use Rattle.mg_revtree.specs.History.{Link, Leaf, Paths, is_known, has_child, is_at, newest_of, links, all_links, marked, leaf_order, ranked_with}
 use Rattle.mg_revtree.specs.Tree.{leaf_in, AreApart}
 use Rattle.mg_revtree.proofs.Same.{two, same_is, same_refl, apart}
 use Rattle.mg_revtree.proofs.Ranks.{tied_same}
@@ -137,7 +137,7 @@ run_leaf_newest r (q ∷ qs) h k =
 -- ---- a history
 
 -- a parent is known
-pub child_known : (r : Revision) (h : History) → has_child r (all_links h) ≡ true → is_known r (all_links h) ≡ true
+pub child_known : (r : Revision) (h : Paths) → has_child r (all_links h) ≡ true → is_known r (all_links h) ≡ true
 child_known r [] e = cc
 child_known r (p ∷ h) e =
     let f : has_child r (links p.revs) || has_child r (all_links h) ≡ true = sym (has_child-append r (links p.revs) (all_links h)) ∙ e in
@@ -147,7 +147,7 @@ child_known r (p ∷ h) e =
     ])
 
 -- an unknown revision has no mark
-pub unknown_unmarked : (r : Revision) (h : History) → is_known r (all_links h) ≡ false → marked r h ≡ None
+pub unknown_unmarked : (r : Revision) (h : Paths) → is_known r (all_links h) ≡ false → marked r h ≡ None
 unknown_unmarked r [] e = refl
 unknown_unmarked r (p ∷ h) e =
     let f = or_false (is_known r (links p.revs)) (is_known r (all_links h)) (sym (known-append r (links p.revs) (all_links h)) ∙ e) in
@@ -157,7 +157,7 @@ unknown_unmarked r (p ∷ h) e =
     ]
 
 -- a known revision that is no parent has a mark
-pub leaf_marked : (r : Revision) (h : History) → is_known r (all_links h) ≡ true → has_child r (all_links h) ≡ false → is_some (marked r h) ≡ true
+pub leaf_marked : (r : Revision) (h : Paths) → is_known r (all_links h) ≡ true → has_child r (all_links h) ≡ false → is_some (marked r h) ≡ true
 leaf_marked r [] e n = cc
 leaf_marked r (p ∷ h) e n =
     let f = or_false (has_child r (links p.revs)) (has_child r (all_links h)) (sym (has_child-append r (links p.revs) (all_links h)) ∙ n) in

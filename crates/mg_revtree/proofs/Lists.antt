@@ -4,7 +4,7 @@ use Rattle.std.specs.declared.cmp.Ordering.{Ordering}
 use Rattle.std.specs.declared.cmp.Ordering.TheVariants.{Less, Equal, Greater}
 use Rattle.mg_value.specs.Value.{Value}
 use Rattle.mg_revtree.specs.Revision.{Revision, same_revision}
-use Rattle.mg_revtree.specs.History.{Leaf, History, leaf_at, leaf_order, leaves_of, ranked, ranked_with, tip_of, IsLeaf}
+use Rattle.mg_revtree.specs.History.{Leaf, Paths, leaf_at, leaf_order, leaves_of, ranked, ranked_with, tip_of, IsLeaf}
 use Rattle.mg_revtree.specs.Tree.{leaf_in, AreApart, AreLeaves, AreRanked, BeforeAll}
 use Rattle.mg_revtree.proofs.Same.{two, same_is, same_refl}
 use Rattle.mg_revtree.proofs.Ranks.{leaf_total, are_ranked, tied_same, irreflexive}
@@ -68,12 +68,12 @@ decided xs ys a b h k same = same_list xs ys h k
     (λ l i. is_in l xs (same l.rev ∙ of_apart l ys b i))
 
 -- leaves of a history that tie are one leaf
-tie : (h : History) (l m : Leaf) → IsLeaf h l → IsLeaf h m → leaf_order l m ≡ Equal → m ≡ l
+tie : (h : Paths) (l m : Leaf) → IsLeaf h l → IsLeaf h m → leaf_order l m ≡ Equal → m ≡ l
 tie h l m a b e =
     let s : l.rev ≡ m.rev = same_is l.rev m.rev (tied_same l m e) in
     same_leaf m l (sym s) (sym a ∙ ap (λ r. leaf_at r h) s ∙ b)
 
-has-with : (h : History) (x l : Leaf) (ls : List Leaf) → IsLeaf h l → AreLeavesOf h ls → Has x (l ∷ ls) → Has x (ranked_with l ls)
+has-with : (h : Paths) (x l : Leaf) (ls : List Leaf) → IsLeaf h l → AreLeavesOf h ls → Has x (l ∷ ls) → Has x (ranked_with l ls)
 has-with h x l [] a all i = i
 has-with h x l (m ∷ ms) a all i = go (leaf_order l m) refl (has-with h x l ms a all.1) i
   where
@@ -85,7 +85,7 @@ has-with h x l (m ∷ ms) a all i = go (leaf_order l m) refl (has-with h x l ms 
     go Equal e rest (inr j) = rw e j
     go Greater e rest j = rw e j
 
-leaves-with : (h : History) (l : Leaf) (ls : List Leaf) → IsLeaf h l → AreLeavesOf h ls → AreLeavesOf h (ranked_with l ls)
+leaves-with : (h : Paths) (l : Leaf) (ls : List Leaf) → IsLeaf h l → AreLeavesOf h ls → AreLeavesOf h (ranked_with l ls)
 leaves-with h l [] a all = (a, tt)
 leaves-with h l (m ∷ ms) a all = go (leaf_order l m) refl (leaves-with h l ms a all.1)
   where
@@ -94,18 +94,18 @@ leaves-with h l (m ∷ ms) a all = go (leaf_order l m) refl (leaves-with h l ms 
     go Equal e rest = rw e all
     go Greater e rest = rw e (a, all)
 
-leaves-ranked : (h : History) (ls : List Leaf) → AreLeavesOf h ls → AreLeavesOf h (ranked ls)
+leaves-ranked : (h : Paths) (ls : List Leaf) → AreLeavesOf h ls → AreLeavesOf h (ranked ls)
 leaves-ranked h [] all = tt
 leaves-ranked h (l ∷ ls) all = leaves-with h l (ranked ls) all.0 (leaves-ranked h ls all.1)
 
-has-ranked : (h : History) (x : Leaf) (ls : List Leaf) → AreLeavesOf h ls → Has x ls → Has x (ranked ls)
+has-ranked : (h : Paths) (x : Leaf) (ls : List Leaf) → AreLeavesOf h ls → Has x ls → Has x (ranked ls)
 has-ranked h x [] all i = absurd i
 has-ranked h x (l ∷ ls) all (inl e) = has-with h x l (ranked ls) all.0 (leaves-ranked h ls all.1) (inl e)
 has-ranked h x (l ∷ ls) all (inr i) = has-with h x l (ranked ls) all.0 (leaves-ranked h ls all.1) (inr (has-ranked h x ls all.1 i))
 
 -- ---- the leaves of a history
 
-leaf_in_is : (h : History) (r : Revision) (ls : List Leaf) (m : Bool × Value) → AreLeavesOf h ls → leaf_in r ls ≡ Some m → leaf_at r h ≡ Some m
+leaf_in_is : (h : Paths) (r : Revision) (ls : List Leaf) (m : Bool × Value) → AreLeavesOf h ls → leaf_in r ls ≡ Some m → leaf_at r h ≡ Some m
 leaf_in_is h r [] m all e = cc
 leaf_in_is h r (l ∷ ls) m all e = elim (two (same_revision r l.rev)) [
   | inl t ↦
@@ -115,7 +115,7 @@ leaf_in_is h r (l ∷ ls) m all e = elim (two (same_revision r l.rev)) [
 ]
 
 -- a list that has each leaf gives each revision the mark and body that the history gives it
-says : (h : History) (ls : List Leaf) → AreLeavesOf h ls → ((l : Leaf) → IsLeaf h l → Has l ls) → (r : Revision) → leaf_in r ls ≡ leaf_at r h
+says : (h : Paths) (ls : List Leaf) → AreLeavesOf h ls → ((l : Leaf) → IsLeaf h l → Has l ls) → (r : Revision) → leaf_in r ls ≡ leaf_at r h
 says h ls all each r = go (leaf_in r ls) refl (leaf_at r h) refl
   where
     go : (o : Option (Bool × Value)) → leaf_in r ls ≡ o → (p : Option (Bool × Value)) → leaf_at r h ≡ p → leaf_in r ls ≡ leaf_at r h
@@ -126,7 +126,7 @@ says h ls all each r = go (leaf_in r ls) refl (leaf_at r h) refl
         absurd (let t : true ≡ false = sym (has_some leaf ls (each leaf f)) ∙ ap is_some e in cc)
 
 -- ranked leaves of a history are of different revisions
-ranked_apart : (h : History) (ls : List Leaf) → AreLeavesOf h ls → AreRanked ls → AreApart ls
+ranked_apart : (h : Paths) (ls : List Leaf) → AreLeavesOf h ls → AreRanked ls → AreApart ls
 ranked_apart h [] all k = tt
 ranked_apart h (l ∷ ls) all k = (go (leaf_in l.rev ls) refl, ranked_apart h ls all.1 k.1)
   where
@@ -134,7 +134,7 @@ ranked_apart h (l ∷ ls) all k = (go (leaf_in l.rev ls) refl, ranked_apart h ls
     go None e = e
     go (Some m) e = absurd (irreflexive l (has_less l l ls k.0 (is_in l ls (e ∙ sym (leaf_in_is h l.rev ls m all.1 e) ∙ all.0))))
 
-pub are_leaves : (h : History) → AreLeaves h (leaves_of h)
+pub are_leaves : (h : Paths) → AreLeaves h (leaves_of h)
 are_leaves h =
     let tips = filter_map (tip_of h) h in
     let all = leaves-ranked h tips (tips_are_leaves h h) in
@@ -144,7 +144,7 @@ are_leaves h =
       ranked = are_ranked tips;
     }
 
-pub leaves_list : (h : History) (ls : List Leaf) → AreLeaves h ls → ls ≡ leaves_of h
+pub leaves_list : (h : Paths) (ls : List Leaf) → AreLeaves h ls → ls ≡ leaves_of h
 leaves_list h ls is = let has = are_leaves h in decided ls (leaves_of h) is.apart has.apart is.ranked has.ranked (λ r. is.same r ∙ sym (has.same r))
 
 -- a leaf that is kept stands among those that are kept

@@ -2,7 +2,7 @@
 use Rattle.std.proofs.Common.{◌≡◌, ◌-◌, not, None, List, [], ◌∷◌, drop, filter, length, take, inl, inr, refl, ap, sym, ◌∙◌, arith}
 use Rattle.std.proofs.lemmas.Grind.{common_steps}
 use Rattle.mg_revtree.specs.Revision.{same_revision}
-use Rattle.mg_revtree.specs.History.{History, Leaf, leaves_of}
+use Rattle.mg_revtree.specs.History.{Paths, Leaf, leaves_of}
 use Rattle.mg_revtree.specs.Laws.{LeavesAreListed}
 use Rattle.mg_revtree.specs.Losers.{losers_of}
 use Rattle.mg_revtree.specs.Tree.{leaf_in, AreLeaves, AreLosers}
@@ -12,7 +12,7 @@ use Rattle.mg_revtree.proofs.Ranks.{are_ranked-filter}
 use Rattle.mg_revtree.proofs.Lists.{are_leaves, decided, leaves_list}
 use Rattle.mg_revtree.proofs.Winners.{no_winner, first_wins}
 
-pub losers_are : (h : History) (ls : List Leaf) → AreLeaves h ls → AreLosers h (filter (λ l. not l.deleted) (drop 1 ls))
+pub losers_are : (h : Paths) (ls : List Leaf) → AreLeaves h ls → AreLosers h (filter (λ l. not l.deleted) (drop 1 ls))
 losers_are h [] leaves = record {
   same = λ r. rw (no_winner h leaves, ← leaves.same r) refl;
   apart = tt;
@@ -29,14 +29,14 @@ losers_are h (l ∷ ls) leaves = record {
   ranked = are_ranked-filter (λ l. not l.deleted) ls leaves.ranked.1;
 }
 
-pub are_losers : (h : History) → AreLosers h (losers_of h)
+pub are_losers : (h : Paths) → AreLosers h (losers_of h)
 are_losers h = losers_are h (leaves_of h) (are_leaves h)
 
-pub losers_list : (h : History) (ls : List Leaf) → AreLosers h ls → ls ≡ losers_of h
+pub losers_list : (h : Paths) (ls : List Leaf) → AreLosers h ls → ls ≡ losers_of h
 losers_list h ls is = let has = are_losers h in decided ls (losers_of h) is.apart has.apart is.ranked has.ranked (λ r. is.same r ∙ sym (has.same r))
 
 -- the losers are those that are not deleted of all leaves but the first
-pub losers_rest : (h : History) (ls v : List Leaf) → AreLeaves h ls → v ≡ ls → filter (λ l. not l.deleted) (take (length v - 1) (drop 1 v)) ≡ losers_of h
+pub losers_rest : (h : Paths) (ls v : List Leaf) → AreLeaves h ls → v ≡ ls → filter (λ l. not l.deleted) (take (length v - 1) (drop 1 v)) ≡ losers_of h
 losers_rest h ls v leaves e =
     let rest : take (length v - 1) (drop 1 v) ≡ drop 1 v = grind (arith, common_steps) in
     ap (filter (λ l. not l.deleted)) (rest ∙ ap (drop 1) e) ∙ losers_list h (filter (λ l. not l.deleted) (drop 1 ls)) (losers_are h ls leaves)

@@ -4,7 +4,7 @@ use Rattle.std.specs.List.{list_all}
 use Rattle.mg_value.specs.Value.{Value}
 use Rattle.mg_revtree.specs.Revision.{Revision, run_from, same_revision}
 use Rattle.std.specs.Option.{option_or}
-use Rattle.mg_revtree.specs.History.{Path, History, Link, newest_of, agrees, are_held, fit, gives, is_whole, is_at, is_known, parent_of, has_child, marked, links, all_links, leaf_at}
+use Rattle.mg_revtree.specs.History.{Path, Paths, Link, newest_of, agrees, are_held, fit, gives, is_whole, is_at, is_known, parent_of, has_child, marked, links, all_links, leaf_at}
 use Rattle.mg_revtree.specs.Changes.{found_of, path_of, with_path}
 use Rattle.mg_revtree.specs.Tree.{StandsFor, Tree}
 use Rattle.mg_revtree.specs.declared.error.Merged.TheVariants.{Known}
@@ -26,7 +26,7 @@ or_right false b h = h
 -- ---- a test that some link passes
 
 module _ (f : List Link → Bool) (none : f [] ≡ false) (append : (ls ms : List Link) → f (ls ++ ms) ≡ f ls || f ms) where
-  in_path : (h : History) → f (all_links h) ≡ true → (p : Path) × Among p h × (f (links p.revs) ≡ true)
+  in_path : (h : Paths) → f (all_links h) ≡ true → (p : Path) × Among p h × (f (links p.revs) ≡ true)
   in_path [] e = absurd (let k : true ≡ false = sym e ∙ none in cc)
   in_path (q ∷ h) e =
       let g : f (links q.revs) || f (all_links h) ≡ true = sym (append (links q.revs) (all_links h)) ∙ e in
@@ -35,12 +35,12 @@ module _ (f : List Link → Bool) (none : f [] ≡ false) (append : (ls ms : Lis
         | inr n ↦ let k : f (all_links h) ≡ true = rw n at g in let d = in_path h k in (d.0, inr d.1, d.2)
       ]
 
-  path_in : (h : History) (p : Path) → Among p h → f (links p.revs) ≡ true → f (all_links h) ≡ true
+  path_in : (h : Paths) (p : Path) → Among p h → f (links p.revs) ≡ true → f (all_links h) ≡ true
   path_in [] p a e = absurd a
   path_in (q ∷ h) p (inl s) e = append (links q.revs) (all_links h) ∙ or_left _ _ (subst (λ (x : Path). f (links x.revs) ≡ true) s e)
   path_in (q ∷ h) p (inr a) e = append (links q.revs) (all_links h) ∙ or_right _ _ (path_in h p a e)
 
-  same_test : (h g : History) → SamePaths h g → f (all_links h) ≡ f (all_links g)
+  same_test : (h g : Paths) → SamePaths h g → f (all_links h) ≡ f (all_links g)
   same_test h g s = elim (two (f (all_links h))) [
     | inl t ↦ let d = in_path h t in t ∙ sym (path_in g d.0 (s.there d.0 d.1) d.2)
     | inr n ↦ elim (two (f (all_links g))) [
@@ -51,7 +51,7 @@ module _ (f : List Link → Bool) (none : f [] ≡ false) (append : (ls ms : Lis
 
 -- ---- parents
 
-link_path : (l : Link) (h : History) → AmongLinks l (all_links h) → (p : Path) × Among p h × AmongLinks l (links p.revs)
+link_path : (l : Link) (h : Paths) → AmongLinks l (all_links h) → (p : Path) × Among p h × AmongLinks l (links p.revs)
 link_path l [] a = absurd a
 link_path l (q ∷ h) a = elim (split l (links q.revs) (all_links h) a) [
   | inl b ↦ (q, inl refl, b)
@@ -63,7 +63,7 @@ link_path l (q ∷ h) a = elim (split l (links q.revs) (all_links h) a) [
     split l (k ∷ ls) ms (inl e) = inl (inl e)
     split l (k ∷ ls) ms (inr a) = elim (split l ls ms a) [ inl b ↦ inl (inr b) | inr b ↦ inr b ]
 
-path_link : (l : Link) (h : History) (p : Path) → Among p h → AmongLinks l (links p.revs) → AmongLinks l (all_links h)
+path_link : (l : Link) (h : Paths) (p : Path) → Among p h → AmongLinks l (links p.revs) → AmongLinks l (all_links h)
 path_link l [] p a b = absurd a
 path_link l (q ∷ h) p (inl s) b = among_left l (links q.revs) (all_links h) (subst (λ (x : Path). AmongLinks l (links x.revs)) s b)
 path_link l (q ∷ h) p (inr a) b = among_right l (links q.revs) (all_links h) (path_link l h p a b)
@@ -83,10 +83,10 @@ given_parent r a (k ∷ ls) l (inr b) is e = elim (two (same_revision r k.rev)) 
     either None p h = h
     either (Some x) p h = refl
 
-same_parent : (r : Revision) (h g : History) → SamePaths h g → OneParent (all_links g) → parent_of r (all_links h) ≡ parent_of r (all_links g)
+same_parent : (r : Revision) (h g : Paths) → SamePaths h g → OneParent (all_links g) → parent_of r (all_links h) ≡ parent_of r (all_links g)
 same_parent r h g s one = go (parent_of r (all_links h)) (parent_of r (all_links g)) refl refl
   where
-    moved : (h g : History) → ((p : Path) → Among p h → Among p g) → (l : Link) → AmongLinks l (all_links h) → AmongLinks l (all_links g)
+    moved : (h g : Paths) → ((p : Path) → Among p h → Among p g) → (l : Link) → AmongLinks l (all_links h) → AmongLinks l (all_links g)
     moved h g f l a = let d = link_path l h a in path_link l g d.0 (f d.0 d.1) d.2
 
     go : (o p : Option Revision) → parent_of r (all_links h) ≡ o → parent_of r (all_links g) ≡ p → parent_of r (all_links h) ≡ parent_of r (all_links g)
@@ -108,14 +108,14 @@ abbrev mark_in : Path → Bool × Value
 mark_in p = (p.deleted, p.body)
 
 -- a mark is that of a path
-marked_among : (r : Revision) (h : History) → is_some (marked r h) ≡ true → (p : Path) × Among p h × (is_at r (newest_of p.revs) ≡ true) × (marked r h ≡ Some (mark_in p))
+marked_among : (r : Revision) (h : Paths) → is_some (marked r h) ≡ true → (p : Path) × Among p h × (is_at r (newest_of p.revs) ≡ true) × (marked r h ≡ Some (mark_in p))
 marked_among r [] e = cc
 marked_among r (q ∷ h) e = elim (two (is_at r (newest_of q.revs))) [
   | inl t ↦ (q, inl refl, t, rw t refl)
   | inr n ↦ let k : is_some (marked r h) ≡ true = rw n at e in let d = marked_among r h k in (d.0, inr d.1, d.2, rw n (d.3))
 ]
 
-among_marked : (r : Revision) (h : History) (p : Path) → Among p h → is_at r (newest_of p.revs) ≡ true → is_some (marked r h) ≡ true
+among_marked : (r : Revision) (h : Paths) (p : Path) → Among p h → is_at r (newest_of p.revs) ≡ true → is_some (marked r h) ≡ true
 among_marked r [] p a e = absurd a
 among_marked r (q ∷ h) p a e = elim (two (is_at r (newest_of q.revs))) [
   | inl t ↦ rw t refl
@@ -129,7 +129,7 @@ none_is : (o : Option (Bool × Value)) → is_some o ≡ false → o ≡ None
 none_is None h = refl
 none_is (Some x) h = cc
 
-same_marked : (r : Revision) (h g : History) → SamePaths h g → SameMarks g → marked r h ≡ marked r g
+same_marked : (r : Revision) (h g : Paths) → SamePaths h g → SameMarks g → marked r h ≡ marked r g
 same_marked r h g s m = elim (two (is_some (marked r h))) [
   | inl t ↦
       let d = marked_among r h t in
@@ -206,7 +206,7 @@ held_links known ls e l a =
     let both = and_both (is_known l.rev known) (gives (parent_of l.rev known) l.parent) (all_true (λ m. is_known m.rev known && gives (parent_of m.rev known) m.parent) ls e l a) in
     (both.0, λ q is. gives_known (parent_of l.rev known) l.parent q both.1 is)
 
-module _ (h : History) (p : Path) (whole : (l : Link) → AmongLinks l (links p.revs) → (is_known l.rev (all_links h) ≡ true) × ((q : Revision) → l.parent ≡ Some q → parent_of l.rev (all_links h) ≡ Some q)) where
+module _ (h : Paths) (p : Path) (whole : (l : Link) → AmongLinks l (links p.revs) → (is_known l.rev (all_links h) ≡ true) × ((q : Revision) → l.parent ≡ Some q → parent_of l.rev (all_links h) ≡ Some q)) where
   whole_known : (r : Revision) → is_known r (links p.revs) ≡ true → is_known r (all_links h) ≡ true
   whole_known r e = let d = known_link r (links p.revs) e in subst (λ (x : Revision). is_known x (all_links h) ≡ true) (sym d.2) (whole d.0 d.1).0
 
@@ -262,7 +262,7 @@ nothing_is_lost h ps = record {
 }
 
 -- a tree stands for a history with a path that is known whole as it did before
-pub whole_stands : (t : Tree) (h : History) (rs : List Revision) (d : Bool) (b : Value) → is_whole h rs ≡ true → StandsFor t h → StandsFor t (with_path h (path_of rs d b))
+pub whole_stands : (t : Tree) (h : Paths) (rs : List Revision) (d : Bool) (b : Value) → is_whole h rs ≡ true → StandsFor t h → StandsFor t (with_path h (path_of rs d b))
 whole_stands t h rs d b e s =
     let same = known_changes_nothing h (path_of rs d b) e in
     record {
@@ -278,7 +278,7 @@ whole_stands t h rs d b e s =
     }
 
 -- the newest revision of a path that is known whole is known
-pub whole_found : (h : History) (n : ℕ) (ids : List (List ℕ)) → 0 < length ids → is_whole h (run_from n ids) ≡ true → Known ≡ found_of h (run_from n ids)
+pub whole_found : (h : Paths) (n : ℕ) (ids : List (List ℕ)) → 0 < length ids → is_whole h (run_from n ids) ≡ true → Known ≡ found_of h (run_from n ids)
 whole_found h n [] lt e = absurd (omega arith)
 whole_found h n (id ∷ ids) lt e =
     let rest = run_from (n - 1) ids in

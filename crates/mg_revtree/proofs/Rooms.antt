@@ -12,7 +12,7 @@ use Rattle.mg_revtree.specs.Revision.{Revision, revision_order, run_from}
 use Rattle.std.specs.Option.{option_or}
 use Rattle.mg_revtree.specs.History.{Link, links, newest_of}
 use Rattle.mg_revtree.specs.Tree.{AreNodes, AreSorted, IsBelow, find, node}
-use Rattle.mg_revtree.specs.Steps.{IsGap, IsPlace, put}
+use Rattle.mg_revtree.specs.Steps.{IsGap, IsLinkAt, put}
 use Rattle.mg_revtree.specs.Nodes.{AreWithin, IsWithin, NodeWithin, ParentWithin, PartsWithin, link_in, links_in, text_of_part}
 use Rattle.mg_revtree.specs.Room.{AreFrom, Joins, used}
 use Rattle.mg_revtree.specs.declared.links.node.Node.{Node}
@@ -85,7 +85,7 @@ from_less n [] h = tt
 from_less n (l ∷ ls) h = (omega (arith, h.0), from_less n ls h.1)
 
 -- a revision's place among the first links is its place among all
-pub place_append : (r : Revision) (ls ms : List Link) (i : ℕ) → IsPlace r ls i → IsPlace r (ls ++ ms) i
+pub place_append : (r : Revision) (ls ms : List Link) (i : ℕ) → IsLinkAt r ls i → IsLinkAt r (ls ++ ms) i
 place_append r [] ms i h = absurd h
 place_append r (l ∷ ls) ms zero h = h
 place_append r (l ∷ ls) ms (suc i) h = (h.0, place_append r ls ms i h.1)
@@ -180,12 +180,12 @@ module _ (t : List ℕ) (x : Node) (ns : List Node) (till from : ℕ) where
         ∙ sym (get_or-take till ns at kept below_till)
         ∙ sym (get_or_append_left (take till ns) (drop from ns) kept at lt)
 
-    pub joins_known : (AreSorted (map (link_in t) (take till ns)) → IsPlace (link_in t x).rev (map (link_in t) (take till ns)) at) → AreSorted (map (link_in t) (used ns till from)) → AreFrom (x.pos + 1) (map (link_in t) (drop from ns)) → Joins t x (used ns till from) (used (set ns at now) till from) (drop from (set ns at now))
+    pub joins_known : (AreSorted (map (link_in t) (take till ns)) → IsLinkAt (link_in t x).rev (map (link_in t) (take till ns)) at) → AreSorted (map (link_in t) (used ns till from)) → AreFrom (x.pos + 1) (map (link_in t) (drop from ns)) → Joins t x (used ns till from) (used (set ns at now) till from) (drop from (set ns at now))
     joins_known places sorted above =
         let ls = map (link_in t) (take till ns) in
         let ms = map (link_in t) (drop from ns) in
         let front : AreSorted ls = sorted_front ls ms (subst AreSorted links_used sorted) in
-        let place : IsPlace (link_in t x).rev (map (link_in t) (used ns till from)) at = subst (λ (ks : List Link). IsPlace (link_in t x).rev ks at) (sym links_used) (place_append (link_in t x).rev ls ms at (places front)) in
+        let place : IsLinkAt (link_in t x).rev (map (link_in t) (used ns till from)) at = subst (λ (ks : List Link). IsLinkAt (link_in t x).rev ks at) (sym links_used) (place_append (link_in t x).rev ls ms at (places front)) in
         let found : (r : Revision) → find r (map (link_in t) (set (used ns till from) at now)) ≡ put (link_in t x) r (find r (map (link_in t) (used ns till from))) = find-joined t x kept now (used ns till from) at below_used kept_used now_is place in
         record {
           kept = λ r. ap (λ ys. find r (map (link_in t) ys)) used_set ∙ found r;

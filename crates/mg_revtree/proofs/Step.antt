@@ -3,7 +3,7 @@ use Rattle.std.proofs.Common.{◌≡◌, Bool, true, false, not, ◌||◌, if◌
 use Rattle.mg_value.specs.Value.{Value}
 use Rattle.mg_revtree.specs.Revision.{Revision, same_revision}
 use Rattle.std.specs.Option.{option_or}
-use Rattle.mg_revtree.specs.History.{Link, Leaf, Path, History, is_known, has_child, is_at, newest_of, links, all_links, marked, leaf_at, ranked_with}
+use Rattle.mg_revtree.specs.History.{Link, Leaf, Path, Paths, is_known, has_child, is_at, newest_of, links, all_links, marked, leaf_at, ranked_with}
 use Rattle.mg_revtree.specs.Tree.{StandsFor, AreNodes, node, find, leaf_in}
 use Rattle.mg_revtree.specs.Changes.{path_of, with_path}
 use Rattle.mg_revtree.proofs.Same.{two, same_is}
@@ -16,14 +16,14 @@ use Rattle.mg_revtree.proofs.Leaves.{apart-filter, apart-with, leaf_in-filter, l
 abbrev pub mark_of : Revision → Path → Option (Bool × Value)
 mark_of r p = if is_at r (newest_of p.revs) then Some (p.deleted, p.body) else None
 
-marked-append : (r : Revision) (h : History) (p : Path) → marked r (h ++ p ∷ []) ≡ option_or (marked r h) (mark_of r p)
+marked-append : (r : Revision) (h : Paths) (p : Path) → marked r (h ++ p ∷ []) ≡ option_or (marked r h) (mark_of r p)
 marked-append r [] p = refl
 marked-append r (q ∷ h) p = elim (two (is_at r (newest_of q.revs))) [ inl t ↦ rw t refl | inr f ↦ rw f (marked-append r h p) ]
 
-pub all_links-one : (h : History) (p : Path) → all_links (h ++ p ∷ []) ≡ all_links h ++ links p.revs
+pub all_links-one : (h : Paths) (p : Path) → all_links (h ++ p ∷ []) ≡ all_links h ++ links p.revs
 all_links-one h p = all_links-append h (p ∷ []) ∙ ap (λ ls. all_links h ++ ls) (append-nil (links p.revs))
 
-pub leaf_at-append : (r : Revision) (h : History) (p : Path) → leaf_at r (h ++ p ∷ []) ≡ (if has_child r (all_links h) || has_child r (links p.revs) then None else option_or (marked r h) (mark_of r p))
+pub leaf_at-append : (r : Revision) (h : Paths) (p : Path) → leaf_at r (h ++ p ∷ []) ≡ (if has_child r (all_links h) || has_child r (links p.revs) then None else option_or (marked r h) (mark_of r p))
 leaf_at-append r h p = rw (all_links-one h p, has_child-append r (all_links h) (links p.revs), marked-append r h p) refl
 
 or_else_some : {A : Type 0} (a b : Option A) → is_some a ≡ true → a ≡ option_or a b
@@ -38,7 +38,7 @@ is_at_is : (r q : Revision) (o : Option Revision) → o ≡ Some q → is_at r o
 is_at_is r q None e h = cc
 is_at_is r q (Some s) e h = let f : s ≡ q = cc in same_is r s h ∙ f
 
-module _ (h : History) (p : Path) (q : Revision) (newest : newest_of p.revs ≡ Some q) (ls : List Leaf) (leaves : (r : Revision) → leaf_in r ls ≡ leaf_at r h) where
+module _ (h : Paths) (p : Path) (q : Revision) (newest : newest_of p.revs ≡ Some q) (ls : List Leaf) (leaves : (r : Revision) → leaf_in r ls ≡ leaf_at r h) where
   kept : List Leaf
   kept = filter (λ l. not (has_child l.rev (links p.revs))) ls
 
@@ -94,7 +94,7 @@ module _ (h : History) (p : Path) (q : Revision) (newest : newest_of p.revs ≡ 
 pub found_known : (q : Revision) (ls ks : List Link) → find q ks ≡ node q ls → is_some (find q ks) ≡ is_known q ls
 found_known q ls ks e = rw e (elim (two (is_known q ls)) [ inl t ↦ rw t refl | inr f ↦ rw f refl ])
 
-module _ (h : History) (rs : List Revision) (d : Bool) (b : Value) (q : Revision) (kept nodes : List Link) (leaves left : List Leaf) (newest : newest_of rs ≡ Some q) (stands : StandsFor (record { links = kept; leaves = leaves }) h) (joined : AreNodes nodes (all_links h ++ links rs)) (unleafed : left ≡ filter (λ l. not (has_child l.rev (links rs))) leaves) where
+module _ (h : Paths) (rs : List Revision) (d : Bool) (b : Value) (q : Revision) (kept nodes : List Link) (leaves left : List Leaf) (newest : newest_of rs ≡ Some q) (stands : StandsFor (record { links = kept; leaves = leaves }) h) (joined : AreNodes nodes (all_links h ++ links rs)) (unleafed : left ≡ filter (λ l. not (has_child l.rev (links rs))) leaves) where
   nodes_next : AreNodes nodes (all_links (h ++ path_of rs d b ∷ []))
   nodes_next = subst (λ (ls : List Link). AreNodes nodes ls) (sym (all_links-one h (path_of rs d b))) joined
 

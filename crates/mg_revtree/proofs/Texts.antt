@@ -6,7 +6,7 @@ use Rattle.mg_revtree.specs.Revision.{Revision}
 use Rattle.std.specs.Option.{option_or}
 use Rattle.mg_revtree.specs.Tree.{AreSorted, find}
 use Rattle.mg_revtree.specs.Nodes.{text_of_part, link_in, IsWithin, ParentWithin, NodeWithin, AreWithin, PartsWithin, Grows}
-use Rattle.mg_revtree.specs.Steps.{put, IsPlace}
+use Rattle.mg_revtree.specs.Steps.{put, IsLinkAt}
 use Rattle.mg_revtree.specs.Known.{parent_below}
 use Rattle.mg_revtree.specs.declared.links.node.IdPart.{IdPart}
 use Rattle.mg_revtree.specs.declared.links.node.Node.{Node}
@@ -73,7 +73,7 @@ within-insert n [] (suc i) x w h = (w, tt)
 within-insert n (y ∷ ns) (suc i) x w h = (h.0, within-insert n ns i x w h.1)
 
 -- the id of the node at a revision's place
-pub part_at : (t : List ℕ) (r : Revision) (ns : List Node) (i : ℕ) (d : Node) → i < length ns → IsPlace r (map (link_in t) ns) i → text_of_part t (get_or ns i d).id ≡ r.1
+pub part_at : (t : List ℕ) (r : Revision) (ns : List Node) (i : ℕ) (d : Node) → i < length ns → IsLinkAt r (map (link_in t) ns) i → text_of_part t (get_or ns i d).id ≡ r.1
 part_at t r ns i d lt place = ap (λ (q : Revision). q.1) (place_is r (map (link_in t) ns) i (link_in t (get_or ns i d)) place (sym (get_or-map (link_in t) ns i d (link_in t (get_or ns i d)) lt)))
 
 pub or_within : (n : ℕ) (a b : Option IdPart) → ParentWithin n a → ParentWithin n b → ParentWithin n (option_or a b)
@@ -113,7 +113,7 @@ module _ (t : List ℕ) where
         let k : NodeWithin n kept = subst (NodeWithin n) (sym is) (node-within n ns i kept lt h) in
         within-set n ns i now (subst (NodeWithin n) (sym joined) (k.0, or_within n kept.parent given.parent k.1 w.1)) h
 
-    module _ (place : IsPlace (link_in t given).rev (map (link_in t) ns) i) where
+    module _ (place : IsLinkAt (link_in t given).rev (map (link_in t) ns) i) where
       same_place : kept.pos ≡ given.pos
       same_place = ap (λ (r : Revision). r.0) (place_is (link_in t given).rev (map (link_in t) ns) i (link_in t kept) place kept_at)
 
@@ -126,7 +126,7 @@ module _ (t : List ℕ) where
   -- ---- what is kept of a revision
 
   -- what is looked up for a revision is the parent of the node at its place
-  pub kept-at : (pos : ℕ) (id : List ℕ) (ns : List Node) (i : ℕ) (x : Node) (o : Option (List ℕ)) → i < length ns → IsPlace (pos, id) (map (link_in t) ns) i → x ≡ get_or ns i x → parent_below x.pos o ≡ (link_in t x).parent → Some (parent_below pos o) ≡ find (pos, id) (map (link_in t) ns)
+  pub kept-at : (pos : ℕ) (id : List ℕ) (ns : List Node) (i : ℕ) (x : Node) (o : Option (List ℕ)) → i < length ns → IsLinkAt (pos, id) (map (link_in t) ns) i → x ≡ get_or ns i x → parent_below x.pos o ≡ (link_in t x).parent → Some (parent_below pos o) ≡ find (pos, id) (map (link_in t) ns)
   kept-at pos id ns i x o lt place is h =
       let at : link_in t x ≡ get_or (map (link_in t) ns) i (link_in t x) = ap (link_in t) is ∙ sym (get_or-map (link_in t) ns i x (link_in t x) lt) in
       let e : x.pos ≡ pos = ap (λ (r : Revision). r.0) (place_is (pos, id) (map (link_in t) ns) i (link_in t x) place at) in

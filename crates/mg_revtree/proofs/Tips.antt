@@ -3,14 +3,14 @@ use Rattle.std.proofs.Common.{◌≡◌, Bool, true, false, Option, Some, None, 
 use Rattle.std.specs.List.{filter_map, cons_option}
 use Rattle.mg_value.specs.Value.{Value}
 use Rattle.mg_revtree.specs.Revision.{Revision}
-use Rattle.mg_revtree.specs.History.{Leaf, History, newest_of, is_at, has_child, all_links, marked, leaf_at, leaf_of, IsLeaf, tip_of}
+use Rattle.mg_revtree.specs.History.{Leaf, Paths, newest_of, is_at, has_child, all_links, marked, leaf_at, leaf_of, IsLeaf, tip_of}
 use Rattle.mg_revtree.proofs.Same.{two, same_is}
 
 abbrev pub Has : Leaf → List Leaf → Type 0
 Has b [] = ⊥
 Has b (l ∷ ls) = (l ≡ b) ⊎ Has b ls
 
-abbrev pub AreLeavesOf : History → List Leaf → Type 0
+abbrev pub AreLeavesOf : Paths → List Leaf → Type 0
 AreLeavesOf h [] = Unit {0}
 AreLeavesOf h (l ∷ ls) = IsLeaf h l × AreLeavesOf h ls
 
@@ -29,7 +29,7 @@ has_more : (b : Leaf) (o : Option Leaf) (ls : List Leaf) → Has b ls → Has b 
 has_more b None ls a = a
 has_more b (Some l) ls a = inr a
 
-pub tips_have : (h g : History) (b : Leaf) → IsLeaf h b → is_some (marked b.rev g) ≡ true → Has b (filter_map (tip_of h) g)
+pub tips_have : (h g : Paths) (b : Leaf) → IsLeaf h b → is_some (marked b.rev g) ≡ true → Has b (filter_map (tip_of h) g)
 tips_have h [] b leaf e = cc
 tips_have h (p ∷ g) b leaf e = elim (two (is_at b.rev (newest_of p.revs))) [
   | inl t ↦ newest (newest_of p.revs) t
@@ -43,13 +43,13 @@ tips_have h (p ∷ g) b leaf e = elim (two (is_at b.rev (newest_of p.revs))) [
         let k : leaf_at r h ≡ Some (b.deleted, b.body) = ap (λ x. leaf_at x h) s ∙ leaf in
         rw (k, s) (inl refl)
 
-pub marked_of : (r : Revision) (h : History) → is_some (leaf_at r h) ≡ true → is_some (marked r h) ≡ true
+pub marked_of : (r : Revision) (h : Paths) → is_some (leaf_at r h) ≡ true → is_some (marked r h) ≡ true
 marked_of r h e = elim (two (has_child r (all_links h))) [
   | inl t ↦ let f : false ≡ true = rw t at e in cc
   | inr f ↦ let k : is_some (marked r h) ≡ true = rw f at e in k
 ]
 
-pub tips_are_leaves : (h g : History) → AreLeavesOf h (filter_map (tip_of h) g)
+pub tips_are_leaves : (h g : Paths) → AreLeavesOf h (filter_map (tip_of h) g)
 tips_are_leaves h [] = tt
 tips_are_leaves h (p ∷ g) = newest (newest_of p.revs) (tips_are_leaves h g)
   where
@@ -61,5 +61,5 @@ tips_are_leaves h (p ∷ g) = newest (newest_of p.revs) (tips_are_leaves h g)
     newest None rest = rest
     newest (Some r) rest = at r (leaf_at r h) refl rest
 
-pub tip_has : (h : History) (l : Leaf) → IsLeaf h l → Has l (filter_map (tip_of h) h)
+pub tip_has : (h : Paths) (l : Leaf) → IsLeaf h l → Has l (filter_map (tip_of h) h)
 tip_has h l leaf = tips_have h h l leaf (marked_of l.rev h (ap is_some leaf))

@@ -2,7 +2,7 @@
 use Rattle.std.specs.Prelude.{◌≡◌, ◌==◌, Result, Ok, Err, IsOkUnless, ℕ, ◌+◌, List, [], ◌∷◌, ◌++◌, Bool, false, not, is_none, is_some, if◌then◌else◌, Option, Some, None}
 use Rattle.mg_value.specs.Value.{Value}
 use Rattle.mg_revtree.specs.Revision.{Revision}
-use Rattle.mg_revtree.specs.History.{Path, History, all_links, is_known, leaf_at, newest_of, winner_of}
+use Rattle.mg_revtree.specs.History.{Path, Paths, all_links, is_known, leaf_at, newest_of, winner_of}
 use Rattle.mg_revtree.specs.declared.error.Merged.{Merged}
 use Rattle.mg_revtree.specs.declared.error.Merged.TheVariants.{New, Known as Known_already}
 use Rattle.mg_revtree.specs.declared.error.TreeRefusal.{TreeRefusal}
@@ -15,24 +15,24 @@ abbrev pub path_of : List Revision → Bool → Value → Path
 path_of rs d b = record { revs = rs; deleted = d; body = b }
 
 -- a history with one more path
-abbrev pub with_path : History → Path → History
+abbrev pub with_path : Paths → Path → Paths
 with_path h p = h ++ p ∷ []
 
 -- ---- a path of a replica
 
 -- whether the newest revision of a run is known
-abbrev pub knows : History → Option Revision → Bool
+abbrev pub knows : Paths → Option Revision → Bool
 knows h None = false
 knows h (Some r) = is_known r (all_links h)
 
 -- whether a merge finds the newest revision known or new
-abbrev pub found_of : History → List Revision → Merged
+abbrev pub found_of : Paths → List Revision → Merged
 found_of h rs = if knows h (newest_of rs) then Known_already else New
 
 -- ---- a new revision
 
 -- whether a new revision may be made: over a leaf, or without a parent if there is no leaf
-abbrev pub may_extend : History → Option Revision → Bool
+abbrev pub may_extend : Paths → Option Revision → Bool
 may_extend h None = is_none (winner_of h)
 may_extend h (Some r) = is_some (leaf_at r h)
 
@@ -55,13 +55,13 @@ abbrev pub extension : Option Revision → List ℕ → Bool → Value → Path
 extension base id d b = path_of (run_over (next_revision base id) base) d b
 
 -- the position of a new revision, if it may be made there
-abbrev pub next_position : History → Option Revision → Result ℕ TreeRefusal
+abbrev pub next_position : Paths → Option Revision → Result ℕ TreeRefusal
 next_position h base =
     if not (may_extend h base) then Err NotLeaf
     else (if position_below base == 4294967295 then Err Full else Ok (position_below base + 1))
 
 -- why a new revision is refused, if it is: there is no such leaf, its parent has the last position, or it is already known
-abbrev pub refusal_of : History → Option Revision → List ℕ → Option TreeRefusal
+abbrev pub refusal_of : Paths → Option Revision → List ℕ → Option TreeRefusal
 refusal_of h base id =
     if not (may_extend h base) then Some NotLeaf
     else (if position_below base == 4294967295 then Some Full

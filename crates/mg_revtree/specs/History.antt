@@ -14,8 +14,8 @@ pub record Path : Type 0 where
   pub body : Value
 
 -- the accepted paths, oldest first
-abbrev pub History : Type 0
-History = List Path
+abbrev pub Paths : Type 0
+Paths = List Path
 
 -- ---- known revisions and their parents
 
@@ -35,7 +35,7 @@ links [] = []
 links (r ∷ rs) = record { rev = r; parent = newest_of rs } ∷ links rs
 
 -- the links of all paths
-abbrev pub all_links : History → List Link
+abbrev pub all_links : Paths → List Link
 all_links = flat_map (λ p. links p.revs)
 
 -- whether a revision stands in some path
@@ -65,20 +65,20 @@ pub record Leaf : Type 0 where
   pub body : Value
 
 -- the mark and body of the first path of which r is the newest
-abbrev pub marked : Revision → History → Option (Bool × Value)
+abbrev pub marked : Revision → Paths → Option (Bool × Value)
 marked r [] = None
 marked r (p ∷ h) = if is_at r (newest_of p.revs) then Some (p.deleted, p.body) else marked r h
 
 -- the mark and body of a leaf: a known revision that is nobody's parent
-abbrev pub leaf_at : Revision → History → Option (Bool × Value)
+abbrev pub leaf_at : Revision → Paths → Option (Bool × Value)
 leaf_at r h = if has_child r (all_links h) then None else marked r h
 
 -- the leaf at a revision, if it is one
-abbrev pub leaf_of : History → Revision → Option Leaf
+abbrev pub leaf_of : Paths → Revision → Option Leaf
 leaf_of h r = option_map (λ m. record { rev = r; deleted = m.0; body = m.1 }) (leaf_at r h)
 
 -- the revision is a leaf of the history, with this mark and body
-abbrev pub IsLeaf : History → Leaf → Type 0
+abbrev pub IsLeaf : Paths → Leaf → Type 0
 IsLeaf h l = leaf_at l.rev h ≡ Some (l.deleted, l.body)
 
 -- the better leaf is the greater: first the one that is not deleted, then the higher position, then the greater id
@@ -86,7 +86,7 @@ abbrev pub leaf_order : Leaf → Leaf → Ordering
 leaf_order = then_cmp (on (λ l. not l.deleted) bool_cmp) (on (λ l. l.rev) revision_order)
 
 -- the leaf at the newest revision of a path, if that revision is a leaf
-abbrev pub tip_of : History → Path → Option Leaf
+abbrev pub tip_of : Paths → Path → Option Leaf
 tip_of h p = option_and_then (leaf_of h) (newest_of p.revs)
 
 -- leaves, best first, with one more; if it ties with one of them, it is that leaf and is not added again
@@ -100,7 +100,7 @@ ranked [] = []
 ranked (l ∷ ls) = ranked_with l (ranked ls)
 
 -- the leaves of a history, best first: those at the newest revisions of its paths
-abbrev pub leaves_of : History → List Leaf
+abbrev pub leaves_of : Paths → List Leaf
 leaves_of h = ranked (filter_map (tip_of h) h)
 
 -- the first of some leaves
@@ -109,7 +109,7 @@ first_of [] = None
 first_of (l ∷ ls) = Some l
 
 -- the winner is the first of the leaves
-abbrev pub winner_of : History → Option Leaf
+abbrev pub winner_of : Paths → Option Leaf
 winner_of h = first_of (leaves_of h)
 
 -- ---- when a path is accepted
@@ -125,7 +125,7 @@ abbrev pub fit : List Link → List Link → Bool
 fit known ls = list_all (λ l. agrees (parent_of l.rev known) l.parent) ls
 
 -- whether a path of these revisions contradicts no known parent
-abbrev pub fits : History → List Revision → Bool
+abbrev pub fits : Paths → List Revision → Bool
 fits h rs = fit (all_links h) (links rs)
 
 -- ---- when a path changes nothing
@@ -141,5 +141,5 @@ abbrev pub are_held : List Link → List Link → Bool
 are_held known ls = list_all (λ l. is_known l.rev known && gives (parent_of l.rev known) l.parent) ls
 
 -- whether a path of these revisions is known whole
-abbrev pub is_whole : History → List Revision → Bool
+abbrev pub is_whole : Paths → List Revision → Bool
 is_whole h rs = are_held (all_links h) (links rs)

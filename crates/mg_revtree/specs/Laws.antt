@@ -2,7 +2,7 @@
 use Rattle.std.specs.Prelude.{◌≡◌, ℕ, ◌+◌, Bool, Option, None, List, [], ◌∷◌, ◌++◌, ◌⊎◌, true, false, Some}
 use Rattle.mg_value.specs.Value.{Value}
 use Rattle.mg_revtree.specs.Revision.{Revision, run_of}
-use Rattle.mg_revtree.specs.History.{Path, History, Link, Leaf, newest_of, is_at, all_links, is_known, parent_of, leaf_at, leaf_order, leaves_of, winner_of, fits, is_whole, IsLeaf}
+use Rattle.mg_revtree.specs.History.{Path, Paths, Link, Leaf, newest_of, is_at, all_links, is_known, parent_of, leaf_at, leaf_order, leaves_of, winner_of, fits, is_whole, IsLeaf}
 use Rattle.mg_revtree.specs.Changes.{with_path, extension}
 use Rattle.mg_revtree.specs.Tree.{AreLeaves, AreLosers}
 use Rattle.mg_revtree.specs.Losers.{losers_of}
@@ -11,17 +11,17 @@ use Rattle.std.specs.declared.cmp.Ordering.TheVariants.{Less}
 -- ---- replicas agree
 
 -- the path is one of the history
-abbrev pub Among : Path → History → Type 0
+abbrev pub Among : Path → Paths → Type 0
 Among p [] = ⊥
 Among p (q ∷ h) = (p ≡ q) ⊎ Among p h
 
 -- each path of one is a path of the other, in any order and any number of times
-pub record SamePaths (h g : History) : Type 0 where
+pub record SamePaths (h g : Paths) : Type 0 where
   pub there : (p : Path) → Among p h → Among p g
   pub back : (p : Path) → Among p g → Among p h
 
 -- paths with the same newest revision have the same mark and body
-abbrev pub SameMarks : History → Type 0
+abbrev pub SameMarks : Paths → Type 0
 SameMarks h = (r : Revision) (p q : Path) → Among p h → Among q h → is_at r (newest_of p.revs) ≡ true → is_at r (newest_of q.revs) ≡ true → (p.deleted ≡ q.deleted) × (p.body ≡ q.body)
 
 -- the link is one of these
@@ -34,7 +34,7 @@ abbrev pub OneParent : List Link → Type 0
 OneParent ls = (l m : Link) (a b : Revision) → AmongLinks l ls → AmongLinks m ls → l.rev ≡ m.rev → l.parent ≡ Some a → m.parent ≡ Some b → a ≡ b
 
 -- the same revisions are known, with the same parents, and the leaves and the winner are the same
-pub record Agree (h g : History) : Type 0 where
+pub record Agree (h g : Paths) : Type 0 where
   pub known : (r : Revision) → is_known r (all_links h) ≡ is_known r (all_links g)
   pub parents : (r : Revision) → parent_of r (all_links h) ≡ parent_of r (all_links g)
   pub leaves : (r : Revision) → leaf_at r h ≡ leaf_at r g
@@ -42,12 +42,12 @@ pub record Agree (h g : History) : Type 0 where
 
 -- replicas that have exchanged all their paths agree
 abbrev pub ReplicasAgree : Type 0
-ReplicasAgree = (h g : History) → SamePaths h g → SameMarks g → OneParent (all_links g) → Agree h g
+ReplicasAgree = (h g : Paths) → SamePaths h g → SameMarks g → OneParent (all_links g) → Agree h g
 
 -- ---- acceptance
 
 -- each path fits those before it
-abbrev pub AllFit : History → List Path → Type 0
+abbrev pub AllFit : Paths → List Path → Type 0
 AllFit h [] = Unit {0}
 AllFit h (p ∷ ps) = (fits h p.revs ≡ true) × AllFit (with_path h p) ps
 
@@ -59,35 +59,35 @@ AcceptedInEveryOrder = (h ps : List Path) → OneParent (all_links (h ++ ps)) �
 
 -- one more path that is known whole changes nothing
 abbrev pub KnownChangesNothing : Type 0
-KnownChangesNothing = (h : History) (p : Path) → is_whole h p.revs ≡ true → Agree (with_path h p) h
+KnownChangesNothing = (h : Paths) (p : Path) → is_whole h p.revs ≡ true → Agree (with_path h p) h
 
 -- each known revision of h is known in g, and each known parent is the same
-pub record Keeps (h g : History) : Type 0 where
+pub record Keeps (h g : Paths) : Type 0 where
   pub revisions : (r : Revision) → is_known r (all_links h) ≡ true → is_known r (all_links g) ≡ true
   pub parents : (r q : Revision) → parent_of r (all_links h) ≡ Some q → parent_of r (all_links g) ≡ Some q
 
 -- a revision that is known stays known, whatever is accepted later
 abbrev pub NothingIsLost : Type 0
-NothingIsLost = (h : History) (ps : List Path) → Keeps h (h ++ ps)
+NothingIsLost = (h : Paths) (ps : List Path) → Keeps h (h ++ ps)
 
 -- ---- the winner
 
 -- the winner is one of the leaves, and no leaf is better
 abbrev pub WinnerIsBest : Type 0
-WinnerIsBest = (h : History) (w : Leaf) → winner_of h ≡ Some w → IsLeaf h w × ((l : Leaf) → IsLeaf h l → leaf_order w l ≡ Less → ⊥)
+WinnerIsBest = (h : Paths) (w : Leaf) → winner_of h ≡ Some w → IsLeaf h w × ((l : Leaf) → IsLeaf h l → leaf_order w l ≡ Less → ⊥)
 
 -- no deleted leaf wins while another is not deleted
 abbrev pub DeletedDoNotWin : Type 0
-DeletedDoNotWin = (h : History) (w l : Leaf) → winner_of h ≡ Some w → IsLeaf h l → l.deleted ≡ false → w.deleted ≡ false
+DeletedDoNotWin = (h : Paths) (w l : Leaf) → winner_of h ≡ Some w → IsLeaf h l → l.deleted ≡ false → w.deleted ≡ false
 
 -- ---- leaves and losers as lists
 
 -- `leaves_of` and `losers_of` list the leaves and the losers, each once and best first, and no other lists do
 pub record LeavesAreListed : Type 0 where
-  pub leaves : (h : History) → AreLeaves h (leaves_of h)
-  pub losers : (h : History) → AreLosers h (losers_of h)
-  pub leaves_decided : (h : History) (ls : List Leaf) → AreLeaves h ls → ls ≡ leaves_of h
-  pub losers_decided : (h : History) (ls : List Leaf) → AreLosers h ls → ls ≡ losers_of h
+  pub leaves : (h : Paths) → AreLeaves h (leaves_of h)
+  pub losers : (h : Paths) → AreLosers h (losers_of h)
+  pub leaves_decided : (h : Paths) (ls : List Leaf) → AreLeaves h ls → ls ≡ leaves_of h
+  pub losers_decided : (h : Paths) (ls : List Leaf) → AreLosers h ls → ls ≡ losers_of h
 
 -- ---- the first revision
 
@@ -103,10 +103,10 @@ pub record PathsFall : Type 0 where
   pub extensions : (base : Option Revision) (id : List ℕ) (d : Bool) (b : Value) → Falls (extension base id d b).revs
 
 -- the positions fall in all paths of a history
-abbrev pub AllFall : History → Type 0
+abbrev pub AllFall : Paths → Type 0
 AllFall [] = Unit {0}
 AllFall (p ∷ h) = Falls p.revs × AllFall h
 
 -- where there is no winner, no revision is known
 abbrev pub NoWinnerNothingKnown : Type 0
-NoWinnerNothingKnown = (h : History) → AllFall h → winner_of h ≡ None → (r : Revision) → is_known r (all_links h) ≡ false
+NoWinnerNothingKnown = (h : Paths) → AllFall h → winner_of h ≡ None → (r : Revision) → is_known r (all_links h) ≡ false

@@ -1,8 +1,8 @@
 -- The losers of a history, after the conflicts of CouchDB's replication model.
 use Rattle.std.specs.Prelude.{List, not, drop}
 use Rattle.std.specs.List.{filter}
-use Rattle.mg_revtree.specs.History.{History, Leaf, leaves_of}
+use Rattle.mg_revtree.specs.History.{Paths, Leaf, leaves_of}
 
 -- the leaves that are neither the first, which wins, nor deleted, best first
-abbrev pub losers_of : History → List Leaf
+abbrev pub losers_of : Paths → List Leaf
 losers_of h = filter (λ l. not l.deleted) (drop 1 (leaves_of h))

@@ -17,10 +17,10 @@ abbrev pub put : Link → Revision → Option (Option Revision) → Option (Opti
 put l r o = if same_revision r l.rev then joined o l.parent else o
 
 -- the link at place i is that of r
-abbrev pub IsPlace : Revision → List Link → ℕ → Type 0
-IsPlace r [] i = ⊥
-IsPlace r (l ∷ ls) zero = same_revision r l.rev ≡ true
-IsPlace r (l ∷ ls) (suc i) = (same_revision r l.rev ≡ false) × IsPlace r ls i
+abbrev pub IsLinkAt : Revision → List Link → ℕ → Type 0
+IsLinkAt r [] i = ⊥
+IsLinkAt r (l ∷ ls) zero = same_revision r l.rev ≡ true
+IsLinkAt r (l ∷ ls) (suc i) = (same_revision r l.rev ≡ false) × IsLinkAt r ls i
 
 -- r goes before place i
 abbrev pub IsGap : Revision → List Link → ℕ → Type 0

@@ -5,7 +5,7 @@ use Rattle.std.specs.declared.cmp.Ordering.TheVariants.{Less}
 use Rattle.mg_value.specs.Value.{Value}
 use Rattle.mg_value.specs.Code.{value_code}
 use Rattle.mg_revtree.specs.Revision.{Revision, revision_order, same_revision}
-use Rattle.mg_revtree.specs.History.{History, Link, Leaf, all_links, is_known, parent_of, leaf_at, leaf_order, winner_of, is_at}
+use Rattle.mg_revtree.specs.History.{Paths, Link, Leaf, all_links, is_known, parent_of, leaf_at, leaf_order, winner_of, is_at}
 
 -- what a tree keeps: each known revision once with its parent, and the leaves
 pub record Tree : Type 0 where
@@ -61,17 +61,17 @@ AreApart [] = Unit {0}
 AreApart (l ∷ ls) = (leaf_in l.rev ls ≡ None) × AreApart ls
 
 -- the leaves of a history, each once, best first
-pub record AreLeaves (h : History) (ls : List Leaf) : Type 0 where
+pub record AreLeaves (h : Paths) (ls : List Leaf) : Type 0 where
   pub same : (r : Revision) → leaf_in r ls ≡ leaf_at r h
   pub apart : AreApart ls
   pub ranked : AreRanked ls
 
 -- the mark and body of a loser: a leaf beside the winner that is not deleted
-abbrev pub loser_at : Revision → History → Option (Bool × Value)
+abbrev pub loser_at : Revision → Paths → Option (Bool × Value)
 loser_at r h = if is_at r (option_map (λ l. l.rev) (winner_of h)) then None else option_and_then (λ m. if not m.0 then Some m else None) (leaf_at r h)
 
 -- the losers of a history, each once, best first
-pub record AreLosers (h : History) (ls : List Leaf) : Type 0 where
+pub record AreLosers (h : Paths) (ls : List Leaf) : Type 0 where
   pub same : (r : Revision) → leaf_in r ls ≡ loser_at r h
   pub apart : AreApart ls
   pub ranked : AreRanked ls
@@ -80,7 +80,7 @@ pub record AreLosers (h : History) (ls : List Leaf) : Type 0 where
 
 -- which histories a tree stands for: those whose known revisions and parents are the tree's links, and whose leaves,
 -- with their marks and bodies, are the tree's leaves
-pub record StandsFor (t : Tree) (h : History) : Type 0 where
+pub record StandsFor (t : Tree) (h : Paths) : Type 0 where
   pub nodes : AreNodes t.links (all_links h)
   pub leaves : AreLeaves h t.leaves
 

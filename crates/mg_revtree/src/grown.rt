@@ -3,7 +3,7 @@ ghost use Rattle.std.specs.Prelude.{◌≡◌, ◌+◌, ◌<◌, ◌≤◌, [], 
 ghost use Rattle.mg_value.specs.View.{view};
 ghost use Rattle.mg_revtree.specs.Revision.{run_from};
 ghost use Rattle.mg_revtree.specs.Body.{IsFormOf};
-ghost use Rattle.mg_revtree.specs.History.{History as Paths, first_of, links};
+ghost use Rattle.mg_revtree.specs.History.{Paths, first_of, links};
 ghost use Rattle.mg_revtree.specs.Growth.{first_tree, line_tree};
 ghost use Rattle.mg_revtree.specs.Tree.{AreNodes, StandsFor};
 ghost use Rattle.mg_revtree.specs.Changes.{found_of, path_of, with_path};

@@ -3,7 +3,7 @@ ghost use Rattle.std.specs.Prelude.{◌≡◌, ◌<◌, ◌≤◌, ◌+◌, List
 ghost use Rattle.mg_value.specs.View.{view};
 ghost use Rattle.mg_revtree.specs.Revision.{run_from};
 ghost use Rattle.mg_revtree.specs.Body.{IsFormOf};
-ghost use Rattle.mg_revtree.specs.History.{History as Paths, Link, are_held, first_of, fit, links};
+ghost use Rattle.mg_revtree.specs.History.{Paths, Link, are_held, first_of, fit, links};
 ghost use Rattle.mg_revtree.specs.Growth.{after_line, first_tree, is_empty, is_run_of, line_tree, tree_in};
 ghost use Rattle.mg_revtree.specs.Tree.{AreNodes, AreSorted, StandsFor, find};
 ghost use Rattle.mg_revtree.specs.Changes.{found_of, path_of, with_path};

@@ -2,7 +2,7 @@ ghost use Rattle.std.specs.Prelude.{◌≡◌, ◌+◌, ◌<◌, ◌≤◌, ◌+
 ghost use Rattle.mg_value.specs.View.{view};
 ghost use Rattle.mg_revtree.specs.Revision.{run_from};
 ghost use Rattle.mg_revtree.specs.Body.{IsFormOf};
-ghost use Rattle.mg_revtree.specs.History.{History as Paths, first_of, fits, is_whole, leaves_of, winner_of};
+ghost use Rattle.mg_revtree.specs.History.{Paths, first_of, fits, is_whole, leaves_of, winner_of};
 ghost use Rattle.mg_revtree.specs.Growth.{empty_tree, first_tree};
 ghost use Rattle.mg_revtree.specs.Tree.{AreLeaves, AreLosers, AreRanked, StandsFor};
 ghost use Rattle.mg_revtree.specs.Losers.{losers_of};

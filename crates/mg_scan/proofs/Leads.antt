@@ -14,7 +14,7 @@ use Rattle.mg_scan.specs.Hit.{AreHitsIn, IsHitIn, IsHitOf, hit_row, hit_rows}
 use Rattle.mg_scan.specs.Lead.{AreLeadsIn, IsLeadIn, IsLeadLeft, IsLeadOf, IsLeadSourceOf, lead_row, lead_rows, unasked}
 use Rattle.mg_scan.specs.Search.{found_by}
 use Rattle.mg_scan.specs.Sourced.{walked_on}
-use Rattle.mg_scan.specs.Walked.{listed}
+use Rattle.mg_scan.specs.Walked.{list_of_option}
 use Rattle.mg_scan.specs.declared.hit.Hit.{Hit}
 use Rattle.mg_scan.specs.declared.lead.Lead.{Lead}
 use Rattle.mg_scan.specs.declared.lead_source.LeadSource.{LeadSource}
@@ -100,7 +100,7 @@ drop_end (x ∷ leads) (suc i) le = drop_end leads i (omega arith)
 
 -- the hit of a lead comes behind the others
 pub led_one : (hits : List Hit) (hit : Option Hit) (leads : List Lead) (i : ℕ) (lead : Lead) (all : List RowValue) → i < length leads → lead ≡ get_or leads i lead → option_map hit_row hit ≡ Some (lead_row lead)
-    → hit_rows hits ++ map lead_row (drop i leads) ≡ all → hit_rows (hits ++ listed hit) ++ map lead_row (drop (i + 1) leads) ≡ all
+    → hit_rows hits ++ map lead_row (drop i leads) ≡ all → hit_rows (hits ++ list_of_option hit) ++ map lead_row (drop (i + 1) leads) ≡ all
 led_one hits None leads i lead all less is e sum = absurd cc
 led_one hits (Some hit) leads i lead all less is e sum =
     let row : hit_row hit ≡ lead_row lead = cc in
@@ -115,7 +115,7 @@ one_in shards lead hit is here =
     record { place = is.place; shard = is.shard; there = is.there; hit = subst (λ (s : ShardView). IsHitOf s.documents hit) is.lead.shard here }
 
 pub led_in : (shards : List ShardView) (hits : List Hit) (hit : Option Hit) (leads : List Lead) (i : ℕ) (lead : Lead) → i < length leads → lead ≡ get_or leads i lead → AreLeadsIn shards leads
-    → IfSome hit (IsHitOf lead.shard.now.documents) → AreHitsIn shards hits → AreHitsIn shards (hits ++ listed hit)
+    → IfSome hit (IsHitOf lead.shard.now.documents) → AreHitsIn shards hits → AreHitsIn shards (hits ++ list_of_option hit)
 led_in shards hits None leads i lead less is all here h = subst (AreHitsIn shards) (sym (append-nil hits)) h
 led_in shards hits (Some hit) leads i lead less is all here h = all_append (IsHitIn shards) hits (hit ∷ []) h (one_in shards lead hit (lead_at shards leads i lead all less is) here, tt)
 

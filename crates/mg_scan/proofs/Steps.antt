@@ -5,7 +5,7 @@ use Rattle.std.specs.List.{cons_option}
 use Rattle.mg_collate.specs.Row.{RowValue}
 use Rattle.mg_scan.specs.Hit.{AreHitsOf, IsHitOf, hit_row, hit_rows}
 use Rattle.mg_scan.specs.Way.{entry_rows}
-use Rattle.mg_scan.specs.Walked.{holds_at, listed, walked}
+use Rattle.mg_scan.specs.Walked.{holds_at, list_of_option, walked}
 use Rattle.mg_scan.proofs.Entries.{entry_row}
 use Rattle.mg_normal.specs.Normal.{NormalForm, normal_holds}
 use Rattle.std.specs.FinMap.{get}
@@ -95,7 +95,7 @@ length-push (h ∷ hits) hit = let e = length-push hits hit in omega (arith, e)
 -- a row is looked at, and its hit, if it has one, is put behind the others
 pub walk_one : (late holds : RowValue → Bool) (n : ℕ) (total : List RowValue) (hits : List Hit) (hit : Option Hit) (r : RowValue) (rest : List RowValue) → length hits < n → late r ≡ false
     → option_map hit_row hit ≡ (if holds r then Some r else None) → total ≡ hit_rows hits ++ walked late holds (n - length hits) (r ∷ rest)
-    → total ≡ hit_rows (hits ++ listed hit) ++ walked late holds (n - length (hits ++ listed hit)) rest
+    → total ≡ hit_rows (hits ++ list_of_option hit) ++ walked late holds (n - length (hits ++ list_of_option hit)) rest
 walk_one late holds n total hits None r rest less e is sum =
     walk_miss late holds n (length hits) total (hit_rows hits) r rest less e (if_none (holds r) r is) sum
     ∙ ap (λ hs. hit_rows hs ++ walked late holds (n - length hs) rest) (sym (append-nil hits))
@@ -105,11 +105,11 @@ walk_one late holds n total hits (Some hit) r rest less e is sum =
     ∙ ap₂ (λ (rows : List RowValue) (k : ℕ). rows ++ walked late holds (n - k) rest)
     (ap (λ x. hit_rows hits ++ x ∷ []) (sym found.1) ∙ sym (rows-push hits hit)) (sym (length-push hits hit))
 
-pub one_left : (n : ℕ) (hits : List Hit) (hit : Option Hit) → length hits < n → length (hits ++ listed hit) ≤ n
+pub one_left : (n : ℕ) (hits : List Hit) (hit : Option Hit) → length hits < n → length (hits ++ list_of_option hit) ≤ n
 one_left n hits None less = let e = ap length (append-nil hits) in omega (arith, e, less)
 one_left n hits (Some hit) less = let e = length-push hits hit in omega (arith, e, less)
 
-pub hits_one : (ds : KeptDocuments) (hits : List Hit) (hit : Option Hit) → AreHitsOf ds hits → IfSome hit (IsHitOf ds) → AreHitsOf ds (hits ++ listed hit)
+pub hits_one : (ds : KeptDocuments) (hits : List Hit) (hit : Option Hit) → AreHitsOf ds hits → IfSome hit (IsHitOf ds) → AreHitsOf ds (hits ++ list_of_option hit)
 hits_one ds hits None h k = subst (λ (hs : List Hit). AreHitsOf ds hs) (sym (append-nil hits)) h
 hits_one ds hits (Some hit) h k = hits-push ds hits hit h k
 

@@ -51,6 +51,6 @@ abbrev pub id_row : List ℕ → RowValue
 id_row id = (item (text id) no_items, id)
 
 -- what may be there, as a list
-abbrev pub listed : {X : Type 0} → Option X → List X
-listed None = []
-listed (Some x) = x ∷ []
+abbrev pub list_of_option : {X : Type 0} → Option X → List X
+list_of_option None = []
+list_of_option (Some x) = x ∷ []

@@ -19,7 +19,7 @@ use std::thread;
 use std::thread::Threads;
 
 // The rows that the index has in the i-th shard, extracted by this many workers between two passes of the gate.
-fn rows_at<R: Threads + Sync, G: Gate>(
+fn extract_at<R: Threads + Sync, G: Gate>(
     rt: &R,
     alloc: Global,
     shards: &[Arc<Shard>],
@@ -52,7 +52,7 @@ fn extract_in_turn<R: Threads + Sync, G: Gate>(
 {
     let mut all = Vec::new(alloc);
     for i in 0..shards.len() {
-        let rows = rows_at(rt, alloc, shards, definition, i, workers, gate);
+        let rows = extract_at(rt, alloc, shards, definition, i, workers, gate);
         all.push(rows)?;
     }
     Ok(all)
@@ -80,7 +80,7 @@ fn extract_at_once<R: Threads + Sync, G: Gate + Sync>(
         &|k: usize| -> Result<Pages<RowBytes>, NoMemory>
             requires { IsSync R.row × (from + k < length shards.now) × (from + k < 2 ^ 64) }
             ensures { HasRowsAt definition.entry.now (shards_seen shards.entry.now) (from + k) result }
-        { rows_at(rt, alloc, shards, definition, from + k, workers, gate) },
+        { extract_at(rt, alloc, shards, definition, from + k, workers, gate) },
     )?;
     Ok(rows)
 }

@@ -25,7 +25,7 @@ pub(crate) fn left_of<'a>(shard: &'a Shard, search: Search<'_>) -> Left<'a>
 {
     match search.target {
         Target::AllDocs => Left::Documents(documents_of(shard, search)),
-        Target::Index { ddoc, name } => rows_of(shard, ddoc, name, search),
+        Target::Index { ddoc, name } => left_in_index(shard, ddoc, name, search),
     }
 }
 
@@ -38,7 +38,7 @@ fn documents_of<'a>(shard: &'a Shard, search: Search<'_>) -> Documents<'a>
 }
 
 // The rows of an index from where the search begins; nothing if the shard has no such index.
-fn rows_of<'a>(shard: &'a Shard, ddoc: &str, name: &str, search: Search<'_>) -> Left<'a>
+fn left_in_index<'a>(shard: &'a Shard, ddoc: &str, name: &str, search: Search<'_>) -> Left<'a>
     ensures { IsBegunIn (option_map (λ d. d.columns) (definition_at ddoc.now name.now shard.now.definitions))
         search.entry shard.now result }
 {

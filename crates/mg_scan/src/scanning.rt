@@ -89,25 +89,25 @@ pub fn scan<R: Threads + Sync, G: Gate + Sync>(
         direction,
     };
     let found = scan_lent(rt, alloc, shards, search, workers, gate)?;
-    let lists = rows_of_each(alloc, &found)?;
+    let lists = copy_row_lists(alloc, &found)?;
     Ok(lists)
 }
 
 // Copies of the rows of hits, list by list.
-fn rows_of_each(alloc: Global, found: &[Vec<Hit<'_>>]) -> Result<Vec<Vec<Row>>, NoMemory>
+fn copy_row_lists(alloc: Global, found: &[Vec<Hit<'_>>]) -> Result<Vec<Vec<Row>>, NoMemory>
     ensures { IfOk result (λ lists. map (λ rows. rows_view rows.items) lists.items
         ≡ map (λ hits. hit_rows hits.items) found.now) }
 {
     let mut lists = Vec::with_capacity(alloc, found.len())?;
     for hits in found {
-        let rows = rows_of(alloc, hits)?;
+        let rows = copy_rows(alloc, hits)?;
         lists.push(rows)?;
     }
     Ok(lists)
 }
 
 // Copies of the rows of hits.
-fn rows_of(alloc: Global, hits: &[Hit<'_>]) -> Result<Vec<Row>, NoMemory>
+fn copy_rows(alloc: Global, hits: &[Hit<'_>]) -> Result<Vec<Row>, NoMemory>
     ensures { IfOk result (λ rows. rows_view rows.items ≡ hit_rows hits.now) }
 {
     let mut rows = Vec::with_capacity(alloc, hits.len())?;

@@ -11,7 +11,7 @@ ghost use Rattle.mg_scan.specs.Hit.{AreHitsOf, IsHitOf, hit_row, hit_rows};
 ghost use Rattle.mg_scan.specs.HitRow.{lent_row};
 ghost use Rattle.mg_scan.specs.Scan.{scanned};
 ghost use Rattle.mg_scan.specs.Search.{asked_by};
-ghost use Rattle.mg_scan.specs.Walked.{holds_at, id_row, is_late_row, listed};
+ghost use Rattle.mg_scan.specs.Walked.{holds_at, id_row, is_late_row, list_of_option};
 ghost use Rattle.mg_scan.specs.Way.{entry_rows, walked_by};
 ghost use Rattle.mg_scan.specs.Worked.{Gives};
 
@@ -83,7 +83,7 @@ fn is_over_at_id(search: Search<'_>, found: usize, id: &str) -> bool
 
 // Puts a hit behind the others, if there is one.
 pub(crate) fn push_if<'a>(hits: &mut Vec<Hit<'a>>, hit: Option<Hit<'a>>) -> Result<(), NoMemory>
-    ensures { OnOk result (hits.new.items ≡ hits.old.items ++ listed hit.entry) }
+    ensures { OnOk result (hits.new.items ≡ hits.old.items ++ list_of_option hit.entry) }
 {
     if let Some(hit) = hit {
         hits.push(hit)?;

@@ -10,7 +10,7 @@ use Rattle.mg_doc.specs.Document.{Edit}
 use Rattle.mg_doc.specs.Edit.{edited, outcome_of}
 use Rattle.mg_doc.specs.declared.error.Refused.{Refused}
 use Rattle.mg_revtree.specs.Revision.{Revision}
-use Rattle.mg_revtree.specs.History.{History}
+use Rattle.mg_revtree.specs.History.{Paths}
 use Rattle.mg_shard.specs.Dealt.{AreDealt, Placing, ShardsStandFor, histories_on, kept_at}
 use Rattle.mg_shard.specs.Documents.{Kept, StandFor, StandsAt}
 use Rattle.mg_shard.specs.Edits.{after_edit, id_in, outcome_in}
@@ -72,18 +72,18 @@ pub history_on : (place : Placing) (n i : ℕ) (hs : Histories) (id : List ℕ) 
 history_on place n i hs id at = get-kept hs (λ id. eqb (place id n) i) id ∙ ap (λ b. cond b (get hs id) None) (eq-eqb (place id n) i at)
 
 same_history : (place : Placing) (n i : ℕ) (hs : Histories) (id : List ℕ) → place id n ≡ i → history_at (histories_on place n i hs) id ≡ history_at hs id
-same_history place n i hs id at = ap (λ (o : Option History). unwrap_or o []) (history_on place n i hs id at)
+same_history place n i hs id at = ap (λ (o : Option Paths). unwrap_or o []) (history_on place n i hs id at)
 
 -- what becomes of an edit is decided on the shard of its id
 pub same_outcome : (place : Placing) (n i : ℕ) (hs : Histories) (e : Edit) → place (id_in e) n ≡ i → outcome_in (histories_on place n i hs) e ≡ outcome_in hs e
-same_outcome place n i hs e at = ap (λ (h : History). outcome_of h e) (same_history place n i hs (id_in e) at)
+same_outcome place n i hs e at = ap (λ (h : Paths). outcome_of h e) (same_history place n i hs (id_in e) at)
 
-none_there : (id : List ℕ) (k : Option Kept) (o : Option History) → k ≡ None → o ≡ None → StandsAt id k o
+none_there : (id : List ℕ) (k : Option Kept) (o : Option Paths) → k ≡ None → o ≡ None → StandsAt id k o
 none_there id None None e f = tt
 none_there id None (Some h) e f = absurd cc
 none_there id (Some d) o e f = absurd cc
 
-nowhere : (o : Option History) → ((h : History) → o ≡ Some h → ⊥) → o ≡ None
+nowhere : (o : Option Paths) → ((h : Paths) → o ≡ Some h → ⊥) → o ≡ None
 nowhere None never = refl
 nowhere (Some h) never = absurd (never h refl)
 
@@ -139,8 +139,8 @@ put_elsewhere place n i hs e (Ok r) away is =
     ∙ ap (λ b. cond b (insert (histories_on place n i hs) id h) (histories_on place n i hs)) (not_there (place id n) i away)
 put_elsewhere place n i hs e (Err x) away is = ap (λ m. histories_on place n i m) (after_refused hs e x is)
 
-still_placed : (place : Placing) (n : ℕ) (hs : Histories) (e : Edit) (r : Result Revision Refused) (q : List ℕ) (h : History) → outcome_in hs e ≡ r → place (id_in e) n < n
-    → ((id : List ℕ) (h : History) → get hs id ≡ Some h → place id n < n) → get (after_edit hs e) q ≡ Some h → place q n < n
+still_placed : (place : Placing) (n : ℕ) (hs : Histories) (e : Edit) (r : Result Revision Refused) (q : List ℕ) (h : Paths) → outcome_in hs e ≡ r → place (id_in e) n < n
+    → ((id : List ℕ) (h : Paths) → get hs id ≡ Some h → place id n < n) → get (after_edit hs e) q ≡ Some h → place q n < n
 still_placed place n hs e (Ok r) q h is below before s =
     let id = id_in e in
     either (eq_by_cmp bytes_cmp q id) refl (sym (get-insert nat_list_cmp_total hs id (edited (history_at hs id) e) q) ∙ ap (λ m. get m q) (sym (after_done hs e r is)) ∙ s)
@@ -203,11 +203,11 @@ all_dealt Stands Stand place xs ys hs long each st = record {
 abbrev no_histories : Histories
 no_histories = empty
 
-never_there : (o : Option History) (h : History) → o ≡ None → o ≡ Some h → ⊥
+never_there : (o : Option Paths) (h : Paths) → o ≡ None → o ≡ Some h → ⊥
 never_there None h e f = absurd cc
 never_there (Some g) h e f = absurd cc
 
-cond_none : (b : Bool) → ◌≡◌ {A = Option History} (cond b None None) None
+cond_none : (b : Bool) → ◌≡◌ {A = Option Paths} (cond b None None) None
 cond_none true = refl
 cond_none false = refl
 

@@ -15,7 +15,7 @@ use Rattle.std.specs.Ordering.{eq_by_cmp}
 use Rattle.mg_index.specs.Definition.{IndexDefinition}
 use Rattle.mg_pages.specs.Identified.{id_order}
 use Rattle.mg_pages.specs.Order.{Ascends, inserted}
-use Rattle.mg_revtree.specs.History.{History}
+use Rattle.mg_revtree.specs.History.{Paths}
 use Rattle.mg_shard.specs.Dealt.{Placing, ShardsStandFor, histories_on}
 use Rattle.mg_shard.specs.Documents.{Kept, KeptDocuments, StandsAt, kept_entry, id_of, kept_of, shown}
 use Rattle.mg_shard.specs.Histories.{Histories}
@@ -237,12 +237,12 @@ made_definitions ds places definitions shards made k d l = (made k (slice_index_
 
 -- ---- what the shards stand for
 
-none_stands : (id : List ℕ) (k : Option Kept) (o : Option History) → o ≡ None → StandsAt id k o → k ≡ None
+none_stands : (id : List ℕ) (k : Option Kept) (o : Option Paths) → o ≡ None → StandsAt id k o → k ≡ None
 none_stands id None o e st = refl
 none_stands id (Some d) None e st = absurd st
 none_stands id (Some d) (Some h) e st = absurd cc
 
-some_stands : (id : List ℕ) (k : Option Kept) (o : Option History) (h : History) → o ≡ Some h → StandsAt id k o → (d : Kept) × (k ≡ Some d)
+some_stands : (id : List ℕ) (k : Option Kept) (o : Option Paths) (h : Paths) → o ≡ Some h → StandsAt id k o → (d : Kept) × (k ≡ Some d)
 some_stands id None None h e st = absurd cc
 some_stands id None (Some g) h e st = absurd st
 some_stands id (Some d) o h e st = (d, refl)
@@ -275,7 +275,7 @@ kept_stands place shards hs id st =
     subst (λ (k : Option Kept). StandsAt id k (get hs id))
     (sym (kept_once shards (place id (length shards)) id (kept_nowhere_else place shards hs id st))) (stands_at place shards hs id st)
 
-either_stands : (b : Bool) (id : List ℕ) (k : Option Kept) (o : Option History) → StandsAt id k o → StandsAt id (cond b k None) (cond b o None)
+either_stands : (b : Bool) (id : List ℕ) (k : Option Kept) (o : Option Paths) → StandsAt id k o → StandsAt id (cond b k None) (cond b o None)
 either_stands true id k o st = st
 either_stands false id k o st = tt
 
@@ -295,7 +295,7 @@ redealt_stand before place shards new hs r st =
           let kept : get s.documents id ≡ cond b (kept_in (documents_in shards) id) None =
           r.each i s.documents at id ∙ ap (λ m. cond (eqb (place id m) i) (kept_in (documents_in shards) id) None) long in
           subst (λ (k : Option Kept). StandsAt id k (get (histories_on place n i hs) id)) (sym kept)
-          (subst (λ (o : Option History). StandsAt id (cond b (kept_in (documents_in shards) id) None) o) (sym (get-kept hs (λ id. eqb (place id n) i) id))
+          (subst (λ (o : Option Paths). StandsAt id (cond b (kept_in (documents_in shards) id) None) o) (sym (get-kept hs (λ id. eqb (place id n) i) id))
           (either_stands b id (kept_in (documents_in shards) id) (get hs id) (kept_stands before shards hs id st)));
     }
 

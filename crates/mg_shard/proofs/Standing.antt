@@ -7,7 +7,7 @@ use Rattle.std.specs.Ordering.{eq_by_cmp}
 use Rattle.std.specs.FinMap.{FinMap, empty, entries, entries-from_sorted, entries_sorted, find, from_sorted, get, get-empty, get-entries, get-from_sorted, is_sorted, same_map}
 use Rattle.std.specs.FinMap.Entries.{below_all}
 use Rattle.mg_value.specs.Value.{Value}
-use Rattle.mg_revtree.specs.History.{History, Leaf, winner_of}
+use Rattle.mg_revtree.specs.History.{Paths, Leaf, winner_of}
 use Rattle.mg_revtree.proofs.Winners.{front_wins, none_wins}
 use Rattle.mg_revtree.specs.Tree.{AreLeaves, StandsFor, Tree}
 use Rattle.mg_doc.specs.Served.{served_of, shown_leaf}
@@ -17,12 +17,12 @@ use Rattle.mg_shard.proofs.Shown.{bytes_cmp, bytes_exact}
 
 -- ---- look-ups
 
-there : (id : List ℕ) (t : Tree) (k : Option Kept) (o : Option History) → option_map (λ d. d.0) k ≡ Some t → StandsAt id k o → StandsFor t (unwrap_or o [])
+there : (id : List ℕ) (t : Tree) (k : Option Kept) (o : Option Paths) → option_map (λ d. d.0) k ≡ Some t → StandsAt id k o → StandsFor t (unwrap_or o [])
 there id t None o e st = absurd cc
 there id t (Some c) None e st = absurd st
 there id t (Some c) (Some h) e st = let same : c.0 ≡ t = cc in subst (λ (x : Tree). StandsFor x h) same st.0
 
-absent : (id : List ℕ) (k : Option Kept) (o : Option History) → option_map (λ d. d.0) k ≡ None → StandsAt id k o → unwrap_or o [] ≡ []
+absent : (id : List ℕ) (k : Option Kept) (o : Option Paths) → option_map (λ d. d.0) k ≡ None → StandsAt id k o → unwrap_or o [] ≡ []
 absent id None None e st = refl
 absent id None (Some h) e st = absurd st
 absent id (Some c) o e st = absurd cc
@@ -35,7 +35,7 @@ tree_there ds hs id t e st = there id t (get ds id) (get hs id) e st
 pub tree_absent : (ds : KeptDocuments) (hs : Histories) (id : List ℕ) → tree_at ds id ≡ None → StandsAt id (get ds id) (get hs id) → history_at hs id ≡ []
 tree_absent ds hs id e st = absent id (get ds id) (get hs id) e st
 
-neither : (id : List ℕ) (k : Option Kept) (o : Option History) → k ≡ None → o ≡ None → StandsAt id k o
+neither : (id : List ℕ) (k : Option Kept) (o : Option Paths) → k ≡ None → o ≡ None → StandsAt id k o
 neither id None None e f = tt
 neither id None (Some h) e f = absurd cc
 neither id (Some d) o e f = absurd cc
@@ -97,7 +97,7 @@ module _ {X Y : Type 0} (f : List ℕ → X → Y) where
 abbrev kept_form : List ℕ → Kept → Option Value
 kept_form id d = d.1
 
-same_form : (id : List ℕ) (k : Option Kept) (o : Option History) → StandsAt id k o → option_map (kept_form id) k ≡ option_map (served_of id) o
+same_form : (id : List ℕ) (k : Option Kept) (o : Option Paths) → StandsAt id k o → option_map (kept_form id) k ≡ option_map (served_of id) o
 same_form id None None st = refl
 same_form id None (Some h) st = absurd st
 same_form id (Some d) None st = absurd st
@@ -118,7 +118,7 @@ docs_kept : (es : List (List ℕ × Kept)) → filter_map doc_entry es ≡ filte
 docs_kept [] = refl
 docs_kept (e ∷ es) = rw (docs_kept es)
 
-docs_served : (es : List (List ℕ × History)) → filter_map served_entry es ≡ filter_map formed (seen served_of es)
+docs_served : (es : List (List ℕ × Paths)) → filter_map served_entry es ≡ filter_map formed (seen served_of es)
 docs_served [] = refl
 docs_served (e ∷ es) = rw (docs_served es)
 
@@ -128,15 +128,15 @@ same_docs ds hs st = docs_kept (entries ds) ∙ ap (filter_map formed) (same_for
 
 -- ---- histories for which one tree stands
 
-winner_same : (h g : History) (ls : List Leaf) → AreLeaves h ls → AreLeaves g ls → winner_of h ≡ winner_of g
+winner_same : (h g : Paths) (ls : List Leaf) → AreLeaves h ls → AreLeaves g ls → winner_of h ≡ winner_of g
 winner_same h g [] p q = none_wins h [] refl p ∙ sym (none_wins g [] refl q)
 winner_same h g (l ∷ ls) p q = front_wins h l (l ∷ ls) (omega arith) refl p ∙ sym (front_wins g l (l ∷ ls) (omega arith) refl q)
 
-served_same : (id : List ℕ) (t : Tree) (h g : History) → StandsFor t h → StandsFor t g → served_of id h ≡ served_of id g
+served_same : (id : List ℕ) (t : Tree) (h g : Paths) → StandsFor t h → StandsFor t g → served_of id h ≡ served_of id g
 served_same id t h g p q = ap (option_and_then (shown_leaf id)) (winner_same h g t.leaves p.leaves q.leaves)
 
 -- a document stands for each history for which its tree does
-pub still_stands : (id : List ℕ) (t : Tree) (k : Option Kept) (o : Option History) (g : History) → option_map (λ d. d.0) k ≡ Some t → StandsAt id k o → StandsFor t g → StandsAt id k (Some g)
+pub still_stands : (id : List ℕ) (t : Tree) (k : Option Kept) (o : Option Paths) (g : Paths) → option_map (λ d. d.0) k ≡ Some t → StandsAt id k o → StandsFor t g → StandsAt id k (Some g)
 still_stands id t None o g e st s = absurd cc
 still_stands id t (Some d) None g e st s = absurd st
 still_stands id t (Some d) (Some h) g e st s =

@@ -9,7 +9,7 @@ use Rattle.std.specs.Ordering.{eq_by_cmp, nat_cmp}
 use Rattle.std.specs.Str.{bytes_eq}
 use Rattle.std.specs.FinMap.{empty, find, get, get-empty, get-from_entries, get-insert, insert, same_map}
 use Rattle.mg_revtree.specs.Revision.{Revision}
-use Rattle.mg_revtree.specs.History.{History}
+use Rattle.mg_revtree.specs.History.{Paths}
 use Rattle.mg_revtree.specs.Tree.{StandsFor, Tree}
 use Rattle.mg_doc.specs.Document.{Edit}
 use Rattle.mg_doc.specs.Edit.{Accepted, accepted_by, edited, history_after, newest_accepted, outcome_of}
@@ -54,11 +54,11 @@ touched-put m n id t u = same_map nat_list_cmp_total bytes_exact _ _ (λ q. get-
 -- ---- histories
 
 -- a refused edit leaves the history
-kept_history : (h : History) (e : Edit) (a : Result Accepted Refused) (x : Refused) → newest_accepted a ≡ Err x → history_after h e a ≡ h
+kept_history : (h : Paths) (e : Edit) (a : Result Accepted Refused) (x : Refused) → newest_accepted a ≡ Err x → history_after h e a ≡ h
 kept_history h e (Ok a) x is = absurd cc
 kept_history h e (Err y) x is = refl
 
-pub refused_leaves : (h : History) (e : Edit) (x : Refused) → outcome_of h e ≡ Err x → edited h e ≡ h
+pub refused_leaves : (h : Paths) (e : Edit) (x : Refused) → outcome_of h e ≡ Err x → edited h e ≡ h
 refused_leaves h e x is = kept_history h e (accepted_by h e) x is
 
 -- an edit that is done
@@ -82,46 +82,46 @@ all_kept ds ts hs none st q = subst (λ (t : Option Tree). DraftAt q t (get ds q
 pub document_at : (ds : KeptDocuments) (ts : Trees) (hs : Histories) (id : List ℕ) → get ts id ≡ None → TouchedStandFor ds ts hs → StandsAt id (get ds id) (get hs id)
 document_at ds ts hs id none st = subst (λ (t : Option Tree). DraftAt id t (get ds id) (get hs id)) none (st id)
 
-has : (id : List ℕ) (t : Tree) (kept : Option Kept) (o : Option History) → DraftAt id (Some t) kept o → (h : History) × (o ≡ Some h) × StandsFor t h
+has : (id : List ℕ) (t : Tree) (kept : Option Kept) (o : Option Paths) → DraftAt id (Some t) kept o → (h : Paths) × (o ≡ Some h) × StandsFor t h
 has id t kept None st = absurd st
 has id t kept (Some h) st = (h, refl, st)
 
 -- a touched tree stands for the history of its id
-pub touched_at : (ds : KeptDocuments) (ts : Trees) (hs : Histories) (id : List ℕ) (t : Tree) → get ts id ≡ Some t → TouchedStandFor ds ts hs → (h : History) × (get hs id ≡ Some h) × StandsFor t h
+pub touched_at : (ds : KeptDocuments) (ts : Trees) (hs : Histories) (id : List ℕ) (t : Tree) → get ts id ≡ Some t → TouchedStandFor ds ts hs → (h : Paths) × (get hs id ≡ Some h) × StandsFor t h
 touched_at ds ts hs id t is st = has id t (get ds id) (get hs id) (subst (λ (o : Option Tree). DraftAt id o (get ds id) (get hs id)) is (st id))
 
 pub tree_touched : (ds : KeptDocuments) (ts : Trees) (hs : Histories) (id : List ℕ) (t : Tree) → get ts id ≡ Some t → TouchedStandFor ds ts hs → StandsFor t (history_at hs id)
-tree_touched ds ts hs id t is st = let at = touched_at ds ts hs id t is st in subst (λ (o : Option History). StandsFor t (unwrap_or o [])) (sym at.1) at.2
+tree_touched ds ts hs id t is st = let at = touched_at ds ts hs id t is st in subst (λ (o : Option Paths). StandsFor t (unwrap_or o [])) (sym at.1) at.2
 
-done_at : (b : Bool) (q : List ℕ) (t : Tree) (h : History) (ot : Option Tree) (kept : Option Kept) (o : Option History) → StandsFor t h → DraftAt q ot kept o
+done_at : (b : Bool) (q : List ℕ) (t : Tree) (h : Paths) (ot : Option Tree) (kept : Option Kept) (o : Option Paths) → StandsFor t h → DraftAt q ot kept o
     → DraftAt q (cond b (Some t) ot) kept (cond b (Some h) o)
 done_at true q t h ot kept o s st = s
 done_at false q t h ot kept o s st = st
 
-refused_at : (b : Bool) (q : List ℕ) (t : Tree) (h : History) (ot : Option Tree) (kept : Option Kept) (o : Option History) → (b ≡ true → o ≡ Some h) → StandsFor t h → DraftAt q ot kept o
+refused_at : (b : Bool) (q : List ℕ) (t : Tree) (h : Paths) (ot : Option Tree) (kept : Option Kept) (o : Option Paths) → (b ≡ true → o ≡ Some h) → StandsFor t h → DraftAt q ot kept o
     → DraftAt q (cond b (Some t) ot) kept o
-refused_at true q t h ot kept o is s st = subst (λ (p : Option History). DraftAt q (Some t) kept p) (sym (is refl)) s
+refused_at true q t h ot kept o is s st = subst (λ (p : Option Paths). DraftAt q (Some t) kept p) (sym (is refl)) s
 refused_at false q t h ot kept o is s st = st
 
 -- the tree that an edit leaves is kept among the touched ones. A refused edit left its history, if there was one
 pub edit_kept : (ds : KeptDocuments) (ts us : Trees) (hs : Histories) (e : Edit) (t : Tree) (r : Result Revision Refused) → outcome_in hs e ≡ r
-    → ((x : Refused) → r ≡ Err x → (h : History) × (get hs (id_in e) ≡ Some h))
+    → ((x : Refused) → r ≡ Err x → (h : Paths) × (get hs (id_in e) ≡ Some h))
     → ((q : List ℕ) → get us q ≡ cond (eq_by_cmp bytes_cmp q (id_in e)) (Some t) (get ts q))
     → StandsFor t (edited (history_at hs (id_in e)) e) → TouchedStandFor ds ts hs → TouchedStandFor ds us (after_edit hs e)
 edit_kept ds ts us hs e t (Ok r) is some at s st q =
     let id = id_in e in
     let h = edited (history_at hs id) e in
     let now : get (after_edit hs e) q ≡ cond (eq_by_cmp bytes_cmp q id) (Some h) (get hs q) = ap (λ m. get m q) (after_done hs e r is) ∙ get-insert nat_list_cmp_total hs id h q in
-    subst (λ (o : Option History). DraftAt q (get us q) (get ds q) o) (sym now)
+    subst (λ (o : Option Paths). DraftAt q (get us q) (get ds q) o) (sym now)
     (subst (λ (o : Option Tree). DraftAt q o (get ds q) (cond (eq_by_cmp bytes_cmp q id) (Some h) (get hs q))) (sym (at q))
     (done_at (eq_by_cmp bytes_cmp q id) q t h (get ts q) (get ds q) (get hs q) s (st q)))
 edit_kept ds ts us hs e t (Err x) is some at s st q =
     let id = id_in e in
     let had = some x refl in
-    let before : history_at hs id ≡ had.0 = ap (λ (o : Option History). unwrap_or o []) had.1 in
-    let left : StandsFor t had.0 = subst (λ (h : History). StandsFor t h) (refused_leaves (history_at hs id) e x is ∙ before) s in
+    let before : history_at hs id ≡ had.0 = ap (λ (o : Option Paths). unwrap_or o []) had.1 in
+    let left : StandsFor t had.0 = subst (λ (h : Paths). StandsFor t h) (refused_leaves (history_at hs id) e x is ∙ before) s in
     let here : eq_by_cmp bytes_cmp q id ≡ true → get hs q ≡ Some had.0 = λ b. ap (get hs) (same_id q id b) ∙ had.1 in
-    subst (λ (o : Option History). DraftAt q (get us q) (get ds q) o) (sym (ap (λ m. get m q) (after_refused hs e x is)))
+    subst (λ (o : Option Paths). DraftAt q (get us q) (get ds q) o) (sym (ap (λ m. get m q) (after_refused hs e x is)))
     (subst (λ (o : Option Tree). DraftAt q o (get ds q) (get hs q)) (sym (at q))
     (refused_at (eq_by_cmp bytes_cmp q id) q t had.0 (get ts q) (get ds q) (get hs q) here left (st q)))
 
@@ -130,17 +130,17 @@ pub replaced : (b : Bool) (t : Tree) (o p : Option Tree) → p ≡ cond b None o
 replaced true t o p e = refl
 replaced false t o p e = e
 
-kept_at : (b : Bool) (q id : List ℕ) (t : Tree) (d : Kept) (ot : Option Tree) (kept : Option Kept) (o : Option History) → (b ≡ true → q ≡ id) → (b ≡ true → ot ≡ Some t) → d.0 ≡ t
-    → ((h : History) → StandsFor t h → d.1 ≡ served_of id h) → DraftAt q ot kept o → DraftAt q (cond b None ot) (cond b (Some d) kept) o
+kept_at : (b : Bool) (q id : List ℕ) (t : Tree) (d : Kept) (ot : Option Tree) (kept : Option Kept) (o : Option Paths) → (b ≡ true → q ≡ id) → (b ≡ true → ot ≡ Some t) → d.0 ≡ t
+    → ((h : Paths) → StandsFor t h → d.1 ≡ served_of id h) → DraftAt q ot kept o → DraftAt q (cond b None ot) (cond b (Some d) kept) o
 kept_at true q id t d ot kept o at is same served st =
     let had = has q t kept o (subst (λ (p : Option Tree). DraftAt q p kept o) (is refl) st) in
-    subst (λ (p : Option History). StandsAt q (Some d) p) (sym had.1)
+    subst (λ (p : Option Paths). StandsAt q (Some d) p) (sym had.1)
     (subst (λ (x : Tree). StandsFor x had.0) (sym same) had.2, served had.0 had.2 ∙ ap (λ i. served_of i had.0) (sym (at refl)))
 kept_at false q id t d ot kept o at is same served st = st
 
 -- a touched tree is kept as its document
 pub tree_kept : (ds cs : KeptDocuments) (ts us : Trees) (hs : Histories) (id : List ℕ) (t : Tree) (d : Kept) → get ts id ≡ Some t → d.0 ≡ t
-    → ((h : History) → StandsFor t h → d.1 ≡ served_of id h) → cs ≡ insert ds id d
+    → ((h : Paths) → StandsFor t h → d.1 ≡ served_of id h) → cs ≡ insert ds id d
     → ((q : List ℕ) → get us q ≡ cond (eq_by_cmp bytes_cmp q id) None (get ts q)) → TouchedStandFor ds ts hs → TouchedStandFor cs us hs
 tree_kept ds cs ts us hs id t d is same served put at st q =
     let now : get cs q ≡ cond (eq_by_cmp bytes_cmp q id) (Some d) (get ds q) = ap (λ m. get m q) put ∙ get-insert nat_list_cmp_total ds id d q in
@@ -193,7 +193,7 @@ pub none_left : (n : ℕ) → (0 < n → false ≡ true) → n ≡ 0
 none_left zero h = refl
 none_left (suc n) h = let wrong = h (omega arith) in absurd cc
 
-known_at : (b : Bool) (q : List ℕ) (h : History) (ot : Option Tree) (kept : Option Kept) (o : Option History) → (b ≡ true → ot ≡ None) → (b ≡ true → StandsAt q kept (Some h)) → DraftAt q ot kept o
+known_at : (b : Bool) (q : List ℕ) (h : Paths) (ot : Option Tree) (kept : Option Kept) (o : Option Paths) → (b ≡ true → ot ≡ None) → (b ≡ true → StandsAt q kept (Some h)) → DraftAt q ot kept o
     → DraftAt q ot kept (cond b (Some h) o)
 known_at true q h ot kept o none s st = subst (λ (t : Option Tree). DraftAt q t kept (Some h)) (sym (none refl)) (s refl)
 known_at false q h ot kept o none s st = st
@@ -205,7 +205,7 @@ looked_stands ds ts hs e (Ok r) is none s st q =
     let id = id_in e in
     let h = edited (history_at hs id) e in
     let now : get (after_edit hs e) q ≡ cond (eq_by_cmp bytes_cmp q id) (Some h) (get hs q) = ap (λ m. get m q) (after_done hs e r (sym is)) ∙ get-insert nat_list_cmp_total hs id h q in
-    subst (λ (o : Option History). DraftAt q (get ts q) (get ds q) o) (sym now)
+    subst (λ (o : Option Paths). DraftAt q (get ts q) (get ds q) o) (sym now)
     (known_at (eq_by_cmp bytes_cmp q id) q h (get ts q) (get ds q) (get hs q) (λ b. ap (get ts) (same_id q id b) ∙ none)
     (λ b. subst (λ i. StandsAt i (get ds i) (Some h)) (sym (same_id q id b)) s) (st q))
 looked_stands ds ts hs e (Err x) is none s st q = subst (λ (m : Histories). DraftAt q (get ts q) (get ds q) (get m q)) (sym (after_refused hs e x (sym is))) (st q)

@@ -1,7 +1,7 @@
 -- Documents that are dealt to shards by a placement of their ids, and the histories for which the shards stand together.
 use Rattle.std.specs.Prelude.{◌≡◌, ℕ, ◌<◌, ◌==◌, List, length, Option, Some, option_and_then, slice_get}
 use Rattle.std.specs.FinMap.{get, retain_keys}
-use Rattle.mg_revtree.specs.History.{History}
+use Rattle.mg_revtree.specs.History.{Paths}
 use Rattle.mg_shard.specs.Documents.{Kept, StandFor}
 use Rattle.mg_shard.specs.Draft.{DraftView, DraftStandsFor}
 use Rattle.mg_shard.specs.Histories.{Histories}
@@ -18,7 +18,7 @@ histories_on place n i hs = retain_keys hs (λ id. place id n == i)
 -- Things, one for each shard, together stand for histories if each id that has a history is placed on one of them, and each
 -- of them stands for the histories that are placed there. Then a document is in its own shard, and nowhere else.
 pub record AreDealt {X : Type 0} (Stands : X → Histories → Type 0) (place : Placing) (xs : List X) (hs : Histories) : Type 0 where
-  pub placed : (id : List ℕ) (h : History) → get hs id ≡ Some h → place id (length xs) < length xs
+  pub placed : (id : List ℕ) (h : Paths) → get hs id ≡ Some h → place id (length xs) < length xs
   pub each : (i : ℕ) (x : X) → slice_get xs i ≡ Some x → Stands x (histories_on place (length xs) i hs)
 
 -- a shard stands for histories where its documents do

@@ -6,7 +6,7 @@ use Rattle.std.specs.List.{filter_map}
 use Rattle.std.specs.Ordering.{nat_cmp}
 use denote.Ref.{Bor}
 use Rattle.mg_value.specs.Value.{Value}
-use Rattle.mg_revtree.specs.History.{History}
+use Rattle.mg_revtree.specs.History.{Paths}
 use Rattle.mg_revtree.specs.Tree.{Tree, StandsFor}
 use Rattle.mg_doc.specs.Served.{served_of}
 use Rattle.mg_shard.specs.Histories.{Histories, ServedDocument}
@@ -21,7 +21,7 @@ abbrev pub KeptDocuments : Type 0
 KeptDocuments = FinMap (slice_cmp nat_cmp) Kept
 
 -- a document stands for a history where its tree does, and is kept in the form in which that history is served
-abbrev pub StandsAt : List ℕ → Option Kept → Option History → Type 0
+abbrev pub StandsAt : List ℕ → Option Kept → Option Paths → Type 0
 StandsAt id None None = Unit {0}
 StandsAt id None (Some h) = ⊥
 StandsAt id (Some d) None = ⊥

@@ -6,7 +6,7 @@ use Rattle.std.specs.FinMap as finite
 use Rattle.std.specs.FinMap.{FinMap, from_entries, get}
 use Rattle.std.specs.Ordering.{nat_cmp}
 use Rattle.std.specs.declared.alloc.Global.{Global}
-use Rattle.mg_revtree.specs.History.{History}
+use Rattle.mg_revtree.specs.History.{Paths}
 use Rattle.mg_revtree.specs.Tree.{Tree, StandsFor, tree_code}
 use Rattle.mg_shard.specs.Documents.{Kept, KeptDocuments, StandsAt}
 use Rattle.mg_shard.specs.Histories.{Histories}
@@ -32,7 +32,7 @@ abbrev pub touched_of : List (String Global × Tree) → Trees
 touched_of es = from_entries (map (λ e. (string_bytes e.0, e.1)) es)
 
 -- at an id: a tree that the bulk has touched stands for the history, and else the document does
-abbrev pub DraftAt : List ℕ → Option Tree → Option Kept → Option History → Type 0
+abbrev pub DraftAt : List ℕ → Option Tree → Option Kept → Option Paths → Type 0
 DraftAt id (Some t) kept None = ⊥
 DraftAt id (Some t) kept (Some h) = StandsFor t h
 DraftAt id None kept o = StandsAt id kept o

@@ -6,15 +6,15 @@ use Rattle.std.specs.FinMap.{FinMap, entries}
 use Rattle.std.specs.List.{filter_map}
 use Rattle.std.specs.Ordering.{nat_cmp}
 use Rattle.mg_value.specs.Value.{Value}
-use Rattle.mg_revtree.specs.History.{History}
+use Rattle.mg_revtree.specs.History.{Paths}
 use Rattle.mg_doc.specs.Served.{served_of}
 
 -- histories by the ids of their documents
 abbrev pub Histories : Type 0
-Histories = FinMap (slice_cmp nat_cmp) History
+Histories = FinMap (slice_cmp nat_cmp) Paths
 
 -- the history of an id, which is empty where there is none
-abbrev pub history_at : Histories → List ℕ → History
+abbrev pub history_at : Histories → List ℕ → Paths
 history_at hs id = unwrap_or (finite.get hs id) []
 
 -- an id with the form in which its document is served
@@ -22,7 +22,7 @@ abbrev pub ServedDocument : Type 0
 ServedDocument = List ℕ × Value
 
 -- the id with its served form, if it is served
-abbrev pub served_entry : List ℕ × History → Option ServedDocument
+abbrev pub served_entry : List ℕ × Paths → Option ServedDocument
 served_entry e = option_map (λ form. (e.0, form)) (served_of e.0 e.1)
 
 -- all served documents, in the order of their ids

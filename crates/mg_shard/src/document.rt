@@ -1,6 +1,6 @@
 //! Documents as they are kept.
 ghost use Rattle.std.specs.Prelude.{◌≡◌, string_bytes, option_map, IfOk};
-ghost use Rattle.mg_revtree.specs.History.{History};
+ghost use Rattle.mg_revtree.specs.History.{Paths};
 ghost use Rattle.mg_revtree.specs.Tree.{StandsFor};
 ghost use Rattle.mg_doc.specs.Served.{served_of};
 ghost use Rattle.mg_shard.specs.Own.{IsServedOwn, IsServedOwn-prop};
@@ -37,7 +37,7 @@ impl Identified for Document {
 fn served_in(alloc: Global, id: &str, tree: &mut RevTree) -> Result<Option<Served>, NoMemory>
     ensures own { IfOk result (λ served. IsServedOwn id.now served) }
     ensures served { IfOk result
-        (λ served. (h : History) → StandsFor tree.old h
+        (λ served. (h : Paths) → StandsFor tree.old h
         → option_map (λ s. s.form) served ≡ served_of id.now h) }
     ensures tree { tree.new ≡ tree.old }
 {
@@ -51,7 +51,7 @@ impl Document {
     ghost use Rattle.std.specs.Prelude.{◌≡◌, string_bytes, option_and_then, option_map, IfOk, IfSome};
     ghost use Rattle.mg_value.specs.Value.{item, no_items, text};
     ghost use Rattle.mg_value.specs.Text.{compact};
-    ghost use Rattle.mg_revtree.specs.History.{History};
+    ghost use Rattle.mg_revtree.specs.History.{Paths};
     ghost use Rattle.mg_revtree.specs.Tree.{StandsFor};
     ghost use Rattle.mg_doc.specs.Served.{served_of};
     ghost use Rattle.mg_shard.specs.Documents.{form_of, id_of, kept_of};
@@ -66,7 +66,7 @@ impl Document {
         ensures id { IfOk result (λ d. string_bytes d.id ≡ string_bytes id) }
         ensures tree { IfOk result (λ d. d.tree ≡ tree) }
         ensures served { IfOk result
-            (λ d. (h : History) → StandsFor tree h → form_of d ≡ served_of (string_bytes id) h) }
+            (λ d. (h : Paths) → StandsFor tree h → form_of d ≡ served_of (string_bytes id) h) }
     {
         let served = served_in(alloc, &id, &mut tree)?;
         Ok(Document { id, tree, served })

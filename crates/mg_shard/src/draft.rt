@@ -2,7 +2,7 @@
 ghost use Rattle.std.specs.Prelude.{◌≡◌, ℕ, List, None, Some, unwrap_or, IfOk, IfSome, OnOk, map, option_map, string_bytes};
 ghost use Rattle.std.specs.FinMap as finite;
 ghost use Rattle.std.specs.FinMap.{get, insert};
-ghost use Rattle.mg_revtree.specs.History.{History};
+ghost use Rattle.mg_revtree.specs.History.{Paths};
 ghost use Rattle.mg_revtree.specs.Tree.{StandsFor, Tree};
 ghost use Rattle.mg_doc.specs.Edit.{edited, outcome_of};
 ghost use Rattle.mg_shard.specs.Documents.{KeptDocuments, StandFor, StandsAt, shown, tree_at};
@@ -14,7 +14,7 @@ ghost use Rattle.mg_shard.specs.Histories.{Histories, history_at};
 
 use crate::document::Document;
 use crate::entry::IndexEntry;
-use crate::indexes::{list_in_pages, listed, mend_all};
+use crate::indexes::{list_in_pages, mend_all, share_indexes};
 use crate::reply::EditReply;
 use crate::shard::Shard;
 use mg_doc::{Edit, EditError};
@@ -118,13 +118,13 @@ impl<'a> Draft<'a> {
         if self.touched.is_empty() {
             return Ok(None);
         }
-        Ok(Some(kept(alloc, self.shard, self.touched)?))
+        Ok(Some(keep_trees(alloc, self.shard, self.touched)?))
     }
 }
 
 // What becomes of an edit that needs no copy of the tree: it is refused, or its path is known whole. `None` for any other edit.
 fn look(edit: &Edit, tree: &RevTree) -> Result<Option<EditReply>, NoMemory>
-    ensures { IfOk result (λ o. (h : History) → StandsFor tree.now h
+    ensures { IfOk result (λ o. (h : Paths) → StandsFor tree.now h
         → IfSome o (λ r. (outcome_seen r ≡ outcome_of h edit.now) × StandsFor tree.now (edited h edit.now))) }
 {
     match edit.look(tree) {
@@ -170,7 +170,7 @@ fn apply_edit(
     mut tree: RevTree,
 ) -> Result<(EditReply, RevTree), NoMemory>
     ensures { IfOk result
-        (λ r. (h : History) → StandsFor tree h → (outcome_seen r.0 ≡ outcome_of h edit)
+        (λ r. (h : Paths) → StandsFor tree h → (outcome_seen r.0 ≡ outcome_of h edit)
         × StandsFor r.1 (edited h edit)) }
 {
     match edit.bring(alloc, &mut tree) {
@@ -190,8 +190,8 @@ fn edit_touched(
     edit: Edit,
 ) -> Result<EditReply, NoMemory>
     ensures outcome { IfOk result
-        (λ r. (h : History) → StandsFor tree h → outcome_seen r ≡ outcome_of h edit) }
-    ensures touched { OnOk result ((h : History) → StandsFor tree h
+        (λ r. (h : Paths) → StandsFor tree h → outcome_seen r ≡ outcome_of h edit) }
+    ensures touched { OnOk result ((h : Paths) → StandsFor tree h
         → (t : Tree) × StandsFor t (edited h edit)
         × (touched_of touched.new.entries ≡ insert (touched_of touched.old.entries) (string_bytes id) t)) }
 {
@@ -232,14 +232,18 @@ fn edit_first(
 }
 
 // A shard with each of these trees under its id.
-fn kept(alloc: Global, shard: &Shard, touched: BTreeMap<String, RevTree>) -> Result<Shard, NoMemory>
+fn keep_trees(
+    alloc: Global,
+    shard: &Shard,
+    touched: BTreeMap<String, RevTree>,
+) -> Result<Shard, NoMemory>
     ensures stands { IfOk result
         (λ s. (hs : Histories) → TouchedStandFor shard.now.documents (touched_of touched.entries) hs
         → StandFor s.documents hs) }
     ensures indexes { IfOk result (λ s. s.definitions ≡ shard.now.definitions) }
 {
     let documents = shard.documents.share(alloc)?;
-    let own = listed(alloc, &shard.indexes)?;
+    let own = share_indexes(alloc, &shard.indexes)?;
     let (documents, mended) = keep_all(alloc, documents, own, touched)?;
     let indexes = list_in_pages(alloc, &mended)?;
     Ok(Shard { documents, indexes })

@@ -18,7 +18,7 @@ use std::alloc::Global;
 /// The indexes in a list that its owner can change, with their rows shared.
 ///
 /// Errors: `NoMemory` if an allocation fails. Cost: their number.
-pub(crate) fn listed(
+pub(crate) fn share_indexes(
     alloc: Global,
     indexes: &Pages<IndexEntry>,
 ) -> Result<Vec<IndexEntry>, NoMemory>

@@ -15,7 +15,7 @@ ghost use Rattle.mg_shard.specs.Shard.{ShardView, shards_seen};
 use crate::document::Document;
 use crate::entry::IndexEntry;
 use crate::extracted::MANY_DOCUMENTS;
-use crate::indexes::{list_in_pages, listed};
+use crate::indexes::{list_in_pages, share_indexes};
 use crate::placed::{all_documents, documents_at, places_of};
 use crate::placement::Placement;
 use crate::shard::Shard;
@@ -81,7 +81,7 @@ fn first_indexes(alloc: Global, shards: &[Arc<Shard>]) -> Result<Vec<IndexEntry>
         → definitions_of v.items ≡ s.definitions) }
 {
     match shards.first() {
-        Some(shard) => Ok(listed(alloc, shard.indexes())?),
+        Some(shard) => Ok(share_indexes(alloc, shard.indexes())?),
         None => Ok(Vec::new(alloc)),
     }
 }

@@ -2,7 +2,7 @@ ghost use Rattle.std.specs.Prelude.{◌≡◌, ◌+◌, ◌==◌, IfErr, IfSome,
 ghost use Rattle.std.specs.Result.{result_map_both};
 ghost use Rattle.mg_value.specs.View.{view};
 ghost use Rattle.mg_revtree.specs.Changes.{position_below};
-ghost use Rattle.mg_revtree.specs.History.{History as Paths};
+ghost use Rattle.mg_revtree.specs.History.{Paths};
 ghost use Rattle.mg_revtree.specs.Tree.{StandsFor};
 ghost use Rattle.mg_doc.specs.Applied.{Applied, Foreseen};
 ghost use Rattle.mg_doc.specs.Base.{CopyIs, LooksFor, base_found, extended_by, made_on};

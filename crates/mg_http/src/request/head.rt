@@ -9,7 +9,7 @@ ghost use Rattle.mg_http.specs.Turns.{IsHeadRead, request_in, IsBodyFramed, IsFr
 
 use crate::request::fields::{Length, asks_close, has_field, length_in};
 use crate::request::table::Table;
-use crate::request::target::{Target, read_target};
+use crate::request::target::{RequestTarget, read_target};
 use crate::request::unfinished::ends_in_target;
 use httparse::spans::{HeaderSpan, RequestSpans, parse_request};
 use httparse::{Error, Status};
@@ -23,7 +23,7 @@ const MAX_FIELDS: usize = 64;
 #[derive(Drop)]
 pub struct Framed {
     /// What the head asks for.
-    pub target: Target,
+    pub target: RequestTarget,
     /// The number of bytes of the head.
     pub len: usize,
     /// The number of bytes of the body.
@@ -46,19 +46,24 @@ pub(crate) enum Pending {
 }
 
 /// The target's own refusal, if it is one; else this one.
-fn refusal_before(refusal: Refusal, target: &Target) -> Refusal
+fn refusal_before(refusal: Refusal, target: &RequestTarget) -> Refusal
     ensures { result ≡ refusal_before refusal (request_in target.now) }
 {
     match target {
-        Target::Refuses(first) => *first,
-        Target::Body(_) => refusal,
-        Target::Asks(_) => refusal,
+        RequestTarget::Refuses(first) => *first,
+        RequestTarget::Body(_) => refusal,
+        RequestTarget::Asks(_) => refusal,
     }
 }
 
 /// The number of bytes of the body, or the refusal before it. `coded`: a Transfer-Encoding is given, which is refused. `post`: a
 /// length is required.
-fn frame_body(length: Length, coded: bool, post: bool, target: &Target) -> Result<u64, Refusal>
+fn frame_body(
+    length: Length,
+    coded: bool,
+    post: bool,
+    target: &RequestTarget,
+) -> Result<u64, Refusal>
     requires { (n : ℕ) → length ≡ Length.Bytes n → n ≤ 8388608 }
     ensures { IsBodyFramed (framed_by length coded post (request_in target.now)) (request_in target.now) result }
 {
@@ -83,7 +88,7 @@ fn read_framing(
     target: &[u8],
     bytes: &[u8],
     fields: &[HeaderSpan],
-) -> Result<(Target, u64), Refusal>
+) -> Result<(RequestTarget, u64), Refusal>
     requires { All (IsHeaderWithin (length bytes.now)) fields.now }
     ensures { IsFramedBy (parts_ask db.now method.now target.now (map (header_bytes bytes.now) fields.now)) result }
 {

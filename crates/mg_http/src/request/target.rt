@@ -16,7 +16,7 @@ use std::alloc::{AllocError, Global};
 
 /// What the method and the target of a head ask for.
 #[derive(Drop)]
-pub enum Target {
+pub enum RequestTarget {
     /// What the endpoint does with the body.
     Body(Endpoint),
     /// A command; the body is ignored.
@@ -75,22 +75,30 @@ fn as_text(bytes: &[u8]) -> &str
 }
 
 /// The command that reads a document. The parameters are UTF-8: the database's name and the id.
-fn document(alloc: Global, parameters: &[Vec<u8>], conflicts: bool) -> Result<Target, AllocError>
+fn document(
+    alloc: Global,
+    parameters: &[Vec<u8>],
+    conflicts: bool,
+) -> Result<RequestTarget, AllocError>
     requires { list_all is_utf8 (map (λ v. v.items) parameters.now) ≡ true }
     ensures { IfOk result (λ t. request_in t ≡ document_asked (map (λ v. v.items) parameters.now) conflicts) }
 {
     match parameters {
         [_, id] => {
             let id = String::from_str(alloc, as_text(id))?;
-            Ok(Target::Asks(Command::Get { id, conflicts }))
+            Ok(RequestTarget::Asks(Command::Get { id, conflicts }))
         }
-        _ => Ok(Target::Refuses(Refusal::Missing)),
+        _ => Ok(RequestTarget::Refuses(Refusal::Missing)),
     }
 }
 
 /// The command that drops an index. The parameters are UTF-8: the database's name, the design document's name after the
 /// `prefix`, and the index's name.
-fn drop_index(alloc: Global, prefix: &str, parameters: &[Vec<u8>]) -> Result<Target, AllocError>
+fn drop_index(
+    alloc: Global,
+    prefix: &str,
+    parameters: &[Vec<u8>],
+) -> Result<RequestTarget, AllocError>
     requires { list_all is_utf8 (map (λ v. v.items) parameters.now) ≡ true }
     ensures { IfOk result (λ t. request_in t ≡ drop_asked prefix.now (map (λ v. v.items) parameters.now)) }
 {
@@ -99,9 +107,9 @@ fn drop_index(alloc: Global, prefix: &str, parameters: &[Vec<u8>]) -> Result<Tar
             let mut ddoc = String::from_str(alloc, prefix)?;
             ddoc.push_str(as_text(rest))?;
             let name = String::from_str(alloc, as_text(name))?;
-            Ok(Target::Asks(Command::DropIndex { ddoc, name }))
+            Ok(RequestTarget::Asks(Command::DropIndex { ddoc, name }))
         }
-        _ => Ok(Target::Refuses(Refusal::Missing)),
+        _ => Ok(RequestTarget::Refuses(Refusal::Missing)),
     }
 }
 
@@ -112,22 +120,22 @@ fn target_at(
     method: &[u8],
     query: &[u8],
     matched: RouteMatch,
-) -> Result<Target, AllocError>
+) -> Result<RequestTarget, AllocError>
     ensures { IfOk result (λ t. request_in t ≡ request_at db.now method.now query.now (match_in matched)) }
 {
     if !matched.is_end() || !are_texts(&matched.parameters) {
-        return Ok(Target::Refuses(Refusal::Missing));
+        return Ok(RequestTarget::Refuses(Refusal::Missing));
     }
     if !names(db, &matched.parameters) {
-        return Ok(Target::Refuses(Refusal::NoDatabase));
+        return Ok(RequestTarget::Refuses(Refusal::NoDatabase));
     }
     match matched.action(method) {
-        None => Ok(Target::Refuses(Refusal::MethodNotAllowed)),
-        Some(Action::Body(endpoint)) => Ok(Target::Body(endpoint)),
+        None => Ok(RequestTarget::Refuses(Refusal::MethodNotAllowed)),
+        Some(Action::Body(endpoint)) => Ok(RequestTarget::Body(endpoint)),
         Some(Action::Document) => {
             document(alloc, &matched.parameters, asks_conflicts(alloc, query)?)
         }
-        Some(Action::ListIndexes) => Ok(Target::Asks(Command::ListIndexes)),
+        Some(Action::ListIndexes) => Ok(RequestTarget::Asks(Command::ListIndexes)),
         Some(Action::DropIndex) => drop_index(alloc, "", &matched.parameters),
         Some(Action::DropDesignIndex) => drop_index(alloc, "_design/", &matched.parameters),
     }
@@ -142,7 +150,7 @@ pub(crate) fn read_target(
     table: &Table,
     method: &[u8],
     target: &[u8],
-) -> Result<Target, AllocError>
+) -> Result<RequestTarget, AllocError>
     ensures { IfOk result (λ t. request_in t ≡ request_of db.now method.now target.now) }
 {
     let (path, query) = split_query(target);

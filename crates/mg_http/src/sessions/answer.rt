@@ -10,7 +10,7 @@ ghost use Rattle.mg_http.specs.Reply.{reply_text};
 ghost use Rattle.mg_http.specs.Session.{asked_by, HandlesBody, Handles};
 ghost use Rattle.mg_http.specs.Turns.{request_in};
 
-use crate::request::{Endpoint, Target};
+use crate::request::{Endpoint, RequestTarget};
 use crate::sessions::device::{Device, IoFault};
 use crate::sessions::reply::{write_refusal, write_reply};
 use crate::sessions::service::Service;
@@ -77,7 +77,7 @@ pub(crate) fn answer_request<H: Wait + Threads + Sync, S: Service, W: Write>(
     output: &mut Vec<u8>,
     buffer: &mut ReadBuffer,
     silent: bool,
-    target: Target,
+    target: RequestTarget,
     body: &[u8],
 ) -> Result<(), IoFault>
     ensures bytes { (reply : Option Answer)
@@ -88,15 +88,15 @@ pub(crate) fn answer_request<H: Wait + Threads + Sync, S: Service, W: Write>(
     ensures failed { has_failed writer.new ≡ (if is_ok result then has_failed writer.old else true) }
 {
     match target {
-        Target::Body(endpoint) => {
+        RequestTarget::Body(endpoint) => {
             answer_body(
                 rt, alloc, service, writer, output, buffer, silent, endpoint, body,
             )
         }
-        Target::Asks(command) => {
+        RequestTarget::Asks(command) => {
             let reply = service.ask(rt, alloc, command);
             write_reply(writer, output, silent, &reply)
         }
-        Target::Refuses(refusal) => write_refusal(writer, output, silent, refusal),
+        RequestTarget::Refuses(refusal) => write_refusal(writer, output, silent, refusal),
     }
 }

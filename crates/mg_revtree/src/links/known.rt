@@ -74,13 +74,13 @@ impl Known {
 
     /// Looks up a revision: the id of its parent, `Some(None)` if it has no known parent, `None` if it is unknown. Cost: the
     /// logarithm of the known revisions.
-    pub fn kept(&self, pos: u32, id: &[u8]) -> Option<Option<&[u8]>>
+    pub fn look_up_parent(&self, pos: u32, id: &[u8]) -> Option<Option<&[u8]>>
         ensures { option_map (λ p. parent_below pos (option_copied p)) result ≡ find (pos, id.now) self.now }
     {
-        match self.older.kept(pos, id) {
+        match self.older.look_up_parent(pos, id) {
             Some(Some(parent)) => Some(Some(parent)),
-            Some(None) => Some(self.newer.kept(pos, id).flatten()),
-            None => self.newer.kept(pos, id),
+            Some(None) => Some(self.newer.look_up_parent(pos, id).flatten()),
+            None => self.newer.look_up_parent(pos, id),
         }
     }
 
@@ -88,7 +88,7 @@ impl Known {
     pub fn knows(&self, pos: u32, id: &String) -> bool
         ensures { AreSorted self.now → result ≡ is_some (find (pos, string_bytes id.now) self.now) }
     {
-        self.kept(pos, id.as_bytes()).is_some()
+        self.look_up_parent(pos, id.as_bytes()).is_some()
     }
 
     /// Whether no known revision gets another parent from a run, which is given by its start and its ids, newest first.

@@ -80,7 +80,7 @@ impl Links {
 
     /// Looks up a revision: the id of its parent, `Some(None)` if it has no known parent, `None` if it is unknown. Cost: the
     /// logarithm of the revisions.
-    pub fn kept(&self, pos: u32, id: &[u8]) -> Option<Option<&[u8]>>
+    pub fn look_up_parent(&self, pos: u32, id: &[u8]) -> Option<Option<&[u8]>>
         ensures { AreSorted self.now
             → option_map (λ p. parent_below pos (option_copied p)) result ≡ find (pos, id.now) self.now }
     {

@@ -3,7 +3,7 @@ ghost use Rattle.mg_revtree.specs.Revision.{run_from};
 ghost use Rattle.mg_revtree.specs.History.{Link, fit, are_held, links};
 ghost use Rattle.mg_revtree.specs.Tree.{AreNodes, AreSorted, find};
 ghost use Rattle.mg_revtree.specs.Nodes.{links_in};
-ghost use Rattle.mg_revtree.specs.Steps.{IsGap, IsPlace, agrees_found, held_found};
+ghost use Rattle.mg_revtree.specs.Steps.{IsGap, IsLinkAt, agrees_found, held_found};
 
 use crate::links::known::Known;
 use crate::links::node::Node;
@@ -13,7 +13,7 @@ pub fn place(texts: &[u8], nodes: &[Node], pos: u32, id: &[u8]) -> Result<usize,
     ensures found { IfOk result
         (λ i. (i < length nodes.now)
         × (AreSorted (links_in texts.now nodes.now)
-        → IsPlace (pos, id.now) (links_in texts.now nodes.now) i)) }
+        → IsLinkAt (pos, id.now) (links_in texts.now nodes.now) i)) }
     ensures absent { IfErr result
         (λ i. (i ≤ length nodes.now)
         × (AreSorted (links_in texts.now nodes.now) → IsGap (pos, id.now) (links_in texts.now nodes.now) i)) }
@@ -27,7 +27,7 @@ fn agrees(known: &Known, pos: u32, id: &String, parent: Option<&String>) -> bool
         ≡ agrees_found (find (pos, string_bytes id.now) known.now) (option_map
         (λ p. (pos - 1, string_bytes p)) (option_copied parent.entry)) }
 {
-    match (known.kept(pos, id.as_bytes()), parent) {
+    match (known.look_up_parent(pos, id.as_bytes()), parent) {
         (Some(Some(kept)), Some(given)) => kept.cmp(given.as_bytes()).is_eq(),
         _ => true,
     }
@@ -54,7 +54,7 @@ fn holds(known: &Known, pos: u32, id: &String, parent: Option<&String>) -> bool
         ≡ held_found (find (pos, string_bytes id.now) known.now) (option_map
         (λ p. (pos - 1, string_bytes p)) (option_copied parent.entry)) }
 {
-    match (known.kept(pos, id.as_bytes()), parent) {
+    match (known.look_up_parent(pos, id.as_bytes()), parent) {
         (Some(Some(kept)), Some(given)) => kept.cmp(given.as_bytes()).is_eq(),
         (Some(_), None) => true,
         _ => false,

@@ -3,7 +3,7 @@ use Rattle.mg_machine.specs.Laws.{IsPrefix}
 use Rattle.mg_live.specs.View.{commits_seen}
 use Rattle.mg_live.specs.Sitting.{Sitting}
 use Rattle.mg_machine.proofs.Beginnings.{in_turn}
-use Rattle.mg_live.proofs.Fronts.{below_one_more}
+use Rattle.mg_live.proofs.Prefixes.{below_one_more}
 use Rattle.mg_live.proofs.live.longest.Goals as goal
 
 pub loop-seat-preserved : goal.loop-seat-preserved

@@ -5,4 +5,4 @@ use Rattle.mg_pages.proofs.level.count_of.Given as goal
 
 -- the count is the number of elements of the parts so far
 abbrev pub invariant-loop-child : goal.invariant-loop-child
-invariant-loop-child g l = l.count ≡ length (flat_map (child_seen g.P.Part.seen) (take l.child-index (children l.parts)))
+invariant-loop-child g l = l.count ≡ length (flat_map (child_seen g.P.Subtree.seen) (take l.child-index (children l.parts)))

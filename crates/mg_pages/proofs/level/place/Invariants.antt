@@ -8,8 +8,8 @@ abbrev pub invariant-loop-low : goal.invariant-loop-low
 invariant-loop-low g l = record {
   in_order : l.low ≤ l.high;
   within : l.high < length l.parts;
-  below : AllBelow (g.Q.Probe.against l.key) (flat_map (child_seen g.P.Part.seen) (take l.low (children l.parts)));
-  above : AllAbove (g.Q.Probe.against l.key) (flat_map (child_seen g.P.Part.seen) (drop (l.high + 1) (children l.parts)));
+  below : AllBelow (g.Q.Probe.against l.key) (flat_map (child_seen g.P.Subtree.seen) (take l.low (children l.parts)));
+  above : AllAbove (g.Q.Probe.against l.key) (flat_map (child_seen g.P.Subtree.seen) (drop (l.high + 1) (children l.parts)));
 }
 
 abbrev pub decreases-loop-low : goal.decreases-loop-low

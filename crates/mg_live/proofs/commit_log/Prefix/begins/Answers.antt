@@ -1,7 +1,7 @@
 use Rattle.std.proofs.Common.{ap, subst, List, refl}
 use mathlib.Core.List.{IsPrefix}
 use Rattle.mg_live.specs.declared.markers.Entry.{Entry}
-use Rattle.mg_live.proofs.Fronts.{compared}
+use Rattle.mg_live.proofs.Prefixes.{compared}
 use Rattle.mg_live.proofs.commit_log.Prefix.begins.Goals as goal
 
 pub returns-clause-begins : goal.returns-clause-begins

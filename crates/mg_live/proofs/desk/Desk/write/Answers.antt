@@ -31,7 +31,7 @@ returns-clause-publishes g c =
     let next : Nexts db cs write reply (Some (commits_of c.in-Some.next)) = rw c.in-Some.is at c.next-reply.ensures.next in
     let now : cs ≡ c.args.self.now = ap commits_of c.published-now.ensures ∙ c.self.view_is in
     let is : commits_of c.in-Some.next ≡ shown = ap commits_of (sym c.publish-before.ensures) in
-    let later : IsPrefix (commits_seen c.args.front.now.seen.log) c.args.self.now = rw now at c.if-not-begins.ensures.begins in
+    let later : IsPrefix (commits_seen c.args.prefix.now.seen.log) c.args.self.now = rw now at c.if-not-begins.ensures.begins in
     let adds : Nexts db c.args.self.now write reply (Some shown) = rw (now, is) at next in
     let seen : commits_seen c.again-2.result.seen.log ≡ shown = ap (λ (f : Prefix). commits_seen f.seen.log) c.again-2.ensures ∙ is in
-    published db write (standing c.args.self.now c.args.front.now c.args.tally.now) (standing shown c.again-2.result c.add.new.self) reply later adds seen c.add.ensures.tally
+    published db write (standing c.args.self.now c.args.prefix.now c.args.tally.now) (standing shown c.again-2.result c.add.new.self) reply later adds seen c.add.ensures.tally

@@ -6,5 +6,5 @@ use Rattle.mg_live.proofs.seat.Seat.learn.Goals as goal
 pub returns-then-begins : goal.returns-then-begins
 returns-then-begins g c =
     let s = c.self.inside in
-    let old : Sitting = record { number = s.number; seen = commits_seen s.front.seen.log; tally = s.tally } in
-    rw (← c.self.view_is, ← c.seen.view_is, c.again.ensures) (learned old (commits_seen c.seen.inside.front.seen.log) c.if-begins.ensures.begins)
+    let old : Sitting = record { number = s.number; seen = commits_seen s.prefix.seen.log; tally = s.tally } in
+    rw (← c.self.view_is, ← c.seen.view_is, c.again.ensures) (learned old (commits_seen c.seen.inside.prefix.seen.log) c.if-begins.ensures.begins)

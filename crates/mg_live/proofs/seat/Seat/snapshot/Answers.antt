@@ -6,5 +6,5 @@ use Rattle.mg_live.proofs.seat.Seat.snapshot.Goals as goal
 pub returns-then-not-begins-clause-later : goal.returns-then-not-begins-clause-later
 returns-then-not-begins-clause-later g c =
     let s = c.self.inside in
-    let old : Sitting = record { number = s.number; seen = commits_seen s.front.seen.log; tally = s.tally } in
+    let old : Sitting = record { number = s.number; seen = commits_seen s.prefix.seen.log; tally = s.tally } in
     rw (← c.self.view_is) (later_same old)

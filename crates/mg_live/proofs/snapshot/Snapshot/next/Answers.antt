@@ -17,14 +17,14 @@ with-requires-clause-room g c =
     let w = c.args.write.now in
     let s = c.args.self.now in
     let yes : accepts c.in-Ok.reply ≡ true = cc in
-    has_room g.D.Database.db s.front.seen.log (asked w.command.value) c.in-Ok.reply (rw c.requires.prepared at (c.in-Ok.ensures.after g.D.Database.db (commits_of s) w.seat c.requires.here.after)).0 yes
+    has_room g.D.Database.db s.prefix.seen.log (asked w.command.value) c.in-Ok.reply (rw c.requires.prepared at (c.in-Ok.ensures.after g.D.Database.db (commits_of s) w.seat c.requires.here.after)).0 yes
 
 pub returns-clause-next : goal.returns-clause-next
 returns-clause-next g c =
     let w = c.args.write.now in
     let s = c.args.self.now in
     let yes : accepts c.in-Ok.reply ≡ true = cc in
-    one_more g.D.Database.db s.front.seen.log c.in-Some.front.seen.log w.seat w.command.value c.in-Ok.reply (rw c.requires.prepared at (c.in-Ok.ensures.after g.D.Database.db (commits_of s) w.seat c.requires.here.after)).0 yes c.in-Some.ensures.0
+    one_more g.D.Database.db s.prefix.seen.log c.in-Some.prefix.seen.log w.seat w.command.value c.in-Ok.reply (rw c.requires.prepared at (c.in-Ok.ensures.after g.D.Database.db (commits_of s) w.seat c.requires.here.after)).0 yes c.in-Some.ensures.0
 
 pub returns-clause-there : goal.returns-clause-there
 returns-clause-there g c =
@@ -34,7 +34,7 @@ returns-clause-there g c =
     let did = rw c.requires.prepared at (c.in-Ok.ensures.after g.D.Database.db (commits_of s) w.seat c.requires.here.after) in
     record {
       book = c.in-Some.ensures.1 ∙ c.requires.here.book;
-      after = there g.D.Database.db s.front.seen.log c.in-Some.front.seen.log w.seat w.command.value c.in-Ok.reply c.in-Ok.point did.0 yes c.in-Some.ensures.0 did.1;
-      dealt = dealt g.D.Database.db g.D.Database.shards s.front.seen.log c.in-Some.front.seen.log w.seat w.command.value c.in-Ok.reply c.in-Ok.point did.0 yes c.in-Some.ensures.0
+      after = there g.D.Database.db s.prefix.seen.log c.in-Some.prefix.seen.log w.seat w.command.value c.in-Ok.reply c.in-Ok.point did.0 yes c.in-Some.ensures.0 did.1;
+      dealt = dealt g.D.Database.db g.D.Database.shards s.prefix.seen.log c.in-Some.prefix.seen.log w.seat w.command.value c.in-Ok.reply c.in-Ok.point did.0 yes c.in-Some.ensures.0
           (rw c.requires.prepared at (c.in-Ok.ensures.dealt g.D.Database.db g.D.Database.shards (commits_of s) w.seat c.requires.here.after c.requires.here.dealt));
     }

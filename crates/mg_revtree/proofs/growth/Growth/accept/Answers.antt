@@ -1,7 +1,7 @@
 use Rattle.std.proofs.Common.{◌≡◌, ◌∙◌, List, OnOk, map, option_map, string_bytes, ap, sym, subst}
 use Rattle.mg_value.specs.View.{view}
 use Rattle.mg_revtree.specs.Revision.{run_from}
-use Rattle.mg_revtree.specs.History.{History, Link}
+use Rattle.mg_revtree.specs.History.{Paths, Link}
 use Rattle.mg_revtree.specs.Growth.{after_line, line_tree, tree_in}
 use Rattle.mg_revtree.specs.Tree.{StandsFor, Tree}
 use Rattle.mg_revtree.specs.Changes.{path_of, with_path}
@@ -10,7 +10,7 @@ use Rattle.mg_revtree.proofs.growth.Growth.accept.Goals as goal
 pub returns-in-Grown-clause-accepted : goal.returns-in-Grown-clause-accepted
 returns-in-Grown-clause-accepted c =
     let same : c.deref_mut.result.now ≡ tree_in c.args.self.now = c.deref_mut.ensures.value ∙ sym (ap tree_in c.in-Grown.is) in
-    subst (λ (t : Tree). OnOk c.accept.result ((h : History) → StandsFor t h → StandsFor c.accept.new.self (with_path h (path_of (run_from c.args.start (map string_bytes c.args.ids.now)) c.args.deleted (view c.args.body))))) same c.accept.ensures.accepted
+    subst (λ (t : Tree). OnOk c.accept.result ((h : Paths) → StandsFor t h → StandsFor c.accept.new.self (with_path h (path_of (run_from c.args.start (map string_bytes c.args.ids.now)) c.args.deleted (view c.args.body))))) same c.accept.ensures.accepted
 
 pub returns-in-Some-clause-accepted : goal.returns-in-Some-clause-accepted
 returns-in-Some-clause-accepted c = λ h stands.

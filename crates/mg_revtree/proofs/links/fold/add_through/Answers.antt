@@ -1,7 +1,7 @@
 use Rattle.std.proofs.Common.{◌∙◌, ◌+◌, ◌++◌, [], ◌∷◌, ℕ, List, None, ap, drop, get_or, map, subst, sym}
 use Rattle.std.proofs.lemmas.List.{get_or_default}
 use Rattle.mg_revtree.specs.Nodes.{AreWithin, link_in}
-use Rattle.mg_revtree.specs.Steps.{IsGap, IsPlace}
+use Rattle.mg_revtree.specs.Steps.{IsGap, IsLinkAt}
 use Rattle.mg_revtree.specs.Known.{AreBelow}
 use Rattle.mg_revtree.specs.declared.links.node.Node.{Node}
 use Rattle.mg_revtree.proofs.Folds.{below_joined, below_put, links_joined, links_put, within_joined, within_made}
@@ -30,7 +30,7 @@ returns-in_ok-push-in-Ok-clause-links c = λ sorted.
     let kept = get_or ns at d in
     let lt = c.in-Ok.ensures.found.0 in
     let is = get_or_default ns at d kept lt in
-    let place = subst (λ (s : List ℕ). IsPlace (x.pos, s) (map (link_in t) ns) at) c.of.ensures (c.in-Ok.ensures.found.1 sorted) in
+    let place = subst (λ (s : List ℕ). IsLinkAt (x.pos, s) (map (link_in t) ns) at) c.of.ensures (c.in-Ok.ensures.found.1 sorted) in
     let new = c.in_ok-push-in-Ok.ensures.items ∙ ap (λ (xs : List Node). xs ++ c.join.new.self ∷ []) c.in_ok-extend_from_slice-in-Ok.ensures.items in
     ap (λ (xs : List Node). map (link_in t) xs ++ map (link_in t) (drop (at + 1) ns)) new ∙ links_joined t ms ns at x kept c.join.new.self lt is c.join.ensures sorted place
 
@@ -45,7 +45,7 @@ returns-in_ok-push-in-Ok-clause-below c = λ r sorted less below.
     let kept = get_or ns at d in
     let lt = c.in-Ok.ensures.found.0 in
     let is = get_or_default ns at d kept lt in
-    let place = subst (λ (s : List ℕ). IsPlace (x.pos, s) (map (link_in t) ns) at) c.of.ensures (c.in-Ok.ensures.found.1 sorted) in
+    let place = subst (λ (s : List ℕ). IsLinkAt (x.pos, s) (map (link_in t) ns) at) c.of.ensures (c.in-Ok.ensures.found.1 sorted) in
     let new = c.in_ok-push-in-Ok.ensures.items ∙ ap (λ (xs : List Node). xs ++ c.join.new.self ∷ []) c.in_ok-extend_from_slice-in-Ok.ensures.items in
     subst (λ (xs : List Node). AreBelow r (map (link_in t) xs)) (sym new) (below_joined t ms ns at x kept c.join.new.self lt is c.join.ensures sorted place r less below)
 

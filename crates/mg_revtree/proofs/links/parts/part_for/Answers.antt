@@ -1,7 +1,7 @@
 use Rattle.std.proofs.Common.{ℕ, length, map, sym, subst, List, None}
 use Rattle.mg_revtree.specs.Tree.{AreSorted}
 use Rattle.mg_revtree.specs.Nodes.{link_in}
-use Rattle.mg_revtree.specs.Steps.{IsPlace}
+use Rattle.mg_revtree.specs.Steps.{IsLinkAt}
 use Rattle.mg_revtree.specs.declared.links.node.Node.{Node}
 use Rattle.mg_revtree.proofs.Texts.{node-within, part_at}
 use Rattle.mg_revtree.proofs.links.parts.part_for.Goals as goal
@@ -17,5 +17,5 @@ returns-in-Ok-clause-part c = λ sorted.
     let ns = c.args.nodes.now in
     let e = c.deref.ensures.value in
     let d : Node = record { pos = 0; id = record { from = 0; len = 0 }; parent = None } in
-    let place : IsPlace (c.args.pos, c.args.id.now) (map (link_in t) ns) c.in-Ok.at = subst (λ (x : List ℕ). IsPlace (c.args.pos, c.args.id.now) (map (link_in x) ns) c.in-Ok.at) e (c.in-Ok.ensures.found.1 (subst (λ (x : List ℕ). AreSorted (map (link_in x) ns)) (sym e) sorted)) in
+    let place : IsLinkAt (c.args.pos, c.args.id.now) (map (link_in t) ns) c.in-Ok.at = subst (λ (x : List ℕ). IsLinkAt (c.args.pos, c.args.id.now) (map (link_in x) ns) c.in-Ok.at) e (c.in-Ok.ensures.found.1 (subst (λ (x : List ℕ). AreSorted (map (link_in x) ns)) (sym e) sorted)) in
     part_at t (c.args.pos, c.args.id.now) ns c.in-Ok.at d c.in-Ok.ensures.found.0 place

@@ -2,7 +2,7 @@ use Rattle.std.proofs.Common.{ℕ, List, map, refl, subst, take, arith, None}
 use Rattle.mg_revtree.specs.Tree.{AreSorted}
 use Rattle.mg_revtree.specs.Nodes.{link_in}
 use Rattle.mg_revtree.specs.Room.{used}
-use Rattle.mg_revtree.specs.Steps.{IsPlace, IsGap}
+use Rattle.mg_revtree.specs.Steps.{IsLinkAt, IsGap}
 use Rattle.mg_revtree.specs.declared.links.node.Node.{Node}
 use Rattle.mg_revtree.proofs.Rooms.{joins_known, joins_put, within_known}
 use Rattle.mg_revtree.proofs.Texts.{within-insert}
@@ -14,7 +14,7 @@ returns-in-Ok-clause-joins c = λ sorted above.
     let ns = c.args.nodes.now in
     let x = c.args.node in
     let d : Node = record { pos = 0; id = record { from = 0; len = 0 }; parent = None } in
-    let place = λ (s : AreSorted (map (link_in t) (take c.args.room.till ns))). subst (λ (k : List ℕ). IsPlace (x.pos, k) (map (link_in t) (take c.args.room.till ns)) c.in-Ok.at) c.of.ensures (c.in-Ok.ensures.found.1 s) in
+    let place = λ (s : AreSorted (map (link_in t) (take c.args.room.till ns))). subst (λ (k : List ℕ). IsLinkAt (x.pos, k) (map (link_in t) (take c.args.room.till ns)) c.in-Ok.at) c.of.ensures (c.in-Ok.ensures.found.1 s) in
     joins_known t x ns c.args.room.till c.args.room.from c.in-Ok.at d _ c.join.new.self (omega (arith, c.requires.room)) c.in-Ok.ensures.found.0 refl c.join.ensures place sorted above
 
 pub returns-in-Ok-clause-within : goal.returns-in-Ok-clause-within

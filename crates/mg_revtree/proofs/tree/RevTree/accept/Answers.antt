@@ -1,7 +1,7 @@
 use Rattle.std.proofs.Common.{◌≡◌, ◌∙◌, OnOk, List, ℕ, [], ◌∷◌, length, map, string_bytes, true, ap, sym, subst, arith}
 use Rattle.mg_value.specs.View.{view}
 use Rattle.mg_revtree.specs.Revision.{Revision, run_from}
-use Rattle.mg_revtree.specs.History.{History}
+use Rattle.mg_revtree.specs.History.{Paths}
 use Rattle.mg_revtree.specs.Growth.{empty_tree, first_tree, is_empty, tree_in}
 use Rattle.mg_revtree.specs.Tree.{StandsFor, Tree}
 use Rattle.mg_revtree.specs.Changes.{path_of, with_path}
@@ -10,7 +10,7 @@ use Rattle.mg_revtree.proofs.tree.RevTree.accept.Goals as goal
 
 pub returns-then-ids-gt1-clause-accepted : goal.returns-then-ids-gt1-clause-accepted
 returns-then-ids-gt1-clause-accepted c =
-    subst (λ (t : Tree). OnOk c.accept.result ((h : History) → StandsFor t h → StandsFor (tree_in c.accept.new.self) (with_path h (path_of (run_from c.args.start (map string_bytes c.args.ids.now)) c.args.deleted (view c.args.body))))) c.self.view_is c.accept.ensures.accepted
+    subst (λ (t : Tree). OnOk c.accept.result ((h : Paths) → StandsFor t h → StandsFor (tree_in c.accept.new.self) (with_path h (path_of (run_from c.args.start (map string_bytes c.args.ids.now)) c.args.deleted (view c.args.body))))) c.self.view_is c.accept.ensures.accepted
 
 pub returns-clause-accepted : goal.returns-clause-accepted
 returns-clause-accepted c = λ h stands.

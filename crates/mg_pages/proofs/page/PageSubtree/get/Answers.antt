@@ -1,0 +1,19 @@
+use Rattle.std.proofs.Common.{Some, ap, sym, ◌∙◌}
+use Rattle.mg_pages.specs.Search.{IsTie, IsGap}
+use Rattle.mg_pages.proofs.Sorted.{found_gap, found_tie}
+use Rattle.mg_pages.proofs.Parts.{tie_at}
+use Rattle.mg_pages.proofs.page.PageSubtree.get.Goals as goal
+
+pub returns-in-Ok : goal.returns-in-Ok
+returns-in-Ok g c =
+    let xs = c.args.self.now.elements.items in
+    let key = g.Q.Probe.against c.args.key.now in
+    let tie : IsTie key xs c.in-Ok.i = rw c.deref.ensures.value at c.in-Ok.ensures in
+    ap Some (tie_at key xs c.in-Ok.i c.index.result.now tie c.index.ensures) ∙ sym (found_tie key xs c.in-Ok.i tie)
+
+pub returns-in-Err : goal.returns-in-Err
+returns-in-Err g c =
+    let xs = c.args.self.now.elements.items in
+    let key = g.Q.Probe.against c.args.key.now in
+    let gap : IsGap key xs c.in-Err.field-0 = rw c.deref.ensures.value at c.in-Err.ensures in
+    sym (found_gap key xs c.in-Err.field-0 gap)

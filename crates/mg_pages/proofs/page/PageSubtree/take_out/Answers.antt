@@ -1,0 +1,19 @@
+use Rattle.std.proofs.Common.{sym, ◌∙◌}
+use Rattle.mg_pages.specs.Search.{IsTie, IsGap}
+use Rattle.mg_pages.proofs.Sorted.{removed_gap, removed_tie}
+use Rattle.mg_pages.proofs.Parts.{removed_one}
+use Rattle.mg_pages.proofs.page.PageSubtree.take_out.Goals as goal
+
+pub returns-in-Ok-clause-ok : goal.returns-in-Ok-clause-ok
+returns-in-Ok-clause-ok g c =
+    let xs = c.args.self.now.elements.items in
+    let key = g.Q.Probe.against c.args.key.now in
+    let tie : IsTie key xs c.in-Ok.i = rw c.deref.ensures.value at c.in-Ok.ensures in
+    c.remove.ensures.items ∙ removed_one xs c.in-Ok.i ∙ sym (removed_tie key xs c.in-Ok.i tie)
+
+pub returns-in-Err-clause-ok : goal.returns-in-Err-clause-ok
+returns-in-Err-clause-ok g c =
+    let xs = c.args.self.now.elements.items in
+    let key = g.Q.Probe.against c.args.key.now in
+    let gap : IsGap key xs c.in-Err.field-0 = rw c.deref.ensures.value at c.in-Err.ensures in
+    sym (removed_gap key xs c.in-Err.field-0 gap)

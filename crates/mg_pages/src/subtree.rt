@@ -1,0 +1,110 @@
+//! Subtrees of a collection: pages of elements, and levels above them.
+ghost use Rattle.std.specs.Prelude.{◌≡◌, ◌<◌, [], true, false, is_some, length, List, IfOk, OnOk, OnErr, IfSome, IsSome, option_map};
+ghost use Rattle.mg_pages.specs.Order.{inserted, removed, found, above, below, Ascends};
+ghost use Rattle.mg_pages.specs.Runs.{IsRun, IsEndRun, IsPageAt};
+ghost use Rattle.mg_pages.specs.Search.{IsAmong};
+ghost use Rattle.mg_pages.specs.Parts.{IsLast, IsCopy, AreHalves};
+
+use crate::keyed::{Keyed, Probe};
+use std::alloc::{AllocError, Global};
+
+/// The most elements of a page, and the most parts of a level below the top.
+pub const LIMIT: usize = 64;
+
+/// A page or a level, with the elements in it, in order.
+pub trait Subtree<T: Keyed>: Drop + Sized {
+    // the elements
+    ghost seen: { Self → List T };
+
+    // no page or level in it is empty
+    ghost is_whole: { Self → Type 0 };
+
+    /// How many elements there are. Cost: constant.
+    fn count(&self) -> usize
+        requires { is_whole self.now }
+        ensures { result ≡ length (seen self.now) };
+
+    /// How many elements are below a key.
+    fn count_below<Q: Probe<T>>(&self, key: &Q) -> usize
+        requires whole { is_whole self.now }
+        requires sorted { Ascends T.order (seen self.now) }
+        ensures { result ≡ length (below (Q.against key.now) (seen self.now)) };
+
+    /// The last element.
+    fn last(&self) -> &T
+        requires { is_whole self.now }
+        ensures { IsLast result.now (seen self.now) };
+
+    /// The element that ties with a key.
+    fn get<Q: Probe<T>>(&self, key: &Q) -> Option<&T>
+        requires whole { is_whole self.now }
+        requires sorted { Ascends T.order (seen self.now) }
+        ensures { option_map (λ t. t.now) result ≡ found (Q.against key.now) (seen self.now) };
+
+    /// The element to which the hints lead, which may or may not tie with the key. No element is compared.
+    fn guessed<Q: Probe<T>>(&self, key: &Q) -> Option<&T>
+        requires { is_whole self.now }
+        ensures { IfSome result (λ t. IsAmong (seen self.now) t.now) };
+
+    /// The first elements, up to the end of their page.
+    fn first_run(&self) -> &[T]
+        requires { is_whole self.now }
+        ensures run { IsRun result.now (seen self.now) }
+        ensures some { 0 < length result.now };
+
+    /// The first elements above a key, up to the end of their page.
+    fn run_after<Q: Probe<T>>(&self, key: &Q) -> &[T]
+        requires whole { is_whole self.now }
+        requires sorted { Ascends T.order (seen self.now) }
+        ensures { IsRun result.now (above (Q.against key.now) (seen self.now)) };
+
+    /// The last elements, from the start of their page.
+    fn last_run(&self) -> &[T]
+        requires { is_whole self.now }
+        ensures run { IsEndRun result.now (seen self.now) }
+        ensures some { 0 < length result.now };
+
+    /// The last elements below a key, from the start of their page.
+    fn run_before<Q: Probe<T>>(&self, key: &Q) -> &[T]
+        requires whole { is_whole self.now }
+        requires sorted { Ascends T.order (seen self.now) }
+        ensures { IsEndRun result.now (below (Q.against key.now) (seen self.now)) };
+
+    /// The page of the element at a place, and its place in that page.
+    fn page_at(&self, place: usize) -> (&[T], usize)
+        requires whole { is_whole self.now }
+        requires within { place < length (seen self.now) }
+        ensures { IsPageAt result.0.now result.1 place (seen self.now) };
+
+    /// A copy of the part, which shares what is below it.
+    fn copy(&self, alloc: Global) -> Result<Self, AllocError>
+        requires { is_whole self.now }
+        ensures { IfOk result (IsCopy is_whole seen self.now) };
+
+    /// The two halves of the part, where it has no room for the element; `None` where it has.
+    fn halves(&self, alloc: Global, element: &T) -> Result<Option<(Self, Self)>, AllocError>
+        requires whole { is_whole self.now }
+        requires sorted { Ascends T.order (seen self.now) }
+        ensures { IfOk result (λ o. IfSome o (AreHalves is_whole seen self.now)) };
+
+    /// Inserts an element, and returns whether it replaced one that ties.
+    fn put(&mut self, alloc: Global, element: T) -> Result<bool, AllocError>
+        requires whole { is_whole self.old }
+        requires sorted { Ascends T.order (seen self.old) }
+        ensures whole { is_whole self.new }
+        ensures had { IfOk result (λ had. had ≡ is_some (found (T.order element) (seen self.old))) }
+        ensures ok { OnOk result (seen self.new ≡ inserted T.order element (seen self.old)) }
+        ensures err { OnErr result (seen self.new ≡ seen self.old) };
+
+    /// Removes the element that ties with a key, and returns whether the part is then empty.
+    fn take_out<Q: Probe<T>>(&mut self, alloc: Global, key: &Q) -> Result<bool, AllocError>
+        requires whole { is_whole self.old }
+        requires sorted { Ascends T.order (seen self.old) }
+        requires there { IsSome (found (Q.against key.now) (seen self.old)) }
+        ensures whole { IfOk result (λ emptied. emptied ≡ false → is_whole self.new) }
+        ensures some { IfOk result (λ emptied. emptied ≡ false → 0 < length (seen self.new)) }
+        ensures emptied { IfOk result (λ emptied. emptied ≡ true → seen self.new ≡ []) }
+        ensures ok { OnOk result (seen self.new ≡ removed (Q.against key.now) (seen self.old)) }
+        ensures err { OnErr result (seen self.new ≡ seen self.old) }
+        ensures err_whole { OnErr result (is_whole self.new) };
+}
