@@ -35,7 +35,7 @@ JSON = json.JSONDecoder()
 
 
 class Malformed(Exception):
-    """A line of a file that has none of these forms."""
+    """A line that is not one of those above."""
 
 
 @dataclass
@@ -83,7 +83,7 @@ class Exchange:
 
 @dataclass
 class Conversation:
-    """The exchanges of a conversation, and how the program ends. `group` has the last messages, which share their reply."""
+    """The exchanges of a conversation, and how the program ends. `group` is the last exchanges whose messages have one expected reply."""
 
     name: str
     file: Path
@@ -166,8 +166,8 @@ def expected_of(kind, text, more):
 
 
 def entries_in(text):
-    """Each entry as (line number, first character, rest of the line, list of its continuation lines, stripped). Skips empty lines and
-    comments."""
+    """The entries of a file, without empty lines and comments: the line number, the first character, the rest of the line, and the
+    stripped lines that continue it."""
     entries = []
     for number, line in enumerate(text.splitlines(), start=1):
         if not line.strip() or line.startswith("# "):
@@ -201,7 +201,7 @@ def add_entry(conversation, line, kind, text, more):
 
 
 def conversations_in(file):
-    """The conversations of a file. A malformed line ends the script."""
+    """The conversations of a file. Exits with a message if a line is malformed."""
     conversations = []
     line = 0
     try:
@@ -264,7 +264,7 @@ def with_reshards(exchanges, counts):
 
 
 def model_faults(conversation):
-    """The replies in the file that the model does not give."""
+    """The expected replies that the model does not give. Each message of the conversation must be complete."""
     database = Database()
     for exchange in conversation.exchanges:
         (found,), _ = replies_in(database.answer(exchange.message))
@@ -272,7 +272,7 @@ def model_faults(conversation):
 
 
 def reply_faults(exchanges, replies, shards):
-    """The faults of the replies to exchanges that are answered: the line of the file, and what is wrong."""
+    """The faults of the replies to these exchanges, whose messages are complete: the line of the file, and what is wrong."""
     for place, exchange in enumerate(exchanges):
         if place >= len(replies):
             yield exchange.line, f"{exchange.text}\n    no reply"

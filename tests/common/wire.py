@@ -11,7 +11,7 @@ SECONDS = 60
 
 
 class Wire:
-    """A client that sends bytes and reads the bytes of replies. `unread` was received, but not returned yet."""
+    """A client that sends bytes and reads the bytes of replies. `unread` has the bytes that were received and not yet returned."""
 
     def __init__(self, port):
         self.socket = socket.create_connection(("127.0.0.1", port), timeout=SECONDS)
@@ -28,7 +28,7 @@ class Wire:
         return bool(piece)
 
     def reply(self):
-        """The next whole reply, or as much of it as came before the connection ended."""
+        """The next whole reply, or as much of it as came before the connection ended. `Content-Length` must be its last field."""
         while not (found := LENGTH.search(self.unread)) and self.more():
             pass
         end = found.end() + int(found[1]) if found else len(self.unread)
@@ -58,7 +58,7 @@ class Wire:
             pass
 
     def rest(self):
-        """Everything that comes until the connection ends."""
+        """All bytes that come until the connection ends."""
         while self.more():
             pass
         taken, self.unread = self.unread, b""
@@ -106,7 +106,7 @@ def read(connection, count):
 
 
 def replies_to(port, messages):
-    """Sends messages at once and then the end, and returns everything that comes back. A reset is an error."""
+    """Sends messages in one piece, then ends the output. Returns all that comes back, at most 16 MiB. A reset raises an error."""
     with connect(port) as connection:
         connection.sendall(messages)
         connection.shutdown(socket.SHUT_WR)
@@ -114,7 +114,7 @@ def replies_to(port, messages):
 
 
 def bytes_back(port, data):
-    """Sends bytes and then the end, and returns everything that comes back. The connection may be reset."""
+    """Sends bytes, then ends the output. Returns all that comes back, until the connection ends or is reset."""
     with contextlib.closing(Wire(port)) as wire:
         wire.send(data)
         wire.finish()

@@ -26,8 +26,8 @@ use std::thread::Threads;
 use std::time::Clock;
 
 /// Runs the program. If the address is `-`, it holds one session over the input and the output; else it listens at the address and holds
-/// sessions with the clients that connect. Wrong arguments (`asked` is `None`) end it at once. The history and the ledger are those of
-/// the database `D`.
+/// sessions with the clients that connect. Wrong arguments (`asked` is `None`) end it at once. The commit log (`history`) and the ledger
+/// (`blank`) are those of the database `D`.
 pub(crate) fn run<
     D: Database + Send + Sync,
     H: Wait
@@ -70,7 +70,7 @@ pub(crate) fn run<
     listen::<D, H>(rt, settings, blank, history)
 }
 
-// Holds one session of a database that is empty at the start.
+// Holds one session, over a database that is empty at the start.
 fn hold_session<H: Wait + Threads + Sync + AllocGlobal, R: Read, W: Write>(
     rt: &H,
     settings: Settings<'_>,
@@ -91,7 +91,7 @@ fn hold_session<H: Wait + Threads + Sync + AllocGlobal, R: Read, W: Write>(
     }
 }
 
-// Listens, and serves the clients that connect, each session at a seat of a database that is empty at the start.
+// Listens, and holds sessions with the clients that connect, each at a seat of a database that is empty at the start.
 fn listen<
     D: Database + Send + Sync,
     H: Wait

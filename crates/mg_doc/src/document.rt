@@ -39,11 +39,11 @@ fn served_form(alloc: Global, id: &str, leaf: &Leaf) -> Result<Json, NoMemory>
     Ok(form)
 }
 
-/// The document that `served` gives, in one block of memory. The winner's body then stands in that block too, and its own
-/// block is given back, unless a copy of the tree shares the winner. Contracts see the same tree.
+/// The document that `served` gives, in one block of memory with its text. The winner's body moves into that block, as for
+/// `RevTree::share_form`. Contracts see the same tree.
 ///
-/// Where there is none, no memory is needed. Cost: two copies of the body's bytes; none if the tree has given the form of this
-/// winner before, which is then shared. Source: `GET` of a document in CouchDB's API reference.
+/// If there is no document, no memory is needed. Cost: that of `Body::form`; if the winner's body is already in the block of this
+/// form, the block is shared and nothing is copied. Source: `GET` of a document in CouchDB's API reference.
 pub fn served_packed(alloc: Global, id: &str, tree: &mut RevTree) -> Result<Option<Form>, NoMemory>
     ensures served { IfOk result (λ o. (h : Paths) → StandsFor tree.old h → o ≡ served_of id.now h) }
     ensures form { IfOk result (λ o. IfSome o (λ form. (l : Winner) × (form ≡ form_of id.now l))) }

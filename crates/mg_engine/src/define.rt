@@ -30,8 +30,8 @@ use std::thread::Threads;
 
 impl State {
     /// Creates an index. Returns the reply, and the next state, or `None` if the body defines no index.
-    /// Cost: the number of shards and of indexes if the same definition is there already; otherwise each document, and the sorting of
-    /// its rows.
+    /// Cost: the number of shards and of indexes if the catalog has the same definition already; otherwise a step for each document,
+    /// and a sort of the rows.
     pub(crate) fn create_index<R: Threads + Sync, G>(
         &self,
         context: &Context<'_, R, G>,
@@ -55,7 +55,7 @@ impl State {
         }
     }
 
-    // The reply to a definition, and the state that has it.
+    // The reply to a definition, and the state whose catalog has it.
     fn define<R: Threads + Sync, G>(
         &self,
         context: &Context<'_, R, G>,
@@ -73,7 +73,7 @@ impl State {
         Ok((Reply::Full { status: 200, body }, next))
     }
 
-    // The state with a definition. If the same definition is there already, the state is shared as it is.
+    // The state with a definition. If the catalog has it already (`there`), the state is shared as it is.
     fn with_definition<R: Threads + Sync, G>(
         &self,
         context: &Context<'_, R, G>,
@@ -172,7 +172,7 @@ fn indexes_json(alloc: Global, definitions: &[IndexDef]) -> Result<Json, NoMemor
     Ok(indexes)
 }
 
-// The body of the reply to a definition: `exists` if the same one is `there` already, otherwise `created`.
+// The body of the reply to a definition: its `result` is `exists` if the catalog has it already (`there`), otherwise `created`.
 fn created_line(alloc: Global, definition: &IndexDef, there: bool) -> Result<Vec<u8>, NoMemory>
     ensures { IfOk result
         (λ b. b.items
@@ -226,7 +226,7 @@ fn all_without(
     Ok(all)
 }
 
-// The listed form of each definition, after that of `_all_docs`.
+// Each definition as the reply lists it, after `_all_docs`.
 fn all_listed(alloc: Global, definitions: &[IndexDef]) -> Result<Vec<Json>, NoMemory>
     ensures { IfOk result (λ v. map view v.items ≡ listed_all_docs ∷ map listed_of definitions.now) }
 {

@@ -21,8 +21,8 @@ use std::marker::Model;
 use std::sync::Arc;
 use std::thread::Threads;
 
-/// A database for one caller: documents placed on shards, indexes over them, and the commands. An engine shares what it holds with
-/// the engine that a write makes from it.
+/// A database for one caller: documents placed on shards, indexes over them, and the commands. The engine that a write makes shares with
+/// this one what the write does not change.
 #[derive(Drop)]
 pub struct Engine<P> {
     placement: Arc<P>,
@@ -57,7 +57,7 @@ impl<P: Placement + Drop> Engine<P> {
         Ok(Engine { placement, state })
     }
 
-    /// Executes one command and returns its reply. Where memory is refused, nothing changes.
+    /// Executes one command and returns its reply. If an allocation fails, the reply is `NoMemory` and nothing changes.
     ///
     /// The number of workers, 1 to 32, does not change the reply. It is a maximum: a query that is not worth a second thread runs on
     /// the thread of the caller.
@@ -96,8 +96,9 @@ impl<P: Placement + Drop> Engine<P> {
         reply
     }
 
-    /// Returns the reply to a read, with exactly `workers` workers, whatever the gate does. A query passes the gate at `ShardBegun` before
-    /// it reads the first row of a shard, and at `ShardDone` after the last. Cost: as for `step`.
+    /// Returns the reply to a read, by exactly `workers` workers; `NoMemory` if an allocation fails. A query passes the gate at
+    /// `ShardBegun` before it reads the first row of a shard, and at `ShardDone` after the last. The gate does not change the reply.
+    /// Cost: as for `step`.
     pub fn answer<R: Threads + Sync, G: Gate + Sync>(
         &self,
         rt: &R,
@@ -122,8 +123,8 @@ impl<P: Placement + Drop> Engine<P> {
         reply
     }
 
-    /// Returns the reply to a read, with at most `workers` workers: a query that is not worth a second thread runs on the thread of the
-    /// caller. Cost: as for `step`.
+    /// Returns the reply to a read, by at most `workers` workers: a query that is not worth a second thread runs on the thread of the
+    /// caller. The reply is `NoMemory` if an allocation fails. Cost: as for `step`.
     pub fn reply<R: Threads + Sync>(
         &self,
         rt: &R,
@@ -225,9 +226,9 @@ impl<P: Placement + Drop> Engine<P> {
     }
 
     /// Executes commands in order, and returns one reply for each. A command whose reply is `NoMemory` has changed nothing; the other
-    /// replies are those of a single thread that is given only the other commands.
+    /// replies are those to the other commands alone.
     ///
-    /// Errors: `NoMemory` where the room for the replies was refused; then no command was executed.
+    /// Errors: `NoMemory` if the list of replies was refused memory; then no command was executed. Cost: that of `step` for each command.
     pub fn run<R: Threads + Sync>(
         &mut self,
         rt: &R,

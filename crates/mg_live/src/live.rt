@@ -68,13 +68,13 @@ impl Model for Closed {
 /// Why a database was not closed.
 #[derive(Clone, Copy, PartialEq, Eq, Debug, Drop)]
 pub enum CloseError {
-    /// Not all seats were given back.
+    /// A seat is absent.
     Missing,
-    /// A seat has seen more commits than all seats have made.
+    /// A seat has seen more commits than all seats together have made.
     Ahead,
 }
 
-// What a new database has: what its seats share, what makes their readers, what they have seen, and all parts of the ledger.
+// The beginnings of a database: what its seats share, what makes their readers, the empty prefix, and all parts of the ledger.
 struct Start<D: Database, C: Ends, P: Placement + Drop>
 where
     Snapshot<P>: Absorb<(), State = ()>,
@@ -94,7 +94,7 @@ impl Closed {
     }
 }
 
-// Makes what a new database of this name has.
+// Makes the beginnings of an empty database with this name.
 fn begin<D: Database, C: Ends, P: Placement + Drop>(
     ends: C,
     alloc: Global,
@@ -168,7 +168,7 @@ where
     false
 }
 
-// The longest of the lists that the seats have seen. All others are prefixes of it.
+// The longest prefix of the commit log that a seat has seen. The prefixes that the others have seen are prefixes of it.
 fn longest<D: Database, C: Ends, P: Placement + Drop>(
     first: &Prefix,
     seats: &[Seat<D, C, P>],
@@ -189,7 +189,7 @@ where
     longest
 }
 
-// Joins the parts of the ledger that all seats have.
+// Joins the seats' parts of the ledger.
 fn join_all<D: Database, C: Ends, P: Placement + Drop>(
     rest: Share<D>,
     seats: Vec<Seat<D, C, P>>,
@@ -264,10 +264,10 @@ where
         Ok((live, each))
     }
 
-    /// Closes the database. All its seats must be given back.
+    /// Closes the database, and counts its commits. The caller hands over all its seats.
     ///
-    /// Errors: `Missing` where a seat is absent, and `Ahead` where a seat has seen more commits than all seats have made. The error
-    /// returns the database and the seats.
+    /// Errors: `Missing` if a seat is absent, else `Ahead` if a seat has seen more commits than all seats together have made. An error
+    /// hands the database and the seats back. Takes no memory. Cost: the number of seats; waits for the writer's lock, and as `ends` does.
     pub fn close<R: Wait>(
         self,
         rt: &R,

@@ -1,4 +1,4 @@
-//! Seats: at each seat a session reads and writes.
+//! Seats, at which sessions read and write.
 ghost use Rattle.std.specs.Prelude.{◌≡◌, ◌≤◌, true, false, IfOk, OnErr, OnOk};
 ghost use Rattle.mg_engine.specs.Commands.{is_write};
 ghost use Rattle.mg_engine.specs.View.{asked, said};
@@ -102,7 +102,7 @@ where
 {
     /// Catches up with what is published, and returns the database after the commits that the seat has then seen. It waits for nobody.
     ///
-    /// Errors: `NoMemory` where the snapshot cannot be taken. Cost: independent of the documents.
+    /// Errors: `NoMemory` if the snapshot cannot be entered or shared, or if the seat is ahead of what is published. Cost: constant.
     pub fn snapshot(&mut self) -> Result<Snapshot<P>, NoMemory>
         ensures later { IsLater self.old self.new }
         ensures snapshot { IfOk result (λ s. StandsAfter P.place D.db D.shards s self.new.seen) }
@@ -123,8 +123,8 @@ where
     /// The reply to a command, by 1 to 32 workers. A read is answered over one snapshot, and waits for nobody. A write is answered after
     /// all commits; if it is accepted, it is one more commit.
     ///
-    /// Where memory was refused, a write is not a commit, and the seat is as it was. Cost: that of the engine's reply. The documents of a
-    /// bulk are moved into the database, not copied.
+    /// If an allocation fails, the reply is `NoMemory`; a write is then not a commit, and leaves the seat as it was. Cost: that of the
+    /// engine's reply. The documents of a bulk are moved into the database, not copied.
     pub fn answer<R: Wait + Threads + Sync>(
         &mut self,
         rt: &R,
@@ -227,9 +227,11 @@ where
         reply
     }
 
-    /// Catches up with all commits, under the writer's lock, and returns what another seat can `learn`: the list that is published then.
+    /// Catches up with all commits, under the writer's lock, and returns what another seat can `learn`: the commits that are published
+    /// then.
     ///
-    /// Errors: `NoMemory` where the seat is ahead of what is published; then the seat is as it was.
+    /// Errors: `NoMemory` if the seat is ahead of what is published; then the seat is as it was. Takes no memory. Cost: constant; it may
+    /// wait for the lock.
     pub fn share<R: Wait>(&mut self, rt: &R) -> Result<Seen<D>, NoMemory>
         ensures later { IsLater self.old self.new }
         ensures seen { IfOk result (λ s. s ≡ self.new.seen) }
@@ -246,7 +248,7 @@ where
         })
     }
 
-    /// Learns what another seat has seen: this seat has then seen the longer of both lists. Takes no memory.
+    /// Learns what another seat has seen: this seat has then seen the longer of both prefixes. Takes no memory. Cost: constant.
     pub fn learn(&mut self, seen: &Seen<D>)
         ensures { Learned self.old seen.now self.new }
     {

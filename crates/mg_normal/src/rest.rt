@@ -9,9 +9,9 @@ use mg_path::Path;
 use mg_value::{NoMemory, copy_texts};
 use std::alloc::Global;
 
-// Moves the operators that have to hold for the condition to hold into atoms, on the part at the steps, and
-// returns what else the condition asks, if anything. On success the steps are as they were. On an error, some
-// atoms may have been added, and some steps.
+// Makes an atom of each operator that a condition requires in every case, and returns what else the condition requires,
+// if anything. The condition is about the part of the document at `steps`. On success `steps` is as it was; after
+// an error, `atoms` and `steps` may have some items more.
 #[cycle(take_atoms)]
 pub(crate) fn take_atoms(
     alloc: Global,
@@ -46,7 +46,7 @@ pub(crate) fn take_atoms(
     }
 }
 
-// What is left of each condition; a condition of which nothing is left is dropped.
+// Does what `take_atoms` does, for several conditions. A condition of which nothing is left is dropped.
 #[cycle(take_atoms)]
 fn take_all(
     alloc: Global,

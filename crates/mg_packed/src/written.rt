@@ -33,9 +33,10 @@ impl Written {
     ghost use Rattle.std.specs.Prelude.{◌≡◌, IfOk};
     ghost use Rattle.mg_value.specs.Text.{compact};
 
-    /// The value of a block, with its text.
+    /// Copies the value of a block into a block of its own, with its text behind it.
     ///
-    /// Errors: `NoMemory` if an allocation fails. Cost: the length of the text, and a copy of the bytes and the text.
+    /// Errors: `NoMemory` if an allocation fails. Cost: one walk over the value that writes its text, and a copy of the bytes and of the
+    /// text.
     pub fn of(alloc: Global, packed: &Packed) -> Result<Written, NoMemory>
         ensures { IfOk result (λ written. written ≡ packed.now) }
     {

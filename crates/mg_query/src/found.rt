@@ -30,7 +30,7 @@ use std::alloc::Global;
 use std::sync::Arc;
 use std::thread::Threads;
 
-// The index that serves a query, the hits that its page skips and shows, and how many rows each shard handed over for them.
+// The index that serves a query, the hits that its page skips and then those that it shows, and how many rows each shard handed over.
 #[derive(Drop)]
 pub(crate) struct Found<'a> {
     pub(crate) source: Source<'a>,
@@ -46,8 +46,8 @@ pub(crate) struct PageHits<'a> {
     pub(crate) skip: u32,
 }
 
-// What a query asks of each shard: the index that serves it, its selector in normal form, the range of keys in which it
-// looks, the row after which its page begins, as bytes, and whether the range decides the whole selector.
+// What a query asks of each shard: the index that serves it, its selector in normal form, its range of keys, the row of its bookmark
+// as bytes, and whether the range decides the whole selector.
 #[derive(Drop)]
 pub(crate) struct Asked<'a> {
     pub(crate) source: Source<'a>,
@@ -126,7 +126,7 @@ pub(crate) fn find_page<'a, R: Threads + Sync, G: Gate + Sync>(
     })
 }
 
-// What the query asks of each shard, over the indexes of the catalog.
+// Chooses an index of the catalog for the query, and prepares what the query asks of each shard.
 fn asked_of<'a>(
     alloc: Global,
     query: &Query<'_>,
@@ -173,7 +173,7 @@ fn search_of<'a>(query: &Query<'_>, asked: &'a Asked<'_>, range: &'a RowRange<'_
     }
 }
 
-// The hits of the page, after the returned number of hits that the page does not show.
+// The hits of the page, and how many hits in front of them the page does not show.
 fn page_hits<'a, R: Threads + Sync, G: Gate + Sync>(
     rt: &R,
     alloc: Global,
@@ -273,7 +273,7 @@ fn pull_hits<'a>(
     Ok(hits)
 }
 
-// The first hits of all shards together, merged out of what each shard hands over, and how many rows each handed over.
+// The first hits of all shards together, merged from those that each shard hands over, and how many rows each handed over.
 fn merge_first<'a, R: Threads + Sync, G: Gate + Sync>(
     rt: &R,
     alloc: Global,

@@ -1,4 +1,4 @@
-// The members of a query's body, lent from it: no memory is taken here.
+// The members of a query's body, lent from it. Only `named` takes memory.
 ghost use Rattle.std.specs.Prelude.{◌≡◌, Some, map, option_map};
 ghost use Rattle.mg_value.specs.Value.{item, list, no_items, whole};
 ghost use Rattle.mg_value.specs.View.{view, items_view};
@@ -13,10 +13,10 @@ use std::alloc::Global;
 // The greatest `limit` and `skip`.
 const GREATEST_COUNT: i64 = 2_147_483_647;
 
-// The bookmark of a query that gives none.
+// The bookmark that stands for the first page.
 const NO_BOOKMARK: &str = "nil";
 
-// The members of a body. Their shapes are right; paths and directions are not checked yet.
+// The members of a body whose shapes are right. Paths and directions are checked later.
 #[derive(Clone, Copy, Debug)]
 pub(crate) struct Members<'a> {
     pub(crate) selector: &'a Json,
@@ -37,7 +37,7 @@ pub(crate) enum GivenHint<'a> {
     Both(&'a str, &'a str),
 }
 
-// The members of a body; `None` if one has a wrong shape. Paths and directions are not checked.
+// The members of a body; `None` if one has a wrong shape.
 pub(crate) fn members_in(body: &Json) -> Option<Members<'_>>
     ensures { option_map given_seen result ≡ given_of (view body.now) }
 {

@@ -8,9 +8,9 @@ use mg_index::{Bound, bounded_count};
 use mg_normal::Atom;
 use mg_path::Path;
 
-/// Whether the range of these columns for the atoms decides each atom: each bounds one of the bounded
-/// columns, which are the leading ones that an `$eq` bounds and the next one. Then the key of a document
-/// shows whether all atoms hold. Takes no memory. Cost: the columns times the atoms.
+/// Whether the range that the atoms give an index of these columns decides every atom, so that a document's
+/// key shows whether all of them hold. It does if every atom bounds a bounded column: one of the leading
+/// columns that an `$eq` bounds, or the next one. Takes no memory. Cost: the columns times the atoms.
 pub fn decides(columns: &[Path], atoms: &[Atom]) -> bool
     ensures { result ≡ decides_of (atoms_view atoms.now) columns.now }
 {

@@ -31,7 +31,7 @@ pub(crate) struct SpanEnds {
 pub struct RowRange<'a> {
     keys: &'a KeyRange,
     ends: Option<SpanEnds>,
-    // the hints of where the range is entered upwards and downwards
+    // the hints of where the range is entered, ascending and descending
     up: u64,
     down: u64,
 }
@@ -75,8 +75,8 @@ impl<'a> RowRange<'a> {
         self.keys
     }
 
-    /// The hint of where the range is entered in the direction, in the order of the hints of rows: a search of rows looks there first. It
-    /// was made with the range. Takes no memory.
+    /// The hint of where a search in the direction enters the range, to compare with the hints of rows: the search looks there first. No
+    /// answer depends on it. It was computed with the range. Takes no memory. Cost: constant.
     pub fn entry_hint(&self, direction: Direction) -> u64 {
         match direction {
             Direction::Asc => self.up,
@@ -127,8 +127,8 @@ impl<'a> RowRange<'a> {
     }
 }
 
-// The hint next to those of the rows with the value at which the range is entered: in the direction just before them if they may be in
-// the range, else just after them. Without such a value, the hint at which the direction begins.
+// The hint of where the range is entered. If it is entered at a value, the hint is just before the rows with that value, in the direction,
+// if they may be in the range, and just past them otherwise. If not, it is the first hint in the direction.
 fn entry_hint(keys: &KeyRange, direction: Direction) -> u64 {
     let is_up = direction == Direction::Asc;
     match keys.entered_at(direction) {
@@ -174,8 +174,8 @@ fn ends_of(alloc: Global, span: &Span) -> Result<SpanEnds, NoMemory>
     Ok(SpanEnds { low, high })
 }
 
-// The end at this edge of all rows whose key begins with these values, followed by the limit's value if there
-// is one.
+// The end at this edge of all rows whose key begins with these values and, if there is a limit, with its value
+// after them.
 fn end_at(
     alloc: Global,
     equal: &[Json],
@@ -215,7 +215,7 @@ fn push_limit(key: &mut KeyBytes, limit: Option<&Limit>) -> Result<(), NoMemory>
     }
 }
 
-// The edge at which the low end is, of the rows that have its values.
+// On which edge of the rows with its values the low end is: before them if they are in the range.
 fn low_edge(limit: Option<&Limit>) -> Edge
     ensures { result ≡ low_side (option_map (λ l. limit_seen l.now) limit.entry) }
 {
@@ -229,7 +229,7 @@ fn low_edge(limit: Option<&Limit>) -> Edge
     }
 }
 
-// The edge at which the high end is, of the rows that have its values.
+// On which edge of the rows with its values the high end is: after them if they are in the range.
 fn high_edge(limit: Option<&Limit>) -> Edge
     ensures { result ≡ high_side (option_map (λ l. limit_seen l.now) limit.entry) }
 {

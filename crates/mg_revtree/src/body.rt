@@ -81,16 +81,17 @@ impl Body {
 
     /// The body with this id and this revision, in one block. A body that is not an object has no members, and is its own form.
     ///
-    /// Errors: `NoMemory` if an allocation fails. Cost: two copies of the body's bytes. If the body stands in the block of this
-    /// form already, that block is shared and nothing is copied; from the block of another form it is first copied out.
+    /// Errors: `NoMemory` if an allocation fails. Cost: three copies of the body's bytes, the text of the form, and a copy of the
+    /// text. If the body is already in the block of this form, the block is shared and nothing is copied. If it is in the block of
+    /// another form, it is first copied out.
     pub fn form(&self, alloc: Global, id: &str, rev: &str) -> Result<Form, NoMemory>
         ensures { IfOk result (λ form. form ≡ as_form (string id.now) (string rev.now) self.now) }
     {
         form_of(alloc, &self.block, id, rev)
     }
 
-    // Moves the body into the block of its form, and gives its own block back. A body stays where it is if it has `_id` or
-    // `_rev` as a member, since the form replaces these, or if it has no block of its own.
+    // Moves the body into the block of its form, and frees its own block. A body stays where it is if it has `_id` or `_rev` as
+    // a member, since the form replaces these, or if it has no block of its own.
     #[tactic(auto, using(crate::proofs::Bodies::shows))]
     pub(crate) fn move_into(&mut self, form: Form)
         requires { IsFormOf self.old form }

@@ -4,8 +4,8 @@ use std::alloc::Global;
 use std::marker::Model;
 use std::sync::Arc;
 
-/// The form in which a document is served, with its text, in one block of memory that several owners share, such as the document and
-/// the winner in its revision tree. Contracts see the form as a value.
+/// The form in which a document is served, with its text, in one block of memory. Several owners share the block, such as the document
+/// and the winner in its revision tree. Contracts see the form as a value.
 #[derive(Drop)]
 pub struct Form {
     block: Arc<Written>,
@@ -26,7 +26,7 @@ impl Model for Form {
 impl Form {
     ghost use Rattle.std.specs.Prelude.{◌≡◌, IfOk};
 
-    // Puts a form, with its text, where others can share it.
+    // Copies a form, with its text, into a block that others can share.
     pub(crate) fn of(alloc: Global, form: &Packed) -> Result<Form, NoMemory>
         ensures { IfOk result (λ shared. shared ≡ form.now) }
     {

@@ -1,4 +1,5 @@
-//! Trees of more than one revision.
+//! Trees as lists of known revisions and of leaves. A tree that has had several leaves is kept as lists; any other tree is put into
+//! lists while it accepts a run.
 ghost use Rattle.std.specs.Prelude.{◌≡◌, ◌+◌, ◌<◌, ◌≤◌, [], ◌∷◌, IfOk, IfSome, OnErr, OnOk, length, map, string_bytes};
 ghost use Rattle.mg_value.specs.View.{view};
 ghost use Rattle.mg_revtree.specs.Revision.{run_from};
@@ -69,7 +70,7 @@ impl Grown {
         })
     }
 
-    /// This leaf alone, without a known revision.
+    /// Lists of this leaf and no known revision, for `exchange` to complete.
     pub fn without_links(alloc: Global, leaf: &SharedLeaf) -> Result<Grown, NoMemory>
         ensures { IfOk result (λ grown. grown ≡ line_tree [] leaf.now) }
     {
@@ -79,7 +80,7 @@ impl Grown {
         })
     }
 
-    /// Exchanges its known revisions for others. Takes no memory.
+    /// Swaps the known revisions of these lists with `known`. Takes no memory.
     pub fn exchange(&mut self, known: &mut Known)
         ensures given { self.new ≡ record self.old { links = known.old } }
         ensures taken { known.new ≡ self.old.links }
@@ -99,7 +100,7 @@ impl Grown {
         winner.move_into(form);
     }
 
-    /// A copy that shares the leaves with their bodies, and all known revisions but the newer ones.
+    /// A copy that shares the leaves with their bodies, and the older known revisions.
     pub fn copy(&self, alloc: Global) -> Result<Grown, NoMemory>
         ensures { IfOk result (λ grown. grown ≡ self.now) }
     {

@@ -1,4 +1,4 @@
-//! How far a tree has grown: to one revision, or beyond.
+//! How a revision tree is kept, by how far it has grown.
 ghost use Rattle.std.specs.Prelude.{◌≡◌, ◌<◌, ◌≤◌, ◌+◌, List, [], ◌∷◌, IfOk, IfSome, OnErr, OnOk, is_some, length, map, option_map, string_bytes};
 ghost use Rattle.mg_value.specs.View.{view};
 ghost use Rattle.mg_revtree.specs.Revision.{run_from};
@@ -19,14 +19,14 @@ use mg_value::{Json, NoMemory};
 use std::alloc::Global;
 use std::slice;
 
-/// How far a tree has grown. Most documents have one revision: their tree is its leaf, and has no lists.
+/// How a tree is kept. Most documents have one revision: their tree is its leaf alone.
 #[derive(Drop)]
 pub(crate) enum Growth {
     // no revision
     Empty,
     // one revision, which has no parent and is the leaf
     First(SharedLeaf),
-    // one leaf, and all known revisions: so a document is that was edited, if it has no conflict
+    // one leaf, and all known revisions: the tree of an edited document that never had a second leaf
     Line(SharedLeaf, Box<Known>),
     // all known revisions, and a list of the leaves
     Grown(Box<Grown>),
@@ -58,8 +58,8 @@ impl Growth {
         }
     }
 
-    /// Whether no known revision gets another parent from a run, which is given by its start and its ids, newest first. One
-    /// revision without a parent fits each run. Cost: the length of the run times the logarithm of the known revisions.
+    /// Whether a run, given by its start and its ids, newest first, gives no known revision a parent other than the known one. Every
+    /// run fits a tree of one revision, which has no parent. Cost: the length of the run times the logarithm of the known revisions.
     pub fn fits(&self, start: u32, ids: &[String]) -> bool
         ensures { (ls : List Link) → AreNodes (tree_in self.now).links ls
             → result ≡ fit ls (links (run_from start (map string_bytes ids.now))) }
@@ -100,7 +100,7 @@ impl Growth {
         }
     }
 
-    /// A copy. It shares the leaves with their bodies, and all known revisions but the newer ones.
+    /// A copy. It shares the leaves with their bodies, and the older known revisions.
     pub fn copy(&self, alloc: Global) -> Result<Growth, NoMemory>
         ensures { IfOk result (λ made. tree_in made ≡ tree_in self.now) }
     {
@@ -132,7 +132,8 @@ impl Growth {
         Ok(Growth::First(leaf))
     }
 
-    /// Accepts a run that fits, given by its start and its ids, newest first. The tree has lists then. An error leaves it as it was.
+    /// Accepts a run that fits, given by its start and its ids, newest first. The tree is then a line if it has one leaf and never had
+    /// more; otherwise it has lists. An error leaves it as it was.
     pub fn accept(
         &mut self,
         alloc: Global,
@@ -194,7 +195,7 @@ impl Growth {
         Ok((growth, merged))
     }
 
-    // A copy in lists.
+    // A copy as lists, in which any tree can be kept.
     fn grown(&self, alloc: Global) -> Result<Grown, NoMemory>
         ensures { IfOk result (λ grown. (h : Paths) → StandsFor (tree_in self.now) h → StandsFor grown h) }
     {
@@ -214,7 +215,7 @@ fn copy_boxed(alloc: Global, known: &Known) -> Result<Box<Known>, NoMemory>
     Ok(Box::new(alloc, known.copy(alloc)?)?)
 }
 
-// A line if there is one leaf, else the lists.
+// Keeps lists as a line if they have one leaf.
 fn settled(alloc: Global, grown: Grown) -> Result<Growth, NoMemory>
     ensures { IfOk result (λ growth. tree_in growth ≡ grown) }
 {
@@ -226,8 +227,8 @@ fn settled(alloc: Global, grown: Grown) -> Result<Growth, NoMemory>
     Ok(Growth::Line(leaves.swap_remove(0), known))
 }
 
-// Accepts a run on a line, given by its leaf and all known revisions. Returns the lists that take the line's place, if it has no longer one
-// leaf. An error leaves the line as it was.
+// Accepts a run on a line, which is given by its leaf and all known revisions. If there are then several leaves, also returns the lists
+// that replace the line. An error leaves the line as it was.
 fn accept_on_line(
     alloc: Global,
     leaf: &mut SharedLeaf,

@@ -49,11 +49,11 @@ fn ids_over(alloc: Global, id: String, parent: Option<&Rev>) -> Result<Vec<Strin
 }
 
 /// The revision tree of a document: its known revisions with their parents, and its leaves with their deletion marks
-/// and bodies. A contract speaks of every history that the tree stands for.
+/// and bodies. Contracts speak of every list of accepted paths that the tree stands for.
 ///
-/// A body is kept once, at its leaf, in one block of memory. A tree of one revision, as most documents have, is its leaf and
-/// takes nothing else. In any other tree the id of a revision is kept once; once more if both the older and the newer list of known
-/// revisions have it; and once more if it is a leaf.
+/// A body is kept once, at its leaf, in at most one block of memory. Most documents have one revision; their tree is its leaf alone.
+/// Any other tree keeps the id of a revision in the older or the newer of two lists of known revisions, or in both; and once more if
+/// the revision is a leaf.
 #[derive(Drop)]
 pub struct RevTree {
     alloc: Global,
@@ -72,7 +72,7 @@ impl Model for RevTree {
 }
 
 impl RevTree {
-    /// The tree of the empty history. Takes no memory.
+    /// The tree without revisions. Takes no memory.
     pub fn new(alloc: Global) -> RevTree
         ensures { StandsFor result [] }
     {
@@ -95,8 +95,8 @@ impl RevTree {
     }
 
     /// Moves the winner's body into the block of the form in which the document is served, so that both take one block. The body
-    /// stays where it is if a copy of the tree shares the winner, or if the body has `_id` or `_rev` as a member. Contracts see
-    /// the same tree. Takes no memory. Cost: two look-ups of a member in the body.
+    /// stays where it is if a copy of the tree shares the winner, if it has no block of its own, or if it has `_id` or `_rev` as a
+    /// member. Contracts see the same tree. Takes no memory. Cost: two look-ups of a member in the body.
     pub fn share_form(&mut self, form: Form)
         requires { IfSome (first_of self.old.leaves) (λ l. IsFormOf l.body form) }
         ensures { self.new ≡ self.old }
@@ -104,7 +104,7 @@ impl RevTree {
         self.growth.share_form(form);
     }
 
-    /// The leaves, best first. Cost: their number.
+    /// The leaves, best first. Errors: `NoMemory` if an allocation fails. Cost: their number.
     pub fn leaves(&self) -> Result<Vec<&Leaf>, NoMemory>
         ensures each { IfOk result
             (λ found. (h : Paths) → StandsFor self.now h → AreLeaves h (map (λ l. l.now) found.items)) }
@@ -115,8 +115,9 @@ impl RevTree {
         Ok(found)
     }
 
-    /// The leaves beside the winner that are not deleted, best first. If there are none, no memory is needed. Cost: the
-    /// number of the leaves.
+    /// The leaves other than the winner that are not deleted, best first. Takes no memory if there is no such leaf.
+    ///
+    /// Errors: `NoMemory` if an allocation fails. Cost: the number of the leaves.
     pub fn losers(&self) -> Result<Vec<&Leaf>, NoMemory>
         ensures each { IfOk result
             (λ found. (h : Paths) → StandsFor self.now h → AreLosers h (map (λ l. l.now) found.items)) }
@@ -131,9 +132,11 @@ impl RevTree {
         Ok(kept_among(self.alloc, &leaves[1..])?)
     }
 
-    /// A copy of the tree. It shares the leaves with their bodies, and all known revisions but the newer ones. Cost: one reference
-    /// count for each leaf; and for a tree of more than one revision, copies of the two blocks of the newer known revisions, which
-    /// are at most 64, or about four times the square root of the number of older ones.
+    /// A copy of the tree. It shares the leaves with their bodies, and the older known revisions.
+    ///
+    /// Errors: `NoMemory` if an allocation fails, or if there are too many references to what is shared. Cost: one reference count for
+    /// each leaf; for a tree of more than one revision also copies of the two blocks that hold the newer known revisions, of which
+    /// there are at most 64, or about four times the square root of the number of older ones.
     pub fn copy(&self, alloc: Global) -> Result<RevTree, NoMemory>
         ensures { IfOk result (λ tree. tree ≡ self.now) }
     {
@@ -143,8 +146,8 @@ impl RevTree {
         })
     }
 
-    /// Whether a path contradicts no known parent. Takes no memory. Cost: the length of the path times the logarithm of the
-    /// known revisions.
+    /// Whether a path fits: it gives no known revision a parent other than the known one. Takes no memory. Cost: the length of the
+    /// path times the logarithm of the known revisions.
     pub fn fits(&self, path: &History) -> bool
         ensures { (h : Paths) → StandsFor self.now h → result ≡ fits h path.now }
     {
@@ -185,10 +188,10 @@ impl RevTree {
     /// An error leaves the tree as it was.
     ///
     /// Cost: the size of the body, the length of the path times the logarithms of the known revisions and of the leaves, a
-    /// move of one pointer for each leaf, and one pass over the newer known revisions above the lowest unknown one of the
-    /// path. There are none above it where the path extends the line with the highest positions. If the newer revisions and
-    /// those of the path are more than 64, and more than about four times the square root of the number of older ones, all
-    /// known revisions are copied too. Source: the replication model of CouchDB.
+    /// move of one pointer for each leaf, and one pass over the newer known revisions at higher positions than the lowest unknown
+    /// one of the path; a path that extends the branch with the highest positions has no revision to pass over. If the newer
+    /// revisions and those of the path are more than 64, and more than about four times the square root of the number of older
+    /// ones, all known revisions are copied too. Source: the replication model of CouchDB.
     pub fn merge(&mut self, path: &History, deleted: bool, body: Json) -> Result<Merged, MergeError>
         ensures accepted { OnOk result ((h : Paths) → StandsFor self.old h
             → StandsFor self.new (with_path h (path_of path.now deleted (view body)))) }
@@ -251,8 +254,8 @@ impl RevTree {
         Ok(())
     }
 
-    /// Makes a new revision over the leaf `parent`; without a parent, at position 1 in a tree without leaves. The caller gives
-    /// an id that `is_id` allows.
+    /// Makes a new revision over the leaf `parent`; without a parent, at position 1 in a tree without leaves. `id` must
+    /// be one that `is_id` allows.
     ///
     /// Errors, in this order: those of `next_position`, then `Known` if the revision is already known, all found without memory;
     /// else `NoMemory`, as for `merge`. An error leaves the tree as it was. Cost: as for `merge`, with a path of the new revision

@@ -1,4 +1,4 @@
-//! A long skip on several shards: most of the rows that a page skips are passed over by counts.
+//! A long skip on several shards. A search passes over most of the rows that its page skips by counting them, without reading them.
 ghost use Rattle.std.specs.Prelude.{◌≡◌, ◌<◌, IfOk, IfSome};
 ghost use Rattle.mg_shard.specs.Shard.{shards_seen};
 ghost use Rattle.mg_scan.specs.Passed.{HasPageOf, IsIndex, IsWithin, all_ahead, beyond_row};
@@ -14,7 +14,7 @@ use mg_value::NoMemory;
 use std::alloc::Global;
 use std::sync::Arc;
 
-// The first stride is an eighth of the rows that the page skips in each shard, each further one an eighth of the one before.
+// The first stride is an eighth of each shard's part of the rows that the page skips; each further stride is an eighth of the one before.
 const STEPS: usize = 8;
 
 // What is left of a search after rows were passed over.
@@ -28,8 +28,8 @@ pub(crate) struct Passed<'a> {
     pub(crate) ahead: usize,
 }
 
-// What is left of a search whose page skips `skip` rows: the search after rows that were passed over, and how many rows its page
-// skips. Documents are not passed over, since the deleted ones are counted with the others.
+// Passes over most of the first `skip` rows of a search. Returns the search that begins after them, and how many rows its page still
+// skips. Documents are not passed over, since the counts include deleted ones.
 pub(crate) fn pass_over<'a>(
     alloc: Global,
     shards: &'a [Arc<Shard>],
@@ -78,7 +78,7 @@ fn pass_rows<'a>(
     }
 }
 
-// Passes over most of the rows that the page skips, in rounds: in each the stride is a fraction of the one before.
+// Passes over most of the rows that the page skips, in rounds with ever smaller strides.
 fn pass_rounds<'a>(
     alloc: Global,
     shards: &'a [Arc<Shard>],
@@ -101,7 +101,7 @@ fn pass_rounds<'a>(
     Ok(passed)
 }
 
-// Passes over rows in one round. Rows are read only to choose one to pass to; how many come up to it is counted.
+// Passes over rows in one round. Reads rows only to choose the last one to pass over; how many rows that makes is counted.
 fn pass_round<'a>(
     alloc: Global,
     shards: &'a [Arc<Shard>],
@@ -139,7 +139,7 @@ fn count_all(shards: &[Arc<Shard>], search: Search<'_>) -> Option<usize>
     Some(all)
 }
 
-// Passes over the rows up to a row, if the search finds that row in its range and the page skips all of these.
+// Passes over the rows up to and with this one, if it is in the range, after the place where the search begins, and the page skips them.
 fn pass_to<'a>(shards: &[Arc<Shard>], passed: Passed<'a>, row: &'a RowBytes) -> Passed<'a>
     requires index { IsIndex passed.search.target }
     requires ahead { passed.ahead ≡ all_ahead (shards_seen shards.now) passed.search }
@@ -154,7 +154,7 @@ fn pass_to<'a>(shards: &[Arc<Shard>], passed: Passed<'a>, row: &'a RowBytes) -> 
     }
 }
 
-// Passes over the rows up to a row in the range of the search, if the page skips all of these.
+// Does what `pass_to` does, for a row in the range after the place where the search begins.
 fn pass_counted<'a>(shards: &[Arc<Shard>], passed: Passed<'a>, row: &'a RowBytes) -> Passed<'a>
     requires index { IsIndex passed.search.target }
     requires ahead { passed.ahead ≡ all_ahead (shards_seen shards.now) passed.search }
@@ -193,8 +193,8 @@ fn after<'a>(search: Search<'a>, row: &'a RowBytes, take: usize) -> Search<'a>
     }
 }
 
-// A row among those that the page skips, near the last of them. In each shard a scout goes ahead by `stride` rows at a time; of the rows
-// that the scouts reach, in the order of the search, this is the last that has too few rows before it for the page to show it.
+// A row near the last of those that the page skips. In each shard a scout goes ahead by `stride` rows at a time. Of the rows that the
+// scouts reach, this is the last, in the order of the search, that the page surely skips, wherever the rows between them stand.
 fn row_near<'a>(
     alloc: Global,
     shards: &'a [Arc<Shard>],
@@ -221,7 +221,7 @@ fn row_near<'a>(
     Ok(last)
 }
 
-// The first scout of each shard, the one whose row comes first at the end.
+// The first scout of each shard; the scout whose row comes first stands at the end of the list.
 fn scouts_of<'a>(
     alloc: Global,
     shards: &'a [Arc<Shard>],

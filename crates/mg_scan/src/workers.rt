@@ -39,7 +39,7 @@ fn search_shard<'a, G: Gate>(
     Ok(hits)
 }
 
-/// Claims shards until none is left, and hands over the hits of each.
+/// Claims shards and searches them, until no shard is left. Returns the hits of each.
 pub(crate) fn search_claimed<'a, G: Gate>(
     alloc: Global,
     shards: &'a [Arc<Shard>],
@@ -62,7 +62,7 @@ pub(crate) fn search_claimed<'a, G: Gate>(
     Ok(all)
 }
 
-// Puts each list of hits into the slot of its shard. A second list of a shard overwrites the first; both have the same rows.
+// Puts each list of hits into the slot of its shard. If a slot is filled twice, both lists have the same rows.
 fn put_in_slots<'a>(
     slots: &mut Vec<Option<Vec<Hit<'a>>>>,
     given: Vec<Done<'a>>,
@@ -102,7 +102,7 @@ fn empty_slots<'a>(
     Ok(slots)
 }
 
-/// The slots that the workers filled, one for each shard.
+/// Puts the hits that the workers found into slots, one for each shard. Errors: `NoMemory` if it, or a worker, was refused memory.
 pub(crate) fn fill_slots<'a>(
     alloc: Global,
     given: Vec<Result<Vec<Done<'a>>, NoMemory>>,
@@ -139,7 +139,7 @@ fn take_slot<'a>(
     slots[i].take()
 }
 
-// The hits of a slot; those of a search here if the slot was empty.
+// The hits of a slot; if it was empty, those of a search of the shard on this thread.
 fn hits_or_search<'a, G: Gate>(
     alloc: Global,
     found: Option<Vec<Hit<'a>>>,

@@ -65,10 +65,10 @@ impl<'a> Draft<'a> {
         }
     }
 
-    /// Applies one edit that has an id, and moves its body into the tree of its document. A refused edit touches no document, nor
-    /// does one whose path is known whole.
+    /// Applies one edit that has an id, and moves its body into the tree of its document. An edit that is refused, or whose path is
+    /// known whole, touches no document.
     ///
-    /// Errors: `NoMemory` if an allocation fails; the draft is then useless.
+    /// Errors: `NoMemory` if an allocation fails. The draft then stands for nothing, and is only good to drop.
     /// Cost: that of `Edit::bring`, and a copy of the document's tree if the draft has not touched the document yet. No copy of the body.
     pub fn edit(&mut self, alloc: Global, edit: Edit) -> Result<EditReply, NoMemory>
         ensures outcome { IfOk result
@@ -104,10 +104,10 @@ impl<'a> Draft<'a> {
     }
 
     /// The shard after the bulk; `None` if the bulk has touched no document, since the shard is then as it was.
-    /// Each touched document gets its served form and that form's text once, and each index its row.
+    /// However often a document was edited, its served form, with its text, and its rows are made once.
     ///
     /// Errors: `NoMemory` if an allocation fails. Cost: for each touched document its form and text, as for `Document::of`, and
-    /// the pages on the way to it and to its rows.
+    /// the pages on the way to it and to its rows; and a new list of the indexes.
     pub fn finish(self, alloc: Global) -> Result<Option<Shard>, NoMemory>
         ensures stands { IfOk result
             (λ s. (hs : Histories) → DraftStandsFor self.entry hs
@@ -181,7 +181,7 @@ fn apply_edit(
     }
 }
 
-// Applies an edit to the tree of its document, which was touched before and was taken out of the touched ones.
+// Applies an edit to the tree of a document that was touched before. The caller has taken the tree out of `touched`; it goes back there.
 fn edit_touched(
     alloc: Global,
     touched: &mut BTreeMap<String, RevTree>,
@@ -231,7 +231,7 @@ fn edit_first(
     Ok(reply)
 }
 
-// A shard with each of these trees under its id.
+// The shard, with each of these trees under the id of its document.
 fn keep_trees(
     alloc: Global,
     shard: &Shard,
@@ -249,7 +249,7 @@ fn keep_trees(
     Ok(Shard { documents, indexes })
 }
 
-// Keeps each of these trees under its id, with the form in which it is served, and mends the rows of the indexes.
+// Keeps a document with each of these trees, under its id and with its served form, and mends the rows of the indexes.
 fn keep_all(
     alloc: Global,
     mut documents: Pages<Shared<Document>>,

@@ -36,7 +36,7 @@ impl Shard {
         Ok(rows)
     }
 
-    // The rows that an index with these columns has, by key and id, by the caller's thread alone.
+    // The rows that an index with these columns has, ordered by key and id. The caller's thread does all the work.
     fn rows_alone(&self, alloc: Global, columns: &[Path]) -> Result<Pages<RowBytes>, NoMemory>
         ensures { IfOk result (λ rows. rows ≡ rows_of columns.now (docs_of self.now.documents)) }
     {
@@ -62,12 +62,12 @@ impl Shard {
         Ok(pages)
     }
 
-    /// The rows that an index of this definition has in this shard, by key and id, for `with_rows`. They are the same for every number
-    /// of workers. With one worker, or fewer than 1,000 documents, no thread is started; otherwise as many threads as there are
-    /// processors extract the rows, sort them and put them into pages.
+    /// The rows that an index of this definition has in this shard, ordered by key and id; `with_rows` takes them. They are the same for
+    /// every number of workers. With one worker, or fewer than 1,000 documents, no thread is started; otherwise as many threads as
+    /// there are processors extract the rows, sort them and put them into pages.
     ///
     /// Errors: `NoMemory` if an allocation fails. Cost: a step for each document, the bytes of its row, a sort of the rows, and a step
-    /// for each. A row takes a block of memory only if it is too long to be stored in the value itself.
+    /// for each of them. A row takes a block of memory only if it is too long to be stored in the `RowBytes` itself.
     pub fn rows_for<R: Threads + Sync>(
         &self,
         rt: &R,
@@ -83,7 +83,7 @@ impl Shard {
         Ok(self.rows_together(rt, alloc, definition.columns())?)
     }
 
-    // The shard with an index of these rows, which replaces one of its design document and name.
+    // The shard with an index of these rows, which replaces an index of the same design document and name.
     fn with(
         &self,
         alloc: Global,
@@ -103,9 +103,10 @@ impl Shard {
         Ok(Shard { documents, indexes })
     }
 
-    /// The shard with an index of this definition, which replaces one of its design document and name.
+    /// The shard with an index of this definition, which replaces an index of the same design document and name.
     ///
-    /// Errors: `NoMemory` if an allocation fails. Cost: each document once, the bytes of its row, and the rows sorted.
+    /// Errors: `NoMemory` if an allocation fails. Cost: that of `rows_for` with one worker, that of `with_rows`, and a copy of the
+    /// definition.
     pub fn with_index(&self, alloc: Global, definition: &IndexDef) -> Result<Shard, NoMemory>
         ensures { IfOk result
             (λ s. s ≡ record self.now { definitions = with_definition definition.now self.now.definitions }) }

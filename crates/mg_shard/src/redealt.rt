@@ -48,7 +48,8 @@ pub fn redeal<P: Placement, R: Threads + Sync>(
     requires { 0 < count }
     ensures number { IfOk result (λ v. length v.items ≡ count) }
 
-    // Each document is kept where it is placed, and nowhere else. If several former shards keep one id, the last of them counts.
+    // Each document is kept in the shard that the placement gives, and nowhere else. If several former shards have a document with the
+    // same id, the last one is kept.
     ensures documents { IfOk result
         (λ v. AreRedealt (P.place placement.now) (documents_in (shards_seen shards.now))
         (documents_in v.items)) }
@@ -86,7 +87,7 @@ fn first_indexes(alloc: Global, shards: &[Arc<Shard>]) -> Result<Vec<IndexEntry>
     }
 }
 
-// An index of a shard's documents, whose definition is shared. That many workers extract its rows.
+// Makes an index of a shard's documents, with this many workers. It shares the definition.
 fn index_over<R: Threads + Sync>(
     rt: &R,
     alloc: Global,
@@ -102,7 +103,7 @@ fn index_over<R: Threads + Sync>(
     Ok(index)
 }
 
-// Indexes of a shard's documents, of the definitions that these have.
+// Makes indexes of a shard's documents, with the definitions of `indexes`.
 fn indexes_over<R: Threads + Sync>(
     rt: &R,
     alloc: Global,
@@ -120,7 +121,7 @@ fn indexes_over<R: Threads + Sync>(
     Ok(all)
 }
 
-// A shard of these documents with indexes of these definitions.
+// Makes a shard of these documents, with the definitions of `indexes`.
 fn index_documents<R: Threads + Sync>(
     rt: &R,
     alloc: Global,
@@ -141,7 +142,7 @@ fn index_documents<R: Threads + Sync>(
     Ok(Shard { documents, indexes })
 }
 
-// One of the new shards: the documents that are placed there, with indexes of these definitions.
+// Makes the new shard with the number `place`: the documents that go there, with the definitions of `indexes`.
 fn make_shard<R: Threads + Sync>(
     rt: &R,
     alloc: Global,
@@ -159,7 +160,7 @@ fn make_shard<R: Threads + Sync>(
     index_documents(rt, alloc, there, indexes, workers)
 }
 
-// The new shards one after the other, each made by this many workers.
+// Makes the new shards one after the other, each with this many workers.
 fn make_in_turn<R: Threads + Sync>(
     rt: &R,
     alloc: Global,
@@ -182,7 +183,7 @@ fn make_in_turn<R: Threads + Sync>(
     Ok(shards)
 }
 
-// All shards, if memory was refused to none of them.
+// The shards; `NoMemory` if one of them was refused memory.
 fn all_of(alloc: Global, results: Vec<Result<Shard, NoMemory>>) -> Result<Vec<Shard>, NoMemory>
     ensures { IfOk result (λ v. results.items ≡ map Ok v.items) }
 {
@@ -193,7 +194,7 @@ fn all_of(alloc: Global, results: Vec<Result<Shard, NoMemory>>) -> Result<Vec<Sh
     Ok(shards)
 }
 
-// The new shards, each made by a thread of its own with this many workers.
+// Makes each new shard on a thread of its own, with this many workers for each.
 fn make_at_once<R: Threads + Sync>(
     rt: &R,
     alloc: Global,
@@ -223,7 +224,7 @@ fn make_at_once<R: Threads + Sync>(
     Ok(shards)
 }
 
-// The new shards, each with indexes of these definitions.
+// Makes the new shards: in turn if there is one worker, else at once, with the workers shared out among them.
 fn make_all<R: Threads + Sync>(
     rt: &R,
     alloc: Global,

@@ -99,9 +99,9 @@ impl<W: Write> Device<W> {
         Ok(())
     }
 
-    /// Writes the pieces in order: gathered in `output`, so in one write where it has room and the writer takes it whole.
+    /// Writes the pieces in order. Gathers them in `output` first, so that one write suffices if they fit and the writer takes them all.
     ///
-    /// A piece for which `output` has no room, or gets no memory, is written by itself. Errors: as `put`.
+    /// Writes a piece by itself if `output` has no room for it, or gets no memory. Errors: as for `put`.
     pub(crate) fn put_all(&mut self, output: &mut Vec<u8>, pieces: &[&[u8]]) -> Result<(), IoFault>
         ensures bytes { WritesBytes (W.contents (inner_of self.old)) (W.contents (inner_of self.new))
             (flat_map (λ piece. piece.now) pieces.now) result }
@@ -114,7 +114,7 @@ impl<W: Write> Device<W> {
         self.put(output)
     }
 
-    /// Appends the piece to `output`, or writes both if it has no room for it.
+    /// Appends the piece to `output`; if `output` has no room for it, writes both.
     fn gather(&mut self, output: &mut Vec<u8>, piece: &[u8]) -> Result<(), IoFault>
         ensures bytes { Gathers (W.contents (inner_of self.old)) (W.contents (inner_of self.new))
             output.old.items piece.now output.new.items result }
@@ -129,7 +129,7 @@ impl<W: Write> Device<W> {
     }
 }
 
-/// Appends the piece to `output` and returns `true`, if it has room for it and gets the memory.
+/// Appends the piece to `output` if that has room for it and gets the memory. Returns whether it did.
 fn fits(output: &mut Vec<u8>, piece: &[u8]) -> bool
     ensures { output.new.items ≡ (if result then output.old.items ++ piece.now else output.old.items) }
 {

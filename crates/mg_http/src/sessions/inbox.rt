@@ -34,14 +34,14 @@ pub(crate) struct Inbox {
     pub(crate) buffer: ReadBuffer,
     /// The number of messages answered.
     pub(crate) requests: u32,
-    /// The number of calls of the reader.
+    /// The number of calls to the reader.
     pub(crate) reads: u32,
     ghost answered: { start ≤ vec_len held },
     ghost spans_room: { vec_len spans ≡ 5461 },
     ghost piece_room: { vec_len piece ≡ 16384 },
 }
 
-/// Why a read gave no byte.
+/// Why a read returned no byte.
 #[derive(Clone, Copy)]
 pub(crate) enum Stop {
     /// The input ended.
@@ -68,7 +68,7 @@ impl Inbox {
 
     /// An empty inbox.
     ///
-    /// Errors: out of memory.
+    /// Errors: `AllocError` if an allocation fails.
     pub(crate) fn new(alloc: Global) -> Result<Inbox, AllocError>
         ensures held { IfOk result (λ inbox. unanswered inbox ≡ []) }
         ensures counts { IfOk result (λ inbox. (inbox.requests ≡ 0) × (inbox.reads ≡ 0)) }
@@ -86,7 +86,7 @@ impl Inbox {
         })
     }
 
-    /// Reads what the unanswered bytes begin with.
+    /// Parses the request, or the part of one, that the unanswered bytes begin with.
     pub(crate) fn pending(&mut self, alloc: Global, db: &str) -> Pending
         ensures pending { IsPending db.now (unanswered self.old) result }
         ensures held { unanswered self.new ≡ unanswered self.old }
@@ -121,7 +121,7 @@ impl Inbox {
 
     /// Reads once. Reserves the room before it reads, so that no byte is lost.
     ///
-    /// Errors: why the read gave no byte.
+    /// Errors: why the read returned no byte.
     pub(crate) fn read_piece<R: Read>(&mut self, reader: &mut Device<R>) -> Result<(), Stop>
         requires { has_failed reader.old ≡ false }
         ensures bytes { (came : List ℕ)
@@ -133,7 +133,7 @@ impl Inbox {
         ensures failed { IsTrue (has_failed reader.new) ↔ IsErrOf result Stop.Failed }
         ensures requests { self.new.requests ≡ self.old.requests }
 
-        // Each read that returns `Ok` gives at least one byte. So at the limit of reads as many bytes were read.
+        // Each read that returns `Ok` adds at least one byte, so a session at its limit of reads has read at least that many bytes.
         ensures reads { OnOk result (self.new.reads + length (unanswered self.old)
             ≤ self.old.reads + length (unanswered self.new)) }
         ensures limit { IsErrOf result Stop.Limit
@@ -163,7 +163,7 @@ impl Inbox {
 
     /// Reads until at least `want` bytes are unanswered.
     ///
-    /// Errors: why the last read gave no byte.
+    /// Errors: why the last read returned no byte.
     pub(crate) fn fill<R: Read>(&mut self, reader: &mut Device<R>, want: usize) -> Result<(), Stop>
         requires { has_failed reader.old ≡ false }
         ensures bytes { (came : List ℕ)
