@@ -18,7 +18,8 @@ pub(crate) fn take_change(
     members: &mut BTreeMap<String, Json>,
     new_edit: bool,
 ) -> Result<Change, DocError>
-    ensures change { Gives (or_fault DocError.BadRev (change_given new_edit (members_view members.old.entries))) result }
+    ensures change { Gives (or_fault DocError.BadRev
+        (change_given new_edit (members_view members.old.entries))) result }
     ensures own { own (members_view members.new.entries) ≡ own (members_view members.old.entries) }
 {
     let rev = rev_in(alloc, members.get("_rev"))?;

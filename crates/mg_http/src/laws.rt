@@ -23,10 +23,12 @@ pub fn any_cut()
 /// A session for which memory sufficed writes the transcript of the bytes that it read, unless it ended at a write fault or at its
 /// limit. However it ended, what it wrote is a prefix of each transcript of those bytes and of any bytes that might have followed.
 pub fn sessions_write_transcripts()
-    ensures whole { (db : List ℕ) (end : SessionEnd) (all : Exchange World) (conversation : ConversesAt db end all)
+    ensures whole { (db : List ℕ) (end : SessionEnd) (all : Exchange World)
+        (conversation : ConversesAt db end all)
         → IsAmple AtWorld db end all conversation → WroteAll end
         → IsTranscriptAt db all.old all.bytes all.text }
-    ensures prefix { (db : List ℕ) (end : SessionEnd) (all : Exchange World) (conversation : ConversesAt db end all)
+    ensures prefix { (db : List ℕ) (end : SessionEnd) (all : Exchange World)
+        (conversation : ConversesAt db end all)
         → IsAmple AtWorld db end all conversation
         → (more text : List ℕ) → IsTranscriptAt db all.old (all.bytes ++ more) text → IsPrefix all.text text }
 {}

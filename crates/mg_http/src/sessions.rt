@@ -76,7 +76,8 @@ fn end_after_stop<W: Write>(
     stop: Stop,
 ) -> SessionEnd
     requires { has_failed writer.old ≡ false }
-    ensures bytes { StopsWith (W.contents (inner_of writer.old)) (W.contents (inner_of writer.new)) silent stop result }
+    ensures bytes { StopsWith (W.contents (inner_of writer.old)) (W.contents (inner_of writer.new))
+        silent stop result }
     ensures write_fault { IsTrue (has_failed writer.new) ↔ (result ≡ SessionEnd.WriteFault) }
 {
     match stop {

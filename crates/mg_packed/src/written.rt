@@ -11,7 +11,7 @@ use std::marker::Model;
 pub struct Written {
     bytes: Vec<u8>,
     // where the text begins
-    end: usize,
+    text_start: usize,
 }
 
 impl Model for Written {
@@ -26,7 +26,7 @@ impl Model for Written {
 
     ghost view = { λ written. value_in written.bytes.items };
 
-    ghost invariant = { λ written. IsWritten written.bytes.items written.end };
+    ghost invariant = { λ written. IsWritten written.bytes.items written.text_start };
 }
 
 impl Written {
@@ -41,13 +41,13 @@ impl Written {
         ensures { IfOk result (λ written. written ≡ packed.now) }
     {
         let text = packed.part().text(alloc)?;
-        let front = packed.as_bytes();
-        let mut bytes = Vec::with_capacity(alloc, front.len().saturating_add(text.len()))?;
-        bytes.extend_from_slice(front)?;
+        let block = packed.as_bytes();
+        let mut bytes = Vec::with_capacity(alloc, block.len().saturating_add(text.len()))?;
+        bytes.extend_from_slice(block)?;
         bytes.extend_from_slice(&text)?;
         Ok(Written {
             bytes,
-            end: front.len(),
+            text_start: block.len(),
         })
     }
 
@@ -62,6 +62,6 @@ impl Written {
     pub fn text(&self) -> &[u8]
         ensures { result.now ≡ compact self.now }
     {
-        &self.bytes[self.end..]
+        &self.bytes[self.text_start..]
     }
 }

@@ -216,7 +216,8 @@ fn take_out_shared<T: Keyed, P: Subtree<T>, Q: Probe<T>>(
 ) -> Result<bool, AllocError>
     requires whole { child_whole P.is_whole P.seen (node_value (arc_value node.old)) }
     requires sorted { Ascends T.order (child_seen P.seen (node_value (arc_value node.old))) }
-    requires there { IsSome (found (Q.against key.now) (child_seen P.seen (node_value (arc_value node.old)))) }
+    requires there { IsSome (found (Q.against key.now)
+        (child_seen P.seen (node_value (arc_value node.old)))) }
     ensures whole { IfOk result
         (λ emptied. emptied ≡ false → child_whole P.is_whole P.seen (node_value (arc_value node.new))) }
     ensures emptied { IfOk result

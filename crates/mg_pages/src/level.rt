@@ -52,8 +52,10 @@ fn place<T: Keyed, P: Subtree<T>, Q: Probe<T>>(parts: &[Child<T, P>], key: &Q) -
     requires whole { AreWhole (child_whole P.is_whole P.seen) (children parts.now) }
     requires sorted { Ascends T.order (flat_map (child_seen P.seen) (children parts.now)) }
     ensures within { result < length parts.now }
-    ensures below { AllBelow (Q.against key.now) (flat_map (child_seen P.seen) (take result (children parts.now))) }
-    ensures above { AllAbove (Q.against key.now) (flat_map (child_seen P.seen) (drop (result + 1) (children parts.now))) }
+    ensures below { AllBelow (Q.against key.now)
+        (flat_map (child_seen P.seen) (take result (children parts.now))) }
+    ensures above { AllAbove (Q.against key.now)
+        (flat_map (child_seen P.seen) (drop (result + 1) (children parts.now))) }
 {
     let mut low = 0;
     let mut high = parts.len() - 1;
@@ -152,7 +154,8 @@ pub fn take_out_of_parts<T: Keyed, P: Subtree<T>, Q: Probe<T>>(
     requires some { 0 < length parts.old.items }
     requires whole { AreWhole (child_whole P.is_whole P.seen) (children parts.old.items) }
     requires sorted { Ascends T.order (flat_map (child_seen P.seen) (children parts.old.items)) }
-    requires there { IsSome (found (Q.against key.now) (flat_map (child_seen P.seen) (children parts.old.items))) }
+    requires there { IsSome (found (Q.against key.now)
+        (flat_map (child_seen P.seen) (children parts.old.items))) }
     ensures whole { AreWhole (child_whole P.is_whole P.seen) (children parts.new.items) }
     ensures ok { OnOk result (flat_map (child_seen P.seen) (children parts.new.items)
         ≡ removed (Q.against key.now) (flat_map (child_seen P.seen) (children parts.old.items))) }
@@ -376,7 +379,8 @@ impl<T: Keyed, P: Subtree<T>> Subtree<T> for Level<T, P> {
     fn take_out<Q: Probe<T>>(&mut self, alloc: Global, key: &Q) -> Result<bool, AllocError>
         requires whole { level_whole P.is_whole P.seen self.old }
         requires sorted { Ascends T.order (flat_map (child_seen P.seen) (children self.old.parts.items)) }
-        requires there { IsSome (found (Q.against key.now) (flat_map (child_seen P.seen) (children self.old.parts.items))) }
+        requires there { IsSome (found (Q.against key.now)
+            (flat_map (child_seen P.seen) (children self.old.parts.items))) }
         ensures whole { IfOk result (λ emptied. emptied ≡ false → level_whole P.is_whole P.seen self.new) }
         ensures some { IfOk result
             (λ emptied. emptied ≡ false

@@ -29,7 +29,8 @@ impl<T: Element> Drop for Page<T> {
 // Cost: the logarithm of the number of elements, in comparisons. The search begins at `guess`.
 pub fn find<T: Keyed, Q: Probe<T>>(elements: &[T], key: &Q, guess: usize) -> Result<usize, usize>
     requires { Ascends T.order elements.now }
-    ensures { MatchResult result (IsTie (Q.against key.now) elements.now) (IsGap (Q.against key.now) elements.now) }
+    ensures { MatchResult result (IsTie (Q.against key.now) elements.now)
+        (IsGap (Q.against key.now) elements.now) }
 {
     let mut low = 0;
     let mut high = elements.len();

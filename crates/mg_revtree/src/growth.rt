@@ -125,7 +125,8 @@ impl Growth {
     /// The tree of this revision alone, which has no parent.
     pub fn first(alloc: Global, rev: Rev, deleted: bool, body: &Json) -> Result<Growth, NoMemory>
         ensures { IfOk result
-            (λ made. tree_in made ≡ first_tree (record { rev = rev; deleted = deleted; body = view body.now })) }
+            (λ made. tree_in made ≡ first_tree
+            (record { rev = rev; deleted = deleted; body = view body.now })) }
     {
         let body = Body::of(alloc, body)?;
         let leaf = SharedLeaf::new(alloc, Leaf { rev, deleted, body })?;
@@ -165,7 +166,7 @@ impl Growth {
                 Ok(merged)
             }
             _ => {
-                let (growth, merged) = self.accepted(alloc, start, ids, deleted, body)?;
+                let (growth, merged) = self.accept_in_copy(alloc, start, ids, deleted, body)?;
                 *self = growth;
                 Ok(merged)
             }
@@ -173,7 +174,7 @@ impl Growth {
     }
 
     // A copy that has accepted a run.
-    fn accepted(
+    fn accept_in_copy(
         &self,
         alloc: Global,
         start: u32,
@@ -189,14 +190,14 @@ impl Growth {
         ensures found { IfOk result (λ r. (h : Paths) → StandsFor (tree_in self.now) h
             → r.1 ≡ found_of h (run_from start (map string_bytes ids.now))) }
     {
-        let mut grown = self.grown(alloc)?;
+        let mut grown = self.in_lists(alloc)?;
         let merged = grown.accept(start, ids, deleted, body)?;
-        let growth = settled(alloc, grown)?;
+        let growth = settle(alloc, grown)?;
         Ok((growth, merged))
     }
 
     // A copy as lists, in which any tree can be kept.
-    fn grown(&self, alloc: Global) -> Result<Grown, NoMemory>
+    fn in_lists(&self, alloc: Global) -> Result<Grown, NoMemory>
         ensures { IfOk result (λ grown. (h : Paths) → StandsFor (tree_in self.now) h → StandsFor grown h) }
     {
         match self {
@@ -216,7 +217,7 @@ fn copy_boxed(alloc: Global, known: &Known) -> Result<Box<Known>, NoMemory>
 }
 
 // Keeps lists as a line if they have one leaf.
-fn settled(alloc: Global, grown: Grown) -> Result<Growth, NoMemory>
+fn settle(alloc: Global, grown: Grown) -> Result<Growth, NoMemory>
     ensures { IfOk result (λ growth. tree_in growth ≡ grown) }
 {
     if grown.leaves.len() != 1 {

@@ -154,7 +154,8 @@ fn make_shard<R: Threads + Sync>(
 ) -> Result<Shard, NoMemory>
     requires number { length places.now ≡ length documents.now }
     requires catalog { IsCatalog (definitions_of indexes.now) }
-    ensures { IfOk result (IsMade (documents_seen documents.now) places.now (definitions_of indexes.now) place) }
+    ensures { IfOk result (IsMade (documents_seen documents.now) places.now
+        (definitions_of indexes.now) place) }
 {
     let there = documents_at(alloc, documents, places, place)?;
     index_documents(rt, alloc, there, indexes, workers)
@@ -217,7 +218,8 @@ fn make_at_once<R: Threads + Sync>(
         &|place: usize| -> Result<Shard, NoMemory>
             requires { IsSync R.row × (length places.now ≡ length documents.now)
                 × IsCatalog (definitions_of indexes.now) }
-            ensures { IfOk result (IsMade (documents_seen documents.entry.now) places.entry.now (definitions_of indexes.entry.now) place) }
+            ensures { IfOk result (IsMade (documents_seen documents.entry.now) places.entry.now
+                (definitions_of indexes.entry.now) place) }
         { make_shard(rt, alloc, documents, places, indexes, place, workers) },
     )?;
     let shards = all_of(alloc, results)?;

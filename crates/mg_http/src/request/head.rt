@@ -65,7 +65,8 @@ fn frame_body(
     target: &RequestTarget,
 ) -> Result<u64, Refusal>
     requires { (n : ℕ) → length ≡ Length.Bytes n → n ≤ 8388608 }
-    ensures { IsBodyFramed (framed_by length coded post (request_in target.now)) (request_in target.now) result }
+    ensures { IsBodyFramed (framed_by length coded post (request_in target.now))
+        (request_in target.now) result }
 {
     match length {
         Length::Faulty => Err(Refusal::BadHead),
@@ -90,7 +91,8 @@ fn read_framing(
     fields: &[HeaderSpan],
 ) -> Result<(RequestTarget, u64), Refusal>
     requires { All (IsHeaderWithin (length bytes.now)) fields.now }
-    ensures { IsFramedBy (parts_ask db.now method.now target.now (map (header_bytes bytes.now) fields.now)) result }
+    ensures { IsFramedBy (parts_ask db.now method.now target.now
+        (map (header_bytes bytes.now) fields.now)) result }
 {
     if fields.len() > MAX_FIELDS {
         return Err(Refusal::HeadTooLarge);

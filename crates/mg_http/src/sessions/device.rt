@@ -62,7 +62,8 @@ impl<R: Read> Device<R> {
             → Consumes (R.remaining (inner_of self.old)) (R.remaining (inner_of self.new))
             (take n piece.new) }
         ensures end { result ≡ Ok 0 → IsAtEnd (R.remaining (inner_of self.new)) }
-        ensures none { OnErr result (Keeps (R.remaining (inner_of self.old)) (R.remaining (inner_of self.new))) }
+        ensures none { OnErr result (Keeps (R.remaining (inner_of self.old))
+            (R.remaining (inner_of self.new))) }
         ensures failed { has_failed self.new ≡ (if is_ok result then has_failed self.old else true) }
     {
         match self.inner.read(piece) {
@@ -83,7 +84,8 @@ impl<W: Write> Device<W> {
     ///
     /// Errors: the writer returned an error, or took no byte. Then a prefix of the bytes was written, and the device has failed.
     pub(crate) fn put(&mut self, bytes: &[u8]) -> Result<(), IoFault>
-        ensures bytes { WritesBytes (W.contents (inner_of self.old)) (W.contents (inner_of self.new)) bytes.now result }
+        ensures bytes { WritesBytes (W.contents (inner_of self.old)) (W.contents (inner_of self.new))
+            bytes.now result }
         ensures failed { has_failed self.new ≡ (if is_ok result then has_failed self.old else true) }
     {
         let mut rest = bytes;

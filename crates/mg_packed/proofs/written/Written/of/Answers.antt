@@ -5,14 +5,14 @@ use Rattle.mg_packed.proofs.written.Written.of.Goals as goal
 
 pub invariant_of-result : goal.invariant_of-result
 invariant_of-result c =
-    let front = c.as_bytes-front.result.now in
+    let block = c.as_bytes-block.result.now in
     let all = c.extend_from_slice-2.new.self.items in
-    let together : all ≡ front ++ c.in_ok-text.text.items = c.in_ok-extend_from_slice-2.ensures.items ∙ ap (λ b. b ++ c.deref.result.now) (c.in_ok-extend_from_slice.ensures.items ∙ ap (λ b. b ++ front) c.in_ok-bytes.ensures.items) ∙ ap (λ t. front ++ t) c.deref.ensures.value in
-    written_behind front c.in_ok-text.text.items all c.args.packed.now c.as_bytes-front.ensures.block c.as_bytes-front.ensures.value (c.in_ok-text.ensures ∙ ap compact c.part.ensures) together
+    let together : all ≡ block ++ c.in_ok-text.text.items = c.in_ok-extend_from_slice-2.ensures.items ∙ ap (λ b. b ++ c.deref.result.now) (c.in_ok-extend_from_slice.ensures.items ∙ ap (λ b. b ++ block) c.in_ok-bytes.ensures.items) ∙ ap (λ t. block ++ t) c.deref.ensures.value in
+    written_behind block c.in_ok-text.text.items all c.args.packed.now c.as_bytes-block.ensures.block c.as_bytes-block.ensures.value (c.in_ok-text.ensures ∙ ap compact c.part.ensures) together
 
 pub returns : goal.returns
 returns c =
-    let front = c.as_bytes-front.result.now in
+    let block = c.as_bytes-block.result.now in
     let all = c.extend_from_slice-2.new.self.items in
-    let together : all ≡ front ++ c.in_ok-text.text.items = c.in_ok-extend_from_slice-2.ensures.items ∙ ap (λ b. b ++ c.deref.result.now) (c.in_ok-extend_from_slice.ensures.items ∙ ap (λ b. b ++ front) c.in_ok-bytes.ensures.items) ∙ ap (λ t. front ++ t) c.deref.ensures.value in
-    value_behind front c.in_ok-text.text.items all c.args.packed.now c.as_bytes-front.ensures.block c.as_bytes-front.ensures.value (c.in_ok-text.ensures ∙ ap compact c.part.ensures) together
+    let together : all ≡ block ++ c.in_ok-text.text.items = c.in_ok-extend_from_slice-2.ensures.items ∙ ap (λ b. b ++ c.deref.result.now) (c.in_ok-extend_from_slice.ensures.items ∙ ap (λ b. b ++ block) c.in_ok-bytes.ensures.items) ∙ ap (λ t. block ++ t) c.deref.ensures.value in
+    value_behind block c.in_ok-text.text.items all c.args.packed.now c.as_bytes-block.ensures.block c.as_bytes-block.ensures.value (c.in_ok-text.ensures ∙ ap compact c.part.ensures) together

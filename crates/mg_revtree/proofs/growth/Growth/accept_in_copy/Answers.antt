@@ -3,7 +3,7 @@ use Rattle.mg_value.specs.View.{view}
 use Rattle.mg_revtree.specs.Revision.{run_from}
 use Rattle.mg_revtree.specs.Tree.{StandsFor, Tree}
 use Rattle.mg_revtree.specs.Changes.{path_of, with_path}
-use Rattle.mg_revtree.proofs.growth.Growth.accepted.Goals as goal
+use Rattle.mg_revtree.proofs.growth.Growth.accept_in_copy.Goals as goal
 
 pub returns-clause-accepted : goal.returns-clause-accepted
 returns-clause-accepted c = λ h stands.
