@@ -26,7 +26,7 @@ use std::thread::Threads;
 use std::time::Clock;
 
 /// Runs the program. If the address is `-`, it holds one session over the input and the output; else it listens at the address and holds
-/// sessions with the clients that connect. Wrong arguments (`asked` is `None`) end it at once. The commit log (`history`) and the ledger
+/// sessions with the clients that connect. Wrong arguments (`asked` is `None`) end it at once. The commit log (`commit_log`) and the ledger
 /// (`blank`) are those of the database `D`.
 pub(crate) fn run<
     D: Database + Send + Sync,
@@ -46,13 +46,13 @@ pub(crate) fn run<
     rt: H,
     asked: Option<Settings<'_>>,
     blank: Blank,
-    history: CommitLog,
+    commit_log: CommitLog,
     reader: &mut Device<R>,
     writer: &mut Device<W>,
 ) -> Exit
     requires name { D.db ≡ name_in (option_map settings_seen asked) }
     requires shards { D.shards ≡ shards_in (option_map settings_seen asked) }
-    requires history { history ≡ D.history }
+    requires commit_log { commit_log ≡ D.history }
     requires ledger { (blank.name ≡ D.name) × (blank.parts ≡ D.parts) }
     requires parts { blank.parts ≡ sessions_in (option_map settings_seen asked) }
     requires reading { has_failed reader.old ≡ false }
@@ -67,7 +67,7 @@ pub(crate) fn run<
     if settings.addr == "-" {
         return hold_session(&rt, settings, reader, writer);
     }
-    listen::<D, H>(rt, settings, blank, history)
+    listen::<D, H>(rt, settings, blank, commit_log)
 }
 
 // Holds one session, over a database that is empty at the start.
@@ -104,10 +104,10 @@ fn listen<
         + Clock
         + Eprint
         + Net<Listener = TcpListener, Stream = TcpStream>,
->(rt: H, settings: Settings<'_>, blank: Blank, history: CommitLog) -> Exit
+>(rt: H, settings: Settings<'_>, blank: Blank, commit_log: CommitLog) -> Exit
     requires name { settings.db.now ≡ D.db }
     requires opened { settings.shards ≡ D.shards }
-    requires history { history ≡ D.history }
+    requires commit_log { commit_log ≡ D.history }
     requires ledger { (blank.name ≡ D.name) × (blank.parts ≡ D.parts) }
     requires parts { blank.parts ≡ settings.sessions }
     ensures { IsEndOfListening (ending_seen result) }
@@ -117,7 +117,7 @@ fn listen<
         Waiting(rt),
         alloc,
         blank,
-        history,
+        commit_log,
         settings.db,
         Md5Placement,
         settings.shards,

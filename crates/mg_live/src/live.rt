@@ -99,7 +99,7 @@ fn begin<D: Database, C: Ends, P: Placement + Drop>(
     ends: C,
     alloc: Global,
     blank: Blank,
-    history: CommitLog,
+    commit_log: CommitLog,
     db: &str,
     placement: P,
     shards: usize,
@@ -108,7 +108,7 @@ fn begin<D: Database, C: Ends, P: Placement + Drop>(
 where
     Snapshot<P>: Absorb<(), State = ()>,
     requires name { db.now ≡ D.db }
-    requires history { history ≡ D.history }
+    requires commit_log { commit_log ≡ D.history }
     requires ledger { (blank.name ≡ D.name) × (blank.parts ≡ D.parts) }
     requires opened { shards ≡ D.shards }
     requires shards { (1 ≤ shards) × (shards ≤ 64) }
@@ -116,7 +116,7 @@ where
     ensures all { IfOk result (λ s. (s.all.parts ≡ D.parts) × (s.all.amount ≡ 0)) }
     ensures prefix { IfOk result (λ s. (s.prefix.seen.book ≡ D.history) × (s.prefix.seen.log ≡ [])) }
 {
-    let (head, prefix) = history.parts();
+    let (head, prefix) = commit_log.parts();
     let (book, all) = blank.open::<D>();
     let first = Snapshot {
         point: Point::first(alloc, db, placement, shards)?,
@@ -220,14 +220,14 @@ where
         ends: C,
         alloc: Global,
         blank: Blank,
-        history: CommitLog,
+        commit_log: CommitLog,
         db: &str,
         placement: P,
         shards: usize,
         seats: usize,
     ) -> Result<(Live<D, C, P>, Vec<Seat<D, C, P>>), NoMemory>
         requires name { db.now ≡ D.db }
-        requires history { history ≡ D.history }
+        requires commit_log { commit_log ≡ D.history }
         requires ledger { (blank.name ≡ D.name) × (blank.parts ≡ D.parts) }
         requires parts { blank.parts ≡ seats }
         requires opened { shards ≡ D.shards }
@@ -241,7 +241,7 @@ where
             factory,
             prefix,
             mut all,
-        } = begin(ends, alloc, blank, history, db, placement, shards, seats)?;
+        } = begin(ends, alloc, blank, commit_log, db, placement, shards, seats)?;
         let shared = Arc::new(alloc, shared)?;
         let mut each = Vec::new(alloc);
         for number in 0..seats {

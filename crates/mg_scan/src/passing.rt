@@ -15,7 +15,7 @@ use std::alloc::Global;
 use std::sync::Arc;
 
 // The first stride is an eighth of each shard's part of the rows that the page skips; each further stride is an eighth of the one before.
-const STEPS: usize = 8;
+const SHRINK: usize = 8;
 
 // What is left of a search after rows were passed over.
 #[derive(Clone, Copy)]
@@ -49,7 +49,7 @@ pub(crate) fn pass_over<'a>(
 
 // The stride of the first round. If it is less than two, too few rows are skipped for counts to be worth their look-ups.
 fn first_stride(skip: usize, shards: usize) -> usize {
-    skip / STEPS / shards.max(1)
+    skip / SHRINK / shards.max(1)
 }
 
 // What `pass_over` returns where the target is an index.
@@ -96,7 +96,7 @@ fn pass_rounds<'a>(
     while stride > 1 {
         let next = pass_round(alloc, shards, passed, ddoc, name, stride)?;
         passed = next;
-        stride /= STEPS;
+        stride /= SHRINK;
     }
     Ok(passed)
 }

@@ -34,11 +34,11 @@ fn hundred<D: Database + Send + Sync, R: Threads + Wait + Abort + Sync + Send + 
     rt: R,
     alloc: Global,
     blank: Blank,
-    history: CommitLog,
+    commit_log: CommitLog,
     db: String,
 )
     requires name { string_bytes db ≡ D.db }
-    requires history { history ≡ D.history }
+    requires commit_log { commit_log ≡ D.history }
     requires ledger { (blank.name ≡ D.name) × (blank.parts ≡ D.parts) }
     requires parts { blank.parts ≡ 4 }
     requires opened { 3 ≡ D.shards }
@@ -47,7 +47,7 @@ fn hundred<D: Database + Send + Sync, R: Threads + Wait + Abort + Sync + Send + 
         Waiting(rt),
         alloc,
         blank,
-        history,
+        commit_log,
         db.as_str(),
         Md5Placement,
         3,
@@ -297,13 +297,13 @@ fn two<D: Database + Send + Sync, R: Threads + Wait + Abort + Sync + Send + Drop
     rt: R,
     alloc: Global,
     blank: Blank,
-    history: CommitLog,
+    commit_log: CommitLog,
     db: String,
     calls: &[Call],
     commits: u64,
 )
     requires name { string_bytes db ≡ D.db }
-    requires history { history ≡ D.history }
+    requires commit_log { commit_log ≡ D.history }
     requires ledger { (blank.name ≡ D.name) × (blank.parts ≡ D.parts) }
     requires parts { blank.parts ≡ 2 }
     requires opened { 1 ≡ D.shards }
@@ -312,7 +312,7 @@ fn two<D: Database + Send + Sync, R: Threads + Wait + Abort + Sync + Send + Drop
         Waiting(rt),
         alloc,
         blank,
-        history,
+        commit_log,
         db.as_str(),
         Md5Placement,
         1,

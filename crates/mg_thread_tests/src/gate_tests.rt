@@ -165,9 +165,9 @@ fn act<D: Database, C: Ends, R: Wait + Threads + Sync>(
 fn write_during_query<
     D: Database + Send + Sync,
     R: Threads + Wait + Abort + Sync + Send + Drop + Copy,
->(rt: R, alloc: Global, blank: Blank, history: CommitLog, db: String, during: During)
+>(rt: R, alloc: Global, blank: Blank, commit_log: CommitLog, db: String, during: During)
     requires name { string_bytes db ≡ D.db }
-    requires history { history ≡ D.history }
+    requires commit_log { commit_log ≡ D.history }
     requires ledger { (blank.name ≡ D.name) × (blank.parts ≡ D.parts) }
     requires parts { blank.parts ≡ 2 }
     requires opened { 1 ≡ D.shards }
@@ -177,7 +177,7 @@ fn write_during_query<
         ends,
         alloc,
         blank,
-        history,
+        commit_log,
         db.as_str(),
         Md5Placement,
         1,

@@ -50,11 +50,11 @@ fn begun<D: Database + Send + Sync, R: Threads + Wait + Abort + Sync + Send + Dr
     rt: R,
     alloc: Global,
     blank: Blank,
-    history: CommitLog,
+    commit_log: CommitLog,
     db: String,
 )
     requires name { string_bytes db ≡ D.db }
-    requires history { history ≡ D.history }
+    requires commit_log { commit_log ≡ D.history }
     requires ledger { (blank.name ≡ D.name) × (blank.parts ≡ D.parts) }
     requires parts { blank.parts ≡ 1 }
     requires opened { 2 ≡ D.shards }
@@ -64,7 +64,7 @@ fn begun<D: Database + Send + Sync, R: Threads + Wait + Abort + Sync + Send + Dr
         ends,
         alloc,
         blank,
-        history,
+        commit_log,
         db.as_str(),
         OnFirst,
         2,

@@ -122,7 +122,7 @@ impl<W: Write> Device<W> {
             output.old.items piece.now output.new.items result }
         ensures failed { has_failed self.new ≡ (if is_ok result then has_failed self.old else true) }
     {
-        if fits(output, piece) {
+        if try_append(output, piece) {
             return Ok(());
         }
         self.put(output)?;
@@ -132,7 +132,7 @@ impl<W: Write> Device<W> {
 }
 
 /// Appends the piece to `output` if that has room for it and gets the memory. Returns whether it did.
-fn fits(output: &mut Vec<u8>, piece: &[u8]) -> bool
+fn try_append(output: &mut Vec<u8>, piece: &[u8]) -> bool
     ensures { output.new.items ≡ (if result then output.old.items ++ piece.now else output.old.items) }
 {
     piece.len() <= MAX_OUTPUT.saturating_sub(output.len())
