@@ -120,7 +120,7 @@ impl<W: Write> Device<W> {
             output.old.items piece.now output.new.items result }
         ensures failed { has_failed self.new ≡ (if is_ok result then has_failed self.old else true) }
     {
-        if fits(output, piece) {
+        if append_if_room(output, piece) {
             return Ok(());
         }
         self.put(output)?;
@@ -130,7 +130,7 @@ impl<W: Write> Device<W> {
 }
 
 /// Appends the piece to `output` and returns `true`, if it has room for it and gets the memory.
-fn fits(output: &mut Vec<u8>, piece: &[u8]) -> bool
+fn append_if_room(output: &mut Vec<u8>, piece: &[u8]) -> bool
     ensures { output.new.items ≡ (if result then output.old.items ++ piece.now else output.old.items) }
 {
     piece.len() <= MAX_OUTPUT.saturating_sub(output.len())
