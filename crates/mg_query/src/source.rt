@@ -9,7 +9,7 @@ ghost use Rattle.mg_range.specs.Range.{range_of};
 ghost use Rattle.mg_normal.specs.Normal.{IsNormalOf};
 ghost use Rattle.mg_scan.specs.Found.{columns_of as columns_at};
 ghost use Rattle.mg_selector.specs.View.{selector_of};
-ghost use Rattle.mg_query.specs.Asked.{IsDecidedBy};
+ghost use Rattle.mg_query.specs.Plan.{IsDecidedBy};
 ghost use Rattle.mg_query.specs.Explain.{listed_source};
 ghost use Rattle.mg_query.specs.Page.{columns_of, ddoc_of, accepts_bookmark as accepts_bookmark_of, is_ddoc as is_same_ddoc, is_place_in as is_place_of_source, name_of, served_by as served_of};
 ghost use Rattle.mg_query.specs.Seen.{query_seen};
