@@ -19,7 +19,7 @@ pub record Makes (new_edits : Bool) (es : List Edit) (c : Asked) : Type 0 where
   pub shards : (n : ℕ) → shards_after n c ≡ n
 
 -- in every world the command is refused for this reason, and changes nothing
-pub record IsRefused (r : Refusal) (c : Asked) : Type 0 where
+pub record AlwaysRefused (r : Refusal) (c : Asked) : Type 0 where
   pub reply : (w : World) → reply_of w c ≡ refused r
   pub world : (w : World) → next w c ≡ w
   pub shards : (n : ℕ) → shards_after n c ≡ n
@@ -27,7 +27,7 @@ pub record IsRefused (r : Refusal) (c : Asked) : Type 0 where
 -- what was read determines what the command does in every world
 abbrev pub Determines : ReadBulk → Asked → Type 0
 Determines (Edits new_edits edits) c = Makes new_edits edits.items c
-Determines (Refused r) c = IsRefused r c
+Determines (Refused r) c = AlwaysRefused r c
 
 -- in every world the task does what the command asks
 abbrev pub Does : Task → Asked → Type 0

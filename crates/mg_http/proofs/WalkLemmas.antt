@@ -10,7 +10,7 @@ use Rattle.std.proofs.lemmas.List.{append_assoc, append-nil}
 use Rattle.std.proofs.lemmas.Slice.Eq.{bytes_eq-Decides}
 use Rattle.percent_encoding.specs.Percent.{percent_decode}
 use Rattle.mg_http.specs.declared.request.routes.Action.{Action}
-use Rattle.mg_http.specs.Routes.{RouteSegment, literal, parameter, Route, routes, same_part, takes, fits, passes_over, whole_path, means, parameters_of}
+use Rattle.mg_http.specs.Routes.{RouteSegment, literal, parameter, Route, routes, same_part, takes, takes_all, passes_over, whole_path, means, parameters_of}
 use Rattle.mg_engine.specs.declared.refusal.Refusal.TheVariants.{Missing, NoDatabase}
 use Rattle.mg_http.specs.Target.{Request, refuses, names, requested_by, request_with, request_on}
 use Rattle.mg_http.specs.Walk.{RouteMatch, path_behind, behind, begins_with, goes_on, enter, enter_as, match_of, ends_here, ends_with, request_at}
@@ -32,9 +32,9 @@ all_found p f rs = filter_map (λ r. found r.method r.asks (f r) (p r)) rs
 abbrev pub passed : List Route → List (List ℕ) → List RouteSegment → Bool
 passed rs segments path = list_any (λ r. passes_over segments path r.path) rs
 
--- the path fits, and none of these routes has a literal where the path has a parameter
+-- the path takes all segments, and none of these routes has a literal where the path has a parameter
 abbrev pub meant_in : List Route → List (List ℕ) → List RouteSegment → Bool
-meant_in rs segments path = fits segments path && not (passed rs segments path)
+meant_in rs segments path = takes_all segments path && not (passed rs segments path)
 
 or_parts : (a b : Bool) → (a || b) ≡ false → (a ≡ false) × (b ≡ false)
 or_parts true b e = cc
@@ -45,9 +45,9 @@ passed_end : (rs : List Route) (path : List RouteSegment) → passed rs [] path 
 passed_end [] path = refl
 passed_end (r ∷ rs) path = passed_end rs path
 
-fits_end : (path : List RouteSegment) → fits [] path ≡ (length path == 0)
-fits_end [] = refl
-fits_end (p ∷ path) =
+takes_all-end : (path : List RouteSegment) → takes_all [] path ≡ (length path == 0)
+takes_all-end [] = refl
+takes_all-end (p ∷ path) =
     let apart : (length (p ∷ path) == 0) ≡ false = grind (arith, nat_tests) in
     sym apart
 
@@ -108,13 +108,13 @@ by_literal all (r ∷ rs) s segments spelled some =
     ≡ cons_option (found r.method r.asks (spelled ++ parameters_of (s ∷ segments) ps) (meant_in all (s ∷ segments) ps)) later) [
       | [] ↦ rest
       | parameter ∷ qs ↦ rest ∙ sym (ap (λ (b : Bool). cons_option (found r.method r.asks (spelled ++ percent_decode s ∷ parameters_of segments qs) b) later)
-          (ap (λ (b : Bool). (takes parameter s && fits segments qs) && not b) (passed_over all s segments qs some) ∙ and_false _))
+          (ap (λ (b : Bool). (takes parameter s && takes_all segments qs) && not b) (passed_over all s segments qs some) ∙ and_false _))
       | literal t ∷ qs ↦ elim (bytes_eq t s) as (λ b. bytes_eq t s ≡ b →
           all_found test spells (cons_option (option_map (λ left. record r { path = left }) (cond b (Some qs) None)) (behind (literal s) rs))
-          ≡ cons_option (found r.method r.asks (spelled ++ parameters_of segments qs) ((b && fits segments qs) && not (passed all (s ∷ segments) (literal t ∷ qs)))) later) [
+          ≡ cons_option (found r.method r.asks (spelled ++ parameters_of segments qs) ((b && takes_all segments qs) && not (passed all (s ∷ segments) (literal t ∷ qs)))) later) [
             | true ↦ λ e.
                 ap (cons_option (found r.method r.asks (spelled ++ parameters_of segments qs) (meant_in (behind (literal s) all) segments qs))) rest
-                ∙ ap (λ (b : Bool). cons_option (found r.method r.asks (spelled ++ parameters_of segments qs) (fits segments qs && not b)) later)
+                ∙ ap (λ (b : Bool). cons_option (found r.method r.asks (spelled ++ parameters_of segments qs) (takes_all segments qs && not b)) later)
                 (sym (ap (λ u. passed all (s ∷ segments) (literal u ∷ qs)) ((bytes_eq-Decides t s).0 e) ∙ passed_literal all s segments qs))
             | false ↦ λ e. rest
           ] refl
@@ -141,13 +141,13 @@ by_parameter all (r ∷ rs) s segments spelled none absent some =
           ∙ ap (λ (ws : List (List ℕ)). cons_option (found r.method r.asks ws (meant_in (behind parameter all) segments qs)) later)
           (append_assoc spelled (percent_decode s ∷ []) (parameters_of segments qs))
           ∙ sym (ap (λ (b : Bool). cons_option (found r.method r.asks (spelled ++ percent_decode s ∷ parameters_of segments qs) b) later)
-          (ap (λ (b : Bool). (not b && fits segments qs) && not (passed all (s ∷ segments) (parameter ∷ qs))) some
-          ∙ ap (λ (b : Bool). fits segments qs && not b) (passed_parameter all s segments qs none)))
+          (ap (λ (b : Bool). (not b && takes_all segments qs) && not (passed all (s ∷ segments) (parameter ∷ qs))) some
+          ∙ ap (λ (b : Bool). takes_all segments qs && not b) (passed_parameter all s segments qs none)))
       | literal t ∷ qs ↦ λ e. rest ∙ sym (ap (λ (b : Bool). cons_option (found r.method r.asks (spelled ++ parameters_of segments qs)
-          ((b && fits segments qs) && not (passed all (s ∷ segments) (literal t ∷ qs)))) later) e)
+          ((b && takes_all segments qs) && not (passed all (s ∷ segments) (literal t ∷ qs)))) later) e)
     ] parts.0
 
--- no route fits an empty segment that none has as a literal
+-- no route matches an empty segment that none has as a literal
 by_nothing : (all rs : List Route) (s : List ℕ) (segments spelled : List (List ℕ)) → goes_on (literal s) rs ≡ false → (length s == 0) ≡ true
     → [] ≡ all_found (λ r. meant_in all (s ∷ segments) r.path) (λ r. spelled ++ parameters_of (s ∷ segments) r.path) rs
 by_nothing all [] s segments spelled absent empty = refl
@@ -159,9 +159,9 @@ by_nothing all (r ∷ rs) s segments spelled absent empty =
     → [] ≡ cons_option (found r.method r.asks (spelled ++ parameters_of (s ∷ segments) ps) (meant_in all (s ∷ segments) ps)) later) [
       | [] ↦ λ e. rest
       | parameter ∷ qs ↦ λ e. rest ∙ sym (ap (λ (b : Bool). cons_option (found r.method r.asks (spelled ++ percent_decode s ∷ parameters_of segments qs)
-          ((not b && fits segments qs) && not (passed all (s ∷ segments) (parameter ∷ qs)))) later) empty)
+          ((not b && takes_all segments qs) && not (passed all (s ∷ segments) (parameter ∷ qs)))) later) empty)
       | literal t ∷ qs ↦ λ e. rest ∙ sym (ap (λ (b : Bool). cons_option (found r.method r.asks (spelled ++ parameters_of segments qs)
-          ((b && fits segments qs) && not (passed all (s ∷ segments) (literal t ∷ qs)))) later) e)
+          ((b && takes_all segments qs) && not (passed all (s ∷ segments) (literal t ∷ qs)))) later) e)
     ] parts.0
 
 -- after all segments, the routes with nothing left are meant
@@ -172,7 +172,7 @@ by_end all (r ∷ rs) spelled =
     ap (cons_option (found r.method r.asks spelled (ends_here r))) (by_end all rs spelled)
     ∙ ap (λ (ws : List (List ℕ)). cons_option (found r.method r.asks ws (ends_here r)) (all_found (λ o. meant_in all [] o.path) (λ o. spelled ++ []) rs)) (sym (append-nil spelled))
     ∙ sym (ap (λ (b : Bool). cons_option (found r.method r.asks (spelled ++ []) b) (all_found (λ o. meant_in all [] o.path) (λ o. spelled ++ []) rs))
-    (ap (λ (b : Bool). b && not (passed all [] r.path)) (fits_end r.path)
+    (ap (λ (b : Bool). b && not (passed all [] r.path)) (takes_all-end r.path)
     ∙ ap (λ (b : Bool). ends_here r && not b) (passed_end all r.path) ∙ and-true _))
 
 -- the match from these routes finds those that are meant
@@ -262,7 +262,7 @@ below_name : (name : List ℕ) (below : List (List ℕ)) (rs : List Route) → (
     → all_found (λ r. meant_in routes below r.path) (λ r. (percent_decode name ∷ []) ++ parameters_of below r.path) rs
     ≡ all_found (means (name ∷ below)) (λ r. parameters_of (name ∷ below) (whole_path r)) rs
 below_name name below rs some =
-    sym (ap (λ (b : Bool). all_found (λ r. (not b && fits below r.path) && not (passed routes below r.path)) (λ r. percent_decode name ∷ parameters_of below r.path) rs) some)
+    sym (ap (λ (b : Bool). all_found (λ r. (not b && takes_all below r.path) && not (passed routes below r.path)) (λ r. percent_decode name ∷ parameters_of below r.path) rs) some)
 
 no_name : (name : List ℕ) (below : List (List ℕ)) (rs : List Route) → (length name == 0) ≡ true
     → [] ≡ all_found (means (name ∷ below)) (λ r. parameters_of (name ∷ below) (whole_path r)) rs
@@ -270,7 +270,7 @@ no_name name below [] empty = refl
 no_name name below (r ∷ rs) empty =
     no_name name below rs empty
     ∙ sym (ap (λ (b : Bool). cons_option (found r.method r.asks (percent_decode name ∷ parameters_of below r.path)
-    ((not b && fits below r.path) && not (passed routes below r.path))) (all_found (means (name ∷ below)) (λ o. parameters_of (name ∷ below) (whole_path o)) rs)) empty)
+    ((not b && takes_all below r.path) && not (passed routes below r.path))) (all_found (means (name ∷ below)) (λ o. parameters_of (name ∷ below) (whole_path o)) rs)) empty)
 
 -- the match of all segments finds the routes that they mean
 all_walked : (segments : List (List ℕ))

@@ -1,4 +1,4 @@
--- The routes: which paths and methods ask for what. The segments of a path mean a route that fits them, unless another route has a
+-- The routes: which paths and methods ask for what. The segments of a path mean a route that matches them, unless another route has a
 -- literal where this one has a parameter: a literal goes before a parameter.
 use Rattle.std.specs.Prelude.{ℕ, Bool, true, false, not, ◌&&◌, ◌==◌, List, [], ◌∷◌, length, bytes_eq, codes, if◌then◌else◌}
 use Rattle.std.specs.List.{list_any, slice_split}
@@ -58,11 +58,11 @@ takes (literal text) segment = bytes_eq text segment
 takes parameter segment = not (length segment == 0)
 
 -- the path has as many parts as there are segments, and each part takes its segment
-abbrev pub fits : List (List ℕ) → List RouteSegment → Bool
-fits [] [] = true
-fits [] (p ∷ path) = false
-fits (s ∷ segments) [] = false
-fits (s ∷ segments) (p ∷ path) = takes p s && fits segments path
+abbrev pub takes_all : List (List ℕ) → List RouteSegment → Bool
+takes_all [] [] = true
+takes_all [] (p ∷ path) = false
+takes_all (s ∷ segments) [] = false
+takes_all (s ∷ segments) (p ∷ path) = takes p s && takes_all segments path
 
 -- at the first part in which the two paths differ, the other one has the segment as a literal
 abbrev pub passes_over : List (List ℕ) → List RouteSegment → List RouteSegment → Bool
@@ -76,10 +76,10 @@ passes_over (s ∷ segments) (p ∷ path) (q ∷ other) =
 abbrev pub whole_path : Route → List RouteSegment
 whole_path r = parameter ∷ r.path
 
--- the segments mean the route: it fits them, and passes over no literal of the table
+-- the segments mean the route: it takes all of them, and passes over no literal of the table
 abbrev pub means : List (List ℕ) → Route → Bool
 means segments r =
-    fits segments (whole_path r) && not (list_any (λ other. passes_over segments (whole_path r) (whole_path other)) routes)
+    takes_all segments (whole_path r) && not (list_any (λ other. passes_over segments (whole_path r) (whole_path other)) routes)
 
 -- the segments mean the route, and it has the method
 abbrev pub is_asked : List ℕ → List (List ℕ) → Route → Bool

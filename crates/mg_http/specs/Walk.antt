@@ -31,7 +31,7 @@ begins_with part (p ∷ ps) = same_part p part
 abbrev pub goes_on : RouteSegment → List Route → Bool
 goes_on part rs = list_any (λ r. begins_with part r.path) rs
 
--- the state of a match: the rest of each route that still fits, and the decoded parameters so far
+-- the state of a match: the rest of each route that still matches, and the decoded parameters so far
 pub record RouteMatch : Type 0 where
   pub routes_left : List Route
   pub parameters : List (List ℕ)

@@ -32,7 +32,7 @@ use Rattle.mg_index.specs.Reading.{is_same}
 use Rattle.mg_merge.specs.Merged.{joined}
 use Rattle.mg_shard.proofs.Shown.{bytes_cmp}
 use Rattle.mg_query.specs.Laws.{CanBeReadBack, Follow, PagesReadBackJoin, answer_with, asked_after, from_first, place_at}
-use Rattle.mg_query.specs.Page.{Candidate, Page, answer_of, candidate_of, candidates_of, columns_of, ddoc_of, fits, if_served, is_asked, is_ddoc, last, name_of, order_by, page_of, page_rows, row_by, served_by, shown_of, value_at}
+use Rattle.mg_query.specs.Page.{Candidate, Page, answer_of, candidate_of, candidates_of, columns_of, ddoc_of, accepts_bookmark, if_served, is_asked, is_ddoc, last, name_of, order_by, page_of, page_rows, row_by, served_by, shown_of, value_at}
 use Rattle.mg_query.specs.Query.{Query}
 use Rattle.mg_query.proofs.Candidates.{shown_first}
 use Rattle.mg_query.proofs.Serving.{choice_served, serves}
@@ -178,7 +178,7 @@ first_taken : {X : Type 0} (n : ℕ) (x : X) (xs : List X) → 1 ≤ n → take 
 first_taken zero x xs h = absurd (omega arith)
 first_taken (suc n) x xs h = let m : n ≡ suc n - 1 = omega arith in ap (λ k. x ∷ take k xs) m
 
--- ---- the place of a document fits the index
+-- ---- the index accepts a bookmark at the place of a document
 
 ddoc_itself : (d : Option (List ℕ)) → is_ddoc d d ≡ true
 ddoc_itself None = refl
@@ -195,8 +195,8 @@ width f (column ∷ columns) = ap suc (width f columns)
 one_width : (m n : ℕ) → m ≡ n → nat_eq m n ≡ true
 one_width m n e = subst (λ k. nat_eq m k ≡ true) e (nat_eq_equiv.refl m)
 
-fits_place : (s : Source) (q : Query) (c : Candidate) (t : List ℕ) → fits s (asked_after q (Some (place_at s q c)) t) ≡ true
-fits_place s q c t =
+accepts_place : (s : Source) (q : Query) (c : Candidate) (t : List ℕ) → accepts_bookmark s (asked_after q (Some (place_at s q c)) t) ≡ true
+accepts_place s q c t =
     ap₂ ◌&&◌ (ddoc_itself (ddoc_of s)) (ap₂ ◌&&◌ ((bytes_eq-Decides (name_of s) (name_of s)).1 refl)
     (ap₂ ◌&&◌ (direction_itself q.direction) (one_width (length (item_list (items_of (map (value_at c) (columns_of s))))) (length (columns_of s)) (width (value_at c) (columns_of s)))))
 
@@ -214,7 +214,7 @@ module _ (ds : List IndexDefinition) (s : Source) (q : Query) (cs : List Candida
   page_with place t rows = page_of s (asked_after q place t) rows
 
   -- what is left after a place answers the query by the text that is read as this place
-  answered : (t : List ℕ) (place : Option Place) (left rows : List Candidate) → bookmark_read t ≡ Some place → fits s (asked_after q place t) ≡ true → filter (after place) whole ≡ left → rows ≡ take q.limit left
+  answered : (t : List ℕ) (place : Option Place) (left rows : List Candidate) → bookmark_read t ≡ Some place → accepts_bookmark s (asked_after q place t) ≡ true → filter (after place) whole ≡ left → rows ≡ take q.limit left
       → answer_with ds q cs t ≡ Some (Ok (page_with place t rows))
   answered t place left rows read fit here e =
       let asked = asked_after q place t in
@@ -236,7 +236,7 @@ module _ (ds : List IndexDefinition) (s : Source) (q : Query) (cs : List Candida
   -- there are such pages
   join : IsStrictlySortedBy (order (columns_of s) q) whole → AllByRecursion (CanBeReadBack s q) whole
       → (n : ℕ) (done left : List Candidate) (place : Option Place) (t : List ℕ) → length left ≤ n → whole ≡ done ++ left → filter (after place) whole ≡ left → bookmark_read t ≡ Some place
-      → fits s (asked_after q place t) ≡ true → Joined t left
+      → accepts_bookmark s (asked_after q place t) ≡ true → Joined t left
   join climbing back n done [] place t small parts here read fit =
       record { pages = page_with place t [] ∷ []; follow = (answered t place [] [] read fit here (sym (take-nil q.limit)), refl); all = refl }
   join climbing back zero done (c ∷ rest) place t small parts here read fit = absurd (omega (arith, small))
@@ -256,7 +256,7 @@ module _ (ds : List IndexDefinition) (s : Source) (q : Query) (cs : List Candida
       let parts_next : whole ≡ (done ++ rows) ++ later = parts ∙ ap (λ xs. done ++ xs) cut ∙ sym (append_assoc done rows later) in
       let fewer : length later ≡ length (c ∷ rest) - q.limit = length-drop q.limit (c ∷ rest) in
       let smaller : length later ≤ n = omega (arith, fewer, small, some) in
-      let next = join climbing back n (done ++ rows) later (Some (place_at s q l.end)) page.bookmark smaller parts_next here_next (ap bookmark_read mark ∙ readable) (fits_place s q l.end page.bookmark) in
+      let next = join climbing back n (done ++ rows) later (Some (place_at s q l.end)) page.bookmark smaller parts_next here_next (ap bookmark_read mark ∙ readable) (accepts_place s q l.end page.bookmark) in
       record {
         pages = page ∷ next.pages;
         follow = one_more t page next.pages (answered t place (c ∷ rest) rows read fit here (sym (first_taken q.limit c rest some))) (λ e. cc) next.follow;

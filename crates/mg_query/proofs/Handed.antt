@@ -35,13 +35,13 @@ use Rattle.mg_shard.specs.Documents.{docs_of}
 use Rattle.mg_shard.specs.Histories.{Histories}
 use Rattle.mg_shard.specs.Rows.{row_of}
 use Rattle.mg_shard.specs.Shard.{ShardView}
-use Rattle.mg_query.specs.Asked.{AreFirst, AreOfPage, IsAskedBy, IsSearchOf, rows_asked_of}
+use Rattle.mg_query.specs.Plan.{AreFirst, AreOfPage, IsPlanOf, IsSearchOf, rows_asked_of}
 use Rattle.mg_query.specs.Page.{candidates_of, columns_of, page_rows, row_by}
 use Rattle.mg_query.specs.Paged.{IsWithin}
 use Rattle.mg_query.specs.Lent.{row_at, shard_rows}
 use Rattle.mg_query.specs.Query.{Query}
 use Rattle.mg_query.specs.Served.{AreWhole, IsListed, source_seen}
-use Rattle.mg_query.specs.declared.found.Asked.{Asked}
+use Rattle.mg_query.specs.declared.found.Plan.{Plan}
 use Rattle.mg_query.proofs.Answered.{is_wanted_by, rows_of_answer}
 use Rattle.mg_query.proofs.Gathered.{listed_rows, listed_sorted, lists_in_order, rows_asked}
 
@@ -79,7 +79,7 @@ pub merged_same : (direction : Direction) (hits : List Hit) (m n : ℕ) (lists o
 merged_same direction hits m n lists others e f g = e ∙ ap₂ (λ k ls. merged_by hit_row direction k (contents_of ls)) f g
 
 -- what the query's search finds in a shard that has the columns of its target
-found_at : (q : Query) (a : Asked) (search : Search) → IsAskedBy q a → IsSearchOf q a search → (s : ShardView) → columns_at search.target s.definitions ≡ Some (columns_of (source_seen a.source)) → found_by search s ≡ rows_asked_of q a s
+found_at : (q : Query) (a : Plan) (search : Search) → IsPlanOf q a → IsSearchOf q a search → (s : ShardView) → columns_at search.target s.definitions ≡ Some (columns_of (source_seen a.source)) → found_by search s ≡ rows_asked_of q a s
 found_at q a search asks is s e =
     let columns = columns_of (source_seen a.source) in
     let documents = docs_of s.documents in
@@ -88,25 +88,25 @@ found_at q a search asks is s e =
     ∙ ap₂ (λ after count. scanned (asked a.normal (range_of a.normal.atoms columns) after count search.direction columns) documents) (is.after ∙ asks.after) is.take
     ∙ ap (λ direction. scanned (asked a.normal (range_of a.normal.atoms columns) (option_map row_at q.bookmark) (q.skip + q.limit) direction columns) documents) is.direction
 
-found_each : (q : Query) (a : Asked) (search : Search) → IsAskedBy q a → IsSearchOf q a search → (shards : List ShardView) → AllByRecursion (λ s. IsListed s.definitions (source_seen a.source)) shards
+found_each : (q : Query) (a : Plan) (search : Search) → IsPlanOf q a → IsSearchOf q a search → (shards : List ShardView) → AllByRecursion (λ s. IsListed s.definitions (source_seen a.source)) shards
     → map (found_by search) shards ≡ map (rows_asked_of q a) shards
 found_each q a search asks is [] h = refl
 found_each q a search asks is (s ∷ shards) h = ap₂ (λ x xs. x ∷ xs) (found_at q a search asks is s (is.target s.definitions h.0)) (found_each q a search asks is shards h.1)
 
 -- what it finds in shards in which the index is listed
-pub found_rows : (q : Query) (a : Asked) (search : Search) → IsAskedBy q a → IsSearchOf q a search → (shards : List ShardView) → All (λ s. IsListed s.definitions (source_seen a.source)) shards
+pub found_rows : (q : Query) (a : Plan) (search : Search) → IsPlanOf q a → IsSearchOf q a search → (shards : List ShardView) → All (λ s. IsListed s.definitions (source_seen a.source)) shards
     → map (found_by search) shards ≡ map (rows_asked_of q a) shards
 found_rows q a search asks is shards listed = found_each q a search asks is shards (recursion_from_All (λ s. IsListed s.definitions (source_seen a.source)) shards listed)
 
 -- and the first of all that
-pub found_first : (q : Query) (a : Asked) (search : Search) → IsAskedBy q a → IsSearchOf q a search → (shards : List ShardView) → All (λ s. IsListed s.definitions (source_seen a.source)) shards
+pub found_first : (q : Query) (a : Plan) (search : Search) → IsPlanOf q a → IsSearchOf q a search → (shards : List ShardView) → All (λ s. IsListed s.definitions (source_seen a.source)) shards
     → merged search.direction search.take (map (found_by search) shards) ≡ merged q.direction (q.skip + q.limit) (map (rows_asked_of q a) shards)
 found_first q a search asks is shards listed =
     ap₂ (λ direction count. merged direction count (map (found_by search) shards)) is.direction is.take
     ∙ ap (merged q.direction (q.skip + q.limit)) (found_rows q a search asks is shards listed)
 
 -- where the range decides, it does so in each shard
-pub decided_in : (q : Query) (a : Asked) (search : Search) → IsAskedBy q a → IsSearchOf q a search → a.is_decided ≡ true → (shards : List ShardView) → All (λ s. IsListed s.definitions (source_seen a.source)) shards
+pub decided_in : (q : Query) (a : Plan) (search : Search) → IsPlanOf q a → IsSearchOf q a search → a.is_decided ≡ true → (shards : List ShardView) → All (λ s. IsListed s.definitions (source_seen a.source)) shards
     → All (IsDecidedIn search.target search.normal.now search.range.now) shards
 decided_in q a search asks is decides shards listed =
     let columns = columns_of (source_seen a.source) in
@@ -121,7 +121,7 @@ decided_in q a search asks is decides shards listed =
     }) shards listed
 
 -- the first hits, of which the page passes over some
-pub first_passed : (q : Query) (a : Asked) (shards : List ShardView) (hits : List Hit) → AreFirst q a shards hits → AreOfPage q a shards q.skip hits
+pub first_passed : (q : Query) (a : Plan) (shards : List ShardView) (hits : List Hit) → AreFirst q a shards hits → AreOfPage q a shards q.skip hits
 first_passed q a shards hits first = record { rows = sym (drop-map hit_row q.skip hits) ∙ ap (drop q.skip) first.rows; hits = first.hits }
 
 -- the rows of hits, list by list

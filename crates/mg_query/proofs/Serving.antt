@@ -4,19 +4,19 @@ use Rattle.std.specs.Option.{option_map_or}
 use Rattle.mg_normal.specs.Atoms.{atoms_of}
 use Rattle.mg_index.specs.Choice.{Source, choice_of}
 use Rattle.mg_index.specs.Definition.{IndexDefinition}
-use Rattle.mg_query.specs.Page.{Unanswered, bad_bookmark, no_usable_index, fits, served_by}
+use Rattle.mg_query.specs.Page.{Unanswered, bad_bookmark, no_usable_index, accepts_bookmark, served_by}
 use Rattle.mg_query.specs.Query.{Query}
 
-pub serves : (ds : List IndexDefinition) (q : Query) (s : Source) (b : Bool) → choice_of ds (atoms_of q.selector) q.sort q.hint ≡ Some s → fits s q ≡ b → served_by ds q ≡ cond b (Ok s) (Err bad_bookmark)
-serves ds q s b e f = ap (λ (o : Option Source). option_map_or (λ t. cond (fits t q) (Ok t) (Err bad_bookmark)) o (Err no_usable_index)) e ∙ ap (λ t. cond t (Ok s) (Err bad_bookmark)) f
+pub serves : (ds : List IndexDefinition) (q : Query) (s : Source) (b : Bool) → choice_of ds (atoms_of q.selector) q.sort q.hint ≡ Some s → accepts_bookmark s q ≡ b → served_by ds q ≡ cond b (Ok s) (Err bad_bookmark)
+serves ds q s b e f = ap (λ (o : Option Source). option_map_or (λ t. cond (accepts_bookmark t q) (Ok t) (Err bad_bookmark)) o (Err no_usable_index)) e ∙ ap (λ t. cond t (Ok s) (Err bad_bookmark)) f
 
 same_served : (s t : Source) (b : Bool) → ◌≡◌ {A = Result Source Unanswered} (cond b (Ok t) (Err bad_bookmark)) (Ok s) → t ≡ s
 same_served s t true e = cc
 same_served s t false e = absurd cc
 
-choice_from : (q : Query) (s : Source) (o : Option Source) → ◌≡◌ {A = Result Source Unanswered} (option_map_or (λ t. cond (fits t q) (Ok t) (Err bad_bookmark)) o (Err no_usable_index)) (Ok s) → o ≡ Some s
+choice_from : (q : Query) (s : Source) (o : Option Source) → ◌≡◌ {A = Result Source Unanswered} (option_map_or (λ t. cond (accepts_bookmark t q) (Ok t) (Err bad_bookmark)) o (Err no_usable_index)) (Ok s) → o ≡ Some s
 choice_from q s None e = absurd cc
-choice_from q s (Some t) e = ap Some (same_served s t (fits t q) e)
+choice_from q s (Some t) e = ap Some (same_served s t (accepts_bookmark t q) e)
 
 -- what serves the query is what is chosen
 pub choice_served : (ds : List IndexDefinition) (q : Query) (s : Source) → served_by ds q ≡ Ok s → choice_of ds (atoms_of q.selector) q.sort q.hint ≡ Some s

@@ -7,4 +7,4 @@ pub mod Explain
 pub mod Laws
 pub mod Paged
 pub mod Lent
-pub mod Asked
+pub mod Plan

@@ -149,12 +149,12 @@ is_place_in s q p =
     is_ddoc p.ddoc (ddoc_of s) && (bytes_eq p.name (name_of s) && (is_same p.direction q.direction && (length (item_list p.key) == length (columns_of s))))
 
 -- whether the query's bookmark is a place in the index; true without a bookmark
-abbrev pub fits : Source → Query → Bool
-fits s q = option_map_or (is_place_in s q) q.bookmark true
+abbrev pub accepts_bookmark : Source → Query → Bool
+accepts_bookmark s q = option_map_or (is_place_in s q) q.bookmark true
 
 -- what serves the query, or why it is not answered
 abbrev pub served_by : List IndexDefinition → Query → Result Source Unanswered
-served_by ds q = option_map_or (λ s. if fits s q then Ok s else Err bad_bookmark) (choice_of ds (atoms_of q.selector) q.sort q.hint) (Err no_usable_index)
+served_by ds q = option_map_or (λ s. if accepts_bookmark s q then Ok s else Err bad_bookmark) (choice_of ds (atoms_of q.selector) q.sort q.hint) (Err no_usable_index)
 
 -- the result of f for the index that serves the query, or why the query is not answered
 abbrev pub if_served : {A : Type 0} → (Source → A) → Result Source Unanswered → Result A Unanswered

@@ -5,7 +5,7 @@ ghost use Rattle.mg_shard.specs.Shard.{HaveIndexes, shards_seen};
 ghost use Rattle.mg_scan.specs.Hit.{AreHitsOf, hit_rows};
 ghost use Rattle.mg_shard.specs.Dealt.{Placing, ShardsStandFor};
 ghost use Rattle.mg_shard.specs.Histories.{Histories};
-ghost use Rattle.mg_query.specs.Asked.{AreFirst, AreOfPage, IsAskedBy, IsSearchOf, rows_asked_of};
+ghost use Rattle.mg_query.specs.Plan.{AreFirst, AreOfPage, IsPlanOf, IsSearchOf, rows_asked_of};
 ghost use Rattle.mg_query.specs.Page.{candidates_of, columns_of, page_rows, served_by as served_of};
 ghost use Rattle.mg_query.specs.Paged.{IsWithin, counts_handed};
 ghost use Rattle.mg_query.specs.Lent.{LendEach, row_at};
@@ -46,10 +46,10 @@ pub(crate) struct PageHits<'a> {
     pub(crate) skip: u32,
 }
 
-// What a query asks of each shard: the index that serves it, its selector in normal form, its range of keys, the row of its bookmark
-// as bytes, and whether the range decides the whole selector.
+// The plan of a query: the index that serves it, its selector in normal form, its range of keys, the row of its bookmark as bytes, and
+// whether the range decides the whole selector.
 #[derive(Drop)]
-pub(crate) struct Asked<'a> {
+pub(crate) struct Plan<'a> {
     pub(crate) source: Source<'a>,
     pub(crate) normal: Normal,
     pub(crate) range: KeyRange,
@@ -85,11 +85,11 @@ pub(crate) fn find<'a, R: Threads + Sync, G: Gate + Sync>(
 {
     ranges_are_complete();
     definitions_are_catalogs(shards);
-    let asked = asked_of(alloc, query, catalog)?;
-    let range = asked.range.in_rows(alloc)?;
-    let (hits, work) = merge_first(rt, alloc, query, &asked, &range, shards, workers, gate)?;
+    let plan = plan_of(alloc, query, catalog)?;
+    let range = plan.range.in_rows(alloc)?;
+    let (hits, work) = merge_first(rt, alloc, query, &plan, &range, shards, workers, gate)?;
     Ok(Found {
-        source: asked.source,
+        source: plan.source,
         hits,
         work,
     })
@@ -116,33 +116,33 @@ pub(crate) fn find_page<'a, R: Threads + Sync, G: Gate + Sync>(
 {
     ranges_are_complete();
     definitions_are_catalogs(shards);
-    let asked = asked_of(alloc, query, catalog)?;
-    let range = asked.range.in_rows(alloc)?;
-    let (hits, skip) = page_hits(rt, alloc, query, &asked, &range, shards, workers, gate)?;
+    let plan = plan_of(alloc, query, catalog)?;
+    let range = plan.range.in_rows(alloc)?;
+    let (hits, skip) = page_hits(rt, alloc, query, &plan, &range, shards, workers, gate)?;
     Ok(PageHits {
-        source: asked.source,
+        source: plan.source,
         hits,
         skip,
     })
 }
 
-// Chooses an index of the catalog for the query, and prepares what the query asks of each shard.
-fn asked_of<'a>(
+// Chooses an index of the catalog for the query, and makes the query's plan.
+fn plan_of<'a>(
     alloc: Global,
     query: &Query<'_>,
     catalog: &'a Catalog,
-) -> Result<Asked<'a>, PageError>
+) -> Result<Plan<'a>, PageError>
     ensures answers { PageAnswers (λ a. source_seen a.source) result
         (served_of catalog.now (query_seen query.now)) }
     ensures listed { IfOk result (λ a. IsListed catalog.now (source_seen a.source)) }
-    ensures asked { IfOk result (λ a. IsAskedBy (query_seen query.now) a) }
+    ensures plan { IfOk result (λ a. IsPlanOf (query_seen query.now) a) }
 {
     let normal = Normal::of(alloc, &query.selector)?;
     let source = served_by(query, &normal, catalog)?;
     let range = source.range(alloc, &normal)?;
     let after = after_row(alloc, query)?;
     let is_decided = source.is_decided(&normal);
-    Ok(Asked {
+    Ok(Plan {
         source,
         normal,
         range,
@@ -159,15 +159,15 @@ fn row_count(query: &Query<'_>) -> usize
 }
 
 // The search that the query makes in each shard: `range` is its range as bytes, and it takes the rows that the page skips and shows.
-fn search_of<'a>(query: &Query<'_>, asked: &'a Asked<'_>, range: &'a RowRange<'_>) -> Search<'a>
-    requires range { range.now ≡ asked.now.range }
-    ensures { IsSearchOf (query_seen query.now) asked.now result }
+fn search_of<'a>(query: &Query<'_>, plan: &'a Plan<'_>, range: &'a RowRange<'_>) -> Search<'a>
+    requires range { range.now ≡ plan.now.range }
+    ensures { IsSearchOf (query_seen query.now) plan.now result }
 {
     Search {
-        target: asked.source.target(),
-        normal: &asked.normal,
+        target: plan.source.target(),
+        normal: &plan.normal,
         range,
-        after: asked.after.as_ref(),
+        after: plan.after.as_ref(),
         take: row_count(query),
         direction: query.sort.direction,
     }
@@ -178,34 +178,25 @@ fn page_hits<'a, R: Threads + Sync, G: Gate + Sync>(
     rt: &R,
     alloc: Global,
     query: &Query<'_>,
-    asked: &Asked<'_>,
+    plan: &Plan<'_>,
     range: &RowRange<'_>,
     shards: &'a [Arc<Shard>],
     workers: Workers,
     gate: &G,
 ) -> Result<(Vec<Hit<'a>>, u32), NoMemory>
-    requires asked { IsAskedBy (query_seen query.now) asked.now }
-    requires range { range.now ≡ asked.now.range }
+    requires plan { IsPlanOf (query_seen query.now) plan.now }
+    requires range { range.now ≡ plan.now.range }
     requires indexes { All
-        (λ s. IsListed s.definitions (source_seen asked.now.source)) (shards_seen shards.now) }
+        (λ s. IsListed s.definitions (source_seen plan.now.source)) (shards_seen shards.now) }
     ensures { IfOk result
-        (λ made. AreOfPage (query_seen query.now) asked.now (shards_seen shards.now) made.1 made.0.items) }
+        (λ made. AreOfPage (query_seen query.now) plan.now (shards_seen shards.now) made.1 made.0.items) }
 {
     let has_one_thread = workers.count() < 2 || shards.len() < 2;
-    let stays_here = has_one_thread || is_small(query, asked, range, shards);
+    let stays_here = has_one_thread || is_small(query, plan, range, shards);
     if workers.is_alone(stays_here) {
-        return find_alone(alloc, query, asked, range, shards);
+        return find_alone(alloc, query, plan, range, shards);
     }
-    let (hits, _) = merge_first(
-        rt,
-        alloc,
-        query,
-        asked,
-        range,
-        shards,
-        workers.count(),
-        gate,
-    )?;
+    let (hits, _) = merge_first(rt, alloc, query, plan, range, shards, workers.count(), gate)?;
     Ok((hits, query.skip))
 }
 
@@ -214,22 +205,22 @@ fn page_hits<'a, R: Threads + Sync, G: Gate + Sync>(
 fn find_alone<'a>(
     alloc: Global,
     query: &Query<'_>,
-    asked: &Asked<'_>,
+    plan: &Plan<'_>,
     range: &RowRange<'_>,
     shards: &'a [Arc<Shard>],
 ) -> Result<(Vec<Hit<'a>>, u32), NoMemory>
-    requires asked { IsAskedBy (query_seen query.now) asked.now }
-    requires range { range.now ≡ asked.now.range }
+    requires plan { IsPlanOf (query_seen query.now) plan.now }
+    requires range { range.now ≡ plan.now.range }
     requires indexes { All
-        (λ s. IsListed s.definitions (source_seen asked.now.source)) (shards_seen shards.now) }
+        (λ s. IsListed s.definitions (source_seen plan.now.source)) (shards_seen shards.now) }
     ensures { IfOk result
-        (λ made. AreOfPage (query_seen query.now) asked.now (shards_seen shards.now) made.1 made.0.items) }
+        (λ made. AreOfPage (query_seen query.now) plan.now (shards_seen shards.now) made.1 made.0.items) }
 {
-    if asked.is_decided {
-        let hits = pull_page(alloc, query, asked, range, shards)?;
+    if plan.is_decided {
+        let hits = pull_page(alloc, query, plan, range, shards)?;
         return Ok((hits, 0));
     }
-    let hits = pull_hits(alloc, query, asked, range, shards)?;
+    let hits = pull_hits(alloc, query, plan, range, shards)?;
     Ok((hits, query.skip))
 }
 
@@ -237,19 +228,19 @@ fn find_alone<'a>(
 fn pull_page<'a>(
     alloc: Global,
     query: &Query<'_>,
-    asked: &Asked<'_>,
+    plan: &Plan<'_>,
     range: &RowRange<'_>,
     shards: &'a [Arc<Shard>],
 ) -> Result<Vec<Hit<'a>>, NoMemory>
-    requires decided { asked.now.is_decided ≡ true }
-    requires asked { IsAskedBy (query_seen query.now) asked.now }
-    requires range { range.now ≡ asked.now.range }
+    requires decided { plan.now.is_decided ≡ true }
+    requires plan { IsPlanOf (query_seen query.now) plan.now }
+    requires range { range.now ≡ plan.now.range }
     requires indexes { All
-        (λ s. IsListed s.definitions (source_seen asked.now.source)) (shards_seen shards.now) }
+        (λ s. IsListed s.definitions (source_seen plan.now.source)) (shards_seen shards.now) }
     ensures { IfOk result
-        (λ hits. AreOfPage (query_seen query.now) asked.now (shards_seen shards.now) 0 hits.items) }
+        (λ hits. AreOfPage (query_seen query.now) plan.now (shards_seen shards.now) 0 hits.items) }
 {
-    let search = search_of(query, asked, range);
+    let search = search_of(query, plan, range);
     let (hits, _) = pull_rows(alloc, shards, search, query.skip as usize)?;
     Ok(hits)
 }
@@ -258,18 +249,18 @@ fn pull_page<'a>(
 fn pull_hits<'a>(
     alloc: Global,
     query: &Query<'_>,
-    asked: &Asked<'_>,
+    plan: &Plan<'_>,
     range: &RowRange<'_>,
     shards: &'a [Arc<Shard>],
 ) -> Result<Vec<Hit<'a>>, NoMemory>
-    requires asked { IsAskedBy (query_seen query.now) asked.now }
-    requires range { range.now ≡ asked.now.range }
+    requires plan { IsPlanOf (query_seen query.now) plan.now }
+    requires range { range.now ≡ plan.now.range }
     requires indexes { All
-        (λ s. IsListed s.definitions (source_seen asked.now.source)) (shards_seen shards.now) }
+        (λ s. IsListed s.definitions (source_seen plan.now.source)) (shards_seen shards.now) }
     ensures { IfOk result
-        (λ hits. AreFirst (query_seen query.now) asked.now (shards_seen shards.now) hits.items) }
+        (λ hits. AreFirst (query_seen query.now) plan.now (shards_seen shards.now) hits.items) }
 {
-    let (hits, _) = pull_lent(alloc, shards, search_of(query, asked, range))?;
+    let (hits, _) = pull_lent(alloc, shards, search_of(query, plan, range))?;
     Ok(hits)
 }
 
@@ -278,25 +269,25 @@ fn merge_first<'a, R: Threads + Sync, G: Gate + Sync>(
     rt: &R,
     alloc: Global,
     query: &Query<'_>,
-    asked: &Asked<'_>,
+    plan: &Plan<'_>,
     range: &RowRange<'_>,
     shards: &'a [Arc<Shard>],
     workers: usize,
     gate: &G,
 ) -> Result<(Vec<Hit<'a>>, Work), NoMemory>
     requires workers { (0 < workers) × (workers ≤ 32) }
-    requires asked { IsAskedBy (query_seen query.now) asked.now }
-    requires range { range.now ≡ asked.now.range }
+    requires plan { IsPlanOf (query_seen query.now) plan.now }
+    requires range { range.now ≡ plan.now.range }
     requires indexes { All
-        (λ s. IsListed s.definitions (source_seen asked.now.source)) (shards_seen shards.now) }
+        (λ s. IsListed s.definitions (source_seen plan.now.source)) (shards_seen shards.now) }
     ensures hits { IfOk result
-        (λ made. AreFirst (query_seen query.now) asked.now (shards_seen shards.now) made.0.items) }
+        (λ made. AreFirst (query_seen query.now) plan.now (shards_seen shards.now) made.0.items) }
     ensures work { IfOk result
         (λ made. IsWithin (length shards.now) (query.now.skip + query.now.limit) made.1) }
     ensures handed { IfOk result (λ made. made.1.handed
-        ≡ map (λ s. length (rows_asked_of (query_seen query.now) asked.now s)) (shards_seen shards.now)) }
+        ≡ map (λ s. length (rows_asked_of (query_seen query.now) plan.now s)) (shards_seen shards.now)) }
 {
-    let lists = lists_of(rt, alloc, query, asked, range, shards, workers, gate)?;
+    let lists = lists_of(rt, alloc, query, plan, range, shards, workers, gate)?;
     let (hits, work) = merge_all(alloc, &lists, query.sort.direction, row_count(query))?;
     Ok((hits, work))
 }
@@ -306,23 +297,23 @@ fn lists_of<'a, R: Threads + Sync, G: Gate + Sync>(
     rt: &R,
     alloc: Global,
     query: &Query<'_>,
-    asked: &Asked<'_>,
+    plan: &Plan<'_>,
     range: &RowRange<'_>,
     shards: &'a [Arc<Shard>],
     workers: usize,
     gate: &G,
 ) -> Result<Vec<Vec<Hit<'a>>>, NoMemory>
     requires workers { (0 < workers) × (workers ≤ 32) }
-    requires asked { IsAskedBy (query_seen query.now) asked.now }
-    requires range { range.now ≡ asked.now.range }
+    requires plan { IsPlanOf (query_seen query.now) plan.now }
+    requires range { range.now ≡ plan.now.range }
     requires indexes { All
-        (λ s. IsListed s.definitions (source_seen asked.now.source)) (shards_seen shards.now) }
+        (λ s. IsListed s.definitions (source_seen plan.now.source)) (shards_seen shards.now) }
     ensures rows { IfOk result (λ lists. map (λ hits. hit_rows hits.items) lists.items
-        ≡ map (rows_asked_of (query_seen query.now) asked.now) (shards_seen shards.now)) }
+        ≡ map (rows_asked_of (query_seen query.now) plan.now) (shards_seen shards.now)) }
     ensures hits { IfOk result
         (λ lists. AllZip (λ s hits. AreHitsOf s.documents hits.items) (shards_seen shards.now) lists.items) }
 {
-    let search = search_of(query, asked, range);
+    let search = search_of(query, plan, range);
     scan_lent(rt, alloc, shards, search, workers, gate)
 }
 
@@ -337,23 +328,18 @@ const SMALL_ROWS: usize = 4000;
 const SMALL_SCAN: usize = 1000;
 
 // Whether a second thread would cost more than it saves: the page is small, or the shards have little to read.
-fn is_small(
-    query: &Query<'_>,
-    asked: &Asked<'_>,
-    range: &RowRange<'_>,
-    shards: &[Arc<Shard>],
-) -> bool
-    requires range { range.now ≡ asked.now.range }
+fn is_small(query: &Query<'_>, plan: &Plan<'_>, range: &RowRange<'_>, shards: &[Arc<Shard>]) -> bool
+    requires range { range.now ≡ plan.now.range }
 {
-    is_small_page(query, asked) || reads_at_most(shards, search_of(query, asked, range), SMALL_SCAN)
+    is_small_page(query, plan) || reads_at_most(shards, search_of(query, plan, range), SMALL_SCAN)
 }
 
 // Whether the page is small, judged without a look at the shards.
-fn is_small_page(query: &Query<'_>, asked: &Asked<'_>) -> bool {
+fn is_small_page(query: &Query<'_>, plan: &Plan<'_>) -> bool {
     let count = row_count(query);
-    let has_bound = asked.range.entered_at(Direction::Asc).is_some()
-        || asked.range.entered_at(Direction::Desc).is_some();
-    has_bound && count <= SMALL_PAGE || asked.is_decided && query.limit as usize <= SMALL_ROWS
+    let has_bound = plan.range.entered_at(Direction::Asc).is_some()
+        || plan.range.entered_at(Direction::Desc).is_some();
+    has_bound && count <= SMALL_PAGE || plan.is_decided && query.limit as usize <= SMALL_ROWS
 }
 
 // The row after which the page begins, as bytes, if there is a bookmark.

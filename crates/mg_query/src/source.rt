@@ -9,9 +9,9 @@ ghost use Rattle.mg_range.specs.Range.{range_of};
 ghost use Rattle.mg_normal.specs.Normal.{IsNormalOf};
 ghost use Rattle.mg_scan.specs.Found.{columns_of as columns_at};
 ghost use Rattle.mg_selector.specs.View.{selector_of};
-ghost use Rattle.mg_query.specs.Asked.{IsDecidedBy};
+ghost use Rattle.mg_query.specs.Plan.{IsDecidedBy};
 ghost use Rattle.mg_query.specs.Explain.{listed_source};
-ghost use Rattle.mg_query.specs.Page.{columns_of, ddoc_of, fits as fits_source, is_ddoc as is_same_ddoc, is_place_in as is_place_of_source, name_of, served_by as served_of};
+ghost use Rattle.mg_query.specs.Page.{columns_of, ddoc_of, accepts_bookmark as accepts_bookmark_of, is_ddoc as is_same_ddoc, is_place_in as is_place_of_source, name_of, served_by as served_of};
 ghost use Rattle.mg_query.specs.Seen.{query_seen};
 ghost use Rattle.mg_query.specs.Served.{PageAnswers, Chooses, IsListed, source_seen};
 
@@ -49,7 +49,7 @@ pub(crate) fn served_by<'a>(
     ensures listed { IfOk result (λ s. IsListed catalog.now (source_seen s)) }
 {
     let source = choose_source(query, normal, catalog)?;
-    if fits(source, query) {
+    if accepts_bookmark(source, query) {
         Ok(source)
     } else {
         Err(PageError::BadBookmark)
@@ -73,8 +73,8 @@ fn choose_source<'a>(
 }
 
 // Whether the query's bookmark belongs to the index, read in the query's direction; true without a bookmark.
-fn fits(source: Source<'_>, query: &Query<'_>) -> bool
-    ensures { result ≡ fits_source (source_seen source.entry) (query_seen query.now) }
+fn accepts_bookmark(source: Source<'_>, query: &Query<'_>) -> bool
+    ensures { result ≡ accepts_bookmark_of (source_seen source.entry) (query_seen query.now) }
 {
     match &query.bookmark {
         Some(bookmark) => is_place_in(source, query, bookmark),

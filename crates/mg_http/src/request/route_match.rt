@@ -16,7 +16,7 @@ use crate::request::table::Table;
 use std::alloc::{AllocError, Global};
 use std::borrow::CowSlice;
 
-/// The state of a match: the rest of each route that still fits, and the decoded parameters so far.
+/// The state of a match: the rest of each route that still matches, and the decoded parameters so far.
 #[derive(Drop)]
 pub struct RouteMatch {
     pub routes: CowSlice<'static, Route>,
@@ -159,7 +159,7 @@ fn is_literal(table: &Table, segment: &[u8]) -> bool
 }
 
 impl RouteMatch {
-    /// The state after the database's name. No route fits an empty name.
+    /// The state after the database's name. No route matches an empty name.
     fn new(alloc: Global, name: &[u8]) -> Result<RouteMatch, AllocError>
         ensures matched { IfOk result (λ p. match_in p ≡ record {
           routes_left = if length name.now == 0 then [] else routes;

@@ -17,31 +17,31 @@ use Rattle.mg_query.proofs.found.find.Goals as goal
 
 pub merge_first-requires-clause-indexes : goal.merge_first-requires-clause-indexes
 merge_first-requires-clause-indexes g c = λ κs within.
-    listed_in_each c.args.catalog.now (source_seen c.in_ok-asked.asked.source) (shards_seen c.args.shards.now) c.in_ok-asked.ensures.listed c.definitions_are_catalogs.ensures c.requires.indexes
+    listed_in_each c.args.catalog.now (source_seen c.in_ok-plan.plan.source) (shards_seen c.args.shards.now) c.in_ok-plan.ensures.listed c.definitions_are_catalogs.ensures c.requires.indexes
 
 pub returns-clause-hits : goal.returns-clause-hits
 returns-clause-hits g c = λ place hs stands whole.
     let q = query_seen c.args.query.now in
     let ds = c.args.catalog.now in
-    let asked = c.in_ok-asked.asked in
-    let s = source_seen asked.source in
+    let plan = c.in_ok-plan.plan in
+    let s = source_seen plan.source in
     let columns = columns_of s in
     let shards = shards_seen c.args.shards.now in
     let hits = c.in_ok-hits.hits.items in
     let first = c.in_ok-hits.ensures.hits in
-    let usable = choice_usable ds (atoms_of q.selector) q.sort q.hint s (choice_served ds q s c.in_ok-asked.ensures.answers) in
+    let usable = choice_usable ds (atoms_of q.selector) q.sort q.hint s (choice_served ds q s c.in_ok-plan.ensures.answers) in
     lend_first columns q place hs shards q.skip hits stands first.hits
-    (rows_handed q columns asked.normal c.in_ok-asked.ensures.asked.normal c.ranges_are_complete.ensures usable place shards hs stands whole hits first.rows)
+    (rows_handed q columns plan.normal c.in_ok-plan.ensures.plan.normal c.ranges_are_complete.ensures usable place shards hs stands whole hits first.rows)
 
 pub returns-clause-handed : goal.returns-clause-handed
 returns-clause-handed g c = λ place hs stands whole.
     let q = query_seen c.args.query.now in
     let ds = c.args.catalog.now in
-    let asked = c.in_ok-asked.asked in
-    let s = source_seen asked.source in
+    let plan = c.in_ok-plan.plan in
+    let s = source_seen plan.source in
     let columns = columns_of s in
     let shards = shards_seen c.args.shards.now in
-    let usable = choice_usable ds (atoms_of q.selector) q.sort q.hint s (choice_served ds q s c.in_ok-asked.ensures.answers) in
+    let usable = choice_usable ds (atoms_of q.selector) q.sort q.hint s (choice_served ds q s c.in_ok-plan.ensures.answers) in
     c.in_ok-hits.ensures.handed
-    ∙ listed_counts c.ranges_are_complete.ensures q columns asked.normal c.in_ok-asked.ensures.asked.normal usable place shards hs stands whole
+    ∙ listed_counts c.ranges_are_complete.ensures q columns plan.normal c.in_ok-plan.ensures.plan.normal usable place shards hs stands whole
     ∙ ap (λ n. counts_handed columns q place n hs) (length-map c.args.shards.now arc_value)

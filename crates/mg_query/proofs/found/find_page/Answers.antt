@@ -13,18 +13,18 @@ use Rattle.mg_query.proofs.found.find_page.Goals as goal
 
 pub page_hits-requires-clause-indexes : goal.page_hits-requires-clause-indexes
 page_hits-requires-clause-indexes g c = λ κs within.
-    listed_in_each c.args.catalog.now (source_seen c.in_ok-asked.asked.source) (shards_seen c.args.shards.now) c.in_ok-asked.ensures.listed c.definitions_are_catalogs.ensures c.requires.indexes
+    listed_in_each c.args.catalog.now (source_seen c.in_ok-plan.plan.source) (shards_seen c.args.shards.now) c.in_ok-plan.ensures.listed c.definitions_are_catalogs.ensures c.requires.indexes
 
 pub returns-clause-hits : goal.returns-clause-hits
 returns-clause-hits g c = λ place hs stands whole.
     let q = query_seen c.args.query.now in
     let ds = c.args.catalog.now in
-    let asked = c.in_ok-asked.asked in
-    let s = source_seen asked.source in
+    let plan = c.in_ok-plan.plan in
+    let s = source_seen plan.source in
     let columns = columns_of s in
     let shards = shards_seen c.args.shards.now in
     let hits = c.in_ok-hits.hits.items in
     let first = c.in_ok-hits.ensures in
-    let usable = choice_usable ds (atoms_of q.selector) q.sort q.hint s (choice_served ds q s c.in_ok-asked.ensures.answers) in
+    let usable = choice_usable ds (atoms_of q.selector) q.sort q.hint s (choice_served ds q s c.in_ok-plan.ensures.answers) in
     lend_first columns q place hs shards c.in_ok-hits.skip hits stands first.hits
-    (first.rows ∙ rows_merged q columns asked.normal c.in_ok-asked.ensures.asked.normal c.ranges_are_complete.ensures usable place shards hs stands whole)
+    (first.rows ∙ rows_merged q columns plan.normal c.in_ok-plan.ensures.plan.normal c.ranges_are_complete.ensures usable place shards hs stands whole)

@@ -10,5 +10,5 @@ use Rattle.mg_query.proofs.found.lists_of.Goals as goal
 pub returns-clause-rows : goal.returns-clause-rows
 returns-clause-rows g c =
     subst (λ (rows : List (List RowValue)). IfOk c.scan_lent.result (λ lists. map (λ hits. hit_rows hits.items) lists.items ≡ rows))
-    (found_rows (query_seen c.args.query.now) c.args.asked.now c.search_of-search.result c.requires.asked c.search_of-search.ensures (shards_seen c.args.shards.now) c.requires.indexes)
+    (found_rows (query_seen c.args.query.now) c.args.plan.now c.search_of-search.result c.requires.plan c.search_of-search.ensures (shards_seen c.args.shards.now) c.requires.indexes)
     c.scan_lent.ensures.rows

@@ -6,6 +6,6 @@ use Rattle.mg_query.proofs.found.pull_hits.Goals as goal
 
 pub returns : goal.returns
 returns c = record {
-  rows = c.in_ok-hits.ensures.rows ∙ found_first (query_seen c.args.query.now) c.args.asked.now c.search_of.result c.requires.asked c.search_of.ensures (shards_seen c.args.shards.now) c.requires.indexes;
+  rows = c.in_ok-hits.ensures.rows ∙ found_first (query_seen c.args.query.now) c.args.plan.now c.search_of.result c.requires.plan c.search_of.ensures (shards_seen c.args.shards.now) c.requires.indexes;
   hits = c.in_ok-hits.ensures.hits;
 }

@@ -6,12 +6,12 @@ use Rattle.mg_query.proofs.found.pull_page.Goals as goal
 
 pub pull_rows-requires : goal.pull_rows-requires
 pull_rows-requires c =
-    record { decided = decided_in (query_seen c.args.query.now) c.args.asked.now c.search_of-search.result c.requires.asked c.search_of-search.ensures c.requires.decided (shards_seen c.args.shards.now) c.requires.indexes }
+    record { decided = decided_in (query_seen c.args.query.now) c.args.plan.now c.search_of-search.result c.requires.plan c.search_of-search.ensures c.requires.decided (shards_seen c.args.shards.now) c.requires.indexes }
 
 pub returns : goal.returns
 returns c =
     let q = query_seen c.args.query.now in
     record {
-      rows = c.in_ok-hits.ensures.rows ∙ ap (drop q.skip) (found_first q c.args.asked.now c.search_of-search.result c.requires.asked c.search_of-search.ensures (shards_seen c.args.shards.now) c.requires.indexes);
+      rows = c.in_ok-hits.ensures.rows ∙ ap (drop q.skip) (found_first q c.args.plan.now c.search_of-search.result c.requires.plan c.search_of-search.ensures (shards_seen c.args.shards.now) c.requires.indexes);
       hits = c.in_ok-hits.ensures.hits;
     }

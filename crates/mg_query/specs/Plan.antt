@@ -16,21 +16,21 @@ use Rattle.mg_query.specs.Lent.{row_at, shard_rows}
 use Rattle.mg_query.specs.Page.{columns_of}
 use Rattle.mg_query.specs.Query.{Query}
 use Rattle.mg_query.specs.Served.{IsListed, source_seen}
-use Rattle.mg_query.specs.declared.found.Asked.{Asked}
+use Rattle.mg_query.specs.declared.found.Plan.{Plan}
 
 -- the normal form asks nothing besides atoms, and their range at the columns decides each of them
 abbrev pub IsDecidedBy : List Steps → NormalForm → Type 0
 IsDecidedBy columns normal = (is_some normal.rest ≡ false) × (decides_of normal.atoms columns ≡ true)
 
--- the code's `Asked` is what the query asks of each shard
-pub record IsAskedBy (q : Query) (a : Asked) : Type 0 where
+-- the code's `Plan` is what the query asks of each shard
+pub record IsPlanOf (q : Query) (a : Plan) : Type 0 where
   pub normal : IsNormalOf q.selector a.normal
   pub range : a.range ≡ range_of a.normal.atoms (columns_of (source_seen a.source))
   pub after : a.after ≡ option_map row_at q.bookmark
   pub decided : a.is_decided ≡ true → IsDecidedBy (columns_of (source_seen a.source)) a.normal
 
 -- the search asks a shard for this, and takes as many rows as the page skips and shows
-pub record IsSearchOf (q : Query) (a : Asked) (s : Search) : Type 0 where
+pub record IsSearchOf (q : Query) (a : Plan) (s : Search) : Type 0 where
   pub target : (ds : List IndexDefinition) → IsListed ds (source_seen a.source) → columns_at s.target ds ≡ Some (columns_of (source_seen a.source))
   pub normal : s.normal.now ≡ a.normal
   pub range : s.range.now ≡ a.range
@@ -39,15 +39,15 @@ pub record IsSearchOf (q : Query) (a : Asked) (s : Search) : Type 0 where
   pub direction : s.direction ≡ q.direction
 
 -- the rows that a shard lists for the query
-abbrev pub rows_asked_of : Query → Asked → ShardView → List RowValue
+abbrev pub rows_asked_of : Query → Plan → ShardView → List RowValue
 rows_asked_of q a = shard_rows a.normal (columns_of (source_seen a.source)) q
 
 -- the hits are the first of what all shards list, each of a document of one of them
-pub record AreFirst (q : Query) (a : Asked) (shards : List ShardView) (found : List Hit) : Type 0 where
+pub record AreFirst (q : Query) (a : Plan) (shards : List ShardView) (found : List Hit) : Type 0 where
   pub rows : hit_rows found ≡ merged q.direction (q.skip + q.limit) (map (rows_asked_of q a) shards)
   pub hits : AreHitsIn shards found
 
 -- without the first `skip`, the hits are those that the page shows; each is of a document of one of the shards
-pub record AreOfPage (q : Query) (a : Asked) (shards : List ShardView) (skip : ℕ) (found : List Hit) : Type 0 where
+pub record AreOfPage (q : Query) (a : Plan) (shards : List ShardView) (skip : ℕ) (found : List Hit) : Type 0 where
   pub rows : hit_rows (drop skip found) ≡ drop q.skip (merged q.direction (q.skip + q.limit) (map (rows_asked_of q a) shards))
   pub hits : AreHitsIn shards found
