@@ -1,6 +1,6 @@
 -- Shards may cross threads.
 use denote.Param.Send.{IsSend, IsSync, sendable}
-use Rattle.std.proofs.Crossing.{crosses}
+use Rattle.std.proofs.Crossing.{crosses, send as heap_send, sync as heap_sync}
 use Rattle.std.proofs.MapsCrossing.{crosses as maps}
 use Rattle.mg_index.proofs.definition.IndexDef.TheSendSync as definition
 use Rattle.mg_packed.proofs.packed.Packed.TheSendSync as packed
@@ -54,22 +54,22 @@ pub shared_sync : IsSync Shared.the_row
 shared_sync = search (sendable, crosses, maps, leaf_send, leaf_sync) depth 40
 
 pub grown_send : IsSend Grown.the_row
-grown_send = search (sendable, crosses, maps, shared_send, shared_sync, links.the_send, links.the_sync) depth 40
+grown_send = search (sendable, crosses, maps, shared_send, links.the_send, links.the_sync) depth 40
 
 pub grown_sync : IsSync Grown.the_row
-grown_sync = search (sendable, crosses, maps, shared_send, shared_sync, links.the_send, links.the_sync) depth 40
+grown_sync = search (sendable, crosses, maps, shared_sync, links.the_send, links.the_sync) depth 40
 
 pub growth_send : IsSend Growth.the_row
-growth_send = search (sendable, crosses, maps, grown_send, shared_send, shared_sync, links.the_send, links.the_sync) depth 40
+growth_send = search (sendable, crosses, maps, grown_send, shared_send, links.the_send, links.the_sync) depth 40
 
 pub growth_sync : IsSync Growth.the_row
-growth_sync = search (sendable, crosses, maps, grown_sync, shared_send, shared_sync, links.the_send, links.the_sync) depth 40
+growth_sync = search (sendable, crosses, maps, grown_sync, shared_sync, links.the_send, links.the_sync) depth 40
 
 pub tree_send : IsSend RevTree.the_row
-tree_send = search (sendable, crosses, maps, growth_send) depth 40
+tree_send = search (sendable, crosses, maps, heap_send, growth_send, shared_send, shared_sync, links.the_send, links.the_sync) depth 40 fits 50000
 
 pub tree_sync : IsSync RevTree.the_row
-tree_sync = search (sendable, crosses, maps, growth_sync) depth 40
+tree_sync = search (sendable, crosses, maps, heap_sync, growth_sync, shared_send, shared_sync, links.the_send, links.the_sync) depth 40 fits 50000
 
 pub served_send : IsSend Served.the_row
 served_send = search (sendable, crosses, maps, form_send) depth 40
