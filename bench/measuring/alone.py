@@ -1,4 +1,4 @@
-"""Measures the program alone: workers, edits of one document, many clients, rows that pages skip, and many indexes."""
+"""Measures the program alone: workers, edits of one document, many clients, rows that pages skip, many indexes, and deleted documents."""
 import contextlib
 import json
 import re
@@ -20,6 +20,7 @@ CROWD_SECONDS = 5
 SKIPPED = 10000
 MANY_INDEXES = (250, 500, 1000)
 MANY_SHARDS = (64, 32)
+DELETED = 50000
 
 
 def placed_anew(program, shards):
@@ -169,4 +170,23 @@ def defined(args, count):
         return time.monotonic() - clock
 
 
-PARTS = {"workers": workers, "edits": edits, "crowd": crowd, "skips": skips, "catalogs": catalogs}
+def deleted(args):
+    """The table of the memory that a document takes which was made and then deleted."""
+    count = 1000 if args.smallest else DELETED
+    with contextlib.closing(Program(args.program, args.corpus(BULK))) as program:
+        for at in range(0, count, BULK):
+            made = edited(program, [{"_id": f"deleted{number:07}", "n": number} for number in range(at, at + BULK)])
+            edited(program, [{"_id": one["id"], "_rev": one["rev"], "_deleted": True} for one in made])
+        return grid("a document that was made and deleted", [f"{count:,} documents"], {"bytes": [program.size() / count]})
+
+
+def edited(program, documents):
+    """The reply to a bulk of documents, each of which is accepted."""
+    status, body = program.connection.exchange(message("POST", "_bulk_docs", {"docs": documents}))
+    rows = json.loads(body)
+    if status != b"201" or not all(row.get("rev") for row in rows):
+        raise SystemExit(f"a bulk was answered by {status} {body[:300]}")
+    return rows
+
+
+PARTS = {"workers": workers, "edits": edits, "crowd": crowd, "skips": skips, "catalogs": catalogs, "deleted": deleted}

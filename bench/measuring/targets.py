@@ -146,6 +146,7 @@ TARGETS = [
      each(growth("equality", 1.5), growth("commit", 1.5))),
     ("a flat document without indexes takes at most 1,000 bytes, a nested one with three 1,300",
      each(bytes_of("memory", "flat", 1000), bytes_of("indexed", "nested", 1300))),
+    ("a document that was made and deleted takes at most 300 bytes", cells_at_most("deleted", 300)),
     ("a row of an index, flat and nested, takes at most 80 bytes", index_row(80)),
     ("four clients make 1.6 times the commits of one", writers(1.6)),
     ("an equality query, 25 below a price and a commit take at most 35,000, 45,000 and 60,000 instructions",
