@@ -13,7 +13,7 @@ use Rattle.std.proofs.MapsCrossing.{crosses as maps}
 use Rattle.mg_index.specs.contracts.definition.IndexDef as IndexDef
 use Rattle.mg_index.proofs.definition.IndexDef.TheSendSync as definition
 use Rattle.mg_normal.specs.contracts.atom.Atom as Atom
-use Rattle.mg_normal.specs.contracts.form.Form as Form
+use Rattle.mg_normal.specs.contracts.condition.Condition as Condition
 use Rattle.mg_normal.specs.contracts.normal.Normal as Normal
 use Rattle.mg_path.proofs.path.Path.TheSendSync as path
 use Rattle.mg_range.proofs.row_range.SpanEnds.TheSendSync as ends
@@ -66,26 +66,26 @@ op_sync = variants_sync Op.enum ((search (sendable, crosses, maps, as_row_sync, 
 op_field_sync : IsSync (Op.the_field).row
 op_field_sync = enum_sync (E.shape Op.the_type) ((json_field_sync, tt), ((json_field_sync, tt), ((json_field_sync, tt), ((json_field_sync, tt), ((json_field_sync, tt), ((json_field_sync, tt), ((search (sendable, crosses, maps) depth 20, tt), ((search (sendable, crosses, maps) depth 20, tt), ((search (sendable, crosses, maps, json_sync) depth 20, tt), ((search (sendable, crosses, maps, json_sync) depth 20, tt), ((search (sendable, crosses, maps) depth 20, tt), ((search (sendable, crosses, maps) depth 20, (search (sendable, crosses, maps) depth 20, tt)), ((search (sendable, crosses, maps, json_sync) depth 20, tt), ((search (sendable, crosses, maps, sel_hole) depth 20, tt), ((search (sendable, crosses, maps, sel_hole) depth 20, tt), tt)))))))))))))))
 
--- ---- forms
+-- ---- conditions
 
-form_ring : IsSync (holes Form.the_ring Form.the_member)
-form_ring =
-    fix_pulls Form.the_ring (record { G = Unit {0}; member = λ _. Form.the_member; law = λ _. sync }) (λ h pull all g.
+condition_ring : IsSync (holes Condition.the_ring Condition.the_member)
+condition_ring =
+    fix_pulls Condition.the_ring (record { G = Unit {0}; member = λ _. Condition.the_member; law = λ _. sync }) (λ h pull all g.
     let a = all tt in
-    let T = Form.the_layer h in
+    let T = Condition.the_layer h in
     recorded_sync (Enum (E.shape T)) T.D T.to T.to_one (enum_sync (E.shape T) ((search (sendable, crosses, maps, a) depth 20, tt), ((search (sendable, crosses, maps, a) depth 20, tt), ((search (sendable, crosses, maps, path.the_sync) depth 20, (search (sendable, crosses, maps, a) depth 20, tt)), ((op_sync, (search (sendable, crosses, maps) depth 20, tt)), tt)))))) tt
 
-form_hole : IsSync Form.the_hole
-form_hole = form_ring
+condition_hole : IsSync Condition.the_hole
+condition_hole = condition_ring
 
-form_sync : IsSync Form.the_row
-form_sync = variants_sync Form.enum ((search (sendable, crosses, maps, as_row_sync, form_hole) depth 20, tt), ((search (sendable, crosses, maps, as_row_sync, form_hole) depth 20, tt), ((search (sendable, crosses, maps, as_row_sync, path.the_sync) depth 20, (search (sendable, crosses, maps, as_row_sync, form_hole) depth 20, tt)), ((search (sendable, crosses, maps, as_row_sync, op_sync) depth 20, (search (sendable, crosses, maps, as_row_sync) depth 20, tt)), tt))))
+condition_sync : IsSync Condition.the_row
+condition_sync = variants_sync Condition.enum ((search (sendable, crosses, maps, as_row_sync, condition_hole) depth 20, tt), ((search (sendable, crosses, maps, as_row_sync, condition_hole) depth 20, tt), ((search (sendable, crosses, maps, as_row_sync, path.the_sync) depth 20, (search (sendable, crosses, maps, as_row_sync, condition_hole) depth 20, tt)), ((search (sendable, crosses, maps, as_row_sync, op_sync) depth 20, (search (sendable, crosses, maps, as_row_sync) depth 20, tt)), tt))))
 
 atom_sync : IsSync Atom.the_row
 atom_sync = search (sendable, crosses, maps, op_field_sync) depth 40
 
 pub normal_sync : IsSync Normal.the_row
-normal_sync = search (sendable, crosses, maps, atom_sync, form_sync) depth 40
+normal_sync = search (sendable, crosses, maps, atom_sync, condition_sync) depth 40
 
 -- ---- the whole search
 
