@@ -1,7 +1,7 @@
 //! The text, the order and a copy of a packed value.
 use crate::given::{check, json};
 use crate::packed_tests::{COMPACT, given, is_part};
-use mg_packed::{Packed, Part};
+use mg_packed::{Packed, Part, Written};
 use mg_value::Json;
 use std::alloc::Global;
 use std::cmp::Ordering;
@@ -54,4 +54,11 @@ fn a_block_has_the_text_and_the_order_of_its_value(rt: HostRuntime) {
 fn a_copy_outlives_its_block(rt: HostRuntime) {
     let copy = left_over(&rt, rt.alloc(), given(&rt, rt.alloc()));
     assert!(rt; copy == json(&rt, rt.alloc(), COMPACT));
+}
+
+#[test]
+fn a_written_value_has_its_text_behind_it(rt: HostRuntime) {
+    let written = Written::of(rt.alloc(), &given(&rt, rt.alloc())).expect(&rt, "memory");
+    assert!(rt; written.text() == COMPACT.as_bytes());
+    assert!(rt; is_part(&rt, rt.alloc(), Some(written.part()), Some(COMPACT)));
 }
