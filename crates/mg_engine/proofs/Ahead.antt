@@ -5,7 +5,7 @@ use Rattle.mg_engine.specs.Bulk.{Bulk, BulkEdits, bulk_of, edits_of, edits_or_re
 use Rattle.mg_shard.specs.Dealt.{Placing}
 use Rattle.mg_engine.specs.Commands.{Asked, bulk, bulk_effect, next, reply_of, shards_after}
 use Rattle.mg_engine.specs.Ahead.{Determines, Makes}
-use Rattle.mg_engine.specs.Run.{Answers}
+use Rattle.mg_engine.specs.Execution.{Answers}
 use Rattle.mg_engine.specs.Settled.{IsSettled, settled_of}
 use Rattle.mg_engine.specs.Stands.{StateStandsFor, Shown}
 use Rattle.mg_engine.specs.View.{said}
@@ -14,7 +14,7 @@ use Rattle.mg_engine.specs.declared.bulk.read.ReadBulk.{ReadBulk}
 use Rattle.mg_engine.specs.declared.bulk.read.ReadBulk.TheVariants.{Edits, Refused}
 use Rattle.mg_engine.specs.declared.refusal.Refusal.{Refusal}
 use Rattle.mg_engine.specs.declared.reply.Reply.{Reply}
-use Rattle.mg_engine.proofs.Runs.{answered}
+use Rattle.mg_engine.proofs.Executions.{answered}
 use Rattle.mg_engine.proofs.Whole.{read_whole}
 
 -- a bulk whose documents were all read

@@ -1,4 +1,4 @@
-pub mod Runs
+pub mod Executions
 mod Collecting
 pub mod Counter
 mod Editing

@@ -3,11 +3,11 @@ use Rattle.std.proofs.Common.{◌≡◌, ℕ, ◌+◌, ◌<◌, ◌≤◌, List,
 use Rattle.std.proofs.Math.ListN.{drop_of_length-le}
 use Rattle.std.proofs.lemmas.List.{map-append}
 use Rattle.mg_engine.specs.Commands.{Asked, Answer, shards_after, shards_after_all}
-use Rattle.mg_engine.specs.Run.{kept}
+use Rattle.mg_engine.specs.Execution.{kept}
 use Rattle.mg_engine.specs.View.{asked, said}
 use Rattle.mg_engine.specs.declared.command.Command.{Command}
 use Rattle.mg_engine.specs.declared.reply.Reply.{Reply}
-use Rattle.mg_engine.proofs.Runs.{drop_item}
+use Rattle.mg_engine.proofs.Executions.{drop_item}
 
 -- the number of shards after one command; it stays as it was where memory was refused
 abbrev pub number_then : ℕ → Asked → Option Answer → ℕ

@@ -10,7 +10,7 @@ pub mod View
 pub mod BulkView
 pub mod Stands
 pub mod StateView
-pub mod Run
+pub mod Execution
 pub mod Faults
 pub mod Answering
 pub mod Settled

@@ -5,7 +5,7 @@ ghost use Rattle.mg_engine.specs.World.{World, empty_world};
 ghost use Rattle.mg_engine.specs.View.{asked, said};
 ghost use Rattle.mg_engine.specs.Stands.{Stands, shard_count};
 ghost use Rattle.mg_shard.specs.Shard.{shards_seen};
-ghost use Rattle.mg_engine.specs.Run.{Answers, IsRun, kept};
+ghost use Rattle.mg_engine.specs.Execution.{Answers, IsExecution, kept};
 
 use crate::command::Command;
 use crate::context::Context;
@@ -239,7 +239,7 @@ impl<P: Placement + Drop> Engine<P> {
         requires some { 1 ≤ workers }
         requires most { workers ≤ 32 }
         ensures run { (w : World) → Stands P.place self.old w → IfOk result
-            (λ replies. IsRun w (map asked commands.now) (map said replies.items) (Stands P.place self.new)) }
+            (λ replies. IsExecution w (map asked commands.now) (map said replies.items) (Stands P.place self.new)) }
         ensures none_run { OnErr result (self.new ≡ self.old) }
         ensures shards { IfOk result (λ replies. shard_count self.new
             ≡ shards_after_all (shard_count self.old)

@@ -1,7 +1,7 @@
 //! Executes one command on a state.
 ghost use Rattle.std.specs.Prelude.{◌≡◌, IfSome, None, false, length, true, unwrap_or};
 ghost use Rattle.mg_engine.specs.Commands.{is_write, shards_after};
-ghost use Rattle.mg_engine.specs.Run.{Answers};
+ghost use Rattle.mg_engine.specs.Execution.{Answers};
 ghost use Rattle.mg_engine.specs.Settled.{IsSettled, reply_made, settled_of};
 ghost use Rattle.mg_engine.specs.Stands.{StateStandsFor};
 ghost use Rattle.mg_engine.specs.View.{asked, said};

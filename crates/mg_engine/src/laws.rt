@@ -1,8 +1,8 @@
-//! Laws of runs, each the contract of a function that does nothing.
+//! Laws of executions, each the contract of a function that does nothing.
 ghost use Rattle.std.specs.Prelude.{◌≡◌, List, map, length, Some};
 ghost use Rattle.mg_engine.specs.Commands.{Answer, Asked};
 ghost use Rattle.mg_engine.specs.Laws.{ReshardsChangeNoReply, ReshardsChangeNoWorld};
-ghost use Rattle.mg_engine.specs.Run.{kept, answers_of};
+ghost use Rattle.mg_engine.specs.Execution.{kept, answers_of};
 
 /// If no command is refused memory, `kept` returns all commands and `answers_of` all answers.
 pub fn where_memory_suffices()

@@ -1,7 +1,7 @@
 -- If the states of a service stand for others, such as worlds, its sessions are sessions of the others.
 use Rattle.std.proofs.Common.{◌≡◌, ℕ, List, [], ◌∷◌, Option, Some, None, refl, inl, inr, subst, sym}
 use Rattle.mg_engine.specs.Commands.{Asked, Answer, next}
-use Rattle.mg_engine.specs.Run.{Answers}
+use Rattle.mg_engine.specs.Execution.{Answers}
 use Rattle.mg_engine.specs.World.{World}
 use Rattle.mg_http.specs.declared.request.routes.Endpoint.{Endpoint}
 use Rattle.mg_http.specs.declared.sessions.SessionEnd.{SessionEnd}

@@ -1,7 +1,7 @@
 -- The transcripts of a world: the text that the specification gives for some input, from this world (RFC 9112).
 use Rattle.std.specs.Prelude.{◌≡◌, ℕ, List, ◌++◌, Option}
 use Rattle.mg_engine.specs.Commands.{Asked, Answer}
-use Rattle.mg_engine.specs.Run.{Answers}
+use Rattle.mg_engine.specs.Execution.{Answers}
 use Rattle.mg_engine.specs.World.{World}
 use Rattle.mg_http.specs.declared.sessions.SessionEnd.{SessionEnd}
 use Rattle.mg_http.specs.Device.{IsPrefix}

@@ -1,7 +1,7 @@
 -- An engine that answers one command after another.
 use Rattle.std.specs.Prelude.{ℕ, List, Option}
 use Rattle.mg_engine.specs.Commands.{Asked, Answer}
-use Rattle.mg_engine.specs.Run.{Answers}
+use Rattle.mg_engine.specs.Execution.{Answers}
 use Rattle.mg_engine.specs.Stands.{Shown, Stands}
 use Rattle.mg_engine.specs.World.{World}
 

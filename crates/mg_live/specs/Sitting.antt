@@ -35,9 +35,9 @@ pub record IsLater (old new : Sitting) : Type 0 where
 -- ---- reading
 
 -- the seat may see more commits, and the reply is right after those that it has then seen; or memory was refused
-abbrev pub Reads : List ℕ → Sitting → Asked → Option Answer → Sitting → Type 0
-Reads name old c None new = IsLater old new
-Reads name old c (Some a) new = IsLater old new × (a ≡ reply_of (world_of name new.seen) c)
+abbrev pub SeatReads : List ℕ → Sitting → Asked → Option Answer → Sitting → Type 0
+SeatReads name old c None new = IsLater old new
+SeatReads name old c (Some a) new = IsLater old new × (a ≡ reply_of (world_of name new.seen) c)
 
 -- ---- writing
 
@@ -62,9 +62,9 @@ Writes name old c (Some a) new = Written name old c a new
 
 -- ---- reading or writing
 
--- a write is answered as by `Writes`, any other command as by `Reads`
+-- a write is answered as by `Writes`, any other command as by `SeatReads`
 abbrev pub Answered : List ℕ → Sitting → Asked → Option Answer → Sitting → Type 0
-Answered name old c o new = MatchBool (is_write c) (Writes name old c o new) (Reads name old c o new)
+Answered name old c o new = MatchBool (is_write c) (Writes name old c o new) (SeatReads name old c o new)
 
 -- ---- learning
 

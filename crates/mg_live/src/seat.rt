@@ -4,7 +4,7 @@ ghost use Rattle.mg_engine.specs.Commands.{is_write};
 ghost use Rattle.mg_engine.specs.View.{asked, said};
 ghost use Rattle.mg_live.specs.Snapshots.{StandsAfter, IsPublished};
 ghost use Rattle.mg_live.specs.Rules.{head_of};
-ghost use Rattle.mg_live.specs.Sitting.{Answered, IsLater, Reads, Learned, Writes};
+ghost use Rattle.mg_live.specs.Sitting.{Answered, IsLater, SeatReads, Learned, Writes};
 
 use crate::commit_log::{Head, Prefix, Write};
 use crate::database::{Database, Ends};
@@ -152,7 +152,7 @@ where
         requires read { is_write (asked command.now) ≡ false }
         requires some { 1 ≤ workers }
         requires most { workers ≤ 32 }
-        ensures { Reads D.db self.old (asked command.now) (said result) self.new }
+        ensures { SeatReads D.db self.old (asked command.now) (said result) self.new }
     {
         let Ok(snapshot) = self.snapshot() else {
             return Reply::NoMemory;
@@ -174,7 +174,7 @@ where
         requires read { is_write (asked command.now) ≡ false }
         requires some { 1 ≤ workers }
         requires most { workers ≤ 32 }
-        ensures { Reads D.db self.old (asked command.now) (said result) self.new }
+        ensures { SeatReads D.db self.old (asked command.now) (said result) self.new }
     {
         let Ok(snapshot) = self.snapshot() else {
             return Reply::NoMemory;

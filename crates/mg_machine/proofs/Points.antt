@@ -6,7 +6,7 @@ use Rattle.std.specs.Arc.{arc_value}
 use Rattle.std.specs.Option.{option_map_or}
 use Rattle.mg_engine.specs.World.{World}
 use Rattle.mg_engine.specs.Commands.{Asked, Answer, reply_of, shards_after, shards_after_all}
-use Rattle.mg_engine.specs.Run.{Answers}
+use Rattle.mg_engine.specs.Execution.{Answers}
 use Rattle.mg_engine.specs.Settled.{IsSettled}
 use Rattle.mg_engine.specs.Stands.{Shown, Stands, shard_count}
 use Rattle.mg_engine.specs.View.{said}

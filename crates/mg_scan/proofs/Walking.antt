@@ -18,7 +18,7 @@ use Rattle.mg_range.specs.RangeSide.{is_early, is_late, is_place_within}
 use Rattle.mg_range.specs.Range.{Range}
 use Rattle.mg_range.specs.declared.place.RangeSide.{RangeSide}
 use Rattle.mg_range.specs.declared.place.RangeSide.TheVariants.{Before, Within, Past}
-use Rattle.mg_scan.specs.Scan.{Request, all_scanned, comes_after, is_wanted, scanned}
+use Rattle.mg_scan.specs.Scan.{ScanInput, all_scanned, comes_after, is_wanted, scanned}
 use Rattle.mg_scan.specs.Walked.{begin_order, holds_at, is_beyond, is_late_row, walked, walked_all}
 use Rattle.mg_scan.specs.Begins.{place_row, reached}
 use Rattle.mg_scan.proofs.Late.{late_rises}
@@ -192,10 +192,10 @@ asked_is columns normal ds (d ∷ docs) h =
 -- ---- the whole search
 
 -- the rows are those of the columns, from where the search begins
-abbrev pub AreBegun : Request → KeptDocuments → List RowValue → Type 0
+abbrev pub AreBegun : ScanInput → KeptDocuments → List RowValue → Type 0
 AreBegun q ds rows = rows ≡ beyond q.direction (λ r. begin_order q.direction (place_row q.range r) (option_map (row_value_order r) q.after)) (rows_of q.columns (docs_of ds))
 
-module _ (q : Request) (ds : KeptDocuments) (rows : List RowValue) (own : AllByRecursion (λ d. form_at ds d.0 ≡ Some d.1) (docs_of ds)) (is : AreBegun q ds rows) where
+module _ (q : ScanInput) (ds : KeptDocuments) (rows : List RowValue) (own : AllByRecursion (λ d. form_at ds d.0 ≡ Some d.1) (docs_of ds)) (is : AreBegun q ds rows) where
   abbrev direction : Direction
   direction = q.direction
 

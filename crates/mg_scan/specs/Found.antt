@@ -7,7 +7,7 @@ use Rattle.mg_index.specs.Catalog.{definition_at}
 use Rattle.mg_index.specs.Definition.{IndexDefinition, Steps}
 use Rattle.mg_normal.specs.Normal.{NormalForm}
 use Rattle.mg_range.specs.Range.{Range}
-use Rattle.mg_scan.specs.Scan.{Request, all_scanned, scanned}
+use Rattle.mg_scan.specs.Scan.{ScanInput, all_scanned, scanned}
 use Rattle.mg_scan.specs.declared.target.Target.{Target}
 use Rattle.mg_scan.specs.declared.target.Target.TheVariants.{AllDocs, Index}
 use Rattle.mg_shard.specs.Documents.{docs_of}
@@ -20,14 +20,14 @@ columns_of AllDocs definitions = Some all_columns
 columns_of (Index ddoc name) definitions = option_map (λ d. d.columns) (definition_at ddoc.now name.now definitions)
 
 -- what a scan is asked, but for the columns
-abbrev pub asked : NormalForm → Range → Option RowValue → ℕ → Direction → List Steps → Request
+abbrev pub asked : NormalForm → Range → Option RowValue → ℕ → Direction → List Steps → ScanInput
 asked normal range after count direction columns =
     record { columns = columns; normal = normal; range = range; after = after; count = count; direction = direction }
 
 -- what a scan finds in a shard, by the columns of its target; nothing where the shard has no such index
-abbrev pub found_in : Target → (List Steps → Request) → ShardView → List RowValue
+abbrev pub found_in : Target → (List Steps → ScanInput) → ShardView → List RowValue
 found_in target request s = option_map_or (λ columns. scanned (request columns) (docs_of s.documents)) (columns_of target s.definitions) []
 
 -- all that a scan without a limit finds in a shard
-abbrev pub all_found_in : Target → (List Steps → Request) → ShardView → List RowValue
+abbrev pub all_found_in : Target → (List Steps → ScanInput) → ShardView → List RowValue
 all_found_in target request s = option_map_or (λ columns. all_scanned (request columns) (docs_of s.documents)) (columns_of target s.definitions) []

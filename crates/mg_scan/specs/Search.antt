@@ -3,7 +3,7 @@ use Rattle.std.specs.Prelude.{List, Option, option_map}
 use Rattle.mg_collate.specs.Row.{RowValue}
 use Rattle.mg_index.specs.Definition.{Steps}
 use Rattle.mg_scan.specs.Found.{asked, found_in}
-use Rattle.mg_scan.specs.Scan.{Request}
+use Rattle.mg_scan.specs.Scan.{ScanInput}
 use Rattle.mg_scan.specs.declared.search.Search.{Search}
 use Rattle.mg_shard.specs.Shard.{ShardView}
 
@@ -12,7 +12,7 @@ abbrev pub after_of : Search → Option RowValue
 after_of s = option_map (λ r. r.now) s.after
 
 -- what it asks of columns
-abbrev pub asked_by : Search → List Steps → Request
+abbrev pub asked_by : Search → List Steps → ScanInput
 asked_by s = asked s.normal.now s.range.now (after_of s) s.take s.direction
 
 -- what it finds in a shard

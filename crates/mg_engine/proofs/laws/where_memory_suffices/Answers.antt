@@ -1,7 +1,7 @@
 use Rattle.std.proofs.Common.{◌≡◌, List, [], ◌∷◌, map, length, Some, refl, ap}
 use Rattle.std.proofs.Common.{arith}
 use Rattle.mg_engine.specs.Commands.{Asked, Answer}
-use Rattle.mg_engine.specs.Run.{kept, answers_of}
+use Rattle.mg_engine.specs.Execution.{kept, answers_of}
 use Rattle.mg_engine.proofs.laws.where_memory_suffices.Goals as goal
 
 all_kept : (cs : List Asked) (answers : List Answer) → length answers ≡ length cs → kept cs (map Some answers) ≡ cs

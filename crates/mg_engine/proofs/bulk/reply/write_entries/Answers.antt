@@ -3,7 +3,7 @@ use Rattle.std.proofs.Math.ListN.{drop_of_length-le}
 use Rattle.mg_value.specs.Held.{items_tokens_of}
 use Rattle.mg_engine.specs.Outcomes.{entries_seen}
 use Rattle.mg_engine.specs.declared.bulk.apply.Outcome.{Outcome}
-use Rattle.mg_engine.proofs.Runs.{drop_item}
+use Rattle.mg_engine.proofs.Executions.{drop_item}
 use Rattle.mg_engine.proofs.bulk.reply.write_entries.Goals as goal
 
 pub loop-outcome-preserved : goal.loop-outcome-preserved

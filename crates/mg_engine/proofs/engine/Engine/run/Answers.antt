@@ -2,7 +2,7 @@ use Rattle.std.proofs.Common.{refl, ap, ◌+◌, ◌∙◌}
 use Rattle.mg_engine.specs.View.{asked, said}
 use Rattle.mg_engine.specs.Stands.{Stands, Shown, shard_count}
 use Rattle.mg_engine.proofs.Numbers.{is_number_then, number_after, number_here}
-use Rattle.mg_engine.proofs.Runs.{world_then, ends_then, goes_on_after, ends_here}
+use Rattle.mg_engine.proofs.Executions.{world_then, ends_then, goes_on_after, ends_here}
 use Rattle.mg_engine.proofs.engine.Engine.run.Goals as goal
 
 pub loop-command-init : goal.loop-command-init

@@ -3,10 +3,10 @@ use Rattle.mg_engine.specs.World.{World}
 use Rattle.mg_engine.specs.Commands.{Answer, shards_after_all}
 use Rattle.mg_engine.specs.View.{asked, said}
 use Rattle.mg_engine.specs.Stands.{Stands, Shown, shard_count}
-use Rattle.mg_engine.specs.Run.{IsRun, kept}
+use Rattle.mg_engine.specs.Execution.{IsExecution, kept}
 use Rattle.mg_engine.proofs.engine.Engine.run.Given as goal
 
--- a run of the rest, from a world that the engine stands for now, completes a run of all; the same holds of the number of shards
+-- an execution of the rest, from a world that the engine stands for now, completes one of all; the same holds of the number of shards
 abbrev pub invariant-loop-command : goal.invariant-loop-command
 invariant-loop-command g l =
     let place = g.P.Placement.place in
@@ -18,6 +18,6 @@ invariant-loop-command g l =
           ≡ shards_after_all (shard_count l.fn.self) (kept (map asked l.commands) (map said l.replies.items ++ rs));
       goes_on : (w : World) → Stands place l.fn.self w
           → (u : World) × Stands place l.self u
-          × ((rs : List (Option Answer)) (after : g.row.P.Denot × Shown) → IsRun u (map asked (drop l.command-index l.commands)) rs (Stands place after)
-          → IsRun w (map asked l.commands) (map said l.replies.items ++ rs) (Stands place after));
+          × ((rs : List (Option Answer)) (after : g.row.P.Denot × Shown) → IsExecution u (map asked (drop l.command-index l.commands)) rs (Stands place after)
+          → IsExecution w (map asked l.commands) (map said l.replies.items ++ rs) (Stands place after));
     }

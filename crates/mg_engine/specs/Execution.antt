@@ -1,4 +1,4 @@
--- One command, and a whole run of commands. `ends w` says that w is the world at the end.
+-- The execution of one command, and of a list of commands. `ends w` says that w is the world at the end.
 use Rattle.std.specs.Prelude.{◌≡◌, List, [], ◌∷◌, Option, Some, None, length}
 use Rattle.mg_engine.specs.World.{World}
 use Rattle.mg_engine.specs.Commands.{Asked, Answer, reply_of, next, replies_of, world_after}
@@ -22,7 +22,7 @@ answers_of (None ∷ rs) = answers_of rs
 answers_of (Some a ∷ rs) = a ∷ answers_of rs
 
 -- from w the commands get these replies. A command that was refused memory counts as not given; the others get the definition's answers
-pub record IsRun (w : World) (cs : List Asked) (rs : List (Option Answer)) (ends : World → Type 0) : Type 0 where
+pub record IsExecution (w : World) (cs : List Asked) (rs : List (Option Answer)) (ends : World → Type 0) : Type 0 where
   pub one_each : length rs ≡ length cs
   pub replies : answers_of rs ≡ replies_of w (kept cs rs)
   pub world : ends (world_after w (kept cs rs))

@@ -8,7 +8,7 @@ use Rattle.mg_engine.specs.declared.command.Command.{Command}
 use Rattle.mg_engine.specs.declared.reply.Reply.{Reply}
 use Rattle.mg_engine.specs.World.{World}
 use Rattle.mg_engine.specs.Commands.{Asked, Answer, reply_of, next}
-use Rattle.mg_engine.specs.Run.{IsRun, Answers}
+use Rattle.mg_engine.specs.Execution.{IsExecution, Answers}
 
 -- the rest of a list from the item at i begins with this item
 pub drop_item : {A : Type 0} (xs : List A) (i : ℕ) (x : A) → i < length xs → x ≡ get_or xs i x → drop i xs ≡ x ∷ drop (i + 1) xs
@@ -19,8 +19,8 @@ pub answered : (w : World) (c : Asked) (o : Option Answer) (ends : World → Typ
 answered w c None ends e h = absurd cc
 answered w c (Some a) ends e h = (cc, h)
 
--- the run of no commands
-over : (w : World) (ends : World → Type 0) → ends w → IsRun w [] [] ends
+-- the execution of no commands
+over : (w : World) (ends : World → Type 0) → ends w → IsExecution w [] [] ends
 over w ends h = record { one_each = refl; replies = refl; world = h }
 
 -- the world after one command
@@ -32,28 +32,28 @@ pub ends_then : (w : World) (c : Asked) (r : Option Answer) (ends : World → Ty
 ends_then w c None ends h = h
 ends_then w c (Some a) ends h = h.1
 
--- a run with one more command and its reply in front
+-- an execution with one more command and its reply in front
 one_more : (w : World) (c : Asked) (r : Option Answer) (now : World → Type 0) (cs : List Asked) (rs : List (Option Answer)) (ends : World → Type 0)
-    → Answers w c r now → IsRun (world_then w c r) cs rs ends → IsRun w (c ∷ cs) (r ∷ rs) ends
+    → Answers w c r now → IsExecution (world_then w c r) cs rs ends → IsExecution w (c ∷ cs) (r ∷ rs) ends
 one_more w c None now cs rs ends h run = record { one_each = ap suc run.one_each; replies = run.replies; world = run.world }
 one_more w c (Some a) now cs rs ends h run =
     record { one_each = ap suc run.one_each; replies = (λ i. h.0 i ∷ run.replies i); world = run.world }
 
--- the loop's step: a run from after the command completes one from before it
+-- the loop's step: an execution from after the command completes one from before it
 pub goes_on_after : (w u : World) (cs : List Command) (i : ℕ) (c : Command) (replies : List Reply) (r : Reply) (now ends : World → Type 0) (rs : List (Option Answer))
     → i < length cs → c ≡ get_or cs i c → Answers u (asked c) (said r) now
-    → ((rs : List (Option Answer)) → IsRun u (map asked (drop i cs)) rs ends → IsRun w (map asked cs) (map said replies ++ rs) ends)
-    → IsRun (world_then u (asked c) (said r)) (map asked (drop (i + 1) cs)) rs ends
-    → IsRun w (map asked cs) (map said (replies ++ r ∷ []) ++ rs) ends
+    → ((rs : List (Option Answer)) → IsExecution u (map asked (drop i cs)) rs ends → IsExecution w (map asked cs) (map said replies ++ rs) ends)
+    → IsExecution (world_then u (asked c) (said r)) (map asked (drop (i + 1) cs)) rs ends
+    → IsExecution w (map asked cs) (map said (replies ++ r ∷ []) ++ rs) ends
 goes_on_after w u cs i c replies r now ends rs h e did on run =
-    let longer : IsRun u (asked c ∷ map asked (drop (i + 1) cs)) (said r ∷ rs) ends = one_more u (asked c) (said r) now _ rs ends did run in
-    let all : IsRun u (map asked (drop i cs)) (said r ∷ rs) ends = rw (drop_item cs i c h e) longer in
+    let longer : IsExecution u (asked c ∷ map asked (drop (i + 1) cs)) (said r ∷ rs) ends = one_more u (asked c) (said r) now _ rs ends did run in
+    let all : IsExecution u (map asked (drop i cs)) (said r ∷ rs) ends = rw (drop_item cs i c h e) longer in
     rw (map-append, append_assoc) (on (said r ∷ rs) all)
 
 -- the loop's end: no command is left
 pub ends_here : (w u : World) (cs : List Command) (i : ℕ) (replies : List Reply) (ends : World → Type 0) → length cs ≤ i → ends u
-    → ((rs : List (Option Answer)) → IsRun u (map asked (drop i cs)) rs ends → IsRun w (map asked cs) (map said replies ++ rs) ends)
-    → IsRun w (map asked cs) (map said replies) ends
+    → ((rs : List (Option Answer)) → IsExecution u (map asked (drop i cs)) rs ends → IsExecution w (map asked cs) (map said replies ++ rs) ends)
+    → IsExecution w (map asked cs) (map said replies) ends
 ends_here w u cs i replies ends h st on =
-    let none : IsRun u (map asked (drop i cs)) [] ends = rw (drop_of_length-le cs h) (over u ends st) in
+    let none : IsExecution u (map asked (drop i cs)) [] ends = rw (drop_of_length-le cs h) (over u ends st) in
     rw append-nil at (on [] none)
