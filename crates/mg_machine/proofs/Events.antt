@@ -7,7 +7,7 @@ use native.Mathlib.Decide.{ℕ_discrete}
 use Rattle.mg_engine.specs.Commands.{Asked, is_write}
 use Rattle.mg_machine.specs.Machine.{Commit, Event, publish, enter, answer, told, Machine, opened, seen_by, with_seen, after_write, write_reply, longer_of, happens, machine_after}
 use Rattle.mg_engine.specs.Settled.{is_accepted}
-use Rattle.mg_machine.specs.Laws.{AreAt, Grows, IsAt, IsApart, AreApart, IsPrefix}
+use Rattle.mg_machine.specs.Laws.{AreAt, IsLaterMachine, IsAt, IsAtOtherSeat, AreAtOtherSeats, IsPrefix}
 use Rattle.mg_machine.proofs.Beginnings.{two, itself, in_turn, longer_left, longer_right, longer_within}
 
 -- ---- one seat
@@ -33,7 +33,7 @@ pub record Stands (seats : ℕ) (m : Machine) : Type 0 where
 
 pub record Goes (seats : ℕ) (m n : Machine) : Type 0 where
   pub stands : Stands seats n
-  pub grows : Grows m n
+  pub grows : IsLaterMachine m n
 
 stays : (seats : ℕ) (m : Machine) → Stands seats m → Goes seats m m
 stays seats m s = record { stands = s; grows = record { commits = itself m.commits; seen = λ j. itself (seen_by m j) } }
@@ -126,7 +126,7 @@ at_right seats (e ∷ es) fs at = at_right seats es fs at.1
 back : (j seat : ℕ) → j ≢ seat → seat ≢ j
 back j seat ne e = ne (sym e)
 
-apart_step : (name : List ℕ) (m : Machine) (seat : ℕ) (e : Event) → IsApart seat e → seen_by (happens name m e).0 seat ≡ seen_by m seat
+apart_step : (name : List ℕ) (m : Machine) (seat : ℕ) (e : Event) → IsAtOtherSeat seat e → seen_by (happens name m e).0 seat ≡ seen_by m seat
 apart_step name m seat (publish j c) ne = elim (two (is_write c)) [
   | inl t ↦ rw t (other_seat (record m { commits = after_write name m.commits j c }) j seat (after_write name m.commits j c) (back j seat ne))
   | inr f ↦ rw f (other_seat m j seat m.commits (back j seat ne))
@@ -138,6 +138,6 @@ apart_step name m seat (answer j c) ne = elim (two (is_write c)) [
 ]
 apart_step name m seat (told j by) ne = other_seat m j seat (longer_of (seen_by m j) (seen_by m by)) (back j seat ne)
 
-pub apart_run : (name : List ℕ) (m : Machine) (seat : ℕ) (es : List Event) → AreApart seat es → seen_by (machine_after name m es) seat ≡ seen_by m seat
+pub apart_run : (name : List ℕ) (m : Machine) (seat : ℕ) (es : List Event) → AreAtOtherSeats seat es → seen_by (machine_after name m es) seat ≡ seen_by m seat
 apart_run name m seat [] ne = refl
 apart_run name m seat (e ∷ es) ne = apart_run name (happens name m e).0 seat es ne.1 ∙ apart_step name m seat e ne.0

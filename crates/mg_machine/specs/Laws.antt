@@ -42,12 +42,12 @@ SeatsSeeBeginnings =
     → (seat : ℕ) → IsPrefix (seen_by (after name seats es) seat) (after name seats es).commits
 
 -- commits are only added at the end, and what a seat has seen stays seen
-pub record Grows (m n : Machine) : Type 0 where
+pub record IsLaterMachine (m n : Machine) : Type 0 where
   pub commits : IsPrefix m.commits n.commits
   pub seen : (seat : ℕ) → IsPrefix (seen_by m seat) (seen_by n seat)
 
 abbrev pub NothingIsLost : Type 0
-NothingIsLost = (name : List ℕ) (seats : ℕ) (es more : List Event) → AreAt seats (es ++ more) → Grows (after name seats es) (after name seats (es ++ more))
+NothingIsLost = (name : List ℕ) (seats : ℕ) (es more : List Event) → AreAt seats (es ++ more) → IsLaterMachine (after name seats es) (after name seats (es ++ more))
 
 -- what a seat has learned from another, it has seen from then on
 abbrev pub WhatWasToldIsSeen : Type 0
@@ -97,19 +97,19 @@ ReadsAreOfTheSeen =
     ≡ replies_of (empty_world name) (commands_of (seen_by (after name seats es) seat)) ++ a ∷ []
 
 -- an event is at another seat: it does not change what this seat has seen
-abbrev pub IsApart : ℕ → Event → Type 0
-IsApart seat (publish other c) = other ≢ seat
-IsApart seat (enter other) = other ≢ seat
-IsApart seat (answer other c) = other ≢ seat
-IsApart seat (told other by) = other ≢ seat
+abbrev pub IsAtOtherSeat : ℕ → Event → Type 0
+IsAtOtherSeat seat (publish other c) = other ≢ seat
+IsAtOtherSeat seat (enter other) = other ≢ seat
+IsAtOtherSeat seat (answer other c) = other ≢ seat
+IsAtOtherSeat seat (told other by) = other ≢ seat
 
 -- all events are at other seats
-abbrev pub AreApart : ℕ → List Event → Type 0
-AreApart seat [] = Unit {0}
-AreApart seat (e ∷ es) = IsApart seat e × AreApart seat es
+abbrev pub AreAtOtherSeats : ℕ → List Event → Type 0
+AreAtOtherSeats seat [] = Unit {0}
+AreAtOtherSeats seat (e ∷ es) = IsAtOtherSeat seat e × AreAtOtherSeats seat es
 
 -- a read is answered by the world of all commits that there were when its seat caught up, whatever others have published since
 abbrev pub LooksAreKept : Type 0
 LooksAreKept =
-    (name : List ℕ) (seats : ℕ) (es others : List Event) (seat : ℕ) (c : Asked) → AreAt seats (es ++ enter seat ∷ others) → AreApart seat others → is_write c ≡ false
+    (name : List ℕ) (seats : ℕ) (es others : List Event) (seat : ℕ) (c : Asked) → AreAt seats (es ++ enter seat ∷ others) → AreAtOtherSeats seat others → is_write c ≡ false
     → (happens name (after name seats (es ++ enter seat ∷ others)) (answer seat c)).1 ≡ Some (reply_of (world_of name (after name seats es).commits) c)
