@@ -5,7 +5,7 @@ ghost use Rattle.std.specs.Char.{is_ascii_digit};
 ghost use Rattle.std.specs.Str.{str_eq_ignore_ascii_case};
 ghost use Rattle.std.specs.Str.Parse.{digits_value};
 ghost use Rattle.httparse.specs.Spans.{IsHeaderWithin, header_bytes};
-ghost use Rattle.mg_http.specs.Fields.{is_named, has_field, is_number, agrees, length_of, length_in, items_of, is_close, asks_close};
+ghost use Rattle.mg_http.specs.Fields.{is_named, has_field, is_number, agrees_on_length, length_of, length_in, items_of, is_close, asks_close};
 ghost use Rattle.mg_http.specs.Significant.{significant};
 
 use crate::request::text::trim_blanks;
@@ -91,9 +91,9 @@ fn same_number(a: &[u8], b: &[u8]) -> bool
 }
 
 /// Whether a field is no Content-Length, or gives the same number as the text.
-fn agrees(name: &[u8], value: &[u8], text: &[u8]) -> bool
+fn agrees_on_length(name: &[u8], value: &[u8], text: &[u8]) -> bool
     requires { list_all is_ascii_digit text.now ≡ true }
-    ensures { result ≡ agrees text.now (name.now, value.now) }
+    ensures { result ≡ agrees_on_length text.now (name.now, value.now) }
 {
     !same_name(name, b"content-length") || (is_number(value) && same_number(value, text))
 }
@@ -102,10 +102,10 @@ fn agrees(name: &[u8], value: &[u8], text: &[u8]) -> bool
 fn all_agree(bytes: &[u8], fields: &[HeaderSpan], text: &[u8]) -> bool
     requires within { All (IsHeaderWithin (length bytes.now)) fields.now }
     requires number { list_all is_ascii_digit text.now ≡ true }
-    ensures { result ≡ list_all (agrees text.now) (map (header_bytes bytes.now) fields.now) }
+    ensures { result ≡ list_all (agrees_on_length text.now) (map (header_bytes bytes.now) fields.now) }
 {
     for field in fields {
-        if !agrees(field.name.of(bytes), field.value.of(bytes), text) {
+        if !agrees_on_length(field.name.of(bytes), field.value.of(bytes), text) {
             return false;
         }
     }
