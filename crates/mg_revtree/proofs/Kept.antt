@@ -7,7 +7,7 @@ use Rattle.std.specs.Option.{option_flatten, option_or}
 use Rattle.mg_revtree.specs.Revision.{Revision, revision_order, same_revision}
 use Rattle.mg_revtree.specs.History.{Link, is_known, parent_of}
 use Rattle.mg_revtree.specs.Tree.{AreNodes, AreSorted, IsBelow, find, node}
-use Rattle.mg_revtree.specs.Steps.{IsGap, IsLinkAt, joined, put}
+use Rattle.mg_revtree.specs.Steps.{IsGap, IsLinkAt, joined_found, put}
 use Rattle.mg_revtree.specs.Known.{AreBelow, parent_below, with_link, with_links}
 use Rattle.mg_revtree.proofs.Same.{two, same_is, apart, revision_total}
 use Rattle.mg_revtree.proofs.Find.{below_none}
@@ -17,7 +17,7 @@ use Rattle.mg_revtree.proofs.Rooms.{sorted_front}
 -- what is kept of a revision, given what older links keep of it and what newer ones do
 abbrev kept_by_both : Option (Option Revision) → Option (Option Revision) → Option (Option Revision)
 kept_by_both o None = o
-kept_by_both o (Some q) = joined o q
+kept_by_both o (Some q) = joined_found o q
 
 reversed : (a b : Revision) → revision_order a b ≡ Less → revision_order b a ≡ Greater
 reversed a b h = revision_total.antisymm b a ∙ ap ordering_reverse h

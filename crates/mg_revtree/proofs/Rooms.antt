@@ -13,7 +13,7 @@ use Rattle.std.specs.Option.{option_or}
 use Rattle.mg_revtree.specs.History.{Link, links, newest_of}
 use Rattle.mg_revtree.specs.Tree.{AreNodes, AreSorted, IsBelow, find, node}
 use Rattle.mg_revtree.specs.Steps.{IsGap, IsLinkAt, put}
-use Rattle.mg_revtree.specs.Nodes.{AreWithin, IsWithin, NodeWithin, ParentWithin, PartsWithin, link_in, links_in, text_of_part}
+use Rattle.mg_revtree.specs.Nodes.{AreWithin, LiesWithin, NodeWithin, ParentWithin, PartsWithin, link_in, links_in, text_of_part}
 use Rattle.mg_revtree.specs.Room.{AreFrom, Joins, used}
 use Rattle.mg_revtree.specs.declared.links.node.Node.{Node}
 use Rattle.mg_revtree.specs.declared.links.node.IdPart.{IdPart}
@@ -245,7 +245,7 @@ module _ (t : List ℕ) (start : ℕ) (ps : List IdPart) where
 -- the parent that is read of a run is within its parts
 pub got_within : (n : ℕ) (ps : List IdPart) (i : ℕ) (r : Option (Bor IdPart)) → MatchOption r (length ps ≤ i) (λ x. (i < length ps) × HoldsAt (λ y. x.now ≡ y) ps i) → PartsWithin n ps → ParentWithin n (option_copied r)
 got_within n ps i None h w = tt
-got_within n ps i (Some x) h w = subst (IsWithin n) (sym (h.1 x.now)) (part-within n ps i x.now h.0 w)
+got_within n ps i (Some x) h w = subst (LiesWithin n) (sym (h.1 x.now)) (part-within n ps i x.now h.0 w)
 
 -- the first items of a vector that was made longer
 pub resized : {A E : Type 0} (xs : List A) (known n : ℕ) (more ys : List A) (r : Result (Unit {0}) E) → known ≡ length xs → known ≤ n → ys ≡ (if is_ok r then take n xs ++ more else xs) → take known ys ≡ xs

@@ -5,7 +5,7 @@ use Rattle.std.proofs.lemmas.List.{map-set, get_or-map, take-append-le, drop-app
 use Rattle.mg_revtree.specs.Revision.{Revision}
 use Rattle.std.specs.Option.{option_or}
 use Rattle.mg_revtree.specs.Tree.{AreSorted, find}
-use Rattle.mg_revtree.specs.Nodes.{text_of_part, link_in, IsWithin, ParentWithin, NodeWithin, AreWithin, PartsWithin, Grows}
+use Rattle.mg_revtree.specs.Nodes.{text_of_part, link_in, LiesWithin, ParentWithin, NodeWithin, AreWithin, PartsWithin, Grows}
 use Rattle.mg_revtree.specs.Steps.{put, IsLinkAt}
 use Rattle.mg_revtree.specs.Known.{parent_below}
 use Rattle.mg_revtree.specs.declared.links.node.IdPart.{IdPart}
@@ -15,7 +15,7 @@ use Rattle.mg_revtree.proofs.Find.{find-set, place_find, place_is, sorted-set}
 -- ---- a text that grows
 
 module _ (xs ys : List ℕ) where
-  pub part-grown : (p : IdPart) → IsWithin (length xs) p → text_of_part (xs ++ ys) p ≡ text_of_part xs p
+  pub part-grown : (p : IdPart) → LiesWithin (length xs) p → text_of_part (xs ++ ys) p ≡ text_of_part xs p
   part-grown p h = rw (drop-append-le p.from xs ys (omega arith)) (take-append-le p.len (drop p.from xs) ys (omega (arith, length-drop p.from xs)))
 
   parent-grown : (n : ℕ) (o : Option IdPart) → ParentWithin (length xs) o → option_map {U = Revision} (λ p. (n - 1, text_of_part (xs ++ ys) p)) o ≡ option_map {U = Revision} (λ p. (n - 1, text_of_part xs p)) o
@@ -48,11 +48,11 @@ module _ (m n : ℕ) (le : m ≤ n) where
   parts-more [] h = tt
   parts-more (p ∷ ps) h = (omega (arith, h.0), parts-more ps h.1)
 
-pub parts-push : (n : ℕ) (ps : List IdPart) (p : IdPart) → PartsWithin n ps → IsWithin n p → PartsWithin n (ps ++ p ∷ [])
+pub parts-push : (n : ℕ) (ps : List IdPart) (p : IdPart) → PartsWithin n ps → LiesWithin n p → PartsWithin n (ps ++ p ∷ [])
 parts-push n [] p h w = (w, tt)
 parts-push n (q ∷ ps) p h w = (h.0, parts-push n ps p h.1 w)
 
-pub part-within : (n : ℕ) (ps : List IdPart) (i : ℕ) (d : IdPart) → i < length ps → PartsWithin n ps → IsWithin n (get_or ps i d)
+pub part-within : (n : ℕ) (ps : List IdPart) (i : ℕ) (d : IdPart) → i < length ps → PartsWithin n ps → LiesWithin n (get_or ps i d)
 part-within n [] i d lt h = absurd (omega arith)
 part-within n (p ∷ ps) zero d lt h = h.0
 part-within n (p ∷ ps) (suc i) d lt h = part-within n ps i d (omega arith) h.1
@@ -141,7 +141,7 @@ module _ (xs ys : List ℕ) (g : Grows xs ys) where
   pub grown-links : (ns : List Node) → AreWithin (length xs) ns → map (link_in ys) ns ≡ map (link_in xs) ns
   grown-links ns h = rw (g.is) (links-grown xs g.more ns h)
 
-  pub grown-part : (p : IdPart) → IsWithin (length xs) p → text_of_part ys p ≡ text_of_part xs p
+  pub grown-part : (p : IdPart) → LiesWithin (length xs) p → text_of_part ys p ≡ text_of_part xs p
   grown-part p h = rw (g.is) (part-grown xs g.more p h)
 
   pub grown-parts : (ps : List IdPart) → PartsWithin (length xs) ps → map (text_of_part ys) ps ≡ map (text_of_part xs) ps

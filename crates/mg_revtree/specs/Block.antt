@@ -12,7 +12,7 @@ block_value (Own body) = body
 block_value (Served form) = bare form
 
 -- a block of a form holds the form of a body: of what is left without the id and the revision
-abbrev pub IsSound : Block → Type 0
-IsSound Empty = ⊤
-IsSound (Own body) = ⊤
-IsSound (Served form) = IsFormOf (bare form) form
+abbrev pub IsFormIfServed : Block → Type 0
+IsFormIfServed Empty = ⊤
+IsFormIfServed (Own body) = ⊤
+IsFormIfServed (Served form) = IsFormOf (bare form) form

@@ -17,17 +17,17 @@ abbrev pub links_in : List ℕ → List Node → List Link
 links_in texts ns = map (link_in texts) ns
 
 -- a part that ends within n bytes
-abbrev pub IsWithin : ℕ → IdPart → Type 0
-IsWithin n p = p.from + p.len ≤ n
+abbrev pub LiesWithin : ℕ → IdPart → Type 0
+LiesWithin n p = p.from + p.len ≤ n
 
 -- a part, if there is one, that ends within n bytes
 abbrev pub ParentWithin : ℕ → Option IdPart → Type 0
 ParentWithin n None = Unit {0}
-ParentWithin n (Some p) = IsWithin n p
+ParentWithin n (Some p) = LiesWithin n p
 
 -- a node whose parts end within n bytes
 abbrev pub NodeWithin : ℕ → Node → Type 0
-NodeWithin n x = IsWithin n x.id × ParentWithin n x.parent
+NodeWithin n x = LiesWithin n x.id × ParentWithin n x.parent
 
 -- nodes whose parts end within n bytes
 abbrev pub AreWithin : ℕ → List Node → Type 0
@@ -37,7 +37,7 @@ AreWithin n (x ∷ xs) = NodeWithin n x × AreWithin n xs
 -- parts that end within n bytes
 abbrev pub PartsWithin : ℕ → List IdPart → Type 0
 PartsWithin n [] = Unit {0}
-PartsWithin n (p ∷ ps) = IsWithin n p × PartsWithin n ps
+PartsWithin n (p ∷ ps) = LiesWithin n p × PartsWithin n ps
 
 -- a text with more behind it
 pub record Grows (xs ys : List ℕ) : Type 0 where

@@ -8,13 +8,13 @@ use Rattle.mg_revtree.specs.History.{Link, Leaf, agrees, gives, leaf_order}
 use Rattle.mg_revtree.specs.Tree.{BeforeAll, IsBelow, leaf_in}
 
 -- the looked-up parent of a revision after one more link of that revision
-abbrev pub joined : Option (Option Revision) → Option Revision → Option (Option Revision)
-joined None q = Some q
-joined (Some p) q = Some (option_or p q)
+abbrev pub joined_found : Option (Option Revision) → Option Revision → Option (Option Revision)
+joined_found None q = Some q
+joined_found (Some p) q = Some (option_or p q)
 
 -- the looked-up parent of a revision after one more link
 abbrev pub put : Link → Revision → Option (Option Revision) → Option (Option Revision)
-put l r o = if same_revision r l.rev then joined o l.parent else o
+put l r o = if same_revision r l.rev then joined_found o l.parent else o
 
 -- the link at place i is that of r
 abbrev pub IsLinkAt : Revision → List Link → ℕ → Type 0

@@ -4,7 +4,7 @@ ghost use Rattle.std.specs.Prelude.{◌≡◌, IfOk, None, Some, true};
 ghost use Rattle.mg_value.specs.Value.{member_of, no_members, object, text as string};
 ghost use Rattle.mg_value.specs.View.{view};
 ghost use Rattle.mg_revtree.specs.Body.{IsBare, IsFormOf, as_form, bare};
-ghost use Rattle.mg_revtree.specs.Block.{IsSound, block_value};
+ghost use Rattle.mg_revtree.specs.Block.{IsFormIfServed, block_value};
 
 use crate::form::Form;
 use mg_packed::{Kind, Packed, Part};
@@ -37,11 +37,11 @@ impl Model for Body {
 
     ghost coded = { value_code };
 
-    ghost use Rattle.mg_revtree.specs.Block.{IsSound, block_value};
+    ghost use Rattle.mg_revtree.specs.Block.{IsFormIfServed, block_value};
 
     ghost view = { λ body. block_value body.block };
 
-    ghost invariant = { λ body. IsSound body.block };
+    ghost invariant = { λ body. IsFormIfServed body.block };
 }
 
 impl Body {
@@ -151,7 +151,7 @@ fn lacks(body: &Packed, name: &str) -> bool
 }
 
 fn form_of(alloc: Global, block: &Block, id: &str, rev: &str) -> Result<Form, NoMemory>
-    requires { IsSound block.now }
+    requires { IsFormIfServed block.now }
     ensures { IfOk result (λ form. form ≡ as_form (string id.now) (string rev.now) (block_value block.now)) }
 {
     match block {

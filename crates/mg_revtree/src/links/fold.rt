@@ -1,7 +1,7 @@
 ghost use Rattle.std.specs.Prelude.{◌≡◌, ◌≤◌, ◌++◌, ℕ, IfOk, OnOk, drop, length, option_map};
 ghost use Rattle.mg_revtree.specs.Revision.{Revision, revision_order};
 ghost use Rattle.mg_revtree.specs.Tree.{AreSorted};
-ghost use Rattle.mg_revtree.specs.Nodes.{AreWithin, Grows, IsWithin, NodeWithin, ParentWithin, link_in, links_in, text_of_part};
+ghost use Rattle.mg_revtree.specs.Nodes.{AreWithin, Grows, LiesWithin, NodeWithin, ParentWithin, link_in, links_in, text_of_part};
 ghost use Rattle.mg_revtree.specs.Known.{AreBelow, with_link, with_links};
 ghost use Rattle.std.specs.declared.cmp.Ordering.TheVariants.{Less};
 
@@ -23,7 +23,7 @@ fn part_among(
     ensures grows { Grows texts.old.items texts.new.items }
     ensures within { IfOk result
         (λ p. AreWithin (length texts.old.items) older.now → AreWithin (length texts.old.items) made.now
-        → IsWithin (length texts.new.items) p) }
+        → LiesWithin (length texts.new.items) p) }
     ensures part { IfOk result
         (λ p. AreSorted (links_in texts.old.items older.now) → AreSorted (links_in texts.old.items made.now)
         → text_of_part texts.new.items p ≡ id.now) }

@@ -1,6 +1,6 @@
 ghost use Rattle.std.specs.Prelude.{◌≡◌, IfOk, length, map, string_bytes};
 ghost use Rattle.mg_revtree.specs.Tree.{AreSorted};
-ghost use Rattle.mg_revtree.specs.Nodes.{AreWithin, Grows, IsWithin, PartsWithin, links_in, text_of_part};
+ghost use Rattle.mg_revtree.specs.Nodes.{AreWithin, Grows, LiesWithin, PartsWithin, links_in, text_of_part};
 
 use crate::links::lookup::place;
 use crate::links::node::{IdPart, Node};
@@ -13,7 +13,7 @@ const MOST_BYTES: usize = 4_294_967_295;
 fn add(texts: &mut Vec<u8>, id: &[u8]) -> Result<IdPart, NoMemory>
     ensures grows { Grows texts.old.items texts.new.items }
     ensures part { IfOk result
-        (λ p. IsWithin (length texts.new.items) p × (text_of_part texts.new.items p ≡ id.now)) }
+        (λ p. LiesWithin (length texts.new.items) p × (text_of_part texts.new.items p ≡ id.now)) }
 {
     if texts.len().saturating_add(id.len()) > MOST_BYTES {
         return Err(NoMemory);
@@ -35,7 +35,7 @@ pub fn part_for(
 ) -> Result<IdPart, NoMemory>
     ensures grows { Grows texts.old.items texts.new.items }
     ensures within { IfOk result
-        (λ p. AreWithin (length texts.old.items) nodes.now → IsWithin (length texts.new.items) p) }
+        (λ p. AreWithin (length texts.old.items) nodes.now → LiesWithin (length texts.new.items) p) }
     ensures part { IfOk result
         (λ p. AreSorted (links_in texts.old.items nodes.now) → text_of_part texts.new.items p ≡ id.now) }
 {
