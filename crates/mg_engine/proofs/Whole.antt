@@ -18,7 +18,7 @@ use Rattle.mg_range.specs.Laws.{Has}
 use Rattle.mg_index.specs.Choice.{id_path, rev_path}
 use Rattle.mg_path.specs.Part.{part_of}
 use Rattle.mg_query.specs.Page.{Candidate, candidates_of}
-use Rattle.mg_query.specs.Served.{AreWhole}
+use Rattle.mg_query.specs.Served.{HaveIdsAndRevs}
 use Rattle.mg_query.proofs.Kept.{IsKnown, all_known}
 use Rattle.mg_revtree.specs.History.{Paths, Leaf, Path, all_links, has_child, is_at, marked, newest_of, winner_of}
 use Rattle.mg_revtree.specs.Revision.{Revision, revision_text}
@@ -228,11 +228,11 @@ served_whole : (id : List ℕ) (o : Option Leaf) (form : Value) → ((l : Leaf) 
 served_whole id None form good e = absurd cc
 served_whole id (Some l) form good e = shown_whole l.deleted id l form (good l refl) e
 
-each_whole : (hs : Histories) → HaveObjects hs → (cs : List Candidate) → AllByRecursion (IsKnown hs) cs → AreWhole cs
+each_whole : (hs : Histories) → HaveObjects hs → (cs : List Candidate) → AllByRecursion (IsKnown hs) cs → HaveIdsAndRevs cs
 each_whole hs had [] k = tt
 each_whole hs had (c ∷ cs) k =
     (served_whole c.id (winner_of c.history) c.form (λ l e. winner_object c.history l (had.each c.id c.history k.0.0) e) k.0.1, each_whole hs had cs k.1)
 
 -- each document that is served has its id and its revision among its members
-pub are_whole : (hs : Histories) → HaveObjects hs → AreWhole (candidates_of hs)
+pub are_whole : (hs : Histories) → HaveObjects hs → HaveIdsAndRevs (candidates_of hs)
 are_whole hs had = each_whole hs had (candidates_of hs) (all_known hs)

@@ -5,7 +5,7 @@ ghost use Rattle.mg_shard.specs.Dealt.{Placing, ShardsStandFor};
 ghost use Rattle.mg_query.specs.Page.{candidates_of};
 ghost use Rattle.mg_query.specs.Query.{query_of};
 ghost use Rattle.mg_query.specs.Seen.{query_seen};
-ghost use Rattle.mg_query.specs.Served.{AreWhole};
+ghost use Rattle.mg_query.specs.Served.{HaveIdsAndRevs};
 ghost use Rattle.mg_engine.specs.Commands.{Answer, explain as explain_command, explained as explained_of, find, answer_of_query, reply_of};
 ghost use Rattle.mg_engine.specs.Stands.{StateStandsFor};
 ghost use Rattle.mg_shard.specs.Shard.{HaveIndexes, shards_seen};
@@ -65,7 +65,7 @@ fn page_line<R: Threads + Sync, G: Gate + Sync>(
 ) -> Result<Vec<u8>, Fault>
     requires indexes { HaveIndexes catalog.now (shards_seen shards.now) }
     ensures { (place : Placing) (w : World) → ShardsStandFor place (shards_seen shards.now) w.docs
-        → AreWhole (candidates_of w.docs)
+        → HaveIdsAndRevs (candidates_of w.docs)
         → w.indexes ≡ catalog.now → MakesAnswer result (answer_of_query w (query_of (view body.now))) }
 {
     let query = Query::read(context.alloc, body)?;
@@ -81,7 +81,7 @@ fn answer_line<R: Threads + Sync, G: Gate + Sync>(
 ) -> Result<Vec<u8>, Fault>
     requires indexes { HaveIndexes catalog.now (shards_seen shards.now) }
     ensures { (place : Placing) (w : World) → ShardsStandFor place (shards_seen shards.now) w.docs
-        → AreWhole (candidates_of w.docs)
+        → HaveIdsAndRevs (candidates_of w.docs)
         → w.indexes ≡ catalog.now → MakesAnswer result (answer_of_query w (Ok (query_seen query.now))) }
 {
     let Context {

@@ -23,7 +23,7 @@ use Rattle.mg_shard.specs.Rows.{row_of}
 use Rattle.mg_shard.specs.Shard.{ShardView}
 use Rattle.mg_query.specs.Page.{Candidate, candidates_of, is_asked, page_rows, row_by}
 use Rattle.mg_query.specs.Query.{Query}
-use Rattle.mg_query.specs.Served.{AreWhole}
+use Rattle.mg_query.specs.Served.{HaveIdsAndRevs}
 use Rattle.mg_query.proofs.Candidates.{document, documents_of, found_by}
 use Rattle.mg_query.proofs.Dealt.{dealt}
 use Rattle.mg_query.proofs.Gathered.{IsFoundBy, listed_rows, rows_asked, rows_of_page}
@@ -38,7 +38,7 @@ is_wanted_by q columns r = has_key (range_of (atoms_of q.selector) columns) (ite
 
 -- each of these has, where it is found, the one row that the query finds of it, and none otherwise
 pub all_found_by : RangesAreComplete → (q : Query) (columns : List Steps) (holds : Option Value → Bool) → ((x : Option Value) → holds x ≡ holds_in q.selector Plain x) → is_usable (atoms_of q.selector) q.sort columns ≡ true
-    → (cs : List Candidate) → AreWhole cs
+    → (cs : List Candidate) → HaveIdsAndRevs cs
     → AllByRecursion (IsFoundBy (row_by columns) document (is_asked q) (follows q) (rows_asked (λ d. holds (Some d.1)) (row_of columns) (is_wanted_by q columns))) cs
 all_found_by complete q columns holds same usable [] h = tt
 all_found_by complete q columns holds same usable (c ∷ cs) h = (found_by complete q columns (follows q) holds same usable c h.0.0 h.0.1, all_found_by complete q columns holds same usable cs h.1)
@@ -46,7 +46,7 @@ all_found_by complete q columns holds same usable (c ∷ cs) h = (found_by compl
 -- What shards list of their documents, each cut at skip and limit together, merged, and the first passed over: the rows of the page
 -- over all documents that the histories serve, wherever these are placed.
 pub rows_of_answer : RangesAreComplete → (q : Query) (columns : List Steps) (holds : Option Value → Bool) → ((x : Option Value) → holds x ≡ holds_in q.selector Plain x) → is_usable (atoms_of q.selector) q.sort columns ≡ true
-    → (place : Placing) (shards : List ShardView) (hs : Histories) → ShardsStandFor place shards hs → AreWhole (candidates_of hs)
+    → (place : Placing) (shards : List ShardView) (hs : Histories) → ShardsStandFor place shards hs → HaveIdsAndRevs (candidates_of hs)
     → drop q.skip (merged q.direction (q.skip + q.limit) (map (λ ds. take (q.skip + q.limit) (listed_rows (λ d. holds (Some d.1)) (row_of columns) (is_wanted_by q columns) q.direction ds)) (map (λ s. docs_of s.documents) shards)))
     ≡ map (row_by columns) (page_rows columns q (candidates_of hs))
 rows_of_answer complete q columns holds same usable place shards hs stands whole =

@@ -32,7 +32,7 @@ use Rattle.mg_index.specs.Reading.{is_same}
 use Rattle.mg_merge.specs.Merged.{joined}
 use Rattle.mg_shard.proofs.Shown.{bytes_cmp}
 use Rattle.mg_query.specs.Laws.{CanBeReadBack, Follow, PagesReadBackJoin, answer_with, asked_after, from_first, place_at}
-use Rattle.mg_query.specs.Page.{Candidate, Page, answer_of, candidate_of, candidates_of, columns_of, ddoc_of, accepts_bookmark, if_served, is_asked, is_ddoc, last, name_of, order_by, page_of, page_rows, row_by, served_by, shown_of, value_at}
+use Rattle.mg_query.specs.Page.{Candidate, Page, answer_of, candidate_of, candidates_of, source_columns, ddoc_of, accepts_bookmark, if_served, is_asked, is_ddoc, last, name_of, order_by, page_of, page_rows, row_by, served_by, shown_of, value_at}
 use Rattle.mg_query.specs.Query.{Query}
 use Rattle.mg_query.proofs.Candidates.{shown_first}
 use Rattle.mg_query.proofs.Serving.{choice_served, serves}
@@ -198,16 +198,16 @@ one_width m n e = subst (λ k. nat_eq m k ≡ true) e (nat_eq_equiv.refl m)
 accepts_place : (s : Source) (q : Query) (c : Candidate) (t : List ℕ) → accepts_bookmark s (asked_after q (Some (place_at s q c)) t) ≡ true
 accepts_place s q c t =
     ap₂ ◌&&◌ (ddoc_itself (ddoc_of s)) (ap₂ ◌&&◌ ((bytes_eq-Decides (name_of s) (name_of s)).1 refl)
-    (ap₂ ◌&&◌ (direction_itself q.direction) (one_width (length (item_list (items_of (map (value_at c) (columns_of s))))) (length (columns_of s)) (width (value_at c) (columns_of s)))))
+    (ap₂ ◌&&◌ (direction_itself q.direction) (one_width (length (item_list (items_of (map (value_at c) (source_columns s))))) (length (source_columns s)) (width (value_at c) (source_columns s)))))
 
 -- ---- pages joined
 
 module _ (ds : List IndexDefinition) (s : Source) (q : Query) (cs : List Candidate) (chosen : choice_of ds (atoms_of q.selector) q.sort q.hint ≡ Some s) (none_skipped : q.skip ≡ 0) (some : 1 ≤ q.limit) where
   abbrev whole : List Candidate
-  whole = sorted (order_by (columns_of s) q.direction) (filter (is_asked q) cs)
+  whole = sorted (order_by (source_columns s) q.direction) (filter (is_asked q) cs)
 
   abbrev after : Option Place → Candidate → Bool
-  after place c = option_map_or (λ p. is_gt (directed_order q.direction (row_by (columns_of s) c) (p.key, p.id))) place true
+  after place c = option_map_or (λ p. is_gt (directed_order q.direction (row_by (source_columns s) c) (p.key, p.id))) place true
 
   -- the page of these, asked for after a place, by a text
   abbrev page_with : Option Place → List ℕ → List Candidate → Page
@@ -218,10 +218,10 @@ module _ (ds : List IndexDefinition) (s : Source) (q : Query) (cs : List Candida
       → answer_with ds q cs t ≡ Some (Ok (page_with place t rows))
   answered t place left rows read fit here e =
       let asked = asked_after q place t in
-      let cut : page_rows (columns_of s) asked cs ≡ rows = ap (λ n. take q.limit (drop n (filter (after place) whole))) none_skipped ∙ ap (take q.limit) here ∙ sym e in
+      let cut : page_rows (source_columns s) asked cs ≡ rows = ap (λ n. take q.limit (drop n (filter (after place) whole))) none_skipped ∙ ap (take q.limit) here ∙ sym e in
       let served : served_by ds asked ≡ Ok s = serves ds asked s true chosen fit in
       ap (option_map (λ (p : Option Place). answer_of ds (asked_after q p t) cs)) read
-      ∙ ap Some (ap (if_served (λ (r : Source). page_of r asked (page_rows (columns_of r) asked cs))) served ∙ ap (λ (xs : List Candidate). Ok (page_with place t xs)) cut)
+      ∙ ap Some (ap (if_served (λ (r : Source). page_of r asked (page_rows (source_columns r) asked cs))) served ∙ ap (λ (xs : List Candidate). Ok (page_with place t xs)) cut)
 
   -- pages from a text on, which show these documents
   record Joined (t : List ℕ) (left : List Candidate) : Type 0 where
@@ -234,7 +234,7 @@ module _ (ds : List IndexDefinition) (s : Source) (q : Query) (cs : List Candida
   one_more t page (next ∷ pages) answer some f = (answer, some, f)
 
   -- there are such pages
-  join : IsStrictlySortedBy (order (columns_of s) q) whole → AllByRecursion (CanBeReadBack s q) whole
+  join : IsStrictlySortedBy (order (source_columns s) q) whole → AllByRecursion (CanBeReadBack s q) whole
       → (n : ℕ) (done left : List Candidate) (place : Option Place) (t : List ℕ) → length left ≤ n → whole ≡ done ++ left → filter (after place) whole ≡ left → bookmark_read t ≡ Some place
       → accepts_bookmark s (asked_after q place t) ≡ true → Joined t left
   join climbing back n done [] place t small parts here read fit =
@@ -249,10 +249,10 @@ module _ (ds : List IndexDefinition) (s : Source) (q : Query) (cs : List Candida
       let cut : c ∷ rest ≡ rows ++ later = sym (take-append-drop q.limit (c ∷ rest)) ∙ ap (λ xs. xs ++ later) (first_taken q.limit c rest some) in
       let whole_is : whole ≡ (done ++ l.front) ++ l.end ∷ later =
       parts ∙ ap (λ xs. done ++ xs) (cut ∙ ap (λ xs. xs ++ later) l.is ∙ append_assoc l.front (l.end ∷ []) later) ∙ sym (append_assoc done l.front (l.end ∷ later)) in
-      let readable : CanBeReadBack s q l.end = all_middle (columns_of s) q (CanBeReadBack s q) (done ++ l.front) l.end later (subst (AllByRecursion (CanBeReadBack s q)) whole_is back) in
+      let readable : CanBeReadBack s q l.end = all_middle (source_columns s) q (CanBeReadBack s q) (done ++ l.front) l.end later (subst (AllByRecursion (CanBeReadBack s q)) whole_is back) in
       let mark : page.bookmark ≡ spelled (place_at s q l.end) = ap (λ (o : Option Candidate). option_map_or (λ d. spelled (place_at s q d)) o t) l.at in
       let here_next : filter (after (Some (place_at s q l.end))) whole ≡ later =
-      ap (filter (after (Some (place_at s q l.end)))) whole_is ∙ after_one (columns_of s) q (done ++ l.front) l.end later (subst (IsStrictlySortedBy (order (columns_of s) q)) whole_is climbing) in
+      ap (filter (after (Some (place_at s q l.end)))) whole_is ∙ after_one (source_columns s) q (done ++ l.front) l.end later (subst (IsStrictlySortedBy (order (source_columns s) q)) whole_is climbing) in
       let parts_next : whole ≡ (done ++ rows) ++ later = parts ∙ ap (λ xs. done ++ xs) cut ∙ sym (append_assoc done rows later) in
       let fewer : length later ≡ length (c ∷ rest) - q.limit = length-drop q.limit (c ∷ rest) in
       let smaller : length later ≤ n = omega (arith, fewer, small, some) in
@@ -270,10 +270,10 @@ all_after_none (c ∷ cs) = ap (λ xs. c ∷ xs) (all_after_none cs)
 pub pages_that_read_back_join : PagesReadBackJoin
 pages_that_read_back_join ds s q hs served skipped limit back =
     let cs = candidates_of hs in
-    let order = order_by (columns_of s) q.direction in
+    let order = order_by (source_columns s) q.direction in
     let asked = filter (is_asked q) cs in
     let whole = sorted order asked in
-    let climbing = climbs (columns_of s) q whole (rises_sorted order (order_total (columns_of s) q) asked) (apart_sorted order asked (apart_kept (is_asked q) cs (apart_entries (entries hs) (entries_sorted hs)))) in
+    let climbing = climbs (source_columns s) q whole (rises_sorted order (order_total (source_columns s) q) asked) (apart_sorted order asked (apart_kept (is_asked q) cs (apart_entries (entries hs) (entries_sorted hs)))) in
     let readable = all_sorted (CanBeReadBack s q) order asked (all_kept (CanBeReadBack s q) (is_asked q) cs back) in
     let chosen = choice_served ds (from_first q) s served in
     let all = join ds s q cs chosen skipped limit climbing readable (length whole) [] whole None (codes "nil") (omega arith) refl (all_after_none whole) refl refl in

@@ -25,7 +25,7 @@ use Rattle.mg_query.specs.Page.{candidate_of, candidates_of, candidates_found, i
 use Rattle.mg_query.specs.Paged.{count_handed, counts_handed}
 use Rattle.mg_query.specs.Lent.{shard_rows}
 use Rattle.mg_query.specs.Query.{Query}
-use Rattle.mg_query.specs.Served.{AreWhole, HasIdAndRev}
+use Rattle.mg_query.specs.Served.{HaveIdsAndRevs, HasIdAndRev}
 use Rattle.mg_query.proofs.Answered.{all_found_by, follows, is_wanted_by}
 use Rattle.mg_query.proofs.Candidates.{document, documents_of, shown_first}
 use Rattle.mg_query.proofs.Dealt.{entries_kept}
@@ -38,20 +38,20 @@ all_split : {X : Type 0} (P : X → Type 0) (xs ys : List X) → AllByRecursion 
 all_split P [] ys h = (tt, h)
 all_split P (x ∷ xs) ys h = let more = all_split P xs ys h.1 in ((h.0, more.0), more.1)
 
-whole_if : (b : Bool) (e : List ℕ × Paths) (es : List (List ℕ × Paths)) → AreWhole (option_to_list (candidate_of e)) → AreWhole (filter_map candidate_of es) → AreWhole (filter_map candidate_of (cond b (e ∷ es) es))
+whole_if : (b : Bool) (e : List ℕ × Paths) (es : List (List ℕ × Paths)) → HaveIdsAndRevs (option_to_list (candidate_of e)) → HaveIdsAndRevs (filter_map candidate_of es) → HaveIdsAndRevs (filter_map candidate_of (cond b (e ∷ es) es))
 whole_if false e es h k = k
 whole_if true e es h k =
-    subst AreWhole (sym (shown_first candidate_of e es (candidate_of e) refl)) (all_append HasIdAndRev (option_to_list (candidate_of e)) (filter_map candidate_of es) h k)
+    subst HaveIdsAndRevs (sym (shown_first candidate_of e es (candidate_of e) refl)) (all_append HasIdAndRev (option_to_list (candidate_of e)) (filter_map candidate_of es) h k)
 
-whole_kept : (kept : List ℕ × Paths → Bool) (es : List (List ℕ × Paths)) → AreWhole (filter_map candidate_of es) → AreWhole (filter_map candidate_of (filter kept es))
+whole_kept : (kept : List ℕ × Paths → Bool) (es : List (List ℕ × Paths)) → HaveIdsAndRevs (filter_map candidate_of es) → HaveIdsAndRevs (filter_map candidate_of (filter kept es))
 whole_kept kept [] h = tt
 whole_kept kept (e ∷ es) h =
-    let parts = all_split HasIdAndRev (option_to_list (candidate_of e)) (filter_map candidate_of es) (subst AreWhole (shown_first candidate_of e es (candidate_of e) refl) h) in
+    let parts = all_split HasIdAndRev (option_to_list (candidate_of e)) (filter_map candidate_of es) (subst HaveIdsAndRevs (shown_first candidate_of e es (candidate_of e) refl) h) in
     whole_if (kept e) e (filter kept es) parts.0 (whole_kept kept es parts.1)
 
-whole_on : (place : Placing) (n i : ℕ) (hs : Histories) → AreWhole (candidates_of hs) → AreWhole (candidates_of (histories_on place n i hs))
+whole_on : (place : Placing) (n i : ℕ) (hs : Histories) → HaveIdsAndRevs (candidates_of hs) → HaveIdsAndRevs (candidates_of (histories_on place n i hs))
 whole_on place n i hs h =
-    subst (λ es. AreWhole (filter_map candidate_of es)) (sym (entries_kept hs (λ id. eqb (place id n) i))) (whole_kept (λ e. eqb (place e.0 n) i) (entries hs) h)
+    subst (λ es. HaveIdsAndRevs (filter_map candidate_of es)) (sym (entries_kept hs (λ id. eqb (place id n) i))) (whole_kept (λ e. eqb (place e.0 n) i) (entries hs) h)
 
 -- ---- the numbers
 
@@ -68,7 +68,7 @@ sizes rows (v ∷ lists) (s ∷ shards) e =
 
 module _ (complete : RangesAreComplete) (q : Query) (columns : List Steps) (normal : NormalForm) (is : IsNormalOf q.selector normal) (usable : is_usable (atoms_of q.selector) q.sort columns ≡ true) where
   -- what a shard lists is as long as what the query finds of its documents, up to skip and limit together
-  shard_count : (s : ShardView) (on : Histories) → StandFor s.documents on → AreWhole (candidates_of on) → length (shard_rows normal columns q s) ≡ count_handed columns q on
+  shard_count : (s : ShardView) (on : Histories) → StandFor s.documents on → HaveIdsAndRevs (candidates_of on) → length (shard_rows normal columns q s) ≡ count_handed columns q on
   shard_count s on stands whole =
       let most = q.skip + q.limit in
       let asked : Document → Bool = λ d. normal_holds normal (Some d.1) in
@@ -85,7 +85,7 @@ module _ (complete : RangesAreComplete) (q : Query) (columns : List Steps) (norm
       ∙ length-take most (map (row_by columns) (candidates_found columns q cs))
       ∙ ap (min most) (length-map (candidates_found columns q cs) (row_by columns))
 
-  each_count : (place : Placing) (n k : ℕ) (hs : Histories) (shards : List ShardView) → ((i : ℕ) (s : ShardView) → slice_get shards i ≡ Some s → StandFor s.documents (histories_on place n (k + i) hs)) → AreWhole (candidates_of hs)
+  each_count : (place : Placing) (n k : ℕ) (hs : Histories) (shards : List ShardView) → ((i : ℕ) (s : ShardView) → slice_get shards i ≡ Some s → StandFor s.documents (histories_on place n (k + i) hs)) → HaveIdsAndRevs (candidates_of hs)
       → map (λ s. length (shard_rows normal columns q s)) shards ≡ map (λ i. count_handed columns q (histories_on place n i hs)) (range_with_len k (length shards))
   each_count place n k hs [] each whole = refl
   each_count place n k hs (s ∷ shards) each whole =
@@ -95,7 +95,7 @@ module _ (complete : RangesAreComplete) (q : Query) (columns : List Steps) (norm
       (each_count place n (k + 1) hs shards (λ i t e. let m : k + suc i ≡ (k + 1) + i = omega arith in subst (λ j. StandFor t.documents (histories_on place n j hs)) m (each (suc i) t e)) whole)
 
   -- how much each shard lists
-  pub listed_counts : (place : Placing) (shards : List ShardView) (hs : Histories) → ShardsStandFor place shards hs → AreWhole (candidates_of hs)
+  pub listed_counts : (place : Placing) (shards : List ShardView) (hs : Histories) → ShardsStandFor place shards hs → HaveIdsAndRevs (candidates_of hs)
       → map (λ s. length (shard_rows normal columns q s)) shards ≡ counts_handed columns q place (length shards) hs
   listed_counts place shards hs stands whole =
       let each = λ (i : ℕ) (s : ShardView) (h : slice_get shards i ≡ Some s). let here : i ≡ 0 + i = omega arith in subst (λ j. StandFor s.documents (histories_on place (length shards) j hs)) here (stands.each i s h) in

@@ -24,7 +24,7 @@ use Rattle.mg_range.specs.Laws.{RangesAreComplete}
 use Rattle.mg_range.specs.RangeSide.{has_key}
 use Rattle.mg_range.specs.Range.{range_of}
 use Rattle.mg_scan.specs.Decided.{IsDecidedIn}
-use Rattle.mg_scan.specs.Found.{asked, columns_of as columns_at}
+use Rattle.mg_scan.specs.Found.{asked, target_columns}
 use Rattle.mg_scan.specs.Hit.{hit_row, hit_rows}
 use Rattle.mg_scan.specs.Scan.{scanned}
 use Rattle.mg_scan.specs.Search.{after_of, asked_by, found_by}
@@ -36,11 +36,11 @@ use Rattle.mg_shard.specs.Histories.{Histories}
 use Rattle.mg_shard.specs.Rows.{row_of}
 use Rattle.mg_shard.specs.Shard.{ShardView}
 use Rattle.mg_query.specs.Plan.{AreFirst, AreOfPage, IsPlanOf, IsSearchOf, rows_asked_of}
-use Rattle.mg_query.specs.Page.{candidates_of, columns_of, page_rows, row_by}
-use Rattle.mg_query.specs.Paged.{IsWithin}
+use Rattle.mg_query.specs.Page.{candidates_of, source_columns, page_rows, row_by}
+use Rattle.mg_query.specs.Paged.{IsWorkWithin}
 use Rattle.mg_query.specs.Lent.{row_at, shard_rows}
 use Rattle.mg_query.specs.Query.{Query}
-use Rattle.mg_query.specs.Served.{AreWhole, IsListed, source_seen}
+use Rattle.mg_query.specs.Served.{HaveIdsAndRevs, IsListed, source_seen}
 use Rattle.mg_query.specs.declared.found.Plan.{Plan}
 use Rattle.mg_query.proofs.Answered.{is_wanted_by, rows_of_answer}
 use Rattle.mg_query.proofs.Gathered.{listed_rows, listed_sorted, lists_in_order, rows_asked}
@@ -79,9 +79,9 @@ pub merged_same : (direction : Direction) (hits : List Hit) (m n : ℕ) (lists o
 merged_same direction hits m n lists others e f g = e ∙ ap₂ (λ k ls. merged_by hit_row direction k (contents_of ls)) f g
 
 -- what the query's search finds in a shard that has the columns of its target
-found_at : (q : Query) (a : Plan) (search : Search) → IsPlanOf q a → IsSearchOf q a search → (s : ShardView) → columns_at search.target s.definitions ≡ Some (columns_of (source_seen a.source)) → found_by search s ≡ rows_asked_of q a s
+found_at : (q : Query) (a : Plan) (search : Search) → IsPlanOf q a → IsSearchOf q a search → (s : ShardView) → target_columns search.target s.definitions ≡ Some (source_columns (source_seen a.source)) → found_by search s ≡ rows_asked_of q a s
 found_at q a search asks is s e =
-    let columns = columns_of (source_seen a.source) in
+    let columns = source_columns (source_seen a.source) in
     let documents = docs_of s.documents in
     ap (λ o. option_map_or (λ cs. scanned (asked_by search cs) documents) o []) e
     ∙ ap₂ (λ normal range. scanned (asked normal range (after_of search) search.take search.direction columns) documents) is.normal (is.range ∙ asks.range)
@@ -109,7 +109,7 @@ found_first q a search asks is shards listed =
 pub decided_in : (q : Query) (a : Plan) (search : Search) → IsPlanOf q a → IsSearchOf q a search → a.is_decided ≡ true → (shards : List ShardView) → All (λ s. IsListed s.definitions (source_seen a.source)) shards
     → All (IsDecidedIn search.target search.normal.now search.range.now) shards
 decided_in q a search asks is decides shards listed =
-    let columns = columns_of (source_seen a.source) in
+    let columns = source_columns (source_seen a.source) in
     let decided = asks.decided decides in
     All-weaker (λ s. IsListed s.definitions (source_seen a.source)) (IsDecidedIn search.target search.normal.now search.range.now)
     (λ s there. record {
@@ -157,13 +157,13 @@ module _ (q : Query) (columns : List Steps) (normal : NormalForm) (is : IsNormal
   all_listed (s ∷ shards) = ap₂ (λ rows lists. rows ∷ lists) (shard_listed s) (all_listed shards)
 
   -- the merged rows after the first are those of the page, over all documents that the histories serve
-  pub rows_merged : RangesAreComplete → is_usable (atoms_of q.selector) q.sort columns ≡ true → (place : Placing) (shards : List ShardView) (hs : Histories) → ShardsStandFor place shards hs → AreWhole (candidates_of hs)
+  pub rows_merged : RangesAreComplete → is_usable (atoms_of q.selector) q.sort columns ≡ true → (place : Placing) (shards : List ShardView) (hs : Histories) → ShardsStandFor place shards hs → HaveIdsAndRevs (candidates_of hs)
       → drop q.skip (merged q.direction most (map (shard_rows normal columns q) shards)) ≡ map (row_by columns) (page_rows columns q (candidates_of hs))
   rows_merged complete usable place shards hs stands whole =
       ap (λ lists. drop q.skip (merged q.direction most lists)) (all_listed shards) ∙ rows_of_answer complete q columns (normal_holds normal) is.meaning usable place shards hs stands whole
 
   -- the rows of the hits after the first are those of the page
-  pub rows_handed : RangesAreComplete → is_usable (atoms_of q.selector) q.sort columns ≡ true → (place : Placing) (shards : List ShardView) (hs : Histories) → ShardsStandFor place shards hs → AreWhole (candidates_of hs)
+  pub rows_handed : RangesAreComplete → is_usable (atoms_of q.selector) q.sort columns ≡ true → (place : Placing) (shards : List ShardView) (hs : Histories) → ShardsStandFor place shards hs → HaveIdsAndRevs (candidates_of hs)
       → (hits : List Hit) → hit_rows hits ≡ merged q.direction most (map (shard_rows normal columns q) shards)
       → map hit_row (drop q.skip hits) ≡ map (row_by columns) (page_rows columns q (candidates_of hs))
   rows_handed complete usable place shards hs stands whole hits e =
@@ -203,7 +203,7 @@ module _ (q : Query) (columns : List Steps) (normal : NormalForm) (is : IsNormal
   -- and what of it is merged out is bounded by the page
   pub handed_within : (lists : List (Vec Hit Global)) (shards : List ShardView) → map (λ v. hit_rows v.items) lists ≡ map (shard_rows normal columns q) shards
       → (hits : List Hit) → hits ≡ merged_by hit_row q.direction most (contents_of lists) → (work : Hand) → work.handed ≡ map (λ (v : Vec Hit Global). length v.items) lists → work.taken ≡ length hits
-      → IsWithin (length shards) most work
+      → IsWorkWithin (length shards) most work
   handed_within lists shards e hits merge work handed taken =
       let sizes = λ (v : Vec Hit Global). length v.items in
       let count = ap length e in

@@ -16,7 +16,7 @@ use Rattle.mg_revtree.specs.Tree.{StandsFor, Tree}
 use Rattle.mg_scan.specs.Hit.{hit_document, hit_form, hit_row}
 use Rattle.mg_scan.specs.declared.hit.Hit.{Hit}
 use Rattle.mg_shard.specs.Documents.{kept_of}
-use Rattle.mg_query.specs.Page.{Candidate, bookmark_after, bookmark_at, columns_of, ddoc_of, name_of, page_value, projected, shown_of}
+use Rattle.mg_query.specs.Page.{Candidate, bookmark_after, bookmark_at, source_columns, ddoc_of, name_of, page_value, projected, shown_of}
 use Rattle.mg_query.specs.Lent.{LendEach, Lends, shows_whole}
 use Rattle.mg_query.specs.Query.{Query}
 use Rattle.mg_query.proofs.Lent.{lends_last, lends_next, lends_no_more, lends_none}
@@ -93,17 +93,17 @@ text_first q cs out begun e = sym (append_assoc out (91 ∷ []) (rest_text q fal
 -- ---- the bookmark
 
 -- of the last hit
-pub bookmark_last : (s : Source) (q : Query) (hits : List Hit) (cs : List Candidate) (h : Hit) (mark : List ℕ) → LendEach (columns_of s) hits cs → slice_get hits (length hits - 1) ≡ Some h
+pub bookmark_last : (s : Source) (q : Query) (hits : List Hit) (cs : List Candidate) (h : Hit) (mark : List ℕ) → LendEach (source_columns s) hits cs → slice_get hits (length hits - 1) ≡ Some h
     → mark ≡ spelled (record { ddoc = ddoc_of s; name = name_of s; direction = q.direction; key = (hit_row h).0; id = (hit_row h).1 }) → mark ≡ bookmark_after s q cs
 bookmark_last s q hits cs h mark l e m =
-    let last = lends_last (columns_of s) hits cs h l e in
+    let last = lends_last (source_columns s) hits cs h l e in
     m ∙ ap (λ (r : RowValue). spelled (record { ddoc = ddoc_of s; name = name_of s; direction = q.direction; key = r.0; id = r.1 })) last.1.row
     ∙ ap (λ (o : Option Candidate). option_map_or (bookmark_at s q) o q.given_bookmark) (sym last.2)
 
 -- of none
-pub bookmark_none : (s : Source) (q : Query) (hits : List Hit) (cs : List Candidate) (mark : List ℕ) → LendEach (columns_of s) hits cs → slice_get hits (length hits - 1) ≡ None → mark ≡ q.given_bookmark → mark ≡ bookmark_after s q cs
+pub bookmark_none : (s : Source) (q : Query) (hits : List Hit) (cs : List Candidate) (mark : List ℕ) → LendEach (source_columns s) hits cs → slice_get hits (length hits - 1) ≡ None → mark ≡ q.given_bookmark → mark ≡ bookmark_after s q cs
 bookmark_none s q hits cs mark l e m =
-    m ∙ ap (λ (o : Option Candidate). option_map_or (bookmark_at s q) o q.given_bookmark) (sym (lends_none (columns_of s) hits cs l e))
+    m ∙ ap (λ (o : Option Candidate). option_map_or (bookmark_at s q) o q.given_bookmark) (sym (lends_none (source_columns s) hits cs l e))
 
 -- ---- the page
 

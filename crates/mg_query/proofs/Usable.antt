@@ -6,7 +6,7 @@ use Rattle.mg_normal.specs.Atoms.{Atom}
 use Rattle.mg_index.specs.Choice.{Hint, Source, all_docs, defined, all_docs_usable, choice_of, id_path, is_usable, least, lesser, or_all_docs, preference, usable_of}
 use Rattle.mg_index.specs.Definition.{IndexDefinition, Steps}
 use Rattle.mg_index.proofs.Paths.{path_eq-Decides}
-use Rattle.mg_query.specs.Page.{columns_of}
+use Rattle.mg_query.specs.Page.{source_columns}
 
 pub same : {X : Type 0} (x y : X) → Some x ≡ Some y → x ≡ y
 same x y e = ap (λ o. unwrap_or o x) e
@@ -32,17 +32,17 @@ usable_by_id atoms [] e = refl
 usable_by_id atoms (path ∷ []) e = let p : path ≡ id_path = (path_eq-Decides path id_path).0 e in subst (λ q. is_usable atoms (q ∷ []) (id_path ∷ []) ≡ true) (sym p) refl
 usable_by_id atoms (path ∷ other ∷ sort) e = absurd cc
 
-by_id : (atoms : List Atom) (sort : List Steps) (b : Bool) (s : Source) → all_docs_usable sort ≡ b → cond b (Some all_docs) None ≡ Some s → is_usable atoms sort (columns_of s) ≡ true
+by_id : (atoms : List Atom) (sort : List Steps) (b : Bool) (s : Source) → all_docs_usable sort ≡ b → cond b (Some all_docs) None ≡ Some s → is_usable atoms sort (source_columns s) ≡ true
 by_id atoms sort false s e h = absurd cc
-by_id atoms sort true s e h = subst (λ t. is_usable atoms sort (columns_of t) ≡ true) (same all_docs s h) (usable_by_id atoms sort e)
+by_id atoms sort true s e h = subst (λ t. is_usable atoms sort (source_columns t) ≡ true) (same all_docs s h) (usable_by_id atoms sort e)
 
 chosen : (atoms : List Atom) (sort : List Steps) (o : Option IndexDefinition) (s : Source) → ((d : IndexDefinition) → o ≡ Some d → is_usable atoms sort d.columns ≡ true)
-    → or_all_docs sort o ≡ Some s → is_usable atoms sort (columns_of s) ≡ true
+    → or_all_docs sort o ≡ Some s → is_usable atoms sort (source_columns s) ≡ true
 chosen atoms sort None s h e = by_id atoms sort (all_docs_usable sort) s refl e
-chosen atoms sort (Some d) s h e = subst (λ t. is_usable atoms sort (columns_of t) ≡ true) (same (defined d) s e) (h d refl)
+chosen atoms sort (Some d) s h e = subst (λ t. is_usable atoms sort (source_columns t) ≡ true) (same (defined d) s e) (h d refl)
 
 -- what is chosen is usable
-pub choice_usable : (ds : List IndexDefinition) (atoms : List Atom) (sort : List Steps) (hint : Hint) (s : Source) → choice_of ds atoms sort hint ≡ Some s → is_usable atoms sort (columns_of s) ≡ true
+pub choice_usable : (ds : List IndexDefinition) (atoms : List Atom) (sort : List Steps) (hint : Hint) (s : Source) → choice_of ds atoms sort hint ≡ Some s → is_usable atoms sort (source_columns s) ≡ true
 choice_usable ds atoms sort hint s e =
     chosen atoms sort (least (preference atoms hint) (usable_of atoms sort ds)) s
     (λ d k. least_has (λ x. is_usable atoms sort x.columns ≡ true) (preference atoms hint) (usable_of atoms sort ds) (all_pass (λ x. is_usable atoms sort x.columns) ds) d k) e

@@ -7,7 +7,7 @@ use Rattle.mg_index.specs.Definition.{IndexDefinition, listed_of, listed_all_doc
 use Rattle.mg_range.specs.Range.{range_of}
 use Rattle.mg_range.specs.Listed.{range_value}
 use Rattle.mg_query.specs.Query.{Query}
-use Rattle.mg_query.specs.Page.{Unanswered, columns_of, served_by, if_served}
+use Rattle.mg_query.specs.Page.{Unanswered, source_columns, served_by, if_served}
 
 -- an index as it is listed
 abbrev pub listed_source : Source → Value
@@ -23,7 +23,7 @@ explanation_with db q index range =
 
 -- the explanation of a query that this index serves
 abbrev pub explained : List ℕ → Query → Source → Value
-explained db q s = explanation_with db q (listed_source s) (range_value (range_of (atoms_of q.selector) (columns_of s)))
+explained db q s = explanation_with db q (listed_source s) (range_value (range_of (atoms_of q.selector) (source_columns s)))
 
 -- the explanation of a query in a database of this name, or why it is not answered
 abbrev pub explanation_of : List ℕ → List IndexDefinition → Query → Result Value Unanswered

@@ -8,7 +8,7 @@ use Rattle.mg_index.specs.Choice.{Source}
 use Rattle.mg_index.specs.Definition.{IndexDefinition}
 use Rattle.mg_merge.specs.Merged.{joined}
 use Rattle.mg_shard.specs.Histories.{Histories}
-use Rattle.mg_query.specs.Page.{Candidate, Page, Unanswered, answer_of, bookmark_at, candidates_of, columns_of, ddoc_of, candidates_found, name_of, row_by, served_by, shown_of}
+use Rattle.mg_query.specs.Page.{Candidate, Page, Unanswered, answer_of, bookmark_at, candidates_of, source_columns, ddoc_of, candidates_found, name_of, row_by, served_by, shown_of}
 use Rattle.mg_selector.specs.Fault.{or_fault}
 use Rattle.mg_query.specs.Query.{Query, query_of}
 use Rattle.mg_query.specs.declared.error.QueryError.TheVariants.{BadBookmark}
@@ -50,7 +50,7 @@ from_first q = asked_after q None (codes "nil")
 
 -- the place of a document in the index
 abbrev pub place_at : Source → Query → Candidate → Place
-place_at s q c = record { ddoc = ddoc_of s; name = name_of s; direction = q.direction; key = (row_by (columns_of s) c).0; id = c.id }
+place_at s q c = record { ddoc = ddoc_of s; name = name_of s; direction = q.direction; key = (row_by (source_columns s) c).0; id = c.id }
 
 -- JSON text can carry the document's place
 abbrev pub HasPlace : Source → Query → Candidate → Type 0
@@ -66,7 +66,7 @@ abbrev pub PagesJoinWhere : (Source → Query → Candidate → Type 0) → Type
 PagesJoinWhere Holds =
     (ds : List IndexDefinition) (s : Source) (q : Query) (hs : Histories) → served_by ds (from_first q) ≡ Ok s → q.skip ≡ 0 → 1 ≤ q.limit → AllByRecursion (Holds s q) (candidates_of hs)
     → (pages : List Page) × Follow ds q (candidates_of hs) (codes "nil") pages
-    × (joined (map (λ page. page.docs) pages) ≡ map (shown_of q) (candidates_found (columns_of s) (from_first q) (candidates_of hs)))
+    × (joined (map (λ page. page.docs) pages) ≡ map (shown_of q) (candidates_found (source_columns s) (from_first q) (candidates_of hs)))
 
 -- pages join if JSON text can carry the place of each document
 abbrev pub PagesJoin : Type 0

@@ -44,9 +44,9 @@ candidates_of hs = filter_map candidate_of (entries hs)
 -- ---- the index that serves the query
 
 -- its columns; the index of all documents has the one column `_id`
-abbrev pub columns_of : Source → List Steps
-columns_of all_docs = id_path ∷ []
-columns_of (defined d) = d.columns
+abbrev pub source_columns : Source → List Steps
+source_columns all_docs = id_path ∷ []
+source_columns (defined d) = d.columns
 
 -- its design document, none for the index of all documents
 abbrev pub ddoc_of : Source → Option (List ℕ)
@@ -105,7 +105,7 @@ shown_of q c = projected q.fields (with_asked q c)
 
 -- the bookmark of a document
 abbrev pub bookmark_at : Source → Query → Candidate → List ℕ
-bookmark_at s q c = spelled (record { ddoc = ddoc_of s; name = name_of s; direction = q.direction; key = (row_by (columns_of s) c).0; id = c.id })
+bookmark_at s q c = spelled (record { ddoc = ddoc_of s; name = name_of s; direction = q.direction; key = (row_by (source_columns s) c).0; id = c.id })
 
 -- the last of a list, and none of an empty one
 abbrev pub last : {X : Type 0} → List X → Option X
@@ -146,7 +146,7 @@ is_ddoc a b = false
 -- whether a place is one in the index, read in the query's direction
 abbrev pub is_place_in : Source → Query → Place → Bool
 is_place_in s q p =
-    is_ddoc p.ddoc (ddoc_of s) && (bytes_eq p.name (name_of s) && (is_same p.direction q.direction && (length (item_list p.key) == length (columns_of s))))
+    is_ddoc p.ddoc (ddoc_of s) && (bytes_eq p.name (name_of s) && (is_same p.direction q.direction && (length (item_list p.key) == length (source_columns s))))
 
 -- whether the query's bookmark is a place in the index; true without a bookmark
 abbrev pub accepts_bookmark : Source → Query → Bool
@@ -163,4 +163,4 @@ if_served f (Err why) = Err why
 
 -- the answer to a query, over the index definitions and all served documents
 abbrev pub answer_of : List IndexDefinition → Query → List Candidate → Result Page Unanswered
-answer_of ds q cs = if_served (λ s. page_of s q (page_rows (columns_of s) q cs)) (served_by ds q)
+answer_of ds q cs = if_served (λ s. page_of s q (page_rows (source_columns s) q cs)) (served_by ds q)

@@ -7,7 +7,7 @@ use Rattle.mg_index.specs.Definition.{IndexDefinition, Steps}
 use Rattle.mg_merge.specs.Work.{Hand}
 use Rattle.mg_shard.specs.Dealt.{Placing, histories_on}
 use Rattle.mg_shard.specs.Histories.{Histories}
-use Rattle.mg_query.specs.Page.{Page, Unanswered, candidates_of, columns_of, candidates_found, if_served, page_value, served_by}
+use Rattle.mg_query.specs.Page.{Page, Unanswered, candidates_of, source_columns, candidates_found, if_served, page_value, served_by}
 use Rattle.mg_query.specs.Query.{Query}
 use Rattle.mg_query.specs.declared.shown.Page as code
 
@@ -21,7 +21,7 @@ text_of (Ok p) = Ok (compact (page_value p))
 text_of (Err why) = Err why
 
 -- each of `count` shards handed over at most `most` rows, and `most` of these were merged, or all if there are fewer
-pub record IsWithin (count most : ℕ) (work : Hand) : Type 0 where
+pub record IsWorkWithin (count most : ℕ) (work : Hand) : Type 0 where
   pub shards : length work.handed ≡ count
   pub handed : All (λ n. n ≤ most) work.handed
   pub taken : work.taken ≡ min most (sum work.handed)
@@ -37,4 +37,4 @@ counts_handed columns q place n hs = map (λ i. count_handed columns q (historie
 
 -- how many rows each of n shards hands over, read in the index that serves the query; or why the query is not answered
 abbrev pub handed_of : List IndexDefinition → Query → Placing → ℕ → Histories → Result (List ℕ) Unanswered
-handed_of ds q place n hs = if_served (λ s. counts_handed (columns_of s) q place n hs) (served_by ds q)
+handed_of ds q place n hs = if_served (λ s. counts_handed (source_columns s) q place n hs) (served_by ds q)

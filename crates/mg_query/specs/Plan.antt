@@ -6,14 +6,14 @@ use Rattle.mg_index.specs.Definition.{IndexDefinition, Steps}
 use Rattle.mg_normal.specs.Normal.{IsNormalOf, NormalForm}
 use Rattle.mg_range.specs.Decided.{decides_of}
 use Rattle.mg_range.specs.Range.{range_of}
-use Rattle.mg_scan.specs.Found.{columns_of as columns_at}
+use Rattle.mg_scan.specs.Found.{target_columns}
 use Rattle.mg_scan.specs.Hit.{AreHitsIn, hit_rows}
 use Rattle.mg_scan.specs.Search.{after_of}
 use Rattle.mg_scan.specs.declared.hit.Hit.{Hit}
 use Rattle.mg_scan.specs.declared.search.Search.{Search}
 use Rattle.mg_shard.specs.Shard.{ShardView}
 use Rattle.mg_query.specs.Lent.{row_at, shard_rows}
-use Rattle.mg_query.specs.Page.{columns_of}
+use Rattle.mg_query.specs.Page.{source_columns}
 use Rattle.mg_query.specs.Query.{Query}
 use Rattle.mg_query.specs.Served.{IsListed, source_seen}
 use Rattle.mg_query.specs.declared.found.Plan.{Plan}
@@ -25,13 +25,13 @@ IsDecidedBy columns normal = (is_some normal.rest ≡ false) × (decides_of norm
 -- the code's `Plan` is what the query asks of each shard
 pub record IsPlanOf (q : Query) (a : Plan) : Type 0 where
   pub normal : IsNormalOf q.selector a.normal
-  pub range : a.range ≡ range_of a.normal.atoms (columns_of (source_seen a.source))
+  pub range : a.range ≡ range_of a.normal.atoms (source_columns (source_seen a.source))
   pub after : a.after ≡ option_map row_at q.bookmark
-  pub decided : a.is_decided ≡ true → IsDecidedBy (columns_of (source_seen a.source)) a.normal
+  pub decided : a.is_decided ≡ true → IsDecidedBy (source_columns (source_seen a.source)) a.normal
 
 -- the search asks a shard for this, and takes as many rows as the page skips and shows
 pub record IsSearchOf (q : Query) (a : Plan) (s : Search) : Type 0 where
-  pub target : (ds : List IndexDefinition) → IsListed ds (source_seen a.source) → columns_at s.target ds ≡ Some (columns_of (source_seen a.source))
+  pub target : (ds : List IndexDefinition) → IsListed ds (source_seen a.source) → target_columns s.target ds ≡ Some (source_columns (source_seen a.source))
   pub normal : s.normal.now ≡ a.normal
   pub range : s.range.now ≡ a.range
   pub after : after_of s ≡ a.after
@@ -40,7 +40,7 @@ pub record IsSearchOf (q : Query) (a : Plan) (s : Search) : Type 0 where
 
 -- the rows that a shard lists for the query
 abbrev pub rows_asked_of : Query → Plan → ShardView → List RowValue
-rows_asked_of q a = shard_rows a.normal (columns_of (source_seen a.source)) q
+rows_asked_of q a = shard_rows a.normal (source_columns (source_seen a.source)) q
 
 -- the hits are the first of what all shards list, each of a document of one of them
 pub record AreFirst (q : Query) (a : Plan) (shards : List ShardView) (found : List Hit) : Type 0 where

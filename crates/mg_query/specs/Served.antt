@@ -45,5 +45,5 @@ abbrev pub HasIdAndRev : Candidate → Type 0
 HasIdAndRev c = Has c.form id_path × Has c.form rev_path
 
 -- so has each of them
-abbrev pub AreWhole : List Candidate → Type 0
-AreWhole cs = AllByRecursion HasIdAndRev cs
+abbrev pub HaveIdsAndRevs : List Candidate → Type 0
+HaveIdsAndRevs cs = AllByRecursion HasIdAndRev cs

@@ -8,11 +8,11 @@ ghost use Rattle.mg_scan.specs.Hit.{hit_row};
 ghost use Rattle.mg_shard.specs.Shard.{HaveIndexes, shards_seen};
 ghost use Rattle.mg_shard.specs.Dealt.{Placing, ShardsStandFor};
 ghost use Rattle.mg_shard.specs.Histories.{Histories};
-ghost use Rattle.mg_query.specs.Page.{Candidate, answer_of, bookmark_after, candidates_of, columns_of, ddoc_of, name_of, page_of, page_value, shown_of};
-ghost use Rattle.mg_query.specs.Paged.{IsWithin, handed_of, page_seen, text_of};
+ghost use Rattle.mg_query.specs.Page.{Candidate, answer_of, bookmark_after, candidates_of, source_columns, ddoc_of, name_of, page_of, page_value, shown_of};
+ghost use Rattle.mg_query.specs.Paged.{IsWorkWithin, handed_of, page_seen, text_of};
 ghost use Rattle.mg_query.specs.Lent.{LendEach};
 ghost use Rattle.mg_query.specs.Seen.{query_seen};
-ghost use Rattle.mg_query.specs.Served.{PageAnswers, AreWhole, source_seen};
+ghost use Rattle.mg_query.specs.Served.{PageAnswers, HaveIdsAndRevs, source_seen};
 
 use crate::error::PageError;
 use crate::found::{after_skip, find, find_page};
@@ -52,13 +52,13 @@ pub fn page<R: Threads + Sync, G: Gate + Sync>(
     requires workers { (0 < workers) × (workers ≤ 32) }
     requires indexes { HaveIndexes catalog.now (shards_seen shards.now) }
     ensures answers { (place : Placing) (hs : Histories)
-        → ShardsStandFor place (shards_seen shards.now) hs → AreWhole (candidates_of hs)
+        → ShardsStandFor place (shards_seen shards.now) hs → HaveIdsAndRevs (candidates_of hs)
         → PageAnswers (λ r. page_seen r.0) result
         (answer_of catalog.now (query_seen query.now) (candidates_of hs)) }
     ensures work { IfOk result
-        (λ r. IsWithin (length shards.now) (query.now.skip + query.now.limit) r.1) }
+        (λ r. IsWorkWithin (length shards.now) (query.now.skip + query.now.limit) r.1) }
     ensures handed { (place : Placing) (hs : Histories)
-        → ShardsStandFor place (shards_seen shards.now) hs → AreWhole (candidates_of hs)
+        → ShardsStandFor place (shards_seen shards.now) hs → HaveIdsAndRevs (candidates_of hs)
         → PageAnswers (λ r. r.1.handed) result
         (handed_of catalog.now (query_seen query.now) place (length shards.now) hs) }
 {
@@ -85,13 +85,13 @@ pub fn page_text<R: Threads + Sync, G: Gate + Sync>(
     requires workers { (0 < workers) × (workers ≤ 32) }
     requires indexes { HaveIndexes catalog.now (shards_seen shards.now) }
     ensures answers { (place : Placing) (hs : Histories)
-        → ShardsStandFor place (shards_seen shards.now) hs → AreWhole (candidates_of hs)
+        → ShardsStandFor place (shards_seen shards.now) hs → HaveIdsAndRevs (candidates_of hs)
         → PageAnswers (λ r. r.0.items) result
         (text_of (answer_of catalog.now (query_seen query.now) (candidates_of hs))) }
     ensures work { IfOk result
-        (λ r. IsWithin (length shards.now) (query.now.skip + query.now.limit) r.1) }
+        (λ r. IsWorkWithin (length shards.now) (query.now.skip + query.now.limit) r.1) }
     ensures handed { (place : Placing) (hs : Histories)
-        → ShardsStandFor place (shards_seen shards.now) hs → AreWhole (candidates_of hs)
+        → ShardsStandFor place (shards_seen shards.now) hs → HaveIdsAndRevs (candidates_of hs)
         → PageAnswers (λ r. r.1.handed) result
         (handed_of catalog.now (query_seen query.now) place (length shards.now) hs) }
 {
@@ -118,7 +118,7 @@ pub fn page_text_by<R: Threads + Sync, G: Gate + Sync>(
 ) -> Result<Vec<u8>, PageError>
     requires indexes { HaveIndexes catalog.now (shards_seen shards.now) }
     ensures answers { (place : Placing) (hs : Histories)
-        → ShardsStandFor place (shards_seen shards.now) hs → AreWhole (candidates_of hs)
+        → ShardsStandFor place (shards_seen shards.now) hs → HaveIdsAndRevs (candidates_of hs)
         → PageAnswers (λ text. text.items) result
         (text_of (answer_of catalog.now (query_seen query.now) (candidates_of hs))) }
 {
@@ -135,7 +135,7 @@ fn write_page(
     hits: &[Hit<'_>],
 ) -> Result<Vec<u8>, NoMemory>
     ensures { IfOk result (λ text. (cs : List Candidate)
-        → LendEach (columns_of (source_seen source.entry)) hits.now cs
+        → LendEach (source_columns (source_seen source.entry)) hits.now cs
         → text.items ≡ compact (page_value (page_of (source_seen source.entry) (query_seen query.now) cs))) }
 {
     let bookmark = last_bookmark(alloc, query, source, hits)?;
@@ -163,7 +163,7 @@ fn last_bookmark(
     hits: &[Hit<'_>],
 ) -> Result<String, NoMemory>
     ensures { IfOk result
-        (λ t. (cs : List Candidate) → LendEach (columns_of (source_seen source.entry)) hits.now cs
+        (λ t. (cs : List Candidate) → LendEach (source_columns (source_seen source.entry)) hits.now cs
         → string_bytes t ≡ bookmark_after (source_seen source.entry) (query_seen query.now) cs) }
 {
     match hits.last() {

@@ -6,11 +6,11 @@ ghost use Rattle.mg_scan.specs.Hit.{AreHitsOf, hit_rows};
 ghost use Rattle.mg_shard.specs.Dealt.{Placing, ShardsStandFor};
 ghost use Rattle.mg_shard.specs.Histories.{Histories};
 ghost use Rattle.mg_query.specs.Plan.{AreFirst, AreOfPage, IsPlanOf, IsSearchOf, rows_asked_of};
-ghost use Rattle.mg_query.specs.Page.{candidates_of, columns_of, page_rows, served_by as served_of};
-ghost use Rattle.mg_query.specs.Paged.{IsWithin, counts_handed};
+ghost use Rattle.mg_query.specs.Page.{candidates_of, source_columns, page_rows, served_by as served_of};
+ghost use Rattle.mg_query.specs.Paged.{IsWorkWithin, counts_handed};
 ghost use Rattle.mg_query.specs.Lent.{LendEach, row_at};
 ghost use Rattle.mg_query.specs.Seen.{query_seen};
-ghost use Rattle.mg_query.specs.Served.{PageAnswers, AreWhole, IsListed, source_seen};
+ghost use Rattle.mg_query.specs.Served.{PageAnswers, HaveIdsAndRevs, IsListed, source_seen};
 
 use crate::error::PageError;
 use crate::query::Query;
@@ -73,14 +73,14 @@ pub(crate) fn find<'a, R: Threads + Sync, G: Gate + Sync>(
     ensures source { PageAnswers (λ f. source_seen f.source) result
         (served_of catalog.now (query_seen query.now)) }
     ensures hits { IfOk result (λ f. (place : Placing) (hs : Histories)
-        → ShardsStandFor place (shards_seen shards.now) hs → AreWhole (candidates_of hs)
-        → LendEach (columns_of (source_seen f.source)) (drop query.now.skip f.hits.items)
-        (page_rows (columns_of (source_seen f.source)) (query_seen query.now) (candidates_of hs))) }
+        → ShardsStandFor place (shards_seen shards.now) hs → HaveIdsAndRevs (candidates_of hs)
+        → LendEach (source_columns (source_seen f.source)) (drop query.now.skip f.hits.items)
+        (page_rows (source_columns (source_seen f.source)) (query_seen query.now) (candidates_of hs))) }
     ensures work { IfOk result
-        (λ f. IsWithin (length shards.now) (query.now.skip + query.now.limit) f.work) }
+        (λ f. IsWorkWithin (length shards.now) (query.now.skip + query.now.limit) f.work) }
     ensures handed { IfOk result (λ f. (place : Placing) (hs : Histories)
-        → ShardsStandFor place (shards_seen shards.now) hs → AreWhole (candidates_of hs)
-        → f.work.handed ≡ counts_handed (columns_of (source_seen f.source)) (query_seen query.now)
+        → ShardsStandFor place (shards_seen shards.now) hs → HaveIdsAndRevs (candidates_of hs)
+        → f.work.handed ≡ counts_handed (source_columns (source_seen f.source)) (query_seen query.now)
         place (length shards.now) hs) }
 {
     ranges_are_complete();
@@ -110,9 +110,9 @@ pub(crate) fn find_page<'a, R: Threads + Sync, G: Gate + Sync>(
     ensures source { PageAnswers (λ f. source_seen f.source) result
         (served_of catalog.now (query_seen query.now)) }
     ensures hits { IfOk result (λ f. (place : Placing) (hs : Histories)
-        → ShardsStandFor place (shards_seen shards.now) hs → AreWhole (candidates_of hs)
-        → LendEach (columns_of (source_seen f.source)) (drop f.skip f.hits.items)
-        (page_rows (columns_of (source_seen f.source)) (query_seen query.now) (candidates_of hs))) }
+        → ShardsStandFor place (shards_seen shards.now) hs → HaveIdsAndRevs (candidates_of hs)
+        → LendEach (source_columns (source_seen f.source)) (drop f.skip f.hits.items)
+        (page_rows (source_columns (source_seen f.source)) (query_seen query.now) (candidates_of hs))) }
 {
     ranges_are_complete();
     definitions_are_catalogs(shards);
@@ -283,7 +283,7 @@ fn merge_first<'a, R: Threads + Sync, G: Gate + Sync>(
     ensures hits { IfOk result
         (λ made. AreFirst (query_seen query.now) plan.now (shards_seen shards.now) made.0.items) }
     ensures work { IfOk result
-        (λ made. IsWithin (length shards.now) (query.now.skip + query.now.limit) made.1) }
+        (λ made. IsWorkWithin (length shards.now) (query.now.skip + query.now.limit) made.1) }
     ensures handed { IfOk result (λ made. made.1.handed
         ≡ map (λ s. length (rows_asked_of (query_seen query.now) plan.now s)) (shards_seen shards.now)) }
 {

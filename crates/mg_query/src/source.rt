@@ -7,11 +7,11 @@ ghost use Rattle.mg_index.specs.Choice.{all_docs, choice_of, id_path};
 ghost use Rattle.mg_index.specs.Definition.{IndexDefinition};
 ghost use Rattle.mg_range.specs.Range.{range_of};
 ghost use Rattle.mg_normal.specs.Normal.{IsNormalOf};
-ghost use Rattle.mg_scan.specs.Found.{columns_of as columns_at};
+ghost use Rattle.mg_scan.specs.Found.{target_columns};
 ghost use Rattle.mg_selector.specs.View.{selector_of};
 ghost use Rattle.mg_query.specs.Plan.{IsDecidedBy};
 ghost use Rattle.mg_query.specs.Explain.{listed_source};
-ghost use Rattle.mg_query.specs.Page.{columns_of, ddoc_of, accepts_bookmark as accepts_bookmark_of, is_ddoc as is_same_ddoc, is_place_in as is_place_of_source, name_of, served_by as served_of};
+ghost use Rattle.mg_query.specs.Page.{source_columns, ddoc_of, accepts_bookmark as accepts_bookmark_of, is_ddoc as is_same_ddoc, is_place_in as is_place_of_source, name_of, served_by as served_of};
 ghost use Rattle.mg_query.specs.Seen.{query_seen};
 ghost use Rattle.mg_query.specs.Served.{PageAnswers, Chooses, IsListed, source_seen};
 
@@ -132,7 +132,7 @@ impl<'a> Source<'a> {
 
     // How many columns it has.
     pub(crate) fn width(self) -> usize
-        ensures { result ≡ length (columns_of (source_seen self.entry)) }
+        ensures { result ≡ length (source_columns (source_seen self.entry)) }
     {
         match self {
             Source::AllDocs => 1,
@@ -143,7 +143,7 @@ impl<'a> Source<'a> {
     // What a scan of it reads in each shard that has it.
     pub(crate) fn target(self) -> Target<'a>
         ensures { (ds : List IndexDefinition) → IsListed ds (source_seen self.entry)
-            → columns_at result ds ≡ Some (columns_of (source_seen self.entry)) }
+            → target_columns result ds ≡ Some (source_columns (source_seen self.entry)) }
     {
         match self {
             Source::AllDocs => Target::AllDocs,
@@ -157,7 +157,7 @@ impl<'a> Source<'a> {
     // The range of its keys in which a query looks.
     pub(crate) fn range(self, alloc: Global, normal: &Normal) -> Result<KeyRange, NoMemory>
         ensures { IfOk result
-            (λ r. r ≡ range_of normal.now.atoms (columns_of (source_seen self.entry))) }
+            (λ r. r ≡ range_of normal.now.atoms (source_columns (source_seen self.entry))) }
     {
         match self {
             Source::AllDocs => id_range(alloc, normal),
@@ -168,7 +168,7 @@ impl<'a> Source<'a> {
     // Whether the range of its keys decides the whole selector, so that no document has to be tested. False for the index of all
     // documents, whose rows are the documents themselves.
     pub(crate) fn is_decided(self, normal: &Normal) -> bool
-        ensures { result ≡ true → IsDecidedBy (columns_of (source_seen self.entry)) normal.now }
+        ensures { result ≡ true → IsDecidedBy (source_columns (source_seen self.entry)) normal.now }
     {
         match self {
             Source::AllDocs => false,
@@ -191,7 +191,7 @@ impl<'a> Source<'a> {
 
 // The range of ids.
 fn id_range(alloc: Global, normal: &Normal) -> Result<KeyRange, NoMemory>
-    ensures { IfOk result (λ r. r ≡ range_of normal.now.atoms (columns_of all_docs)) }
+    ensures { IfOk result (λ r. r ≡ range_of normal.now.atoms (source_columns all_docs)) }
 {
     let columns = vec![in alloc; id_column(alloc)?]?;
     KeyRange::of(alloc, &columns, normal)

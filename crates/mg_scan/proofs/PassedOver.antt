@@ -25,7 +25,7 @@ use Rattle.mg_range.specs.declared.place.RangeSide.TheVariants.{Before, Within, 
 use Rattle.mg_scan.specs.Begins.{NotAfter, beyond_rises, place_row, reached}
 use Rattle.mg_scan.specs.Decided.{everything}
 use Rattle.mg_scan.specs.Ahead.{begins_at, count_ahead}
-use Rattle.mg_scan.specs.Found.{all_found_in, asked, columns_of}
+use Rattle.mg_scan.specs.Found.{all_found_in, asked, target_columns}
 use Rattle.mg_scan.specs.Lead.{unasked}
 use Rattle.mg_scan.specs.Passed.{AreDecided, HasPageOf, IsIndex, IsWithin, all_ahead, beyond_row, page_after}
 use Rattle.mg_scan.specs.Scan.{all_scanned, asked_documents, comes_after, is_wanted}
@@ -252,7 +252,7 @@ module _ (direction : Direction) (range : Range) (after : Option RowValue) (p : 
 
   pub one_found : (count more : ℕ) (target : Target) (shard : ShardView)
       → all_found_in target (asked everything range (Some p) more direction) shard ≡ filter later (all_found_in target (asked everything range after count direction) shard)
-  one_found count more target shard = found_or count more (columns_of target shard.definitions) (docs_of shard.documents)
+  one_found count more target shard = found_or count more (target_columns target shard.definitions) (docs_of shard.documents)
 
   -- ---- in all shards
 

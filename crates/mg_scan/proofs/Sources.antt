@@ -16,7 +16,7 @@ use Rattle.mg_index.specs.Definition.{Steps}
 use Rattle.mg_merge.proofs.Cuts.{cut_lists}
 use Rattle.mg_merge.specs.Merged.{merged}
 use Rattle.mg_merge.specs.Pulled.{IsGivenBy}
-use Rattle.mg_scan.specs.Found.{columns_of}
+use Rattle.mg_scan.specs.Found.{target_columns}
 use Rattle.mg_scan.specs.Hit.{AreHitsIn, IsHitIn, IsHitOf, hit_row}
 use Rattle.mg_scan.specs.Scan.{all_scanned, asked_documents, is_wanted}
 use Rattle.mg_scan.specs.Search.{asked_by, found_by}
@@ -118,7 +118,7 @@ cut_or n f (Some columns) = refl
 
 -- all that a shard has is in order
 pub found_in_order : (s : Search) (shard : ShardView) → IsInOrder s.direction (all_found_by s shard)
-found_in_order s shard = ordered_or s shard.documents (columns_of s.target shard.definitions)
+found_in_order s shard = ordered_or s shard.documents (target_columns s.target shard.definitions)
 
 all_in_order : (s : Search) (shards : List ShardView) → AllByRecursion (IsInOrder s.direction) (map (all_found_by s) shards)
 all_in_order s [] = tt
@@ -128,7 +128,7 @@ all_in_order s (shard ∷ shards) = (found_in_order s shard, all_in_order s shar
 cut_found : (s : Search) (shards : List ShardView) → map (take s.take) (map (all_found_by s) shards) ≡ map (found_by s) shards
 cut_found s [] = refl
 cut_found s (shard ∷ shards) =
-    ap₂ (λ rows lists. rows ∷ lists) (sym (cut_or s.take (λ columns. all_scanned (asked_by s columns) (docs_of shard.documents)) (columns_of s.target shard.definitions))) (cut_found s shards)
+    ap₂ (λ rows lists. rows ∷ lists) (sym (cut_or s.take (λ columns. all_scanned (asked_by s columns) (docs_of shard.documents)) (target_columns s.target shard.definitions))) (cut_found s shards)
 
 -- the merge of all that there is is the merge of what is found, so much at most in each shard
 pub found_merged : (s : Search) (shards : List ShardView) → merged s.direction s.take (map (all_found_by s) shards) ≡ merged s.direction s.take (map (found_by s) shards)

@@ -2,7 +2,7 @@
 use Rattle.std.specs.Prelude.{◌≡◌, ℕ, List, Option, Some, None, drop, map}
 use Rattle.std.specs.FinMap.{entries}
 use Rattle.mg_index.specs.Definition.{Steps}
-use Rattle.mg_scan.specs.Found.{columns_of}
+use Rattle.mg_scan.specs.Found.{target_columns}
 use Rattle.mg_scan.specs.Way.{begin_at}
 use Rattle.mg_scan.specs.Walked.{id_row}
 use Rattle.mg_scan.specs.declared.left.Left.{Left}
@@ -29,7 +29,7 @@ IsBegunIn at s shard left.Nothing = at ≡ None
 
 -- what is left is all from where the search begins in its target
 abbrev pub IsBegun : Search → ShardView → Left → Type 0
-IsBegun s shard = IsBegunIn (columns_of s.target shard.definitions) s shard
+IsBegun s shard = IsBegunIn (target_columns s.target shard.definitions) s shard
 
 -- it is what is left after the first n rows of an index; documents stay as they are
 abbrev pub IsBehind : ℕ → Left → Left → Type 0

@@ -4,7 +4,7 @@ use Rattle.mg_index.specs.Definition.{Steps}
 use Rattle.mg_normal.specs.Normal.{NormalForm}
 use Rattle.mg_range.specs.Decided.{decides_of}
 use Rattle.mg_range.specs.Range.{Range, range_of}
-use Rattle.mg_scan.specs.Found.{columns_of}
+use Rattle.mg_scan.specs.Found.{target_columns}
 use Rattle.mg_scan.specs.declared.target.Target.{Target}
 use Rattle.mg_shard.specs.Shard.{ShardView}
 
@@ -15,7 +15,7 @@ everything = record { atoms = []; rest = None }
 -- the shard has the target, the normal form asks nothing besides atoms, and the range is that of the atoms and decides each of them
 pub record IsDecidedIn (target : Target) (normal : NormalForm) (range : Range) (s : ShardView) : Type 0 where
   pub columns : List Steps
-  pub there : columns_of target s.definitions ≡ Some columns
+  pub there : target_columns target s.definitions ≡ Some columns
   pub alone : is_some normal.rest ≡ false
   pub decides : decides_of normal.atoms columns ≡ true
   pub bounds : range ≡ range_of normal.atoms columns

@@ -15,9 +15,9 @@ use Rattle.mg_shard.specs.Own.{all_columns}
 use Rattle.mg_shard.specs.Shard.{ShardView}
 
 -- the columns of a target among the indexes of a shard, if it has it: all documents have the column `_id`
-abbrev pub columns_of : Target → List IndexDefinition → Option (List Steps)
-columns_of AllDocs definitions = Some all_columns
-columns_of (Index ddoc name) definitions = option_map (λ d. d.columns) (definition_at ddoc.now name.now definitions)
+abbrev pub target_columns : Target → List IndexDefinition → Option (List Steps)
+target_columns AllDocs definitions = Some all_columns
+target_columns (Index ddoc name) definitions = option_map (λ d. d.columns) (definition_at ddoc.now name.now definitions)
 
 -- what a scan is asked, but for the columns
 abbrev pub asked : NormalForm → Range → Option RowValue → ℕ → Direction → List Steps → ScanInput
@@ -26,8 +26,8 @@ asked normal range after count direction columns =
 
 -- what a scan finds in a shard, by the columns of its target; nothing where the shard has no such index
 abbrev pub found_in : Target → (List Steps → ScanInput) → ShardView → List RowValue
-found_in target request s = option_map_or (λ columns. scanned (request columns) (docs_of s.documents)) (columns_of target s.definitions) []
+found_in target request s = option_map_or (λ columns. scanned (request columns) (docs_of s.documents)) (target_columns target s.definitions) []
 
 -- all that a scan without a limit finds in a shard
 abbrev pub all_found_in : Target → (List Steps → ScanInput) → ShardView → List RowValue
-all_found_in target request s = option_map_or (λ columns. all_scanned (request columns) (docs_of s.documents)) (columns_of target s.definitions) []
+all_found_in target request s = option_map_or (λ columns. all_scanned (request columns) (docs_of s.documents)) (target_columns target s.definitions) []

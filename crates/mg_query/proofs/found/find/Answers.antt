@@ -3,7 +3,7 @@ use Rattle.std.specs.Arc.{arc_value}
 use Rattle.std.proofs.lemmas.List.{length-map}
 use Rattle.mg_normal.specs.Atoms.{atoms_of}
 use Rattle.mg_shard.specs.Shard.{shards_seen}
-use Rattle.mg_query.specs.Page.{columns_of}
+use Rattle.mg_query.specs.Page.{source_columns}
 use Rattle.mg_query.specs.Paged.{counts_handed}
 use Rattle.mg_query.specs.Seen.{query_seen}
 use Rattle.mg_query.specs.Served.{source_seen}
@@ -25,7 +25,7 @@ returns-clause-hits g c = λ place hs stands whole.
     let ds = c.args.catalog.now in
     let plan = c.in_ok-plan.plan in
     let s = source_seen plan.source in
-    let columns = columns_of s in
+    let columns = source_columns s in
     let shards = shards_seen c.args.shards.now in
     let hits = c.in_ok-hits.hits.items in
     let first = c.in_ok-hits.ensures.hits in
@@ -39,7 +39,7 @@ returns-clause-handed g c = λ place hs stands whole.
     let ds = c.args.catalog.now in
     let plan = c.in_ok-plan.plan in
     let s = source_seen plan.source in
-    let columns = columns_of s in
+    let columns = source_columns s in
     let shards = shards_seen c.args.shards.now in
     let usable = choice_usable ds (atoms_of q.selector) q.sort q.hint s (choice_served ds q s c.in_ok-plan.ensures.answers) in
     c.in_ok-hits.ensures.handed

@@ -1,7 +1,7 @@
 use Rattle.std.proofs.Common.{◌∙◌}
 use Rattle.mg_normal.specs.Atoms.{atoms_of}
 use Rattle.mg_shard.specs.Shard.{shards_seen}
-use Rattle.mg_query.specs.Page.{columns_of}
+use Rattle.mg_query.specs.Page.{source_columns}
 use Rattle.mg_query.specs.Seen.{query_seen}
 use Rattle.mg_query.specs.Served.{source_seen}
 use Rattle.mg_query.proofs.Handed.{rows_merged}
@@ -21,7 +21,7 @@ returns-clause-hits g c = λ place hs stands whole.
     let ds = c.args.catalog.now in
     let plan = c.in_ok-plan.plan in
     let s = source_seen plan.source in
-    let columns = columns_of s in
+    let columns = source_columns s in
     let shards = shards_seen c.args.shards.now in
     let hits = c.in_ok-hits.hits.items in
     let first = c.in_ok-hits.ensures in

@@ -6,8 +6,8 @@ use Rattle.mg_shard.specs.Shard.{shards_seen}
 use Rattle.mg_scan.specs.Hit.{AreHitsIn, hit_row}
 use Rattle.mg_scan.specs.declared.hit.Hit.{Hit}
 use Rattle.mg_query.specs.Plan.{rows_asked_of}
-use Rattle.mg_query.specs.Page.{columns_of}
-use Rattle.mg_query.specs.Paged.{IsWithin}
+use Rattle.mg_query.specs.Page.{source_columns}
+use Rattle.mg_query.specs.Paged.{IsWorkWithin}
 use Rattle.mg_query.specs.Seen.{query_seen}
 use Rattle.mg_query.specs.Served.{source_seen}
 use Rattle.mg_query.proofs.Counts.{sizes}
@@ -19,7 +19,7 @@ pub merge_all-requires : goal.merge_all-requires
 merge_all-requires g c =
     let q = query_seen c.args.query.now in
     let plan = c.args.plan.now in
-    let columns = columns_of (source_seen plan.source) in
+    let columns = source_columns (source_seen plan.source) in
     subst (λ (lists : List (Vec Hit Global)). All (IsInOrderBy hit_row q.direction) (contents_of lists)) (sym c.deref.ensures.value)
     (handed_in_order q columns plan.normal c.requires.plan.normal c.in_ok-lists.lists.items (shards_seen c.args.shards.now) c.in_ok-lists.ensures.rows)
 
@@ -40,10 +40,10 @@ pub returns-clause-work : goal.returns-clause-work
 returns-clause-work g c =
     let q = query_seen c.args.query.now in
     let plan = c.args.plan.now in
-    let columns = columns_of (source_seen plan.source) in
+    let columns = source_columns (source_seen plan.source) in
     let lists = c.in_ok-lists.lists.items in
     let merge = merged_same q.direction c.in_ok-hits.hits.items c.row_count.result (q.skip + q.limit) c.deref.result.now lists c.in_ok-hits.ensures.items c.row_count.ensures c.deref.ensures.value in
-    subst (λ n. IsWithin n (q.skip + q.limit) c.in_ok-hits.work) (length-map c.args.shards.now arc_value)
+    subst (λ n. IsWorkWithin n (q.skip + q.limit) c.in_ok-hits.work) (length-map c.args.shards.now arc_value)
     (handed_within q columns plan.normal c.requires.plan.normal lists (shards_seen c.args.shards.now) c.in_ok-lists.ensures.rows c.in_ok-hits.hits.items merge c.in_ok-hits.work
     (c.in_ok-hits.ensures.handed ∙ ap (map (λ (l : Vec Hit Global). length l.items)) c.deref.ensures.value) c.in_ok-hits.ensures.taken)
 

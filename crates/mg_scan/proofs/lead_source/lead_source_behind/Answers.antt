@@ -1,5 +1,5 @@
 use Rattle.std.proofs.Common.{drop, ap, ◌∙◌}
-use Rattle.mg_scan.specs.Found.{columns_of}
+use Rattle.mg_scan.specs.Found.{target_columns}
 use Rattle.mg_scan.proofs.Begun.{begun_leads}
 use Rattle.mg_scan.proofs.Behind.{behind_led, behind_rows}
 use Rattle.mg_scan.proofs.lead_source.lead_source_behind.Goals as goal
@@ -8,7 +8,7 @@ pub returns-clause-source : goal.returns-clause-source
 returns-clause-source c =
     let s = c.args.search in
     let shard = c.args.shard.now in
-    let at = columns_of s.target shard.definitions in
+    let at = target_columns s.target shard.definitions in
     let all = c.left_of.result in
     let left = c.left_behind-left.result.0 in
     let n = c.left_behind-left.result.1 in

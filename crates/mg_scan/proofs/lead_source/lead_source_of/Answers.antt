@@ -1,4 +1,4 @@
-use Rattle.mg_scan.specs.Found.{columns_of}
+use Rattle.mg_scan.specs.Found.{target_columns}
 use Rattle.mg_scan.proofs.Begun.{begun_leads, begun_led}
 use Rattle.mg_scan.proofs.lead_source.lead_source_of.Goals as goal
 
@@ -6,5 +6,5 @@ pub returns : goal.returns
 returns c =
     let s = c.args.search in
     let shard = c.args.shard.now in
-    let at = columns_of s.target shard.definitions in
+    let at = target_columns s.target shard.definitions in
     record { rows = begun_leads at s shard c.left_of.result c.left_of.ensures; leads = begun_led at s shard c.left_of.result c.left_of.ensures }
