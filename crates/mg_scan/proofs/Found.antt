@@ -20,7 +20,7 @@ use Rattle.mg_scan.specs.declared.search.Search.{Search}
 use Rattle.mg_scan.specs.declared.target.Target.TheVariants.{AllDocs, Index}
 use Rattle.mg_scan.proofs.Entries.{Entry, all_beyond, all_forms, all_kept, all_mapped, all_rows, own_rows, rows-beyond}
 use Rattle.mg_scan.proofs.Walking.{found_rows}
-use Rattle.mg_shard.specs.Documents.{KeptDocuments, docs_of, kept_entry, form_at, id_of, kept_of}
+use Rattle.mg_shard.specs.Documents.{KeptDocuments, docs_of, kept_entry, form_at, id_bytes, kept_of}
 use Rattle.mg_shard.specs.Own.{HasOwnId, all_columns}
 use Rattle.mg_shard.specs.Rows.{rows_of}
 use Rattle.mg_shard.specs.Shard.{ShardView}
@@ -31,7 +31,7 @@ use Rattle.mg_value.specs.Value.{Value}
 -- ---- all documents
 
 pub all_owned : (ds : KeptDocuments) (direction : Direction) (order : Entry → Ordering) (documents : List Document) → map kept_entry documents ≡ beyond direction order (entries ds)
-    → AllByRecursion (λ d. get ds (id_of d) ≡ Some (kept_of d)) documents
+    → AllByRecursion (λ d. get ds (id_bytes d) ≡ Some (kept_of d)) documents
 all_owned ds direction order documents is =
     all_mapped (λ e. get ds e.0 ≡ Some e.1) kept_entry documents
     (subst (λ (es : List Entry). AllByRecursion (λ e. get ds e.0 ≡ Some e.1) es) (sym is) (all_beyond (λ e. get ds e.0 ≡ Some e.1) direction order (entries ds) (all_kept ds)))

@@ -31,7 +31,7 @@ use Rattle.mg_scan.proofs.Maps.{get-map, length-seen, some_is, zip_more}
 use Rattle.mg_scan.proofs.Steps.{holds_of, if_none, if_some, row_lent}
 use Rattle.mg_scan.proofs.Walking.{all_found_rows, named_id}
 use Rattle.mg_shard.proofs.Rows.{rises_where}
-use Rattle.mg_shard.specs.Documents.{KeptDocuments, docs_of, form_at, form_of, id_of, kept_entry, kept_of}
+use Rattle.mg_shard.specs.Documents.{KeptDocuments, docs_of, form_at, form_of, id_bytes, kept_entry, kept_of}
 use Rattle.mg_shard.specs.Own.{HasOwnId, all_columns}
 use Rattle.mg_shard.specs.Rows.{row_key, row_of, rows_of}
 use Rattle.mg_shard.specs.Shard.{ShardView, shards_seen}
@@ -67,7 +67,7 @@ some_where (Some x) Q f = f
 
 -- ---- documents
 
-docs_step : (s : Search) (ds : KeptDocuments) (d : Document) (o : Option RowValue) (rest rows : List RowValue) → ((r : RowValue) → o ≡ Some r → r.1 ≡ id_of d) → get ds (id_of d) ≡ Some (kept_of d)
+docs_step : (s : Search) (ds : KeptDocuments) (d : Document) (o : Option RowValue) (rest rows : List RowValue) → ((r : RowValue) → o ≡ Some r → r.1 ≡ id_bytes d) → get ds (id_bytes d) ≡ Some (kept_of d)
     → rest ≡ walked_all_by s ds rows → walked_on (is_late_row s.direction s.range.now) (holds_for s.normal.now d) o rest ≡ walked_all_by s ds (cons_option o rows)
 docs_step s ds d None rest rows own is e = e
 docs_step s ds d (Some r) rest rows own is e =
@@ -77,19 +77,19 @@ docs_step s ds d (Some r) rest rows own is e =
 pub among_none : (s : Search) (d : Document) (documents : List Document) → None ≡ option_and_then (row_key all_columns) (form_of d) → walked_documents s (d ∷ documents) ≡ walked_documents s documents
 among_none s d documents e =
     let late = is_late_row s.direction s.range.now in
-    ap (λ o. walked_on late (holds_for s.normal.now d) (option_map (λ key. (key, id_of d)) o) (walked_documents s documents)) (sym e)
+    ap (λ o. walked_on late (holds_for s.normal.now d) (option_map (λ key. (key, id_bytes d)) o) (walked_documents s documents)) (sym e)
 
 pub among_some : (s : Search) (d : Document) (documents : List Document) (key : Items) → Some key ≡ option_and_then (row_key all_columns) (form_of d)
-    → walked_documents s (d ∷ documents) ≡ walked_on (is_late_row s.direction s.range.now) (holds_for s.normal.now d) (Some (key, id_of d)) (walked_documents s documents)
+    → walked_documents s (d ∷ documents) ≡ walked_on (is_late_row s.direction s.range.now) (holds_for s.normal.now d) (Some (key, id_bytes d)) (walked_documents s documents)
 among_some s d documents key e =
     let late = is_late_row s.direction s.range.now in
-    ap (λ o. walked_on late (holds_for s.normal.now d) (option_map (λ k. (k, id_of d)) o) (walked_documents s documents)) (sym e)
+    ap (λ o. walked_on late (holds_for s.normal.now d) (option_map (λ k. (k, id_bytes d)) o) (walked_documents s documents)) (sym e)
 
 -- the rows of documents that are kept are found by what is kept
 walked_rows : (s : Search) (ds : KeptDocuments) (documents : List Document) → AreKept ds documents → walked_documents s documents ≡ walked_all_by s ds (entry_rows (map kept_entry documents))
 walked_rows s ds [] h = refl
 walked_rows s ds (d ∷ documents) h =
-    docs_step s ds d (row_among d) (walked_documents s documents) (entry_rows (map kept_entry documents)) (λ r e. named_id (id_of d) (option_and_then (row_key all_columns) (form_of d)) r e) h.0 (walked_rows s ds documents h.1)
+    docs_step s ds d (row_among d) (walked_documents s documents) (entry_rows (map kept_entry documents)) (λ r e. named_id (id_bytes d) (option_and_then (row_key all_columns) (form_of d)) r e) h.0 (walked_rows s ds documents h.1)
     ∙ ap (λ o. walked_all_by s ds (cons_option o (entry_rows (map kept_entry documents)))) (sym (row_lent d (option_and_then (row_key all_columns) (form_of d)) refl))
 
 -- all that is found among all documents

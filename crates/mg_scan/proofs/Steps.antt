@@ -11,7 +11,7 @@ use Rattle.mg_normal.specs.Normal.{NormalForm, normal_holds}
 use Rattle.std.specs.FinMap.{get}
 use Rattle.std.specs.Option.{option_and_then, option_map_or}
 use Rattle.mg_scan.specs.declared.hit.Hit.{Hit}
-use Rattle.mg_shard.specs.Documents.{Kept, KeptDocuments, kept_entry, form_of, id_of, kept_of}
+use Rattle.mg_shard.specs.Documents.{Kept, KeptDocuments, kept_entry, form_of, id_bytes, kept_of}
 use Rattle.mg_shard.specs.Own.{all_columns}
 use Rattle.mg_shard.specs.Rows.{row_key, row_of}
 use Rattle.mg_shard.specs.declared.document.Document.{Document}
@@ -120,22 +120,22 @@ keyed id None = refl
 keyed id (Some form) = refl
 
 -- the row of a document, by the key that it lends
-pub row_lent : (d : Document) (o : Option Items) → o ≡ option_and_then (row_key all_columns) (form_of d) → entry_row (kept_entry d) ≡ option_map (λ key. (key, id_of d)) o
-row_lent d o e = keyed (id_of d) (form_of d) ∙ ap (option_map (λ key. (key, id_of d))) (sym e)
+pub row_lent : (d : Document) (o : Option Items) → o ≡ option_and_then (row_key all_columns) (form_of d) → entry_row (kept_entry d) ≡ option_map (λ key. (key, id_bytes d)) o
+row_lent d o e = keyed (id_bytes d) (form_of d) ∙ ap (option_map (λ key. (key, id_bytes d))) (sym e)
 
 pub rows_none : (d : Document) (ds : List Document) → None ≡ option_and_then (row_key all_columns) (form_of d) → entry_rows (map kept_entry (d ∷ ds)) ≡ entry_rows (map kept_entry ds)
 rows_none d ds e = ap (λ o. cons_option o (entry_rows (map kept_entry ds))) (row_lent d None e)
 
-pub rows_some : (d : Document) (ds : List Document) (key : Items) → Some key ≡ option_and_then (row_key all_columns) (form_of d) → entry_rows (map kept_entry (d ∷ ds)) ≡ (key, id_of d) ∷ entry_rows (map kept_entry ds)
+pub rows_some : (d : Document) (ds : List Document) (key : Items) → Some key ≡ option_and_then (row_key all_columns) (form_of d) → entry_rows (map kept_entry (d ∷ ds)) ≡ (key, id_bytes d) ∷ entry_rows (map kept_entry ds)
 rows_some d ds key e = ap (λ o. cons_option o (entry_rows (map kept_entry ds))) (row_lent d (Some key) e)
 
 -- whether the selector holds of it
-pub holds_of : (normal : NormalForm) (ds : KeptDocuments) (d : Document) → get ds (id_of d) ≡ Some (kept_of d)
-    → option_map_or (λ form. normal_holds normal (Some form)) (form_of d) false ≡ holds_at normal ds (id_of d)
+pub holds_of : (normal : NormalForm) (ds : KeptDocuments) (d : Document) → get ds (id_bytes d) ≡ Some (kept_of d)
+    → option_map_or (λ form. normal_holds normal (Some form)) (form_of d) false ≡ holds_at normal ds (id_bytes d)
 holds_of normal ds d e = ap (λ o. option_map_or (λ form. normal_holds normal (Some form)) (option_and_then (λ (k : Kept). k.1) o) false) (sym e)
 
 -- the hit of a document, by the id and the row that it has
-pub held : (normal : NormalForm) (ds : KeptDocuments) (d : Document) (id : List ℕ) (r : RowValue) → id ≡ id_of d → get ds (id_of d) ≡ Some (kept_of d)
+pub held : (normal : NormalForm) (ds : KeptDocuments) (d : Document) (id : List ℕ) (r : RowValue) → id ≡ id_bytes d → get ds (id_bytes d) ≡ Some (kept_of d)
     → ◌≡◌ {A = Option RowValue} (if option_map_or (λ form. normal_holds normal (Some form)) (form_of d) false then Some r else None) (if holds_at normal ds id then Some r else None)
 held normal ds d id r same e =
     let shape : Bool → Option RowValue = λ b. if b then Some r else None in

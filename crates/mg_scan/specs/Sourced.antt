@@ -13,7 +13,7 @@ use Rattle.mg_scan.specs.declared.search.Search.{Search}
 use Rattle.mg_scan.specs.declared.left.Left.{Left}
 use Rattle.mg_scan.specs.declared.left.Left.TheVariants as left
 use Rattle.mg_scan.specs.declared.source.HitSource.{HitSource}
-use Rattle.mg_shard.specs.Documents.{KeptDocuments, form_of, id_of, kept_of}
+use Rattle.mg_shard.specs.Documents.{KeptDocuments, form_of, id_bytes, kept_of}
 use Rattle.mg_shard.specs.Own.{all_columns}
 use Rattle.mg_shard.specs.Rows.{row_key}
 use Rattle.mg_shard.specs.Shard.{ShardView}
@@ -25,7 +25,7 @@ holds_for normal d = option_map_or (λ form. normal_holds normal (Some form)) (f
 
 -- the row of a document among all, if it is served with an id
 abbrev pub row_among : Document → Option RowValue
-row_among d = option_map (λ key. (key, id_of d)) (option_and_then (row_key all_columns) (form_of d))
+row_among d = option_map (λ key. (key, id_bytes d)) (option_and_then (row_key all_columns) (form_of d))
 
 -- what is found from a document on, given its row and what is found after it
 abbrev pub walked_on : (RowValue → Bool) → Bool → Option RowValue → List RowValue → List RowValue
@@ -39,7 +39,7 @@ walked_documents s (d ∷ ds) = walked_on (is_late_row s.direction s.range.now) 
 
 -- the documents are among those that are kept
 abbrev pub AreKept : KeptDocuments → List Document → Type 0
-AreKept kept ds = AllByRecursion (λ d. get kept (id_of d) ≡ Some (kept_of d)) ds
+AreKept kept ds = AllByRecursion (λ d. get kept (id_bytes d) ≡ Some (kept_of d)) ds
 
 -- the rows of the hits that are still to come
 abbrev pub left_rows : Search → ShardView → Left → List RowValue

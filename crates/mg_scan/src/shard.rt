@@ -5,7 +5,7 @@ ghost use Rattle.std.specs.List.{AllByRecursion};
 ghost use Rattle.std.specs.Option.{option_map_or};
 ghost use Rattle.mg_normal.specs.Normal.{normal_holds};
 ghost use Rattle.mg_index.specs.Catalog.{definition_at};
-ghost use Rattle.mg_shard.specs.Documents.{KeptDocuments, docs_of, kept_entry, form_of, id_of, kept_of};
+ghost use Rattle.mg_shard.specs.Documents.{KeptDocuments, docs_of, kept_entry, form_of, id_bytes, kept_of};
 ghost use Rattle.mg_shard.specs.Own.{all_columns};
 ghost use Rattle.mg_scan.specs.Hit.{AreHitsOf, IsHitOf, hit_row, hit_rows};
 ghost use Rattle.mg_scan.specs.HitRow.{lent_row};
@@ -119,7 +119,7 @@ fn hits_of_documents<'a>(
     documents: Documents<'a>,
     search: Search<'_>,
 ) -> Result<Vec<Hit<'a>>, NoMemory>
-    requires { AllByRecursion (λ d. get shard.now.documents (id_of d) ≡ Some (kept_of d)) documents }
+    requires { AllByRecursion (λ d. get shard.now.documents (id_bytes d) ≡ Some (kept_of d)) documents }
     ensures rows { IfOk result
         (λ v. hit_rows v.items
         ≡ walked_by search.entry shard.now.documents search.entry.take

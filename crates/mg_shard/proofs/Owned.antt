@@ -14,7 +14,7 @@ use Rattle.mg_revtree.specs.History.{Leaf}
 use Rattle.mg_revtree.specs.Revision.{revision_text}
 use Rattle.mg_value.specs.Value.{Value, null, flag, whole, text, list, object, Members, no_members, member, no_items, item, get_member, member_of, put, with_member}
 use Rattle.mg_value.specs.View.{items_of}
-use Rattle.mg_shard.specs.Documents.{Kept, kept_entry, form_at, form_of, id_of, kept_of, shown}
+use Rattle.mg_shard.specs.Documents.{Kept, kept_entry, form_at, form_of, id_bytes, kept_of, shown}
 use Rattle.mg_shard.specs.Own.{HasOwnId, IsServedOwn, all_columns, has_own_id}
 use Rattle.mg_shard.specs.Rows.{row_key}
 use Rattle.mg_shard.specs.declared.document.Document.{Document}
@@ -105,8 +105,8 @@ served_none None e = refl
 served_none (Some s) e = member_none s.form (sym s.has_member ∙ e)
 
 -- the key of a document among all documents, where it has one
-pub key_own : (d : Document) → has_own_id d.served ≡ true → Some (item (text (id_of d)) no_items) ≡ option_and_then (row_key all_columns) (form_of d)
-key_own d e = served_own (id_of d) d.served d.own_id e
+pub key_own : (d : Document) → has_own_id d.served ≡ true → Some (item (text (id_bytes d)) no_items) ≡ option_and_then (row_key all_columns) (form_of d)
+key_own d e = served_own (id_bytes d) d.served d.own_id e
 
 pub key_none : (d : Document) → has_own_id d.served ≡ false → None ≡ option_and_then (row_key all_columns) (form_of d)
 key_none d e = served_none d.served e
@@ -117,17 +117,17 @@ own_served : (id : List ℕ) (served : Option Served) (form : Value) → IsServe
 own_served id None form own e = absurd cc
 own_served id (Some s) form own e = let same : s.form ≡ form = cc in subst (λ (v : Value). HasOwnId id v) same (own s refl)
 
-own_document : (d : Document) (form : Value) → form_of d ≡ Some form → HasOwnId (id_of d) form
-own_document d form e = own_served (id_of d) d.served form d.own_id e
+own_document : (d : Document) (form : Value) → form_of d ≡ Some form → HasOwnId (id_bytes d) form
+own_document d form e = own_served (id_bytes d) d.served form d.own_id e
 
-own_step : (q : List ℕ) (d : Document) (form : Value) (o : Option Kept) (b : Bool) → is_eq (bytes_cmp q (id_of d)) ≡ b → (option_and_then (λ k. k.1) o ≡ Some form → HasOwnId q form)
+own_step : (q : List ℕ) (d : Document) (form : Value) (o : Option Kept) (b : Bool) → is_eq (bytes_cmp q (id_bytes d)) ≡ b → (option_and_then (λ k. k.1) o ≡ Some form → HasOwnId q form)
     → option_and_then (λ k. k.1) (cond b (Some (kept_of d)) o) ≡ Some form → HasOwnId q form
-own_step q d form o true is rest e = subst (λ (i : List ℕ). HasOwnId i form) (sym (bytes_exact q (id_of d) (tied (bytes_cmp q (id_of d)) is))) (own_document d form e)
+own_step q d form o true is rest e = subst (λ (i : List ℕ). HasOwnId i form) (sym (bytes_exact q (id_bytes d) (tied (bytes_cmp q (id_bytes d)) is))) (own_document d form e)
 own_step q d form o false is rest e = rest e
 
 own_found : (q : List ℕ) (ds : List Document) (form : Value) → option_and_then (λ k. k.1) (find bytes_cmp q (map kept_entry ds)) ≡ Some form → HasOwnId q form
 own_found q [] form e = absurd cc
-own_found q (d ∷ ds) form e = own_step q d form (find bytes_cmp q (map kept_entry ds)) (is_eq (bytes_cmp q (id_of d))) refl (own_found q ds form) e
+own_found q (d ∷ ds) form e = own_step q d form (find bytes_cmp q (map kept_entry ds)) (is_eq (bytes_cmp q (id_bytes d))) refl (own_found q ds form) e
 
 -- a document that is served with an `_id` is served with its own
 pub own_shown : (q : List ℕ) (ds : List Document) (form : Value) → form_at (shown ds) q ≡ Some form → HasOwnId q form
@@ -135,16 +135,16 @@ own_shown q ds form e = own_found q ds form (ap (option_and_then (λ (k : Kept).
 
 -- ---- what is found under an id has it
 
-first_is : (q : List ℕ) (d x : Document) (ds : List Document) (b : Bool) → is_eq (bytes_cmp q (id_of d)) ≡ b → (first_of_list ds ≡ Some x → id_of x ≡ q)
-    → first_of_list (cond b (d ∷ ds) ds) ≡ Some x → id_of x ≡ q
-first_is q d x ds true is rest e = let same : d ≡ x = cc in ap id_of (sym same) ∙ sym (bytes_exact q (id_of d) (tied (bytes_cmp q (id_of d)) is))
+first_is : (q : List ℕ) (d x : Document) (ds : List Document) (b : Bool) → is_eq (bytes_cmp q (id_bytes d)) ≡ b → (first_of_list ds ≡ Some x → id_bytes x ≡ q)
+    → first_of_list (cond b (d ∷ ds) ds) ≡ Some x → id_bytes x ≡ q
+first_is q d x ds true is rest e = let same : d ≡ x = cc in ap id_bytes (sym same) ∙ sym (bytes_exact q (id_bytes d) (tied (bytes_cmp q (id_bytes d)) is))
 first_is q d x ds false is rest e = rest e
 
-pub found_id : (q : List ℕ) (ds : List Document) (x : Document) → found (id_against id_of q) ds ≡ Some x → id_of x ≡ q
+pub found_id : (q : List ℕ) (ds : List Document) (x : Document) → found (id_against id_bytes q) ds ≡ Some x → id_bytes x ≡ q
 found_id q [] x e = absurd cc
-found_id q (d ∷ ds) x e = first_is q d x (filter (λ y. is_eq (bytes_cmp q (id_of y))) ds) (is_eq (bytes_cmp q (id_of d))) refl (found_id q ds x) e
+found_id q (d ∷ ds) x e = first_is q d x (filter (λ y. is_eq (bytes_cmp q (id_bytes y))) ds) (is_eq (bytes_cmp q (id_bytes d))) refl (found_id q ds x) e
 
 -- so it is with what is lent of it
-pub found_through : (q : List ℕ) (ds : List Document) (r : Option (Bor Document)) → option_map (λ d. d.now) r ≡ found (id_against id_of q) ds → IfSome r (λ d. id_of d.now ≡ q)
+pub found_through : (q : List ℕ) (ds : List Document) (r : Option (Bor Document)) → option_map (λ d. d.now) r ≡ found (id_against id_bytes q) ds → IfSome r (λ d. id_bytes d.now ≡ q)
 found_through q ds None e = tt
 found_through q ds (Some d) e = found_id q ds d.now (sym e)

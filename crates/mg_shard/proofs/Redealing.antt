@@ -17,7 +17,7 @@ use Rattle.mg_pages.specs.Identified.{id_order}
 use Rattle.mg_pages.specs.Order.{Ascends, inserted}
 use Rattle.mg_revtree.specs.History.{Paths}
 use Rattle.mg_shard.specs.Dealt.{Placing, ShardsStandFor, histories_on}
-use Rattle.mg_shard.specs.Documents.{Kept, KeptDocuments, StandsAt, kept_entry, id_of, kept_of, shown}
+use Rattle.mg_shard.specs.Documents.{Kept, KeptDocuments, StandsAt, kept_entry, id_bytes, kept_of, shown}
 use Rattle.mg_shard.specs.Histories.{Histories}
 use Rattle.mg_shard.specs.Redealt.{AreMade, ArePlaces, AreRedealt, IsMade, IsPlace, KeepsThose, documents_in, kept_in, last_kept}
 use Rattle.mg_shard.specs.Shard.{ShardView, shards_seen}
@@ -48,15 +48,15 @@ first_of_both true v o p = refl
 first_of_both false v o p = refl
 
 -- what is kept with one more document
-pub last_more : (ds : List Document) (d : Document) (q : List ℕ) → last_kept (ds ++ d ∷ []) q ≡ cond (eq_by_cmp bytes_cmp q (id_of d)) (Some (kept_of d)) (last_kept ds q)
+pub last_more : (ds : List Document) (d : Document) (q : List ℕ) → last_kept (ds ++ d ∷ []) q ≡ cond (eq_by_cmp bytes_cmp q (id_bytes d)) (Some (kept_of d)) (last_kept ds q)
 last_more [] d q = refl
 last_more (x ∷ ds) d q =
-    let other : Option Kept = cond (eq_by_cmp bytes_cmp q (id_of x)) (Some (kept_of x)) None in
-    ap (λ o. option_or o other) (last_more ds d q) ∙ first_of_both (eq_by_cmp bytes_cmp q (id_of d)) (kept_of d) (last_kept ds q) other
+    let other : Option Kept = cond (eq_by_cmp bytes_cmp q (id_bytes x)) (Some (kept_of x)) None in
+    ap (λ o. option_or o other) (last_more ds d q) ∙ first_of_both (eq_by_cmp bytes_cmp q (id_bytes d)) (kept_of d) (last_kept ds q) other
 
-absent_above : (d : Document) (ds : List Document) → AllByRecursion (λ y. id_order id_of d y ≡ Less) ds → find bytes_cmp (id_of d) (map kept_entry ds) ≡ None
+absent_above : (d : Document) (ds : List Document) → AllByRecursion (λ y. id_order id_bytes d y ≡ Less) ds → find bytes_cmp (id_bytes d) (map kept_entry ds) ≡ None
 absent_above d [] h = refl
-absent_above d (x ∷ ds) h = ap (λ r. cond (is_eq r) (Some (kept_of x)) (find bytes_cmp (id_of d) (map kept_entry ds))) h.0 ∙ absent_above d ds h.1
+absent_above d (x ∷ ds) h = ap (λ r. cond (is_eq r) (Some (kept_of x)) (find bytes_cmp (id_bytes d) (map kept_entry ds))) h.0 ∙ absent_above d ds h.1
 
 left_step : (e : Bool) (v : Kept) (o p : Option Kept) → (e ≡ true → o ≡ None) → option_or o (cond e (Some v) p) ≡ option_or (cond e (Some v) o) p
 left_step true v o p none = ap (λ x. option_or x (Some v)) (none refl)
@@ -66,14 +66,14 @@ shown_get : (ds : List Document) (q : List ℕ) → get (shown ds) q ≡ find by
 shown_get ds q = get-from_entries nat_list_cmp_total (map kept_entry ds) q
 
 -- a document that is lent is no longer left
-pub left_less : (d : Document) (rest all : List Document) (q : List ℕ) → Ascends (id_order id_of) (d ∷ rest)
+pub left_less : (d : Document) (rest all : List Document) (q : List ℕ) → Ascends (id_order id_bytes) (d ∷ rest)
     → option_or (get (shown rest) q) (last_kept (all ++ d ∷ []) q) ≡ option_or (get (shown (d ∷ rest)) q) (last_kept all q)
 left_less d rest all q h =
-    let e = eq_by_cmp bytes_cmp q (id_of d) in
+    let e = eq_by_cmp bytes_cmp q (id_bytes d) in
     let o = find bytes_cmp q (map kept_entry rest) in
     ap (λ x. option_or x (last_kept (all ++ d ∷ []) q)) (shown_get rest q)
     ∙ ap (option_or o) (last_more all d q)
-    ∙ left_step e (kept_of d) o (last_kept all q) (λ tie. ap (λ x. find bytes_cmp x (map kept_entry rest)) (same_id q (id_of d) tie) ∙ absent_above d rest h.0)
+    ∙ left_step e (kept_of d) o (last_kept all q) (λ tie. ap (λ x. find bytes_cmp x (map kept_entry rest)) (same_id q (id_bytes d) tie) ∙ absent_above d rest h.0)
     ∙ ap (λ x. option_or x (last_kept all q)) (sym (shown_get (d ∷ rest) q))
 
 -- where none is left, all are lent
@@ -96,10 +96,10 @@ as_many place n (d ∷ ds) (p ∷ places) h = ap suc (as_many place n ds places 
 
 -- a document has its place
 place_at : (place : Placing) (n : ℕ) (ds : List Document) (places : List ℕ) (k : ℕ) (d : Document) (p : ℕ) → k < length ds → d ≡ get_or ds k d → p ≡ get_or places k p
-    → ArePlaces place n ds places → p ≡ place (id_of d) n
+    → ArePlaces place n ds places → p ≡ place (id_bytes d) n
 place_at place n [] places k d p l is at h = absurd (omega (arith, l))
 place_at place n (x ∷ ds) [] k d p l is at h = absurd h
-place_at place n (x ∷ ds) (y ∷ places) zero d p l is at h = at ∙ h.0.0 ∙ ap (λ (z : Document). place (id_of z) n) (sym is)
+place_at place n (x ∷ ds) (y ∷ places) zero d p l is at h = at ∙ h.0.0 ∙ ap (λ (z : Document). place (id_bytes z) n) (sym is)
 place_at place n (x ∷ ds) (y ∷ places) (suc k) d p l is at h = place_at place n ds places k d p (omega (arith, l)) is at h.1
 
 -- the place of one more
@@ -124,11 +124,11 @@ pub kept_placed : (place : Placing) (n : ℕ) (ds : List Document) (places : Lis
 kept_placed place n [] places q d h e = absurd (some_kept d e)
 kept_placed place n (x ∷ ds) [] q d h e = absurd h
 kept_placed place n (x ∷ ds) (p ∷ places) q d h e =
-    go (λ y is. kept_placed place n ds places q y h.1 is) (last_kept ds q) refl (eq_by_cmp bytes_cmp q (id_of x)) refl
+    go (λ y is. kept_placed place n ds places q y h.1 is) (last_kept ds q) refl (eq_by_cmp bytes_cmp q (id_bytes x)) refl
   where
-    go : ((y : Kept) → last_kept ds q ≡ Some y → place q n < n) → (o : Option Kept) → last_kept ds q ≡ o → (b : Bool) → eq_by_cmp bytes_cmp q (id_of x) ≡ b → place q n < n
+    go : ((y : Kept) → last_kept ds q ≡ Some y → place q n < n) → (o : Option Kept) → last_kept ds q ≡ o → (b : Bool) → eq_by_cmp bytes_cmp q (id_bytes x) ≡ b → place q n < n
     go more (Some y) is b tie = more y is
-    go more None is true tie = subst (λ i. i < n) (h.0.0 ∙ ap (λ z. place z n) (sym (same_id q (id_of x) tie))) h.0.1
+    go more None is true tie = subst (λ i. i < n) (h.0.0 ∙ ap (λ z. place z n) (sym (same_id q (id_bytes x) tie))) h.0.1
     go more None is false tie =
         absurd (some_kept d (sym (ap (λ o. option_or o (cond false (Some (kept_of x)) None)) is)
         ∙ ap (λ b. option_or (last_kept ds q) (cond b (Some (kept_of x)) None)) (sym tie) ∙ e))
@@ -156,34 +156,34 @@ pub none_kept : (ds : List Document) (places : List ℕ) (i : ℕ) (there : List
 none_kept ds places i there none place n h id = ap (λ (xs : List Document). get (shown xs) id) none ∙ get-empty bytes_cmp id ∙ sym (cond_none (eqb (place id n) i))
 
 module _ (ds : List Document) (places : List ℕ) (i k : ℕ) (d : Document) (p : ℕ) (l : k < length ds) (is : d ≡ get_or ds k d) (at : p ≡ get_or places k p) where
-  taken : (q : List ℕ) → last_kept (take (suc k) ds) q ≡ cond (eq_by_cmp bytes_cmp q (id_of d)) (Some (kept_of d)) (last_kept (take k ds) q)
+  taken : (q : List ℕ) → last_kept (take (suc k) ds) q ≡ cond (eq_by_cmp bytes_cmp q (id_bytes d)) (Some (kept_of d)) (last_kept (take k ds) q)
   taken q = ap (λ (xs : List Document). last_kept xs q) (take_one ds k d l is) ∙ last_more (take k ds) d q
 
   -- one that is placed there
-  pub keeps_more : (there new : List Document) → p ≡ i → new ≡ inserted (id_order id_of) d there → KeepsSoFar ds places i k (shown there) → KeepsSoFar ds places i (suc k) (shown new)
+  pub keeps_more : (there new : List Document) → p ≡ i → new ≡ inserted (id_order id_bytes) d there → KeepsSoFar ds places i k (shown there) → KeepsSoFar ds places i (suc k) (shown new)
   keeps_more there new here put h place n are q =
-      let e = eq_by_cmp bytes_cmp q (id_of d) in
+      let e = eq_by_cmp bytes_cmp q (id_bytes d) in
       let b = eqb (place q n) i in
       ap (λ (xs : List Document). get (shown xs) q) put ∙ ap (λ m. get m q) (shown-inserted d there)
-      ∙ get-insert nat_list_cmp_total (shown there) (id_of d) (kept_of d) q
+      ∙ get-insert nat_list_cmp_total (shown there) (id_bytes d) (kept_of d) q
       ∙ ap (cond e (Some (kept_of d))) (h place n are q)
       ∙ here_step e b (kept_of d) (last_kept (take k ds) q)
-      (λ tie. eq-eqb (place q n) i (ap (λ z. place z n) (same_id q (id_of d) tie) ∙ sym (place_at place n ds places k d p l is at are) ∙ here))
+      (λ tie. eq-eqb (place q n) i (ap (λ z. place z n) (same_id q (id_bytes d) tie) ∙ sym (place_at place n ds places k d p l is at are) ∙ here))
       ∙ ap (λ o. cond b o None) (sym (taken q))
 
   -- one that is placed elsewhere
   pub keeps_on : (there : List Document) → (p ≡ i → ⊥) → KeepsSoFar ds places i k (shown there) → KeepsSoFar ds places i (suc k) (shown there)
   keeps_on there apart h place n are q =
-      let e = eq_by_cmp bytes_cmp q (id_of d) in
+      let e = eq_by_cmp bytes_cmp q (id_bytes d) in
       let b = eqb (place q n) i in
       h place n are q
       ∙ other_step e b (kept_of d) (last_kept (take k ds) q)
-      (λ tie. not_there (place q n) i (λ a. apart (place_at place n ds places k d p l is at are ∙ ap (λ z. place z n) (sym (same_id q (id_of d) tie)) ∙ a)))
+      (λ tie. not_there (place q n) i (λ a. apart (place_at place n ds places k d p l is at are ∙ ap (λ z. place z n) (sym (same_id q (id_bytes d) tie)) ∙ a)))
       ∙ ap (λ o. cond b o None) (sym (taken q))
 
 -- one more that is read
 pub one_read : (ds : List Document) (places : List ℕ) (i k : ℕ) (d : Document) (p : ℕ) → k < length ds → d ≡ get_or ds k d → p ≡ get_or places k p
-    → (there new : List Document) → (eqb p i ≡ true → new ≡ inserted (id_order id_of) d there) → (eqb p i ≡ false → new ≡ there)
+    → (there new : List Document) → (eqb p i ≡ true → new ≡ inserted (id_order id_bytes) d there) → (eqb p i ≡ false → new ≡ there)
     → KeepsSoFar ds places i k (shown there) → KeepsSoFar ds places i (k + 1) (shown new)
 one_read ds places i k d p l is at there new here elsewhere h = subst (λ m. KeepsSoFar ds places i m (shown new)) (sym (add-one k)) (go (eqb p i) refl)
   where

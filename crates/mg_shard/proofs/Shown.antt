@@ -10,7 +10,7 @@ use Rattle.std.specs.FinMap.Entries.{below_all, where_key, find-where_key}
 use Rattle.std.specs.FinMap.{IsAntisymmetric, entries, entries-from_sorted, find, from_sorted, get, get-from_entries, get-from_sorted, get-insert, insert, is_sorted, nat_cmp-IsAntisymmetric, same_map, slice_cmp-IsAntisymmetric}
 use Rattle.mg_pages.specs.Identified.{id_against, id_order}
 use Rattle.mg_pages.specs.Order.{Ascends, above, below, first_of_list, found, inserted}
-use Rattle.mg_shard.specs.Documents.{Kept, doc_entry, docs_of, kept_entry, id_of, kept_of, served_docs, shown}
+use Rattle.mg_shard.specs.Documents.{Kept, doc_entry, docs_of, kept_entry, id_bytes, kept_of, served_docs, shown}
 use Rattle.mg_shard.specs.declared.document.Document.{Document}
 
 abbrev pub bytes_cmp : List ℕ → List ℕ → Ordering
@@ -26,12 +26,12 @@ found_step : (b : Bool) (d : Document) (ds : List Document) (o : Option Kept) �
 found_step true d ds o e = refl
 found_step false d ds o e = e
 
-find-found : (q : List ℕ) (ds : List Document) → option_map kept_of (found (id_against id_of q) ds) ≡ find bytes_cmp q (map kept_entry ds)
+find-found : (q : List ℕ) (ds : List Document) → option_map kept_of (found (id_against id_bytes q) ds) ≡ find bytes_cmp q (map kept_entry ds)
 find-found q [] = refl
-find-found q (d ∷ ds) = found_step (is_eq (bytes_cmp q (id_of d))) d (filter (λ x. is_eq (id_against id_of q x)) ds) (find bytes_cmp q (map kept_entry ds)) (find-found q ds)
+find-found q (d ∷ ds) = found_step (is_eq (bytes_cmp q (id_bytes d))) d (filter (λ x. is_eq (id_against id_bytes q x)) ds) (find bytes_cmp q (map kept_entry ds)) (find-found q ds)
 
 -- what is found among the documents is what the map has
-pub get-shown : (q : List ℕ) (ds : List Document) → option_map kept_of (found (id_against id_of q) ds) ≡ get (shown ds) q
+pub get-shown : (q : List ℕ) (ds : List Document) → option_map kept_of (found (id_against id_bytes q) ds) ≡ get (shown ds) q
 get-shown q ds = find-found q ds ∙ sym (get-from_entries nat_list_cmp_total (map kept_entry ds) q)
 
 -- ---- insertions
@@ -46,17 +46,17 @@ found_first false v o p = refl
 
 find-append : (q : List ℕ) (ds es : List Document) → find bytes_cmp q (map kept_entry (ds ++ es)) ≡ option_or (find bytes_cmp q (map kept_entry ds)) (find bytes_cmp q (map kept_entry es))
 find-append q [] es = refl
-find-append q (d ∷ ds) es = ap (cond (eq_by_cmp bytes_cmp q (id_of d)) (Some (kept_of d))) (find-append q ds es) ∙ found_first (eq_by_cmp bytes_cmp q (id_of d)) (kept_of d) _ _
+find-append q (d ∷ ds) es = ap (cond (eq_by_cmp bytes_cmp q (id_bytes d)) (Some (kept_of d))) (find-append q ds es) ∙ found_first (eq_by_cmp bytes_cmp q (id_bytes d)) (kept_of d) _ _
 
 where_step : (b : Bool) (d : Document) (ds : List Document) → map kept_entry (cond b (d ∷ ds) ds) ≡ cond b (kept_entry d ∷ map kept_entry ds) (map kept_entry ds)
 where_step true d ds = refl
 where_step false d ds = refl
 
-where-map : (p : List ℕ → Bool) (ds : List Document) → map kept_entry (filter (λ d. p (id_of d)) ds) ≡ where_key bytes_cmp p (map kept_entry ds)
+where-map : (p : List ℕ → Bool) (ds : List Document) → map kept_entry (filter (λ d. p (id_bytes d)) ds) ≡ where_key bytes_cmp p (map kept_entry ds)
 where-map p [] = refl
-where-map p (d ∷ ds) = where_step (p (id_of d)) d (filter (λ x. p (id_of x)) ds) ∙ ap (λ es. cond (p (id_of d)) (kept_entry d ∷ es) es) (where-map p ds)
+where-map p (d ∷ ds) = where_step (p (id_bytes d)) d (filter (λ x. p (id_bytes x)) ds) ∙ ap (λ es. cond (p (id_bytes d)) (kept_entry d ∷ es) es) (where-map p ds)
 
-find-where : (p : List ℕ → Bool) (q : List ℕ) (ds : List Document) → find bytes_cmp q (map kept_entry (filter (λ d. p (id_of d)) ds)) ≡ cond (p q) (find bytes_cmp q (map kept_entry ds)) None
+find-where : (p : List ℕ → Bool) (q : List ℕ) (ds : List Document) → find bytes_cmp q (map kept_entry (filter (λ d. p (id_bytes d)) ds)) ≡ cond (p q) (find bytes_cmp q (map kept_entry ds)) None
 find-where p q ds = ap (find bytes_cmp q) (where-map p ds) ∙ find-where_key bytes_cmp p q (λ x e. ap p (sym (bytes_exact q x e))) (map kept_entry ds)
 
 placed : (r : Ordering) (v : Kept) (o : Option Kept)
@@ -65,26 +65,26 @@ placed Less v o = refl
 placed Equal v o = refl
 placed Greater v o = option_or-none o
 
-find-inserted : (q : List ℕ) (d : Document) (ds : List Document) → find bytes_cmp q (map kept_entry (inserted (id_order id_of) d ds)) ≡ cond (eq_by_cmp bytes_cmp q (id_of d)) (Some (kept_of d)) (find bytes_cmp q (map kept_entry ds))
+find-inserted : (q : List ℕ) (d : Document) (ds : List Document) → find bytes_cmp q (map kept_entry (inserted (id_order id_bytes) d ds)) ≡ cond (eq_by_cmp bytes_cmp q (id_bytes d)) (Some (kept_of d)) (find bytes_cmp q (map kept_entry ds))
 find-inserted q d ds =
-    let k = id_of d in
+    let k = id_bytes d in
     let o = find bytes_cmp q (map kept_entry ds) in
     let turned : bytes_cmp q k ≡ ordering_reverse (bytes_cmp k q) = nat_list_cmp_total.antisymm q k in
-    find-append q (below (id_order id_of d) ds) (d ∷ above (id_order id_of d) ds)
+    find-append q (below (id_order id_bytes d) ds) (d ∷ above (id_order id_bytes d) ds)
     ∙ ap₂ (λ a b. option_or a (cond (eq_by_cmp bytes_cmp q k) (Some (kept_of d)) b)) (find-where (λ x. is_gt (bytes_cmp k x)) q ds) (find-where (λ x. is_lt (bytes_cmp k x)) q ds)
     ∙ ap (λ r. option_or (cond (is_gt (bytes_cmp k q)) o None) (cond (is_eq r) (Some (kept_of d)) (cond (is_lt (bytes_cmp k q)) o None))) turned
     ∙ placed (bytes_cmp k q) (kept_of d) o
     ∙ ap (λ r. cond (is_eq r) (Some (kept_of d)) o) (sym turned)
 
 -- a document that is put among the others is inserted under its id
-pub shown-inserted : (d : Document) (ds : List Document) → shown (inserted (id_order id_of) d ds) ≡ insert (shown ds) (id_of d) (kept_of d)
+pub shown-inserted : (d : Document) (ds : List Document) → shown (inserted (id_order id_bytes) d ds) ≡ insert (shown ds) (id_bytes d) (kept_of d)
 shown-inserted d ds = same_map nat_list_cmp_total bytes_exact _ _ (λ q.
-    get-from_entries nat_list_cmp_total (map kept_entry (inserted (id_order id_of) d ds)) q ∙ find-inserted q d ds
-    ∙ sym (get-insert nat_list_cmp_total (shown ds) (id_of d) (kept_of d) q ∙ ap (cond (eq_by_cmp bytes_cmp q (id_of d)) (Some (kept_of d))) (get-from_entries nat_list_cmp_total (map kept_entry ds) q)))
+    get-from_entries nat_list_cmp_total (map kept_entry (inserted (id_order id_bytes) d ds)) q ∙ find-inserted q d ds
+    ∙ sym (get-insert nat_list_cmp_total (shown ds) (id_bytes d) (kept_of d) q ∙ ap (cond (eq_by_cmp bytes_cmp q (id_bytes d)) (Some (kept_of d))) (get-from_entries nat_list_cmp_total (map kept_entry ds) q)))
 
 -- ---- all of them
 
-below_shown : (d : Document) (ds : List Document) → AllByRecursion (λ y. id_order id_of d y ≡ Less) ds → T (below_all bytes_cmp (id_of d) (map kept_entry ds))
+below_shown : (d : Document) (ds : List Document) → AllByRecursion (λ y. id_order id_bytes d y ≡ Less) ds → T (below_all bytes_cmp (id_bytes d) (map kept_entry ds))
 below_shown d [] h = tt
 below_shown d (x ∷ ds) h = rw h.0 (below_shown d ds h.1)
 
@@ -92,12 +92,12 @@ both : (a b : Bool) → T a → T b → T (a && b)
 both true b p q = q
 both false b p q = p
 
-sorted_shown : (ds : List Document) → Ascends (id_order id_of) ds → T (is_sorted bytes_cmp (map kept_entry ds))
+sorted_shown : (ds : List Document) → Ascends (id_order id_bytes) ds → T (is_sorted bytes_cmp (map kept_entry ds))
 sorted_shown [] h = tt
 sorted_shown (d ∷ ds) h = both _ _ (below_shown d ds h.0) (sorted_shown ds h.1)
 
 -- the entries of the map are the documents, in order
-pub entries-shown : (ds : List Document) → Ascends (id_order id_of) ds → entries (shown ds) ≡ map kept_entry ds
+pub entries-shown : (ds : List Document) → Ascends (id_order id_bytes) ds → entries (shown ds) ≡ map kept_entry ds
 entries-shown ds h =
     let sorted = sorted_shown ds h in
     ap entries (same_map nat_list_cmp_total bytes_exact (shown ds) (from_sorted (map kept_entry ds)) (λ q.
@@ -109,5 +109,5 @@ served_all [] = refl
 served_all (d ∷ ds) = rw (served_all ds)
 
 -- the served ones among the documents, in order, are those of the map
-pub docs-shown : (ds : List Document) → Ascends (id_order id_of) ds → served_docs ds ≡ docs_of (shown ds)
+pub docs-shown : (ds : List Document) → Ascends (id_order id_bytes) ds → served_docs ds ≡ docs_of (shown ds)
 docs-shown ds h = sym (served_all ds) ∙ ap (filter_map doc_entry) (sym (entries-shown ds h))

@@ -50,8 +50,8 @@ docs_of ds = filter_map doc_entry (entries ds)
 -- ---- of the code's documents
 
 -- the id of a document
-abbrev pub id_of : Document → List ℕ
-id_of d = string_bytes d.id
+abbrev pub id_bytes : Document → List ℕ
+id_bytes d = string_bytes d.id
 
 -- the form in which a document is served
 abbrev pub form_of : Document → Option Value

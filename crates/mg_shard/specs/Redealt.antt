@@ -8,7 +8,7 @@ use Rattle.std.specs.Option.{option_or}
 use Rattle.std.specs.Ordering.{eq_by_cmp, nat_cmp}
 use Rattle.mg_index.specs.Definition.{IndexDefinition}
 use Rattle.mg_shard.specs.Dealt.{Placing}
-use Rattle.mg_shard.specs.Documents.{Kept, KeptDocuments, id_of, kept_of}
+use Rattle.mg_shard.specs.Documents.{Kept, KeptDocuments, id_bytes, kept_of}
 use Rattle.mg_shard.specs.Shard.{ShardView}
 use Rattle.mg_shard.specs.declared.document.Document.{Document}
 
@@ -37,11 +37,11 @@ documents_seen documents = map (λ d. d.now) documents
 -- what is kept of an id by these documents: where several have it, by the last
 abbrev pub last_kept : List Document → List ℕ → Option Kept
 last_kept [] id = None
-last_kept (d ∷ ds) id = option_or (last_kept ds id) (cond (eq_by_cmp (slice_cmp nat_cmp) id (id_of d)) (Some (kept_of d)) None)
+last_kept (d ∷ ds) id = option_or (last_kept ds id) (cond (eq_by_cmp (slice_cmp nat_cmp) id (id_bytes d)) (Some (kept_of d)) None)
 
 -- this is the shard of a document, of n
 abbrev pub IsPlace : Placing → ℕ → Document → ℕ → Type 0
-IsPlace place n d i = (i ≡ place (id_of d) n) × (i < n)
+IsPlace place n d i = (i ≡ place (id_bytes d) n) × (i < n)
 
 -- and these are those of so many documents
 abbrev pub ArePlaces : Placing → ℕ → List Document → List ℕ → Type 0

@@ -23,9 +23,9 @@ pub struct Document {
 }
 
 impl Identified for Document {
-    ghost use Rattle.mg_shard.specs.Documents.{id_of};
+    ghost use Rattle.mg_shard.specs.Documents.{id_bytes};
 
-    ghost id = { id_of };
+    ghost id = { id_bytes };
 
     fn id(&self) -> &str {
         &self.id
@@ -54,7 +54,7 @@ impl Document {
     ghost use Rattle.mg_revtree.specs.History.{Paths};
     ghost use Rattle.mg_revtree.specs.Tree.{StandsFor};
     ghost use Rattle.mg_doc.specs.Served.{served_of};
-    ghost use Rattle.mg_shard.specs.Documents.{form_of, id_of, kept_of};
+    ghost use Rattle.mg_shard.specs.Documents.{form_of, id_bytes, kept_of};
     ghost use Rattle.mg_shard.specs.Rows.{row_key};
     ghost use Rattle.mg_shard.specs.Own.{all_columns, has_own_id};
 
@@ -74,7 +74,7 @@ impl Document {
 
     /// Its id. Takes no memory.
     pub fn id(&self) -> &str
-        ensures { result.now ≡ id_of self.now }
+        ensures { result.now ≡ id_bytes self.now }
     {
         &self.id
     }
@@ -132,7 +132,7 @@ impl Document {
     pub fn id_key(&self) -> Option<&str>
         ensures key { option_map (λ id. item (text id.now) no_items) result
             ≡ option_and_then (row_key all_columns) (form_of self.now) }
-        ensures own { IfSome result (λ id. id.now ≡ id_of self.now) }
+        ensures own { IfSome result (λ id. id.now ≡ id_bytes self.now) }
     {
         if self.has_id() { Some(&self.id) } else { None }
     }

@@ -4,7 +4,7 @@ ghost use Rattle.std.specs.FinMap.{get};
 ghost use Rattle.std.specs.Option.{option_or};
 ghost use Rattle.mg_pages.specs.Identified.{id_order};
 ghost use Rattle.mg_pages.specs.Order.{inserted};
-ghost use Rattle.mg_shard.specs.Documents.{id_of, shown};
+ghost use Rattle.mg_shard.specs.Documents.{id_bytes, shown};
 ghost use Rattle.mg_shard.specs.Redealt.{ArePlaces, KeepsThose, documents_in, documents_seen, kept_in, last_kept};
 ghost use Rattle.mg_shard.specs.Shard.{shards_seen};
 
@@ -76,7 +76,7 @@ fn put_if(
     place: usize,
 ) -> Result<(), NoMemory>
     ensures here { OnOk result ((own == place) ≡ true
-        → there.new ≡ inserted (id_order id_of) document.now there.old) }
+        → there.new ≡ inserted (id_order id_bytes) document.now there.old) }
     ensures elsewhere { OnOk result ((own == place) ≡ false → there.new ≡ there.old) }
 {
     if own == place {

@@ -4,7 +4,7 @@ ghost use Rattle.std.specs.FinMap as finite;
 ghost use Rattle.std.specs.FinMap.{entries, get};
 ghost use Rattle.std.specs.declared.cmp.Ordering.{Ordering};
 ghost use Rattle.mg_value.specs.Text.{compact};
-ghost use Rattle.mg_shard.specs.Documents.{Kept, docs_of, kept_entry, form_at, id_of, kept_of, tree_at, StandFor};
+ghost use Rattle.mg_shard.specs.Documents.{Kept, docs_of, kept_entry, form_at, id_bytes, kept_of, tree_at, StandFor};
 ghost use Rattle.mg_shard.specs.Own.{HasOwnId};
 ghost use Rattle.mg_shard.specs.Walk.{beyond};
 ghost use Rattle.mg_shard.specs.declared.document.Document.{Document};
@@ -85,7 +85,7 @@ impl Shard {
     /// The document of an id, if there is one, deleted or not. Takes no memory. Cost: one look-up.
     pub fn document(&self, id: &str) -> Option<&Document>
         ensures kept { option_map (λ d. kept_of d.now) result ≡ get self.now.documents id.now }
-        ensures id { IfSome result (λ d. id_of d.now ≡ id.now) }
+        ensures id { IfSome result (λ d. id_bytes d.now ≡ id.now) }
     {
         match self.documents.get(&id) {
             Some(document) => Some(document.get()),

@@ -7,7 +7,7 @@ use Rattle.mg_scan.specs.Walked.{holds_at, id_row, is_late_row}
 use Rattle.mg_scan.proofs.Own.{rows_own}
 use Rattle.mg_scan.proofs.Steps.{held, hits_one, neither, one_left, room, walk_end, walk_one, walk_over}
 use Rattle.mg_scan.proofs.shard.hits_of_documents.Goals as goal
-use Rattle.mg_shard.specs.Documents.{kept_entry, id_of, kept_of}
+use Rattle.mg_shard.specs.Documents.{kept_entry, id_bytes, kept_of}
 use Rattle.mg_shard.specs.declared.document.Document.{Document}
 use Rattle.mg_value.specs.Value.{item, no_items, text}
 
@@ -53,7 +53,7 @@ loop-document-preserved c =
     let on_time = neither _ _ (sym c.is_over_at_id.ensures ∙ c.if-is_over_at_id.false) in
     let free = room s.take c.len.result on_time.0 in
     let less : length hits < s.take = omega (arith, long, free) in
-    let left = subst (λ (xs : List Document). AllByRecursion (λ x. get ds (id_of x) ≡ Some (kept_of x)) xs) c.in-Some.ensures.steps l.invariant.left in
+    let left = subst (λ (xs : List Document). AllByRecursion (λ x. get ds (id_bytes x) ≡ Some (kept_of x)) xs) c.in-Some.ensures.steps l.invariant.left in
     let sum : total ≡ hit_rows hits ++ walked_by s ds (s.take - length hits) (r ∷ rest) =
     l.invariant.rows ∙ ap (λ (xs : List Document). hit_rows hits ++ walked_by s ds (s.take - length hits) (entry_rows (map kept_entry xs))) c.in-Some.ensures.steps
     ∙ ap (λ rows. hit_rows hits ++ walked_by s ds (s.take - length hits) rows) (rows_own d c.next.new.self key id c.in-Some-id_key.ensures.key c.in-Some-id_key.ensures.own) in

@@ -3,7 +3,7 @@ use Rattle.std.specs.FinMap.{insert}
 use Rattle.std.specs.List.{AllByRecursion}
 use Rattle.mg_pages.specs.Identified.{id_order}
 use Rattle.mg_pages.specs.Order.{inserted}
-use Rattle.mg_shard.specs.Documents.{KeptDocuments, id_of, kept_of, shown}
+use Rattle.mg_shard.specs.Documents.{KeptDocuments, id_bytes, kept_of, shown}
 use Rattle.mg_shard.specs.Draft.{touched_of}
 use Rattle.mg_shard.specs.Index.{HasRows, Index, definitions_of}
 use Rattle.mg_shard.proofs.Keys.{written}
@@ -17,8 +17,8 @@ loop-id-preserved c =
     let id = string_bytes c.in-Some.id in
     let tree = c.in-Some.tree in
     let d = c.in_ok-document.document in
-    let inserted_in : shown c.insert.new.self ≡ insert (shown l.documents) (id_of d) (kept_of d) =
-    ap shown c.in_ok-insert.ensures.ok ∙ ap (λ x. shown (inserted (id_order id_of) x l.documents)) c.in_ok-new.ensures ∙ shown-inserted d l.documents in
+    let inserted_in : shown c.insert.new.self ≡ insert (shown l.documents) (id_bytes d) (kept_of d) =
+    ap shown c.in_ok-insert.ensures.ok ∙ ap (λ x. shown (inserted (id_order id_bytes) x l.documents)) c.in_ok-new.ensures ∙ shown-inserted d l.documents in
     let made = c.mend_all.new.indexes in
     let number : length made ≡ length l.indexes.items = let a = c.mend_all.auto.indexes in let b = ap length c.deref_mut.ensures.value in omega (arith, a, b) in
     let same : take l.indexes.len (made ++ drop (length made) l.indexes.items) ≡ made = written l.indexes.len made l.indexes.items number l.indexes.ok.0 in

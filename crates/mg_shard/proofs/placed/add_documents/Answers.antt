@@ -4,7 +4,7 @@ use Rattle.std.specs.FinMap.{get}
 use Rattle.std.specs.Option.{option_or}
 use Rattle.mg_pages.specs.Identified.{id_order}
 use Rattle.mg_pages.specs.Order.{Ascends}
-use Rattle.mg_shard.specs.Documents.{id_of, shown}
+use Rattle.mg_shard.specs.Documents.{id_bytes, shown}
 use Rattle.mg_shard.specs.Redealt.{documents_seen, last_kept}
 use Rattle.mg_shard.specs.declared.document.Document.{Document}
 use Rattle.mg_shard.proofs.Redealing.{left_less, none_left}
@@ -12,7 +12,7 @@ use Rattle.mg_shard.proofs.placed.add_documents.Goals as goal
 
 pub loop-document-init : goal.loop-document-init
 loop-document-init c = record {
-  ascends = subst (λ (ds : List Document). Ascends (id_order id_of) ds) (sym (c.into_iter-document-iterator.ensures.into_iter_gives ∙ c.iter-document-items.ensures)) c.ascends.ensures;
+  ascends = subst (λ (ds : List Document). Ascends (id_order id_bytes) ds) (sym (c.into_iter-document-iterator.ensures.into_iter_gives ∙ c.iter-document-items.ensures)) c.ascends.ensures;
   goes_on = λ id. ap (λ (ds : List Document). option_or (get (shown ds) id) (last_kept (documents_seen c.args.all.now.items) id))
       (c.into_iter-document-iterator.ensures.into_iter_gives ∙ c.iter-document-items.ensures)
       ∙ ap (λ v. option_or (get v.documents id) (last_kept (documents_seen c.args.all.now.items) id)) c.shard.view_is;
@@ -24,7 +24,7 @@ loop-document-preserved c =
     let d : Document = c.in-Some.document.now in
     let rest : List Document = c.next.new.self in
     let first : l.document-iterator ≡ d ∷ rest = c.in-Some.ensures.steps in
-    let ascends : Ascends (id_order id_of) (d ∷ rest) = subst (λ (ds : List Document). Ascends (id_order id_of) ds) first l.invariant.ascends in
+    let ascends : Ascends (id_order id_bytes) (d ∷ rest) = subst (λ (ds : List Document). Ascends (id_order id_bytes) ds) first l.invariant.ascends in
     record {
       ascends = ascends.1;
       goes_on = λ id.

@@ -1,6 +1,6 @@
 use Rattle.std.proofs.Common.{◌∙◌, Some, ap, option_map}
 use Rattle.std.specs.FinMap.{get}
-use Rattle.mg_shard.specs.Documents.{id_of, kept_of}
+use Rattle.mg_shard.specs.Documents.{id_bytes, kept_of}
 use Rattle.mg_shard.proofs.Owned.{found_through}
 use Rattle.mg_shard.proofs.Shown.{get-shown}
 use Rattle.mg_shard.proofs.shard.Shard.document.Goals as goal
@@ -11,7 +11,7 @@ returns-in-Some-clause-kept c =
     ∙ ap (λ v. get v.documents c.args.id.now) c.self.view_is
 
 pub returns-in-Some-clause-id : goal.returns-in-Some-clause-id
-returns-in-Some-clause-id c = ap id_of c.get-in-Some.ensures ∙ found_through c.args.id.now c.self.inside.documents (Some c.in-Some.document) c.in-Some.ensures
+returns-in-Some-clause-id c = ap id_bytes c.get-in-Some.ensures ∙ found_through c.args.id.now c.self.inside.documents (Some c.in-Some.document) c.in-Some.ensures
 
 pub returns-in-None-clause-kept : goal.returns-in-None-clause-kept
 returns-in-None-clause-kept c =
