@@ -1,4 +1,4 @@
-// Whether `_rev` and `_revisions` give a change. This is found before memory is needed, so that `NoMemory` never hides a fault.
+//! Whether `_rev` and `_revisions` give a change. This is found before memory is needed, so that `NoMemory` never hides a fault.
 ghost use Rattle.std.specs.Prelude.{◌≡◌, Some, codes, is_some, map, option_and_then, option_map, pos};
 ghost use Rattle.std.specs.List.{list_all};
 ghost use Rattle.mg_value.specs.Value.{get_member, whole};

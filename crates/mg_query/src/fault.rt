@@ -1,4 +1,4 @@
-// Finds faults of a body without taking memory: a wrong shape, otherwise the first fault of its selector.
+//! Finds faults of a body without taking memory: a wrong shape, otherwise the first fault of its selector.
 ghost use Rattle.std.specs.Prelude.{◌≡◌, is_some, map};
 ghost use Rattle.std.specs.List.{list_all};
 ghost use Rattle.std.specs.Result.{result_err};

@@ -1,4 +1,4 @@
-// What a query finds for its page: the first hits of all shards together.
+//! What a query finds for its page: the first hits of all shards together.
 ghost use Rattle.std.specs.Prelude.{◌≡◌, ◌+◌, ◌<◌, ◌≤◌, true, All, IfOk, drop, length, map, option_map};
 ghost use Rattle.std.specs.List.{AllZip};
 ghost use Rattle.mg_shard.specs.Shard.{HaveIndexes, shards_seen};

@@ -1,4 +1,4 @@
-// The members of a query's body, lent from it. Only `named` takes memory.
+//! The members of a query's body, lent from it. Only `named` takes memory.
 ghost use Rattle.std.specs.Prelude.{◌≡◌, Some, map, option_map};
 ghost use Rattle.mg_value.specs.Value.{item, list, no_items, whole};
 ghost use Rattle.mg_value.specs.View.{view, items_view};

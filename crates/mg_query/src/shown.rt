@@ -1,4 +1,4 @@
-// What a page shows of a document, and the bookmark of a row.
+//! What a page shows of a document, and the bookmark of a row.
 ghost use Rattle.std.specs.Prelude.{◌≡◌, ℕ, List, IfOk, string_bytes};
 ghost use Rattle.mg_value.specs.View.{view, items_view};
 ghost use Rattle.mg_revtree.specs.History.{Paths};

@@ -1,4 +1,4 @@
-// Chooses the index that serves a query, and checks that the query's bookmark belongs to it.
+//! Chooses the index that serves a query, and checks that the query's bookmark belongs to it.
 ghost use Rattle.std.specs.Prelude.{◌≡◌, List, Some, true, IfOk, length, option_map};
 ghost use Rattle.mg_value.specs.View.{view, items_view};
 ghost use Rattle.mg_value.specs.Value.{item_list};

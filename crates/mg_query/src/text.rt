@@ -1,4 +1,4 @@
-// Writes the text of a page, part by part. Each `with_` function takes a buffer and returns it with its part appended.
+//! Writes the text of a page, part by part. Each `with_` function takes a buffer and returns it with its part appended.
 ghost use Rattle.std.specs.Prelude.{◌≡◌, ◌++◌, List, [], ◌∷◌, IfOk, map, nat_lt, if◌then◌else◌};
 ghost use Rattle.json.specs.Print.{quoted};
 ghost use Rattle.mg_value.specs.Text.{compact};

@@ -1,5 +1,5 @@
-// The list of leaves. The program itself shows only the winner and the conflicts. Other tests of trees are in tests/trees.py and
-// tests/conversations/revisions.txt.
+//! The list of leaves. The program itself shows only the winner and the conflicts. Other tests of trees are in tests/trees.py and
+//! tests/conversations/revisions.txt.
 use crate::given::string;
 use mg_revtree::{History, RevTree};
 use mg_value::Json;

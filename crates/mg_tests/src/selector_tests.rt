@@ -1,5 +1,5 @@
-// Selectors evaluated directly, on a document and on a packed document. The program evaluates only their normal form. Other tests of
-// selectors are in tests/conversations/selectors.txt.
+//! Selectors evaluated directly, on a document and on a packed document. The program evaluates only their normal form. Other tests of
+//! selectors are in tests/conversations/selectors.txt.
 use crate::given::{check, json};
 use mg_packed::Packed;
 use mg_selector::Sel;

@@ -1,4 +1,4 @@
-// The texts of the errors, which the program does not print. Tests of values are in tests/conversations/bodies.txt.
+//! The texts of the errors, which the program does not print. Tests of values are in tests/conversations/bodies.txt.
 use mg_value::ReadError;
 
 #[test]
