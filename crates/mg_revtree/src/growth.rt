@@ -192,7 +192,7 @@ impl Growth {
     {
         let mut grown = self.in_lists(alloc)?;
         let merged = grown.accept(start, ids, deleted, body)?;
-        let growth = settle(alloc, grown)?;
+        let growth = growth_of(alloc, grown)?;
         Ok((growth, merged))
     }
 
@@ -217,7 +217,7 @@ fn copy_boxed(alloc: Global, known: &Known) -> Result<Box<Known>, NoMemory>
 }
 
 // Keeps lists as a line if they have one leaf.
-fn settle(alloc: Global, grown: Grown) -> Result<Growth, NoMemory>
+fn growth_of(alloc: Global, grown: Grown) -> Result<Growth, NoMemory>
     ensures { IfOk result (λ growth. tree_in growth ≡ grown) }
 {
     if grown.leaves.len() != 1 {

@@ -278,12 +278,12 @@ impl RevTree {
         if self.growth.knows(pos, &id) {
             return Err(TreeError::Known);
         }
-        self.place(pos, parent, id, deleted, body)?;
+        self.make_revision(pos, parent, id, deleted, body)?;
         Ok(())
     }
 
     // Makes a new revision at its position over its parent.
-    fn place(
+    fn make_revision(
         &mut self,
         pos: u32,
         parent: Option<&Rev>,

@@ -100,11 +100,11 @@ impl Links {
         ensures err { OnErr result (self.new ≡ self.old) }
     {
         reserve(&mut self.nodes, ids.len())?;
-        let known = self.texts.len();
+        let old_len = self.texts.len();
         let parts = match parts_for(&mut self.texts, &self.nodes, start, ids) {
             Ok(parts) => parts,
             Err(refused) => {
-                self.texts.truncate(known);
+                self.texts.truncate(old_len);
                 return Err(refused);
             }
         };

@@ -7,7 +7,7 @@ use Rattle.mg_revtree.specs.Changes.{extension, next_revision, path_of, position
 use Rattle.mg_revtree.specs.Steps.{ids_over}
 use Rattle.mg_revtree.proofs.Extend.{run_over_is}
 use Rattle.mg_revtree.proofs.Firsts.{empty_is, none_copied, stands_first}
-use Rattle.mg_revtree.proofs.tree.RevTree.place.Goals as goal
+use Rattle.mg_revtree.proofs.tree.RevTree.make_revision.Goals as goal
 
 pub returns-then-is_empty-clause-accepted : goal.returns-then-is_empty-clause-accepted
 returns-then-is_empty-clause-accepted c = λ h stands.
