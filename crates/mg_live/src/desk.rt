@@ -139,7 +139,7 @@ where
 
     // The number of commits, which is what all parts of the ledger count. A list that was seen, and is not longer than this number, is a
     // prefix of the published list.
-    pub(crate) fn settle(&mut self, all: &mut Share<D>, seen: &Prefix) -> u64
+    pub(crate) fn count_commits(&mut self, all: &mut Share<D>, seen: &Prefix) -> u64
         requires parts { all.old.parts ≡ D.parts }
         requires here { seen.now.seen.book ≡ D.history }
         requires within { length (commits_seen seen.now.seen.log) ≤ all.old.amount }

@@ -290,7 +290,7 @@ where
         let seen = longest(&self.first, seats.as_slice(), made);
         let Live { shared, rest, .. } = self;
         let mut all = join_all(rest, seats);
-        let commits = shared.desk.lock(rt).settle(&mut all, &seen);
+        let commits = shared.desk.lock(rt).count_commits(&mut all, &seen);
         Ok(Closed { commits })
     }
 }

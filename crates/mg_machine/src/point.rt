@@ -66,7 +66,7 @@ impl<P: Placement + Drop> Point<P> {
         ensures { IfOk result (λ r. (w : World) → Stands P.place (arc_value self.now.engine) w
             → said r ≡ Some (reply_of w (asked command.now))) }
     {
-        whole(self.engine.answer(rt, alloc, command, workers, gate))
+        into_result(self.engine.answer(rt, alloc, command, workers, gate))
     }
 
     /// The reply to a read, with at most `workers` workers. Cost: that of the engine's reply.
@@ -83,7 +83,7 @@ impl<P: Placement + Drop> Point<P> {
         ensures { IfOk result (λ r. (w : World) → Stands P.place (arc_value self.now.engine) w
             → said r ≡ Some (reply_of w (asked command.now))) }
     {
-        whole(self.engine.reply(rt, alloc, command, workers))
+        into_result(self.engine.reply(rt, alloc, command, workers))
     }
 
     /// The reply to a write, and the point after it: one commit later if the write is accepted, otherwise a copy of this point.
@@ -157,7 +157,7 @@ impl<P: Placement + Drop> Point<P> {
             → IsDealt shards r.1 (after_write name cs seat prepared)) }
     {
         let (reply, engine) = self.engine.commit_prepared(rt, alloc, prepared, workers);
-        let reply = whole(reply)?;
+        let reply = into_result(reply)?;
         match engine {
             Some(engine) => {
                 let engine = Arc::new(alloc, engine)?;
@@ -174,7 +174,7 @@ impl<P: Placement + Drop> Point<P> {
 }
 
 // The reply if it is complete; `Reply::NoMemory` becomes the error.
-fn whole(reply: Reply) -> Result<Reply, NoMemory>
+fn into_result(reply: Reply) -> Result<Reply, NoMemory>
     ensures { IfOk result (λ r. (r ≡ reply) × (is_some (said r) ≡ true)) }
 {
     match reply {

@@ -6,6 +6,6 @@ use Rattle.mg_machine.proofs.point.Point.read.Goals as goal
 
 pub returns : goal.returns
 returns g c =
-    IfOk-weaker c.whole.result _ _
+    IfOk-weaker c.into_result.result _ _
     (λ r told w at. said_is (said r) (reply_of w (asked c.args.command.now)) told.1 (rw told.0 (c.answer.ensures w (rw c.deref.ensures at))))
-    c.whole.ensures
+    c.into_result.ensures
