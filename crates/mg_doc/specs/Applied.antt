@@ -34,13 +34,13 @@ Applied h e (Ok r) t = (outcome_of h e ≡ Ok r) × StandsFor t (edited h e)
 Applied h e (Err x) t = Refuses h e (refusal_told x)
 
 -- whether a change is a replica's path that is known whole, which changes nothing
-abbrev pub is_known : Paths → Change → Bool
-is_known h (New named) = false
-is_known h (Replica run) = is_whole h run
+abbrev pub changes_nothing : Paths → Change → Bool
+changes_nothing h (New named) = false
+changes_nothing h (Replica run) = is_whole h run
 
 -- what is foreseen of an edit: it is a path that is known whole, so that the tree already stands for the edited
 -- history; or it is no such path, and is not refused so far; or its error
 abbrev pub Foreseen : Paths → Edit → Result (Option Revision) EditError → Tree → Type 0
 Foreseen h e (Ok (Some r)) t = (outcome_of h e ≡ Ok r) × StandsFor t (edited h e)
-Foreseen h e (Ok None) t = (first_refusal h e.change ≡ None) × (is_known h e.change ≡ false)
+Foreseen h e (Ok None) t = (first_refusal h e.change ≡ None) × (changes_nothing h e.change ≡ false)
 Foreseen h e (Err x) t = Refuses h e (refusal_told x)

@@ -24,10 +24,10 @@ use Rattle.mg_range.specs.Laws.{RangesAreComplete}
 use Rattle.mg_range.specs.RangeSide.{has_key}
 use Rattle.mg_range.specs.Range.{range_of}
 use Rattle.mg_scan.specs.Decided.{IsDecidedIn}
-use Rattle.mg_scan.specs.Found.{asked, target_columns}
+use Rattle.mg_scan.specs.Found.{scan_input, target_columns}
 use Rattle.mg_scan.specs.Hit.{hit_row, hit_rows}
 use Rattle.mg_scan.specs.Scan.{scanned}
-use Rattle.mg_scan.specs.Search.{after_of, asked_by, found_by}
+use Rattle.mg_scan.specs.Search.{after_of, search_input, found_by}
 use Rattle.mg_scan.specs.declared.hit.Hit.{Hit}
 use Rattle.mg_scan.specs.declared.search.Search.{Search}
 use Rattle.mg_shard.specs.Dealt.{Placing, ShardsStandFor}
@@ -83,10 +83,10 @@ found_at : (q : Query) (a : Plan) (search : Search) → IsPlanOf q a → IsSearc
 found_at q a search asks is s e =
     let columns = source_columns (source_seen a.source) in
     let documents = docs_of s.documents in
-    ap (λ o. option_map_or (λ cs. scanned (asked_by search cs) documents) o []) e
-    ∙ ap₂ (λ normal range. scanned (asked normal range (after_of search) search.take search.direction columns) documents) is.normal (is.range ∙ asks.range)
-    ∙ ap₂ (λ after count. scanned (asked a.normal (range_of a.normal.atoms columns) after count search.direction columns) documents) (is.after ∙ asks.after) is.take
-    ∙ ap (λ direction. scanned (asked a.normal (range_of a.normal.atoms columns) (option_map row_at q.bookmark) (q.skip + q.limit) direction columns) documents) is.direction
+    ap (λ o. option_map_or (λ cs. scanned (search_input search cs) documents) o []) e
+    ∙ ap₂ (λ normal range. scanned (scan_input normal range (after_of search) search.take search.direction columns) documents) is.normal (is.range ∙ asks.range)
+    ∙ ap₂ (λ after count. scanned (scan_input a.normal (range_of a.normal.atoms columns) after count search.direction columns) documents) (is.after ∙ asks.after) is.take
+    ∙ ap (λ direction. scanned (scan_input a.normal (range_of a.normal.atoms columns) (option_map row_at q.bookmark) (q.skip + q.limit) direction columns) documents) is.direction
 
 found_each : (q : Query) (a : Plan) (search : Search) → IsPlanOf q a → IsSearchOf q a search → (shards : List ShardView) → AllByRecursion (λ s. IsListed s.definitions (source_seen a.source)) shards
     → map (found_by search) shards ≡ map (rows_asked_of q a) shards

@@ -8,7 +8,7 @@ use Rattle.mg_index.specs.Definition.{Steps}
 use Rattle.mg_normal.specs.Normal.{NormalForm}
 use Rattle.mg_range.specs.Range.{range_of}
 use Rattle.mg_revtree.specs.Tree.{StandsFor}
-use Rattle.mg_scan.specs.Found.{asked}
+use Rattle.mg_scan.specs.Found.{scan_input}
 use Rattle.mg_scan.specs.Hit.{hit_document, hit_form, hit_row, hit_text}
 use Rattle.mg_scan.specs.Scan.{scanned}
 use Rattle.mg_scan.specs.declared.hit.Hit.{Hit}
@@ -24,7 +24,7 @@ row_at p = (p.key, p.id)
 -- what a shard lists for a query, in an index of these columns: at most as many rows as the page skips and shows
 abbrev pub shard_rows : NormalForm → List Steps → Query → ShardView → List RowValue
 shard_rows normal columns q s =
-    scanned (asked normal (range_of normal.atoms columns) (option_map row_at q.bookmark) (q.skip + q.limit) q.direction columns) (docs_of s.documents)
+    scanned (scan_input normal (range_of normal.atoms columns) (option_map row_at q.bookmark) (q.skip + q.limit) q.direction columns) (docs_of s.documents)
 
 -- the query shows documents as they are served: with no conflicts, and at no fields
 abbrev pub shows_whole : Query → Bool

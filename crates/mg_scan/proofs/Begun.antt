@@ -9,7 +9,7 @@ use Rattle.mg_scan.specs.Begun.{IsBegunIn}
 use Rattle.mg_scan.specs.Hit.{IsHitOf}
 use Rattle.mg_scan.specs.Lead.{AreServed, IsLeadLeft, IsLeadOf, lead_rows, rows_on_way, unasked}
 use Rattle.mg_scan.specs.Scan.{all_scanned}
-use Rattle.mg_scan.specs.Search.{asked_by}
+use Rattle.mg_scan.specs.Search.{search_input}
 use Rattle.mg_scan.specs.Way.{begin_at, walked_all_by}
 use Rattle.mg_scan.specs.Sourced.{IsLeft, left_rows}
 use Rattle.mg_scan.specs.Walked.{id_row, is_late_row}
@@ -45,15 +45,15 @@ none_begun s ds (Some d) e = absurd cc
 
 -- all that is found on the way from there is all that there is
 pub begun_hits : (at : Option (List Steps)) (s : Search) (shard : ShardView) (l : Left) → IsBegunIn at s shard l
-    → left_rows s shard l ≡ option_map_or (λ columns. all_scanned (asked_by s columns) (docs_of shard.documents)) at []
+    → left_rows s shard l ≡ option_map_or (λ columns. all_scanned (search_input s columns) (docs_of shard.documents)) at []
 begun_hits at s shard (left.Rows rows) b =
     let ds = shard.documents in
-    all_found_rows (asked_by s b.0) ds rows (all_forms ds) b.2 ∙ ap (λ o. option_map_or (λ columns. all_scanned (asked_by s columns) (docs_of ds)) o []) (sym b.1)
+    all_found_rows (search_input s b.0) ds rows (all_forms ds) b.2 ∙ ap (λ o. option_map_or (λ columns. all_scanned (search_input s columns) (docs_of ds)) o []) (sym b.1)
 begun_hits at s shard (left.Documents documents) b =
     let ds = shard.documents in
     source_rows s ds documents (all_owned ds s.direction (λ e. begin_at s (id_row e.0)) documents b.1.begun) b.1.own b.1.begun
-    ∙ ap (λ o. option_map_or (λ columns. all_scanned (asked_by s columns) (docs_of ds)) o []) (sym b.0)
-begun_hits at s shard left.Nothing b = ap (λ o. option_map_or (λ columns. all_scanned (asked_by s columns) (docs_of shard.documents)) o []) (sym b)
+    ∙ ap (λ o. option_map_or (λ columns. all_scanned (search_input s columns) (docs_of ds)) o []) (sym b.0)
+begun_hits at s shard left.Nothing b = ap (λ o. option_map_or (λ columns. all_scanned (search_input s columns) (docs_of shard.documents)) o []) (sym b)
 
 pub begun_lent : (at : Option (List Steps)) (s : Search) (shard : ShardView) (l : Left) → IsBegunIn at s shard l → (h : Hit) → IsLeft shard l h → IsHitOf shard.documents h
 begun_lent at s shard (left.Rows rows) b h lent = lent
@@ -108,7 +108,7 @@ on_way s ds (r ∷ rows) h =
 
 -- all rows on the way from there are all that there are, where nothing is asked of documents
 pub begun_leads : (at : Option (List Steps)) (s : Search) (shard : ShardView) (l : Left) → IsBegunIn at s shard l
-    → lead_rows s l ≡ option_map_or (λ columns. all_scanned (asked_by (unasked s) columns) (docs_of shard.documents)) at []
+    → lead_rows s l ≡ option_map_or (λ columns. all_scanned (search_input (unasked s) columns) (docs_of shard.documents)) at []
 begun_leads at s shard (left.Rows rows) b =
     on_way s shard.documents rows (served_begun s shard.documents b.0 rows b.2) ∙ begun_hits at (unasked s) shard (left.Rows rows) b
 begun_leads at s shard (left.Documents documents) b =

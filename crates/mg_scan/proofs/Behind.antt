@@ -19,7 +19,7 @@ use Rattle.mg_merge.specs.Pulled.{IsGivenBy}
 use Rattle.mg_scan.specs.Begun.{IsBegunIn, IsBehind}
 use Rattle.mg_scan.specs.Decided.{IsDecidedIn}
 use Rattle.mg_scan.specs.Lead.{AreLeadsIn, IsLeadIn, IsLeadLeft, IsLeadOf, IsLeadSourceBehind, lead_rows, unasked}
-use Rattle.mg_scan.specs.Search.{asked_by, found_by}
+use Rattle.mg_scan.specs.Search.{search_input, found_by}
 use Rattle.mg_scan.specs.Way.{all_found_by}
 use Rattle.mg_scan.specs.Walked.{is_late_row, walked_all}
 use Rattle.mg_scan.specs.declared.lead.Lead.{Lead}
@@ -89,7 +89,7 @@ pub behind_rows : (at : Option (List Steps)) (s : Search) (shard : ShardView) (n
 behind_rows at s shard n (left.Rows rows) m b e =
     let ds = shard.documents in
     ap (lead_rows s) e
-    ∙ on_way_behind (is_late_row s.direction s.range.now) n rows (late_rows (asked_by s b.0) ds rows (all_forms ds) b.2)
+    ∙ on_way_behind (is_late_row s.direction s.range.now) n rows (late_rows (search_input s b.0) ds rows (all_forms ds) b.2)
 behind_rows at s shard n (left.Documents documents) m b e =
     ap (lead_rows s) e.1 ∙ sym (ap (λ k. drop k (lead_rows s (left.Documents documents))) e.0)
 behind_rows at s shard n left.Nothing m b e = ap (lead_rows s) e ∙ nothing_behind n

@@ -19,7 +19,7 @@ use Rattle.mg_merge.specs.Pulled.{IsGivenBy}
 use Rattle.mg_scan.specs.Found.{target_columns}
 use Rattle.mg_scan.specs.Hit.{AreHitsIn, IsHitIn, IsHitOf, hit_row}
 use Rattle.mg_scan.specs.Scan.{all_scanned, asked_documents, is_wanted}
-use Rattle.mg_scan.specs.Search.{asked_by, found_by}
+use Rattle.mg_scan.specs.Search.{search_input, found_by}
 use Rattle.mg_scan.specs.Way.{all_found_by, begin_at, entry_rows, walked_all_by}
 use Rattle.mg_scan.specs.Sourced.{AreKept, IsLeft, IsSourceOf, holds_for, left_rows, row_among, walked_documents, walked_on}
 use Rattle.mg_scan.specs.Walked.{holds_at, id_row, is_late_row}
@@ -94,19 +94,19 @@ walked_rows s ds (d ∷ documents) h =
 
 -- all that is found among all documents
 pub source_rows : (s : Search) (ds : KeptDocuments) (documents : List Document) → AreKept ds documents → ((id : List ℕ) (form : Value) → form_at ds id ≡ Some form → HasOwnId id form)
-    → map kept_entry documents ≡ beyond s.direction (λ e. begin_at s (id_row e.0)) (entries ds) → walked_documents s documents ≡ all_scanned (asked_by s all_columns) (docs_of ds)
+    → map kept_entry documents ≡ beyond s.direction (λ e. begin_at s (id_row e.0)) (entries ds) → walked_documents s documents ≡ all_scanned (search_input s all_columns) (docs_of ds)
 source_rows s ds documents kept own is =
     walked_rows s ds documents kept
     ∙ ap (λ (x : List Entry). walked_all_by s ds (entry_rows x)) is
     ∙ ap (walked_all_by s ds) (rows-beyond s.direction (begin_at s) (entries ds) (own_rows ds own) ∙ ap (beyond s.direction (begin_at s)) (all_rows ds own))
-    ∙ all_found_rows (asked_by s all_columns) ds (beyond s.direction (begin_at s) (rows_of all_columns (docs_of ds))) (all_forms ds) refl
+    ∙ all_found_rows (search_input s all_columns) ds (beyond s.direction (begin_at s) (rows_of all_columns (docs_of ds))) (all_forms ds) refl
 
 -- ---- all that is found, and as much of it as is asked for
 
-ordered_or : (s : Search) (ds : KeptDocuments) (o : Option (List Steps)) → IsInOrder s.direction (option_map_or (λ columns. all_scanned (asked_by s columns) (docs_of ds)) o [])
+ordered_or : (s : Search) (ds : KeptDocuments) (o : Option (List Steps)) → IsInOrder s.direction (option_map_or (λ columns. all_scanned (search_input s columns) (docs_of ds)) o [])
 ordered_or s ds None = in_order (directed_order s.direction) (directed_total s.direction) [] tt
 ordered_or s ds (Some columns) =
-    let q = asked_by s columns in
+    let q = search_input s columns in
     let order = directed_order s.direction in
     let rows = filter_map (row_of columns) (asked_documents q (docs_of ds)) in
     in_order order (directed_total s.direction) (filter (is_wanted q) (sorted_rows s.direction rows))
@@ -128,7 +128,7 @@ all_in_order s (shard ∷ shards) = (found_in_order s shard, all_in_order s shar
 cut_found : (s : Search) (shards : List ShardView) → map (take s.take) (map (all_found_by s) shards) ≡ map (found_by s) shards
 cut_found s [] = refl
 cut_found s (shard ∷ shards) =
-    ap₂ (λ rows lists. rows ∷ lists) (sym (cut_or s.take (λ columns. all_scanned (asked_by s columns) (docs_of shard.documents)) (target_columns s.target shard.definitions))) (cut_found s shards)
+    ap₂ (λ rows lists. rows ∷ lists) (sym (cut_or s.take (λ columns. all_scanned (search_input s columns) (docs_of shard.documents)) (target_columns s.target shard.definitions))) (cut_found s shards)
 
 -- the merge of all that there is is the merge of what is found, so much at most in each shard
 pub found_merged : (s : Search) (shards : List ShardView) → merged s.direction s.take (map (all_found_by s) shards) ≡ merged s.direction s.take (map (found_by s) shards)

@@ -19,15 +19,15 @@ abbrev pub target_columns : Target → List IndexDefinition → Option (List Ste
 target_columns AllDocs definitions = Some all_columns
 target_columns (Index ddoc name) definitions = option_map (λ d. d.columns) (definition_at ddoc.now name.now definitions)
 
--- what a scan is asked, but for the columns
-abbrev pub asked : NormalForm → Range → Option RowValue → ℕ → Direction → List Steps → ScanInput
-asked normal range after count direction columns =
+-- what a scan is asked; the columns come last
+abbrev pub scan_input : NormalForm → Range → Option RowValue → ℕ → Direction → List Steps → ScanInput
+scan_input normal range after count direction columns =
     record { columns = columns; normal = normal; range = range; after = after; count = count; direction = direction }
 
 -- what a scan finds in a shard, by the columns of its target; nothing where the shard has no such index
 abbrev pub found_in : Target → (List Steps → ScanInput) → ShardView → List RowValue
-found_in target request s = option_map_or (λ columns. scanned (request columns) (docs_of s.documents)) (target_columns target s.definitions) []
+found_in target input s = option_map_or (λ columns. scanned (input columns) (docs_of s.documents)) (target_columns target s.definitions) []
 
 -- all that a scan without a limit finds in a shard
 abbrev pub all_found_in : Target → (List Steps → ScanInput) → ShardView → List RowValue
-all_found_in target request s = option_map_or (λ columns. all_scanned (request columns) (docs_of s.documents)) (target_columns target s.definitions) []
+all_found_in target input s = option_map_or (λ columns. all_scanned (input columns) (docs_of s.documents)) (target_columns target s.definitions) []

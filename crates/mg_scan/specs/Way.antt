@@ -6,7 +6,7 @@ use Rattle.std.specs.declared.cmp.Ordering.{Ordering}
 use Rattle.mg_collate.specs.Row.{RowValue, row_value_order}
 use Rattle.mg_range.specs.RangeSide.{place_of}
 use Rattle.mg_scan.specs.Found.{all_found_in}
-use Rattle.mg_scan.specs.Search.{after_of, asked_by}
+use Rattle.mg_scan.specs.Search.{after_of, search_input}
 use Rattle.mg_scan.specs.Walked.{begin_order, holds_at, is_late_row, walked, walked_all}
 use Rattle.mg_scan.specs.declared.search.Search.{Search}
 use Rattle.mg_shard.specs.Documents.{Kept, KeptDocuments, doc_entry}
@@ -17,7 +17,7 @@ use Rattle.mg_value.specs.Value.{item_list}
 
 -- all that a search finds in a shard, without its limit
 abbrev pub all_found_by : Search → ShardView → List RowValue
-all_found_by s = all_found_in s.target (asked_by s)
+all_found_by s = all_found_in s.target (search_input s)
 
 -- where a search begins, against a row
 abbrev pub begin_at : Search → RowValue → Ordering

@@ -2,7 +2,7 @@
 ghost use Rattle.std.specs.Prelude.{◌≡◌, ◌<◌, ◌≤◌, map, option_map, IfOk};
 ghost use Rattle.std.specs.List.{AllZip};
 ghost use Rattle.mg_collate.specs.Row.{row_view, rows_view};
-ghost use Rattle.mg_scan.specs.Found.{asked, found_in};
+ghost use Rattle.mg_scan.specs.Found.{scan_input, found_in};
 ghost use Rattle.mg_scan.specs.Search.{found_by};
 ghost use Rattle.mg_shard.specs.Shard.{shards_seen};
 ghost use Rattle.mg_scan.specs.Hit.{AreHitsOf, hit_rows};
@@ -75,7 +75,7 @@ pub fn scan<R: Threads + Sync, G: Gate + Sync>(
     requires { (0 < workers) × (workers ≤ 32) }
     ensures { IfOk result (λ lists. map (λ rows. rows_view rows.items) lists.items
         ≡ map (found_in target.entry
-        (asked normal.now range.now (option_map (λ r. row_view r.now) after.entry) take direction))
+        (scan_input normal.now range.now (option_map (λ r. row_view r.now) after.entry) take direction))
         (shards_seen shards.now)) }
 {
     let row_range = range.in_rows(alloc)?;

@@ -10,7 +10,7 @@ ghost use Rattle.mg_shard.specs.Own.{all_columns};
 ghost use Rattle.mg_scan.specs.Hit.{AreHitsOf, IsHitOf, hit_row, hit_rows};
 ghost use Rattle.mg_scan.specs.HitRow.{lent_row};
 ghost use Rattle.mg_scan.specs.Scan.{scanned};
-ghost use Rattle.mg_scan.specs.Search.{asked_by};
+ghost use Rattle.mg_scan.specs.Search.{search_input};
 ghost use Rattle.mg_scan.specs.Walked.{holds_at, id_row, is_late_row, list_of_option};
 ghost use Rattle.mg_scan.specs.Way.{entry_rows, walked_by};
 ghost use Rattle.mg_scan.specs.Worked.{Gives};
@@ -147,7 +147,7 @@ fn hits_of_all<'a>(
     search: Search<'_>,
 ) -> Result<Vec<Hit<'a>>, NoMemory>
     ensures rows { IfOk result
-        (λ v. hit_rows v.items ≡ scanned (asked_by search.entry all_columns) (docs_of shard.now.documents)) }
+        (λ v. hit_rows v.items ≡ scanned (search_input search.entry all_columns) (docs_of shard.now.documents)) }
     ensures documents { IfOk result (λ v. AreHitsOf shard.now.documents v.items) }
 {
     shard.ids_are_own();
@@ -165,7 +165,7 @@ fn hits_of_index<'a>(
 ) -> Result<Vec<Hit<'a>>, NoMemory>
     ensures rows { IfOk result (λ v. hit_rows v.items
         ≡ option_map_or
-        (λ d. scanned (asked_by search.entry d.columns) (docs_of shard.now.documents))
+        (λ d. scanned (search_input search.entry d.columns) (docs_of shard.now.documents))
         (definition_at ddoc.now name.now shard.now.definitions) []) }
     ensures documents { IfOk result (λ v. AreHitsOf shard.now.documents v.items) }
 {
