@@ -36,7 +36,7 @@ is_wanted q r = has_key q.range (item_list r.0) && comes_after q.direction q.aft
 abbrev pub asked_documents : ScanInput → List ServedDocument → List ServedDocument
 asked_documents q ds = filter (λ d. normal_holds q.normal (Some d.1)) ds
 
--- all rows that match the request in a shard with these documents, without its limit
+-- all rows that match the input in a shard with these documents, without its limit
 abbrev pub all_scanned : ScanInput → List ServedDocument → List RowValue
 all_scanned q ds = filter (is_wanted q) (sorted_rows q.direction (filter_map (row_of q.columns) (asked_documents q ds)))
 

@@ -21,11 +21,11 @@ is_beyond direction order = option_map_or (λ o. is_gt (directed direction o)) o
 -- an item on this side of the range, and with this ordering against the row after which a search begins, is reached: the search looks
 -- at it, or it comes later
 abbrev pub reaches : Direction → RangeSide → Option Ordering → Bool
-reaches direction place order = not (is_early direction place) && is_beyond direction order
+reaches direction side order = not (is_early direction side) && is_beyond direction order
 
 -- where a search begins, compared to an item on this side of the range and with this ordering against that row
 abbrev pub begin_order : Direction → RangeSide → Option Ordering → Ordering
-begin_order direction place order = directed direction (if reaches direction place order then Less else Greater)
+begin_order direction side order = directed direction (if reaches direction side order then Less else Greater)
 
 -- the row comes after the range in a direction
 abbrev pub is_late_row : Direction → Range → RowValue → Bool

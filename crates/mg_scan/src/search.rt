@@ -46,10 +46,10 @@ pub(crate) fn bytes_of(alloc: Global, after: Option<&Row>) -> Result<Option<RowB
 }
 
 // Whether a key on this side of the range comes before it in the direction.
-fn is_early(direction: Direction, place: RangeSide) -> bool
-    ensures { result ≡ stands_early direction place }
+fn is_early(direction: Direction, side: RangeSide) -> bool
+    ensures { result ≡ stands_early direction side }
 {
-    match (direction, place) {
+    match (direction, side) {
         (Direction::Asc, RangeSide::Before) => true,
         (Direction::Desc, RangeSide::Past) => true,
         _ => false,
@@ -57,10 +57,10 @@ fn is_early(direction: Direction, place: RangeSide) -> bool
 }
 
 // Whether a key on this side of the range comes after it in the direction.
-fn is_late(direction: Direction, place: RangeSide) -> bool
-    ensures { result ≡ stands_late direction place }
+fn is_late(direction: Direction, side: RangeSide) -> bool
+    ensures { result ≡ stands_late direction side }
 {
-    match (direction, place) {
+    match (direction, side) {
         (Direction::Asc, RangeSide::Past) => true,
         (Direction::Desc, RangeSide::Before) => true,
         _ => false,
