@@ -2,8 +2,8 @@
 ghost use Rattle.std.specs.Prelude.{◌≡◌, List};
 ghost use Rattle.mangod.specs.Conversations.{Conversation, InTurn};
 
+use crate::connection::{Connection, Incoming, Outgoing};
 use crate::faults::{Disposal, disposal_after};
-use crate::line::{Incoming, Line, Outgoing};
 use crate::lobby::Lobby;
 use mg_http::{Device, Service, session};
 use std::alloc::Global;
@@ -51,9 +51,9 @@ fn converse<H: Wait + Threads + Sync + Clock, S: Service>(
     let Ok(began) = Instant::now(rt) else {
         return Disposal::Close;
     };
-    let line = Line::new(rt, stream, lobby, began);
-    let mut reader = Device::new(Incoming::new(&line));
-    let mut writer = Device::new(Outgoing::new(&line));
+    let connection = Connection::new(rt, stream, lobby, began);
+    let mut reader = Device::new(Incoming::new(&connection));
+    let mut writer = Device::new(Outgoing::new(&connection));
     let end = session(rt, alloc, db, &mut reader, &mut writer, service);
-    disposal_after(end, line.has_paused())
+    disposal_after(end, connection.has_paused())
 }

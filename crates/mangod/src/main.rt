@@ -3,10 +3,10 @@
 
 mod arguments;
 mod config;
+mod connection;
 mod connections;
 mod ends;
 mod faults;
-mod line;
 mod lobby;
 mod pace;
 mod program;

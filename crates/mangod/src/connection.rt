@@ -12,7 +12,7 @@ use std::time::{Clock, Duration, Instant};
 
 /// What the reader and the writer of one connection share.
 #[derive(Drop)]
-pub(crate) struct Line<'a, H> {
+pub(crate) struct Connection<'a, H> {
     rt: &'a H,
     stream: &'a TcpStream,
     lobby: &'a Lobby,
@@ -27,15 +27,15 @@ pub(crate) struct Line<'a, H> {
     has_paused: Cell<bool>,
 }
 
-impl<'a, H: Clock> Line<'a, H> {
+impl<'a, H: Clock> Connection<'a, H> {
     /// A connection that is idle now.
     pub(crate) fn new(
         rt: &'a H,
         stream: &'a TcpStream,
         lobby: &'a Lobby,
         began: Instant,
-    ) -> Line<'a, H> {
-        Line {
+    ) -> Connection<'a, H> {
+        Connection {
             rt,
             stream,
             lobby,
@@ -138,14 +138,17 @@ fn is_nothing_yet(kind: ErrorKind) -> bool {
 /// (see `Phase`).
 #[derive(Drop)]
 pub(crate) struct Incoming<'a, H> {
-    line: &'a Line<'a, H>,
+    connection: &'a Connection<'a, H>,
     kept: Option<u8>,
 }
 
 impl<'a, H: Clock> Incoming<'a, H> {
     /// A reader that has read nothing.
-    pub(crate) fn new(line: &'a Line<'a, H>) -> Incoming<'a, H> {
-        Incoming { line, kept: None }
+    pub(crate) fn new(connection: &'a Connection<'a, H>) -> Incoming<'a, H> {
+        Incoming {
+            connection,
+            kept: None,
+        }
     }
 
     /// Keeps the last of `count` bytes for the next read, unless it is the only one. Returns how many bytes this read gives.
@@ -166,10 +169,10 @@ impl<H: Clock> Read for Incoming<'_, H> {
         if piece.is_empty() {
             return Ok(0);
         }
-        let line = self.line;
-        let before = line.phase.get();
+        let connection = self.connection;
+        let before = connection.phase.get();
         let phase = before.at_read();
-        line.enter(phase, phase != before)?;
+        connection.enter(phase, phase != before)?;
         let count = match self.kept.take() {
             Some(byte) => {
                 piece[0] = byte;
@@ -177,14 +180,14 @@ impl<H: Clock> Read for Incoming<'_, H> {
             }
             None => {
                 let count = match phase {
-                    Phase::Idle => line.read_idle(piece)?,
-                    _ => line.read_more(piece)?,
+                    Phase::Idle => connection.read_idle(piece)?,
+                    _ => connection.read_more(piece)?,
                 };
                 self.keep_last(piece, count)
             }
         };
         if count > 0 {
-            line.enter(Phase::after_bytes(count), phase == Phase::Idle)?;
+            connection.enter(Phase::after_bytes(count), phase == Phase::Idle)?;
         }
         Ok(count)
     }
@@ -193,24 +196,24 @@ impl<H: Clock> Read for Incoming<'_, H> {
 /// Writes a connection.
 #[derive(Drop)]
 pub(crate) struct Outgoing<'a, H> {
-    line: &'a Line<'a, H>,
+    connection: &'a Connection<'a, H>,
 }
 
 impl<'a, H: Clock> Outgoing<'a, H> {
     /// A writer that has written nothing.
-    pub(crate) fn new(line: &'a Line<'a, H>) -> Outgoing<'a, H> {
-        Outgoing { line }
+    pub(crate) fn new(connection: &'a Connection<'a, H>) -> Outgoing<'a, H> {
+        Outgoing { connection }
     }
 }
 
 impl<H: Clock> Write for Outgoing<'_, H> {
     fn write(&mut self, piece: &[u8]) -> io::Result<usize> {
-        let line = self.line;
-        let before = line.phase.get();
+        let connection = self.connection;
+        let before = connection.phase.get();
         let phase = before.at_write();
-        line.enter(phase, phase != before)?;
-        line.limit_write(line.seconds_left()?)?;
-        let mut stream = line.stream;
+        connection.enter(phase, phase != before)?;
+        connection.limit_write(connection.seconds_left()?)?;
+        let mut stream = connection.stream;
         stream.write(piece)
     }
 
