@@ -127,7 +127,7 @@ module _ {S : Type 0} (answers : S → Asked → Option Answer → S → Type 0)
   ends_at old bytes last new end h =
       record { calls = []; text = []; rest = bytes; mid = old; served = (refl, refl, refl); last = last; ended = h; written_is = refl }
 
-  -- bytes that come later follow the rest of a run of calls
+  -- bytes that come later follow the rest of a sequence of calls
   pub Serves-append : (old : S) (bytes : List ℕ) (calls : List Call) (text rest : List ℕ) (new : S) (more : List ℕ)
       → Serves answers db calls rest (exchange old bytes text new) → Serves answers db calls (rest ++ more) (exchange old (bytes ++ more) text new)
   Serves-append old bytes [] text rest new more h = (ap (λ (t : List ℕ). t ++ more) h.0, h.1, h.2)
@@ -142,7 +142,7 @@ module _ {S : Type 0} (answers : S → Asked → Option Answer → S → Type 0)
     others_follow = Serves-append h.mid h.after calls h.later rest new more h.others_follow;
   }
 
-  -- two runs of calls, one after the other, are one run
+  -- two sequences of calls, one after the other, are one sequence
   pub Serves-then : (old : S) (bytes : List ℕ) (calls : List Call) (text mid : List ℕ) (between : S) (others : List Call) (later rest : List ℕ) (new : S)
       → Serves answers db calls mid (exchange old bytes text between) → Serves answers db others rest (exchange between mid later new)
       → Serves answers db (calls ++ others) rest (exchange old bytes (text ++ later) new)
@@ -158,7 +158,7 @@ module _ {S : Type 0} (answers : S → Asked → Option Answer → S → Type 0)
     others_follow = Serves-then h.mid h.after calls h.later mid between others later rest new h.others_follow k;
   }
 
-  -- a run of calls and then a session are a session
+  -- a sequence of calls and then a session are a session
   pub Converses-then : (old : S) (bytes : List ℕ) (calls : List Call) (text mid : List ℕ) (between : S) (written : List ℕ) (new : S) (end : SessionEnd)
       → Serves answers db calls mid (exchange old bytes text between) → Converses answers db end (exchange between mid written new)
       → Converses answers db end (exchange old bytes (text ++ written) new)

@@ -82,8 +82,8 @@ means segments r =
     takes_all segments (whole_path r) && not (list_any (λ other. passes_over segments (whole_path r) (whole_path other)) routes)
 
 -- the segments mean the route, and it has the method
-abbrev pub is_asked : List ℕ → List (List ℕ) → Route → Bool
-is_asked method segments r = means segments r && bytes_eq r.method method
+abbrev pub is_matched_by : List ℕ → List (List ℕ) → Route → Bool
+is_matched_by method segments r = means segments r && bytes_eq r.method method
 
 -- the percent-decoded parameters of a path
 abbrev pub parameters_of : List (List ℕ) → List RouteSegment → List (List ℕ)

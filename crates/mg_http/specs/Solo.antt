@@ -6,6 +6,6 @@ use Rattle.mg_engine.specs.Stands.{Shown, Stands}
 use Rattle.mg_engine.specs.World.{World}
 
 -- at each world that the old engine stands for, this is a right answer to the command, and the new engine stands for the world after it
-abbrev pub Steps
+abbrev pub EngineAnswers
     : {P : Type 0} → (P → List ℕ → ℕ → ℕ) → P × Shown → Asked → Option Answer → P × Shown → Type 0
-Steps place old command answer new = (w : World) → Stands place old w → Answers w command answer (Stands place new)
+EngineAnswers place old command answer new = (w : World) → Stands place old w → Answers w command answer (Stands place new)

@@ -11,7 +11,7 @@ use Rattle.mg_engine.specs.Commands.{Asked, get, list_indexes, drop_index}
 use Rattle.mg_http.specs.declared.request.routes.Endpoint.{Endpoint}
 use Rattle.mg_http.specs.declared.request.routes.Action.{Action}
 use Rattle.mg_http.specs.declared.request.routes.Action.TheVariants.{Body, Document, ListIndexes, DropIndex, DropDesignIndex}
-use Rattle.mg_http.specs.Routes.{routes, whole_path, means, is_asked, parameters_of, segments_of}
+use Rattle.mg_http.specs.Routes.{routes, whole_path, means, is_matched_by, parameters_of, segments_of}
 
 -- what is asked: what an endpoint does with the value that the body is, a command, or a refusal
 pub data Request : Type 0 where
@@ -78,7 +78,7 @@ request_with db (Some parameters) action query =
 abbrev pub request_on : List ℕ → List ℕ → List ℕ → List (List ℕ) → Request
 request_on db method query segments =
     request_with db (option_map (λ r. parameters_of segments (whole_path r)) (find (means segments) routes))
-    (option_map (λ r. r.asks) (find (is_asked method segments) routes)) query
+    (option_map (λ r. r.asks) (find (is_matched_by method segments) routes)) query
 
 -- what a method and a target ask of the database
 abbrev pub request_of : List ℕ → List ℕ → List ℕ → Request

@@ -2,7 +2,7 @@ ghost use denote.Param.Send.{IsSync};
 ghost use Rattle.std.specs.Prelude.{◌≡◌, ◌≤◌, Option, IfNone};
 ghost use Rattle.mg_engine.specs.Commands.{Asked, Answer};
 ghost use Rattle.mg_engine.specs.View.{asked, said};
-ghost use Rattle.mg_http.specs.Solo.{Steps};
+ghost use Rattle.mg_http.specs.Solo.{EngineAnswers};
 ghost use Rattle.mg_live.specs.Sitting.{Answered};
 
 use mg_engine::{Command, Engine, Reply};
@@ -35,7 +35,7 @@ pub struct Solo<P> {
 impl<P: Placement + Drop> Service for Solo<P> {
     // The answer is right at each world that the engine stands for; or memory ran out, and the engine is unchanged.
     ghost answers = { λ old command answer new.
-        Steps P.place old.engine command answer new.engine × IfNone answer (new.engine ≡ old.engine) };
+        EngineAnswers P.place old.engine command answer new.engine × IfNone answer (new.engine ≡ old.engine) };
 
     fn ask<H: Wait + Threads + Sync>(&mut self, rt: &H, alloc: Global, command: Command) -> Reply {
         self.engine.step(rt, alloc, &command, self.workers)
