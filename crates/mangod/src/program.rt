@@ -52,7 +52,7 @@ pub(crate) fn run<
 ) -> Exit
     requires name { D.db ≡ name_in (option_map settings_seen asked) }
     requires shards { D.shards ≡ shards_in (option_map settings_seen asked) }
-    requires commit_log { commit_log ≡ D.history }
+    requires commit_log { commit_log ≡ D.commit_log }
     requires ledger { (blank.name ≡ D.name) × (blank.parts ≡ D.parts) }
     requires parts { blank.parts ≡ sessions_in (option_map settings_seen asked) }
     requires reading { has_failed reader.old ≡ false }
@@ -107,7 +107,7 @@ fn listen<
 >(rt: H, settings: Settings<'_>, blank: Blank, commit_log: CommitLog) -> Exit
     requires name { settings.db.now ≡ D.db }
     requires opened { settings.shards ≡ D.shards }
-    requires commit_log { commit_log ≡ D.history }
+    requires commit_log { commit_log ≡ D.commit_log }
     requires ledger { (blank.name ≡ D.name) × (blank.parts ≡ D.parts) }
     requires parts { blank.parts ≡ settings.sessions }
     ensures { IsEndOfListening (ending_seen result) }

@@ -15,7 +15,7 @@ pub trait Database: Ledger {
     ghost use Rattle.std.specs.Prelude.{ℕ, List};
 
     // its commit log
-    ghost history: { Book };
+    ghost commit_log: { Book };
 
     // its name
     ghost db: { List ℕ };
@@ -27,7 +27,7 @@ pub trait Database: Ledger {
 impl Database for Brand {
     ghost use Rattle.std.specs.Prelude.{[]};
 
-    ghost history = { record { number = 0; log_name = 0; cells_name = 0 } };
+    ghost commit_log = { record { number = 0; log_name = 0; cells_name = 0 } };
 
     ghost db = { [] };
 

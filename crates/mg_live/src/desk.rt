@@ -49,7 +49,7 @@ where
     ghost view = { λ d. commits_of d.writer.desk.shown.value };
 
     ghost invariant = { λ d. (d.book.total ≡ length (commits_of d.writer.desk.shown.value))
-        × IsOf P.place D.history D.db D.shards d.writer.desk.shown.value };
+        × IsOf P.place D.commit_log D.db D.shards d.writer.desk.shown.value };
 }
 
 impl<D: Database, C: Ends, P: Placement + Drop> Drop for Desk<D, C, P>
@@ -73,7 +73,7 @@ where
     // A desk with no commit.
     pub(crate) fn new(ends: C, writer: SnapshotWriter<D, P>, book: Book<D>) -> Desk<D, C, P>
         requires empty { (commits_of writer.desk.shown.value ≡ []) × (book.total ≡ 0) }
-        requires here { IsOf P.place D.history D.db D.shards writer.desk.shown.value }
+        requires here { IsOf P.place D.commit_log D.db D.shards writer.desk.shown.value }
         ensures { result ≡ [] }
     {
         Desk { writer, book, ends }
@@ -97,8 +97,8 @@ where
         requires prepared { prepared ≡ asked write.now.command.value }
         requires some { 1 ≤ write.now.workers }
         requires most { write.now.workers ≤ 32 }
-        requires here { (prefix.old.seen.book ≡ D.history) × (head.now.word ≡ head_of D.history) }
-        ensures here { prefix.new.seen.book ≡ D.history }
+        requires here { (prefix.old.seen.book ≡ D.commit_log) × (head.now.word ≡ head_of D.commit_log) }
+        ensures here { prefix.new.seen.book ≡ D.commit_log }
         ensures publishes { Publishes D.db (write.now.seat, asked write.now.command.value)
             (standing self.old prefix.old tally.old) (said result.0)
             (standing self.new prefix.new tally.new) }
@@ -123,8 +123,8 @@ where
 
     // Lets a seat catch up with what is published. Returns false, and changes nothing, if the seat is ahead of it.
     pub(crate) fn catch_up(&self, prefix: &mut Prefix) -> bool
-        requires { prefix.old.seen.book ≡ D.history }
-        ensures here { prefix.new.seen.book ≡ D.history }
+        requires { prefix.old.seen.book ≡ D.commit_log }
+        ensures here { prefix.new.seen.book ≡ D.commit_log }
         ensures caught_up { MatchBool result ((commits_seen prefix.new.seen.log ≡ self.now)
             × IsPrefix (commits_seen prefix.old.seen.log) self.now) (prefix.new ≡ prefix.old) }
         ensures published { IsPublished P.place D.db D.shards self.now }
@@ -141,7 +141,7 @@ where
     // prefix of the published list.
     pub(crate) fn count_commits(&mut self, all: &mut Share<D>, seen: &Prefix) -> u64
         requires parts { all.old.parts ≡ D.parts }
-        requires here { seen.now.seen.book ≡ D.history }
+        requires here { seen.now.seen.book ≡ D.commit_log }
         requires within { length (commits_seen seen.now.seen.log) ≤ all.old.amount }
         ensures same { self.new ≡ self.old }
         ensures commits { (result ≡ length self.old) × (result ≡ all.old.amount) }

@@ -48,7 +48,7 @@ where
     ghost view = { λ l. l.seats };
 
     ghost invariant = { λ l. (l.rest.parts ≡ 0) × (l.rest.amount ≡ 0)
-        × (l.first.seen.book ≡ D.history) × (l.first.seen.log ≡ []) };
+        × (l.first.seen.book ≡ D.commit_log) × (l.first.seen.log ≡ []) };
 }
 
 /// A database that was closed. Contracts see the number of its commits.
@@ -108,13 +108,13 @@ fn begin<D: Database, C: Ends, P: Placement + Drop>(
 where
     Snapshot<P>: Absorb<(), State = ()>,
     requires name { db.now ≡ D.db }
-    requires commit_log { commit_log ≡ D.history }
+    requires commit_log { commit_log ≡ D.commit_log }
     requires ledger { (blank.name ≡ D.name) × (blank.parts ≡ D.parts) }
     requires opened { shards ≡ D.shards }
     requires shards { (1 ≤ shards) × (shards ≤ 64) }
     requires seats { (1 ≤ seats) × (seats ≤ 16) }
     ensures all { IfOk result (λ s. (s.all.parts ≡ D.parts) × (s.all.amount ≡ 0)) }
-    ensures prefix { IfOk result (λ s. (s.prefix.seen.book ≡ D.history) × (s.prefix.seen.log ≡ [])) }
+    ensures prefix { IfOk result (λ s. (s.prefix.seen.book ≡ D.commit_log) × (s.prefix.seen.log ≡ [])) }
 {
     let (head, prefix) = commit_log.parts();
     let (book, all) = blank.open::<D>();
@@ -176,9 +176,9 @@ fn longest<D: Database, C: Ends, P: Placement + Drop>(
 ) -> Prefix
 where
     Snapshot<P>: Absorb<(), State = ()>,
-    requires first { (first.now.seen.book ≡ D.history) × (first.now.seen.log ≡ []) }
+    requires first { (first.now.seen.book ≡ D.commit_log) × (first.now.seen.log ≡ []) }
     requires within { All (λ s. length s.seen ≤ made) seats.now }
-    ensures here { result.seen.book ≡ D.history }
+    ensures here { result.seen.book ≡ D.commit_log }
     ensures within { length (commits_seen result.seen.log) ≤ made }
     ensures begins { All (λ s. IsPrefix s.seen (commits_seen result.seen.log)) seats.now }
 {
@@ -227,7 +227,7 @@ where
         seats: usize,
     ) -> Result<(Live<D, C, P>, Vec<Seat<D, C, P>>), NoMemory>
         requires name { db.now ≡ D.db }
-        requires commit_log { commit_log ≡ D.history }
+        requires commit_log { commit_log ≡ D.commit_log }
         requires ledger { (blank.name ≡ D.name) × (blank.parts ≡ D.parts) }
         requires parts { blank.parts ≡ seats }
         requires opened { shards ≡ D.shards }

@@ -75,7 +75,7 @@ pub struct Ours<D, P> {
 impl<D: Database, P: Placement> Protocol<Snapshot<P>, ()> for Ours<D, P> {
     ghost use Rattle.mg_live.specs.Snapshots.{IsOf};
 
-    ghost holds = { λ x views. IsOf P.place D.history D.db D.shards x };
+    ghost holds = { λ x views. IsOf P.place D.commit_log D.db D.shards x };
 
     ghost first = { tt };
 }
@@ -83,5 +83,5 @@ impl<D: Database, P: Placement> Protocol<Snapshot<P>, ()> for Ours<D, P> {
 impl<D: Database, P: Placement> Outcome<Snapshot<P>, ()> for Ours<D, P> {
     ghost use Rattle.mg_live.specs.Snapshots.{IsOf};
 
-    ghost then = { λ v x y w. IsOf P.place D.history D.db D.shards y };
+    ghost then = { λ v x y w. IsOf P.place D.commit_log D.db D.shards y };
 }

@@ -42,7 +42,7 @@ pub(crate) fn publish<D: Database, P: Placement + Drop, R: Wait>(
 ) -> Snapshot<P>
 where
     Snapshot<P>: Absorb<(), State = ()>,
-    requires { IsOf P.place D.history D.db D.shards snapshot }
+    requires { IsOf P.place D.commit_log D.db D.shards snapshot }
     ensures { writer.new.desk.shown.value ≡ snapshot }
 {
     replace_with(writer, snapshot, |writer, snapshot| {
@@ -58,7 +58,7 @@ fn show<D: Database, P: Placement + Drop, R: Wait>(
 ) -> (SnapshotWriter<D, P>, Snapshot<P>)
 where
     Snapshot<P>: Absorb<(), State = ()>,
-    requires { IsOf P.place D.history D.db D.shards snapshot }
+    requires { IsOf P.place D.commit_log D.db D.shards snapshot }
     ensures { result.0.desk.shown.value ≡ snapshot }
 {
     let mut writer = writer;
@@ -72,7 +72,7 @@ where
 pub(crate) fn look<D: Database, P: Placement + Drop>(
     reader: SnapshotReader<D, P>,
 ) -> (SnapshotReader<D, P>, Result<Snapshot<P>, AllocError>)
-    ensures { IfOk result.1 (λ s. IsOf P.place D.history D.db D.shards s) }
+    ensures { IfOk result.1 (λ s. IsOf P.place D.commit_log D.db D.shards s) }
 {
     match reader.enter_as::<Ours<D, P>>() {
         Ok(reading) => {

@@ -37,7 +37,7 @@ where
 pub(crate) struct Named<D: Database> {
     pub(crate) head: Head,
     pub(crate) of: PhantomData<D>,
-    ghost is: { head.word ≡ head_of D.history },
+    ghost is: { head.word ≡ head_of D.commit_log },
 }
 
 /// A seat at a database. Contracts see its number, the commits that it has seen, and the tally of those that it has made.
@@ -70,7 +70,7 @@ where
     ghost view = { λ s.
         record { number = s.number; seen = commits_seen s.prefix.seen.log; tally = s.tally } };
 
-    ghost invariant = { λ s. s.prefix.seen.book ≡ D.history };
+    ghost invariant = { λ s. s.prefix.seen.book ≡ D.commit_log };
 }
 
 /// The commits that a seat has seen, for another seat to `learn`.
@@ -93,7 +93,7 @@ impl<D: Database> Model for Seen<D> {
 
     ghost view = { λ s. commits_seen s.prefix.seen.log };
 
-    ghost invariant = { λ s. s.prefix.seen.book ≡ D.history };
+    ghost invariant = { λ s. s.prefix.seen.book ≡ D.commit_log };
 }
 
 impl<D: Database, C: Ends, P: Placement + Drop> Seat<D, C, P>

@@ -70,12 +70,12 @@ impl<P: Placement + Drop> Snapshot<P> {
         requires prepared { prepared ≡ asked write.now.command.value }
         requires some { 1 ≤ write.now.workers }
         requires most { write.now.workers ≤ 32 }
-        requires head { head.now.word ≡ head_of D.history }
-        requires here { IsOf P.place D.history D.db D.shards self.now }
+        requires head { head.now.word ≡ head_of D.commit_log }
+        requires here { IsOf P.place D.commit_log D.db D.shards self.now }
         ensures next { Nexts D.db (commits_of self.now) (write.now.seat, asked write.now.command.value)
             (said result.0)
             (option_map commits_of result.1) }
-        ensures there { IfSome result.1 (λ s. IsOf P.place D.history D.db D.shards s) }
+        ensures there { IfSome result.1 (λ s. IsOf P.place D.commit_log D.db D.shards s) }
     {
         let Ok((reply, point)) = self
             .point

@@ -38,7 +38,7 @@ fn hundred<D: Database + Send + Sync, R: Threads + Wait + Abort + Sync + Send + 
     db: String,
 )
     requires name { string_bytes db ≡ D.db }
-    requires commit_log { commit_log ≡ D.history }
+    requires commit_log { commit_log ≡ D.commit_log }
     requires ledger { (blank.name ≡ D.name) × (blank.parts ≡ D.parts) }
     requires parts { blank.parts ≡ 4 }
     requires opened { 3 ≡ D.shards }
@@ -303,7 +303,7 @@ fn two<D: Database + Send + Sync, R: Threads + Wait + Abort + Sync + Send + Drop
     commits: u64,
 )
     requires name { string_bytes db ≡ D.db }
-    requires commit_log { commit_log ≡ D.history }
+    requires commit_log { commit_log ≡ D.commit_log }
     requires ledger { (blank.name ≡ D.name) × (blank.parts ≡ D.parts) }
     requires parts { blank.parts ≡ 2 }
     requires opened { 1 ≡ D.shards }

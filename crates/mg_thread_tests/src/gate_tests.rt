@@ -167,7 +167,7 @@ fn write_during_query<
     R: Threads + Wait + Abort + Sync + Send + Drop + Copy,
 >(rt: R, alloc: Global, blank: Blank, commit_log: CommitLog, db: String, during: During)
     requires name { string_bytes db ≡ D.db }
-    requires commit_log { commit_log ≡ D.history }
+    requires commit_log { commit_log ≡ D.commit_log }
     requires ledger { (blank.name ≡ D.name) × (blank.parts ≡ D.parts) }
     requires parts { blank.parts ≡ 2 }
     requires opened { 1 ≡ D.shards }

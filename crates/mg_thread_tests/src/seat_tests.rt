@@ -54,7 +54,7 @@ fn begun<D: Database + Send + Sync, R: Threads + Wait + Abort + Sync + Send + Dr
     db: String,
 )
     requires name { string_bytes db ≡ D.db }
-    requires commit_log { commit_log ≡ D.history }
+    requires commit_log { commit_log ≡ D.commit_log }
     requires ledger { (blank.name ≡ D.name) × (blank.parts ≡ D.parts) }
     requires parts { blank.parts ≡ 1 }
     requires opened { 2 ≡ D.shards }

@@ -6,7 +6,7 @@ use Rattle.mangod.proofs.main.Given as goal
 -- the database that was asked for
 abbrev pub ghosts-run-D-Database : goal.ghosts-run-D-Database
 ghosts-run-D-Database g a = record {
-  history = a.commit_log;
+  commit_log = a.commit_log;
   db = name_in (option_map settings_seen a.asked);
   shards = shards_in (option_map settings_seen a.asked);
 }

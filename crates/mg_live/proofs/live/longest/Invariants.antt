@@ -8,7 +8,7 @@ use Rattle.mg_live.proofs.live.longest.Given as goal
 abbrev pub invariant-loop-seat : goal.invariant-loop-seat
 invariant-loop-seat g l =
     record {
-      here : l.longest.seen.book ≡ g.D.Database.history;
+      here : l.longest.seen.book ≡ g.D.Database.commit_log;
       within : length (commits_seen l.longest.seen.log) ≤ l.made;
       begins : (k : ℕ) (d : Sitting) → k < l.seat-index → IsPrefix (get_or l.seats k d).seen (commits_seen l.longest.seen.log);
     }

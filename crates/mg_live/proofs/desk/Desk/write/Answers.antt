@@ -16,7 +16,7 @@ invariant_of-self g c =
     let cs = commits_of c.published-now.result.now in
     let reply = said c.next-reply.result.0 in
     let next : Nexts db cs write reply (Some (commits_of c.in-Some.next)) = rw c.in-Some.is at c.next-reply.ensures.next in
-    let there : IsOf g.P.Placement.place g.D.Database.history db g.D.Database.shards c.in-Some.next = rw c.in-Some.is at c.next-reply.ensures.there in
+    let there : IsOf g.P.Placement.place g.D.Database.commit_log db g.D.Database.shards c.in-Some.next = rw c.in-Some.is at c.next-reply.ensures.there in
     let one = added db cs write reply (commits_of c.in-Some.next) next in
     let before : c.self.inside.book.total ≡ length cs = c.self.invariant.0 ∙ ap (λ s. length (commits_of s)) (sym c.published-now.ensures) in
     rw c.publish-before.ensures (omega (arith, c.add.ensures.book, before, length-append cs (write ∷ []), ap length one), there)
