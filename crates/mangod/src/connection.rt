@@ -134,8 +134,8 @@ fn is_nothing_yet(kind: ErrorKind) -> bool {
     )
 }
 
-/// Reads a connection. The last byte that has come is given by a read of its own. So the session's replies show where its messages end
-/// (see `Phase`).
+/// Reads a connection. The last byte that has come is given by a read of its own, so that the session's replies show where its messages
+/// end (see `Phase`).
 #[derive(Drop)]
 pub(crate) struct Incoming<'a, H> {
     connection: &'a Connection<'a, H>,

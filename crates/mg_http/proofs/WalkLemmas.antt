@@ -10,7 +10,7 @@ use Rattle.std.proofs.lemmas.List.{append_assoc, append-nil}
 use Rattle.std.proofs.lemmas.Slice.Eq.{bytes_eq-Decides}
 use Rattle.percent_encoding.specs.Percent.{percent_decode}
 use Rattle.mg_http.specs.declared.request.routes.Action.{Action}
-use Rattle.mg_http.specs.Routes.{RouteSegment, literal, parameter, Route, routes, same_part, takes, takes_all, passes_over, whole_path, means, parameters_of}
+use Rattle.mg_http.specs.Routes.{RouteSegment, literal, parameter, Route, routes, same_part, takes, takes_all, passes_over, whole_path, matches_route, parameters_of}
 use Rattle.mg_engine.specs.declared.refusal.Refusal.TheVariants.{Missing, NoDatabase}
 use Rattle.mg_http.specs.Target.{Request, refuses, names, requested_by, request_with, request_on}
 use Rattle.mg_http.specs.Walk.{RouteMatch, path_behind, behind, begins_with, goes_on, enter, enter_as, match_of, ends_here, ends_with, request_at}
@@ -33,8 +33,8 @@ abbrev pub passed : List Route → List (List ℕ) → List RouteSegment → Boo
 passed rs segments path = list_any (λ r. passes_over segments path r.path) rs
 
 -- the path takes all segments, and none of these routes has a literal where the path has a parameter
-abbrev pub meant_in : List Route → List (List ℕ) → List RouteSegment → Bool
-meant_in rs segments path = takes_all segments path && not (passed rs segments path)
+abbrev pub matched_in : List Route → List (List ℕ) → List RouteSegment → Bool
+matched_in rs segments path = takes_all segments path && not (passed rs segments path)
 
 or_parts : (a b : Bool) → (a || b) ≡ false → (a ≡ false) × (b ≡ false)
 or_parts true b e = cc
@@ -96,16 +96,16 @@ passed_over (r ∷ rs) s segments path some =
 
 -- one more segment as a literal, route by route
 by_literal : (all rs : List Route) (s : List ℕ) (segments spelled : List (List ℕ)) → goes_on (literal s) all ≡ true
-    → all_found (λ r. meant_in (behind (literal s) all) segments r.path) (λ r. spelled ++ parameters_of segments r.path) (behind (literal s) rs)
-    ≡ all_found (λ r. meant_in all (s ∷ segments) r.path) (λ r. spelled ++ parameters_of (s ∷ segments) r.path) rs
+    → all_found (λ r. matched_in (behind (literal s) all) segments r.path) (λ r. spelled ++ parameters_of segments r.path) (behind (literal s) rs)
+    ≡ all_found (λ r. matched_in all (s ∷ segments) r.path) (λ r. spelled ++ parameters_of (s ∷ segments) r.path) rs
 by_literal all [] s segments spelled some = refl
 by_literal all (r ∷ rs) s segments spelled some =
     let rest = by_literal all rs s segments spelled some in
-    let later = all_found (λ o. meant_in all (s ∷ segments) o.path) (λ o. spelled ++ parameters_of (s ∷ segments) o.path) rs in
-    let test : Route → Bool = λ o. meant_in (behind (literal s) all) segments o.path in
+    let later = all_found (λ o. matched_in all (s ∷ segments) o.path) (λ o. spelled ++ parameters_of (s ∷ segments) o.path) rs in
+    let test : Route → Bool = λ o. matched_in (behind (literal s) all) segments o.path in
     let spells : Route → List (List ℕ) = λ o. spelled ++ parameters_of segments o.path in
     elim r.path as (λ ps. all_found test spells (cons_option (option_map (λ left. record r { path = left }) (path_behind (literal s) ps)) (behind (literal s) rs))
-    ≡ cons_option (found r.method r.asks (spelled ++ parameters_of (s ∷ segments) ps) (meant_in all (s ∷ segments) ps)) later) [
+    ≡ cons_option (found r.method r.asks (spelled ++ parameters_of (s ∷ segments) ps) (matched_in all (s ∷ segments) ps)) later) [
       | [] ↦ rest
       | parameter ∷ qs ↦ rest ∙ sym (ap (λ (b : Bool). cons_option (found r.method r.asks (spelled ++ percent_decode s ∷ parameters_of segments qs) b) later)
           (ap (λ (b : Bool). (takes parameter s && takes_all segments qs) && not b) (passed_over all s segments qs some) ∙ and_false _))
@@ -113,7 +113,7 @@ by_literal all (r ∷ rs) s segments spelled some =
           all_found test spells (cons_option (option_map (λ left. record r { path = left }) (cond b (Some qs) None)) (behind (literal s) rs))
           ≡ cons_option (found r.method r.asks (spelled ++ parameters_of segments qs) ((b && takes_all segments qs) && not (passed all (s ∷ segments) (literal t ∷ qs)))) later) [
             | true ↦ λ e.
-                ap (cons_option (found r.method r.asks (spelled ++ parameters_of segments qs) (meant_in (behind (literal s) all) segments qs))) rest
+                ap (cons_option (found r.method r.asks (spelled ++ parameters_of segments qs) (matched_in (behind (literal s) all) segments qs))) rest
                 ∙ ap (λ (b : Bool). cons_option (found r.method r.asks (spelled ++ parameters_of segments qs) (takes_all segments qs && not b)) later)
                 (sym (ap (λ u. passed all (s ∷ segments) (literal u ∷ qs)) ((bytes_eq-Decides t s).0 e) ∙ passed_literal all s segments qs))
             | false ↦ λ e. rest
@@ -123,22 +123,22 @@ by_literal all (r ∷ rs) s segments spelled some =
 -- one more segment as a parameter, if no route has it as a literal
 by_parameter : (all rs : List Route) (s : List ℕ) (segments spelled : List (List ℕ)) → goes_on (literal s) all ≡ false → goes_on (literal s) rs ≡ false
     → (length s == 0) ≡ false
-    → all_found (λ r. meant_in (behind parameter all) segments r.path) (λ r. (spelled ++ percent_decode s ∷ []) ++ parameters_of segments r.path) (behind parameter rs)
-    ≡ all_found (λ r. meant_in all (s ∷ segments) r.path) (λ r. spelled ++ parameters_of (s ∷ segments) r.path) rs
+    → all_found (λ r. matched_in (behind parameter all) segments r.path) (λ r. (spelled ++ percent_decode s ∷ []) ++ parameters_of segments r.path) (behind parameter rs)
+    ≡ all_found (λ r. matched_in all (s ∷ segments) r.path) (λ r. spelled ++ parameters_of (s ∷ segments) r.path) rs
 by_parameter all [] s segments spelled none absent some = refl
 by_parameter all (r ∷ rs) s segments spelled none absent some =
     let parts = or_parts _ _ absent in
     let rest = by_parameter all rs s segments spelled none parts.1 some in
-    let later = all_found (λ o. meant_in all (s ∷ segments) o.path) (λ o. spelled ++ parameters_of (s ∷ segments) o.path) rs in
-    let test : Route → Bool = λ o. meant_in (behind parameter all) segments o.path in
+    let later = all_found (λ o. matched_in all (s ∷ segments) o.path) (λ o. spelled ++ parameters_of (s ∷ segments) o.path) rs in
+    let test : Route → Bool = λ o. matched_in (behind parameter all) segments o.path in
     let spells : Route → List (List ℕ) = λ o. (spelled ++ percent_decode s ∷ []) ++ parameters_of segments o.path in
     elim r.path as (λ ps. begins_with (literal s) ps ≡ false
     → all_found test spells (cons_option (option_map (λ left. record r { path = left }) (path_behind parameter ps)) (behind parameter rs))
-    ≡ cons_option (found r.method r.asks (spelled ++ parameters_of (s ∷ segments) ps) (meant_in all (s ∷ segments) ps)) later) [
+    ≡ cons_option (found r.method r.asks (spelled ++ parameters_of (s ∷ segments) ps) (matched_in all (s ∷ segments) ps)) later) [
       | [] ↦ λ e. rest
       | parameter ∷ qs ↦ λ e.
-          ap (cons_option (found r.method r.asks ((spelled ++ percent_decode s ∷ []) ++ parameters_of segments qs) (meant_in (behind parameter all) segments qs))) rest
-          ∙ ap (λ (ws : List (List ℕ)). cons_option (found r.method r.asks ws (meant_in (behind parameter all) segments qs)) later)
+          ap (cons_option (found r.method r.asks ((spelled ++ percent_decode s ∷ []) ++ parameters_of segments qs) (matched_in (behind parameter all) segments qs))) rest
+          ∙ ap (λ (ws : List (List ℕ)). cons_option (found r.method r.asks ws (matched_in (behind parameter all) segments qs)) later)
           (append_assoc spelled (percent_decode s ∷ []) (parameters_of segments qs))
           ∙ sym (ap (λ (b : Bool). cons_option (found r.method r.asks (spelled ++ percent_decode s ∷ parameters_of segments qs) b) later)
           (ap (λ (b : Bool). (not b && takes_all segments qs) && not (passed all (s ∷ segments) (parameter ∷ qs))) some
@@ -149,14 +149,14 @@ by_parameter all (r ∷ rs) s segments spelled none absent some =
 
 -- no route matches an empty segment that none has as a literal
 by_nothing : (all rs : List Route) (s : List ℕ) (segments spelled : List (List ℕ)) → goes_on (literal s) rs ≡ false → (length s == 0) ≡ true
-    → [] ≡ all_found (λ r. meant_in all (s ∷ segments) r.path) (λ r. spelled ++ parameters_of (s ∷ segments) r.path) rs
+    → [] ≡ all_found (λ r. matched_in all (s ∷ segments) r.path) (λ r. spelled ++ parameters_of (s ∷ segments) r.path) rs
 by_nothing all [] s segments spelled absent empty = refl
 by_nothing all (r ∷ rs) s segments spelled absent empty =
     let parts = or_parts _ _ absent in
     let rest = by_nothing all rs s segments spelled parts.1 empty in
-    let later = all_found (λ o. meant_in all (s ∷ segments) o.path) (λ o. spelled ++ parameters_of (s ∷ segments) o.path) rs in
+    let later = all_found (λ o. matched_in all (s ∷ segments) o.path) (λ o. spelled ++ parameters_of (s ∷ segments) o.path) rs in
     elim r.path as (λ ps. begins_with (literal s) ps ≡ false
-    → [] ≡ cons_option (found r.method r.asks (spelled ++ parameters_of (s ∷ segments) ps) (meant_in all (s ∷ segments) ps)) later) [
+    → [] ≡ cons_option (found r.method r.asks (spelled ++ parameters_of (s ∷ segments) ps) (matched_in all (s ∷ segments) ps)) later) [
       | [] ↦ λ e. rest
       | parameter ∷ qs ↦ λ e. rest ∙ sym (ap (λ (b : Bool). cons_option (found r.method r.asks (spelled ++ percent_decode s ∷ parameters_of segments qs)
           ((not b && takes_all segments qs) && not (passed all (s ∷ segments) (parameter ∷ qs)))) later) empty)
@@ -166,29 +166,29 @@ by_nothing all (r ∷ rs) s segments spelled absent empty =
 
 -- after all segments, the routes with nothing left are meant
 by_end : (all rs : List Route) (spelled : List (List ℕ))
-    → all_found ends_here (λ r. spelled) rs ≡ all_found (λ r. meant_in all [] r.path) (λ r. spelled ++ parameters_of [] r.path) rs
+    → all_found ends_here (λ r. spelled) rs ≡ all_found (λ r. matched_in all [] r.path) (λ r. spelled ++ parameters_of [] r.path) rs
 by_end all [] spelled = refl
 by_end all (r ∷ rs) spelled =
     ap (cons_option (found r.method r.asks spelled (ends_here r))) (by_end all rs spelled)
-    ∙ ap (λ (ws : List (List ℕ)). cons_option (found r.method r.asks ws (ends_here r)) (all_found (λ o. meant_in all [] o.path) (λ o. spelled ++ []) rs)) (sym (append-nil spelled))
-    ∙ sym (ap (λ (b : Bool). cons_option (found r.method r.asks (spelled ++ []) b) (all_found (λ o. meant_in all [] o.path) (λ o. spelled ++ []) rs))
+    ∙ ap (λ (ws : List (List ℕ)). cons_option (found r.method r.asks ws (ends_here r)) (all_found (λ o. matched_in all [] o.path) (λ o. spelled ++ []) rs)) (sym (append-nil spelled))
+    ∙ sym (ap (λ (b : Bool). cons_option (found r.method r.asks (spelled ++ []) b) (all_found (λ o. matched_in all [] o.path) (λ o. spelled ++ []) rs))
     (ap (λ (b : Bool). b && not (passed all [] r.path)) (takes_all-end r.path)
     ∙ ap (λ (b : Bool). ends_here r && not b) (passed_end all r.path) ∙ and-true _))
 
 -- the match from these routes finds those that are meant
 walked : (segments : List (List ℕ)) (rs : List Route) (spelled : List (List ℕ))
     → (let end = fold enter (record { routes_left = rs; parameters = spelled }) segments in all_found ends_here (λ r. end.parameters) end.routes_left)
-    ≡ all_found (λ r. meant_in rs segments r.path) (λ r. spelled ++ parameters_of segments r.path) rs
+    ≡ all_found (λ r. matched_in rs segments r.path) (λ r. spelled ++ parameters_of segments r.path) rs
 walked [] rs spelled = by_end rs rs spelled
 walked (s ∷ segments) rs spelled =
     elim (goes_on (literal s) rs) as (λ b. goes_on (literal s) rs ≡ b
     → (let end = fold enter (enter_as b (record { routes_left = rs; parameters = spelled }) s) segments in all_found ends_here (λ r. end.parameters) end.routes_left)
-    ≡ all_found (λ r. meant_in rs (s ∷ segments) r.path) (λ r. spelled ++ parameters_of (s ∷ segments) r.path) rs) [
+    ≡ all_found (λ r. matched_in rs (s ∷ segments) r.path) (λ r. spelled ++ parameters_of (s ∷ segments) r.path) rs) [
       | true ↦ λ e. walked segments (behind (literal s) rs) spelled ∙ by_literal rs rs s segments spelled e
       | false ↦ λ e. elim (length s == 0) as (λ b. (length s == 0) ≡ b
           → (let end = fold enter (record { routes_left = cond b [] (behind parameter rs); parameters = spelled ++ percent_decode s ∷ [] }) segments in
           all_found ends_here (λ r. end.parameters) end.routes_left)
-          ≡ all_found (λ r. meant_in rs (s ∷ segments) r.path) (λ r. spelled ++ parameters_of (s ∷ segments) r.path) rs) [
+          ≡ all_found (λ r. matched_in rs (s ∷ segments) r.path) (λ r. spelled ++ parameters_of (s ∷ segments) r.path) rs) [
             | true ↦ λ empty. walked segments [] (spelled ++ percent_decode s ∷ []) ∙ by_nothing rs rs s segments spelled e empty
             | false ↦ λ some. walked segments (behind parameter rs) (spelled ++ percent_decode s ∷ []) ∙ by_parameter rs rs s segments spelled e e some
           ] refl
@@ -257,31 +257,31 @@ by_found db method query p f rs =
     ap (λ spelled. request_with db spelled (option_map (λ r. r.asks) (find (λ r. p r && bytes_eq r.method method) rs)) query) (spells_found p f rs)
     ∙ ap (λ action. request_with db (spelled_first (all_found p f rs)) action query) (asks_found method p f rs)
 
--- the routes of the table that a path means, if the database's name is not empty
+-- the routes of the table that a path matches, if the database's name is not empty
 below_name : (name : List ℕ) (below : List (List ℕ)) (rs : List Route) → (length name == 0) ≡ false
-    → all_found (λ r. meant_in routes below r.path) (λ r. (percent_decode name ∷ []) ++ parameters_of below r.path) rs
-    ≡ all_found (means (name ∷ below)) (λ r. parameters_of (name ∷ below) (whole_path r)) rs
+    → all_found (λ r. matched_in routes below r.path) (λ r. (percent_decode name ∷ []) ++ parameters_of below r.path) rs
+    ≡ all_found (matches_route (name ∷ below)) (λ r. parameters_of (name ∷ below) (whole_path r)) rs
 below_name name below rs some =
     sym (ap (λ (b : Bool). all_found (λ r. (not b && takes_all below r.path) && not (passed routes below r.path)) (λ r. percent_decode name ∷ parameters_of below r.path) rs) some)
 
 no_name : (name : List ℕ) (below : List (List ℕ)) (rs : List Route) → (length name == 0) ≡ true
-    → [] ≡ all_found (means (name ∷ below)) (λ r. parameters_of (name ∷ below) (whole_path r)) rs
+    → [] ≡ all_found (matches_route (name ∷ below)) (λ r. parameters_of (name ∷ below) (whole_path r)) rs
 no_name name below [] empty = refl
 no_name name below (r ∷ rs) empty =
     no_name name below rs empty
     ∙ sym (ap (λ (b : Bool). cons_option (found r.method r.asks (percent_decode name ∷ parameters_of below r.path)
-    ((not b && takes_all below r.path) && not (passed routes below r.path))) (all_found (means (name ∷ below)) (λ o. parameters_of (name ∷ below) (whole_path o)) rs)) empty)
+    ((not b && takes_all below r.path) && not (passed routes below r.path))) (all_found (matches_route (name ∷ below)) (λ o. parameters_of (name ∷ below) (whole_path o)) rs)) empty)
 
 -- the match of all segments finds the routes that they mean
 all_walked : (segments : List (List ℕ))
     → (let end = match_of segments in all_found ends_here (λ r. end.parameters) end.routes_left)
-    ≡ all_found (means segments) (λ r. parameters_of segments (whole_path r)) routes
+    ≡ all_found (matches_route segments) (λ r. parameters_of segments (whole_path r)) routes
 all_walked [] = refl
 all_walked (name ∷ below) =
     elim (length name == 0) as (λ b. (length name == 0) ≡ b
     → (let end = fold enter (record { routes_left = cond b [] routes; parameters = percent_decode name ∷ [] }) below in
     all_found ends_here (λ r. end.parameters) end.routes_left)
-    ≡ all_found (means (name ∷ below)) (λ r. parameters_of (name ∷ below) (whole_path r)) routes) [
+    ≡ all_found (matches_route (name ∷ below)) (λ r. parameters_of (name ∷ below) (whole_path r)) routes) [
       | true ↦ λ e. walked below [] (percent_decode name ∷ []) ∙ no_name name below routes e
       | false ↦ λ e. walked below routes (percent_decode name ∷ []) ∙ below_name name below routes e
     ] refl
@@ -296,4 +296,4 @@ walk_asks db method query segments =
     (sym (spells_here ends_here end.parameters end.routes_left))
     ∙ by_found db method query ends_here (λ r. end.parameters) end.routes_left
     ∙ ap (asked_by db method query) (all_walked segments)
-    ∙ sym (by_found db method query (means segments) (λ r. parameters_of segments (whole_path r)) routes)
+    ∙ sym (by_found db method query (matches_route segments) (λ r. parameters_of segments (whole_path r)) routes)

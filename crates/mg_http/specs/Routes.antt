@@ -1,4 +1,4 @@
--- The routes: which paths and methods ask for what. The segments of a path mean a route that matches them, unless another route has a
+-- The routes: what each path asks for, by its method. A path matches a route segment by segment, unless another route has a segment as a
 -- literal where this one has a parameter: a literal goes before a parameter.
 use Rattle.std.specs.Prelude.{ℕ, Bool, true, false, not, ◌&&◌, ◌==◌, List, [], ◌∷◌, length, bytes_eq, codes, if◌then◌else◌}
 use Rattle.std.specs.List.{list_any, slice_split}
@@ -57,7 +57,7 @@ abbrev pub takes : RouteSegment → List ℕ → Bool
 takes (literal text) segment = bytes_eq text segment
 takes parameter segment = not (length segment == 0)
 
--- the path has as many parts as there are segments, and each part takes its segment
+-- the path of a route has as many parts as there are segments, and each part takes its segment
 abbrev pub takes_all : List (List ℕ) → List RouteSegment → Bool
 takes_all [] [] = true
 takes_all [] (p ∷ path) = false
@@ -76,14 +76,14 @@ passes_over (s ∷ segments) (p ∷ path) (q ∷ other) =
 abbrev pub whole_path : Route → List RouteSegment
 whole_path r = parameter ∷ r.path
 
--- the segments mean the route: it takes all of them, and passes over no literal of the table
-abbrev pub means : List (List ℕ) → Route → Bool
-means segments r =
+-- the segments match the route: it takes all of them, and passes over no literal of another route
+abbrev pub matches_route : List (List ℕ) → Route → Bool
+matches_route segments r =
     takes_all segments (whole_path r) && not (list_any (λ other. passes_over segments (whole_path r) (whole_path other)) routes)
 
--- the segments mean the route, and it has the method
+-- the segments match the route, and it has the method
 abbrev pub is_matched_by : List ℕ → List (List ℕ) → Route → Bool
-is_matched_by method segments r = means segments r && bytes_eq r.method method
+is_matched_by method segments r = matches_route segments r && bytes_eq r.method method
 
 -- the percent-decoded parameters of a path
 abbrev pub parameters_of : List (List ℕ) → List RouteSegment → List (List ℕ)

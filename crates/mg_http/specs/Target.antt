@@ -11,7 +11,7 @@ use Rattle.mg_engine.specs.Commands.{Asked, get, list_indexes, drop_index}
 use Rattle.mg_http.specs.declared.request.routes.Endpoint.{Endpoint}
 use Rattle.mg_http.specs.declared.request.routes.Action.{Action}
 use Rattle.mg_http.specs.declared.request.routes.Action.TheVariants.{Body, Document, ListIndexes, DropIndex, DropDesignIndex}
-use Rattle.mg_http.specs.Routes.{routes, whole_path, means, is_matched_by, parameters_of, segments_of}
+use Rattle.mg_http.specs.Routes.{routes, whole_path, matches_route, is_matched_by, parameters_of, segments_of}
 
 -- what is asked: what an endpoint does with the value that the body is, a command, or a refusal
 pub data Request : Type 0 where
@@ -65,7 +65,7 @@ abbrev pub names : List ℕ → List (List ℕ) → Bool
 names db [] = false
 names db (name ∷ parameters) = bytes_eq name db
 
--- What is asked, from the decoded parameters of the route (`None`: the path means no route) and from what the route with the method asks
+-- What is asked, from the decoded parameters of the route (`None`: the path matches no route) and from what the route with the method asks
 -- for (`None`: no route with this path has the method). A parameter that is not UTF-8 is refused as missing, too. The database's name is
 -- checked before the method.
 abbrev pub request_with : List ℕ → Option (List (List ℕ)) → Option Action → List ℕ → Request
@@ -77,7 +77,7 @@ request_with db (Some parameters) action query =
 -- what a method and the segments of a path ask of the database
 abbrev pub request_on : List ℕ → List ℕ → List ℕ → List (List ℕ) → Request
 request_on db method query segments =
-    request_with db (option_map (λ r. parameters_of segments (whole_path r)) (find (means segments) routes))
+    request_with db (option_map (λ r. parameters_of segments (whole_path r)) (find (matches_route segments) routes))
     (option_map (λ r. r.asks) (find (is_matched_by method segments) routes)) query
 
 -- what a method and a target ask of the database

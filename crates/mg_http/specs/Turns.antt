@@ -24,7 +24,7 @@ use Rattle.mg_http.specs.Message.{Message, HasHead, IsNoHead, CanGoOn, IsPartHea
 use Rattle.mg_http.specs.Session.{Call, Exchange, Serves, Converses}
 use Rattle.mg_http.specs.Target.{Request, body, asks, refuses}
 
--- the request that a `RequestTarget` of the code means
+-- the request that a `RequestTarget` stands for
 abbrev pub request_in : RequestTarget → Request
 request_in (target.Body endpoint) = body endpoint
 request_in (target.Asks command) = asks (engine.asked command)

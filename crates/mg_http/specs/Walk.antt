@@ -1,4 +1,4 @@
--- For private clauses: how the code finds the routes that a path means, segment by segment. If some route that is left has the segment
+-- For private clauses: how the code finds the routes that a path matches, segment by segment. If some route that is left has the segment
 -- as a literal, only the routes with that literal stay.
 use Rattle.std.specs.Prelude.{ℕ, Bool, true, false, not, ◌&&◌, ◌==◌, List, [], ◌∷◌, ◌++◌, length, fold, bytes_eq, find, Option, Some, None, if◌then◌else◌}
 use Rattle.std.specs.List.{list_any, list_all, filter_map}

@@ -56,8 +56,8 @@ fn is_at(seats: usize, event: &Event) -> bool
 /// at one of these seats, which `are_at` tests.
 ///
 /// Errors: `NoMemory` if an allocation fails anywhere; therefore no reply is `Reply::NoMemory`. A write after
-/// 18,446,744,073,709,551,615 commits is refused with 413 `too_large`. Cost: that of each command, as of `Engine::step`, and the number
-/// of seats; `Enter` and `Told` cost the same for any documents.
+/// 18,446,744,073,709,551,615 commits is refused with 413 `too_large`. Cost: for each command that of `Engine::step`, and the number
+/// of seats. The cost of `Enter` and `Told` does not depend on the documents.
 pub fn replay<R: Threads + Sync>(
     rt: &R,
     alloc: Global,
