@@ -1,4 +1,4 @@
-//! A run of commands. tests/refused_calls.py runs it while memory is refused; without a refusal, each command is answered.
+//! A call of `Engine::run`. tests/refused_calls.py repeats the test while memory is refused; without a refusal, each command is answered.
 use crate::machine_tests::{commands_of, plain_reply};
 use mg_engine::{Command, Engine, Reply};
 use mg_shard::Md5Placement;
@@ -9,7 +9,7 @@ use std::thread::Threads;
 // Creates an index, writes bulks, queries with the index, reads a document, queries without an index, lists the indexes, drops the index.
 const NUMBERS: [usize; 8] = [5, 0, 3, 8, 10, 9, 12, 11];
 
-// The replies to the commands, and whether the first run was refused memory. Such a run has run nothing, so it is tried once more.
+// The replies to the commands, and whether the first call was refused memory. Such a call has executed no command, so it is repeated.
 fn replies_to<R: Threads + Sync + Abort>(
     rt: &R,
     alloc: Global,
@@ -36,7 +36,7 @@ fn is_plain<R: Threads + Sync + Abort>(
     }
 }
 
-// How many of the replies are out of memory. The others must be those of a run without the refused commands.
+// How many of the replies are out of memory. The others must be those that the other commands alone get.
 fn refused_of<R: Threads + Sync + Abort>(rt: &R, alloc: Global, replies: &[Reply]) -> u32 {
     let mut before = Vec::new(alloc);
     let mut refused = 0u32;
