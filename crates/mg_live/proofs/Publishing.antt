@@ -15,7 +15,7 @@ use Rattle.mg_machine.specs.Machine.{Commit, after_write, are_full, write_reply}
 use Rattle.mg_machine.specs.Points.{IsAfter, IsDealt}
 use Rattle.mg_live.specs.Published.{Nexts, Publishes, Standing}
 use Rattle.mg_live.specs.Snapshots.{StandsAfter, IsOf, commits_of}
-use Rattle.mg_live.specs.Sitting.{IsLater, Learned, Sitting, Writes}
+use Rattle.mg_live.specs.Sitting.{IsLater, Learned, Sitting, SeatWrites}
 use Rattle.mg_live.specs.Rules.{log_entry}
 use Rattle.mg_live.specs.View.{commit_seen, commits_seen}
 use Rattle.mg_live.specs.declared.markers.Entry.{Entry}
@@ -116,7 +116,7 @@ published name write old new (Some a) later h seen tally =
 
 -- what a seat sees of a write
 pub wrote : (name : List ℕ) (old : Sitting) (cs : List Commit) (c : Asked) (o : Option Answer) (new : Standing) → Publishes name (old.number, c) (record { published = cs; seen = old.seen; tally = old.tally }) o new
-    → Writes name old c o (record { number = old.number; seen = new.seen; tally = new.tally })
+    → SeatWrites name old c o (record { number = old.number; seen = new.seen; tally = new.tally })
 wrote name old cs c None new p = ap (λ (s : Standing). record { number = old.number; seen = s.seen; tally = s.tally }) p
 wrote name old cs c (Some a) new p = record { commits = cs; later = p.later; answer = p.answer; seen = p.seen ∙ p.published; tally = p.tally; number = refl }
 

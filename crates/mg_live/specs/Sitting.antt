@@ -47,7 +47,7 @@ tally_after tally a = if is_accepted a then tally + 1 else tally
 
 -- the write is answered after a list of commits, of which the seat had seen a prefix. The seat has then seen this list and, if the write
 -- was accepted, the write as its last commit, which the seat's tally counts
-pub record Written (name : List ℕ) (old : Sitting) (c : Asked) (a : Answer) (new : Sitting) : Type 0 where
+pub record HasWritten (name : List ℕ) (old : Sitting) (c : Asked) (a : Answer) (new : Sitting) : Type 0 where
   pub commits : List Commit
   pub later : IsPrefix old.seen commits
   pub answer : a ≡ write_reply name commits c
@@ -56,15 +56,15 @@ pub record Written (name : List ℕ) (old : Sitting) (c : Asked) (a : Answer) (n
   pub number : new.number ≡ old.number
 
 -- the write is answered; or memory was refused, and the seat is as it was
-abbrev pub Writes : List ℕ → Sitting → Asked → Option Answer → Sitting → Type 0
-Writes name old c None new = new ≡ old
-Writes name old c (Some a) new = Written name old c a new
+abbrev pub SeatWrites : List ℕ → Sitting → Asked → Option Answer → Sitting → Type 0
+SeatWrites name old c None new = new ≡ old
+SeatWrites name old c (Some a) new = HasWritten name old c a new
 
 -- ---- reading or writing
 
--- a write is answered as by `Writes`, any other command as by `SeatReads`
+-- a write is answered as by `SeatWrites`, any other command as by `SeatReads`
 abbrev pub Answered : List ℕ → Sitting → Asked → Option Answer → Sitting → Type 0
-Answered name old c o new = MatchBool (is_write c) (Writes name old c o new) (SeatReads name old c o new)
+Answered name old c o new = MatchBool (is_write c) (SeatWrites name old c o new) (SeatReads name old c o new)
 
 -- ---- learning
 

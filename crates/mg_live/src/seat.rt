@@ -4,7 +4,7 @@ ghost use Rattle.mg_engine.specs.Commands.{is_write};
 ghost use Rattle.mg_engine.specs.View.{asked, said};
 ghost use Rattle.mg_live.specs.Snapshots.{StandsAfter, IsPublished};
 ghost use Rattle.mg_live.specs.Rules.{head_of};
-ghost use Rattle.mg_live.specs.Sitting.{Answered, IsLater, SeatReads, Learned, Writes};
+ghost use Rattle.mg_live.specs.Sitting.{Answered, IsLater, SeatReads, Learned, SeatWrites};
 
 use crate::commit_log::{Head, Prefix, Write};
 use crate::database::{Database, Ends};
@@ -197,7 +197,7 @@ where
         requires write { is_write (asked command) ≡ true }
         requires some { 1 ≤ workers }
         requires most { workers ≤ 32 }
-        ensures { Writes D.db self.old (asked command) (said result) self.new }
+        ensures { SeatWrites D.db self.old (asked command) (said result) self.new }
     {
         let Seat {
             number,
