@@ -7,7 +7,7 @@ use Rattle.mg_engine.specs.declared.refusal.Refusal.{Refusal}
 use Rattle.mg_engine.specs.Commands.{Answer, refused, reply_of, next}
 use Rattle.mg_engine.specs.World.{World}
 use Rattle.mg_http.specs.declared.request.routes.Endpoint.{Endpoint}
-use Rattle.mg_http.specs.Device.{IsPrefix}
+use Rattle.mg_http.specs.Device.{IsBytePrefix}
 use Rattle.mg_http.specs.Head.{framed, unframed, asks_of, is_silent}
 use Rattle.mg_http.specs.Message.{Message, HasHead, Begins, IsRefused, IsWaiting}
 use Rattle.mg_http.specs.Reply.{text_of}
@@ -111,7 +111,7 @@ one_reply w (refuses refusal) bytes a b u v x y = (some_some a b (x.0 ∙ sym y.
 
 module _ (db : List ℕ) where
   -- the text of bytes that cannot be answered is a prefix of each transcript of those bytes and more
-  pub after_stop : (w : World) (bytes more text : List ℕ) (ns : List Message) (longer : List ℕ) → Stops db bytes text → Speaks AtWorld db ns (passage w (bytes ++ more) longer) → IsPrefix text longer
+  pub after_stop : (w : World) (bytes more text : List ℕ) (ns : List Message) (longer : List ℕ) → Stops db bytes text → Speaks AtWorld db ns (passage w (bytes ++ more) longer) → IsBytePrefix text longer
   after_stop w bytes more text ns longer (inl x) k = (longer, rw x.1 refl)
   after_stop w bytes more text [] longer (inr x) (inl y) = absurd (waiting_not_refused db (bytes ++ more) x.0 x.1 y.0 (refused_more db bytes more x.0 x.1 x.2))
   after_stop w bytes more text [] longer (inr x) (inr y) =
@@ -121,14 +121,14 @@ module _ (db : List ℕ) where
       absurd (message_not_refused db (bytes ++ more) n k.after x.0 x.1 k.begins (refused_more db bytes more x.0 x.1 x.2))
 
   pub begins : (w : World) (bytes more : List ℕ) (ms : List Message) (text : List ℕ) (ns : List Message) (longer : List ℕ)
-      → Speaks AtWorld db ms (passage w bytes text) → Speaks AtWorld db ns (passage w (bytes ++ more) longer) → IsPrefix text longer
+      → Speaks AtWorld db ms (passage w bytes text) → Speaks AtWorld db ns (passage w (bytes ++ more) longer) → IsBytePrefix text longer
   begins w bytes more [] text ns longer h k = after_stop w bytes more text ns longer h k
   begins w bytes more (m ∷ ms) text [] longer h k = absurd (no_stop db (bytes ++ more) m (h.after ++ more) longer (Begins-append db bytes m h.after more h.begins) k)
   begins w bytes more (m ∷ ms) text (n ∷ ns) longer h k =
       let one = two_messages db (bytes ++ more) m n (h.after ++ more) k.after (Begins-append db bytes m h.after more h.begins) k.begins in
       let reply = one_reply w n.request n.body h.answer k.answer h.mid k.mid (rw one.0 at h.handled) k.handled in
       let first : text_of m.silent h.answer ≡ text_of n.silent k.answer = ap (λ (t : Message). text_of t.silent h.answer) one.0 ∙ ap (text_of n.silent) reply.0 in
-      let tail : IsPrefix h.later k.later = elim h.others_follow [
+      let tail : IsBytePrefix h.later k.later = elim h.others_follow [
         | inl c ↦ (k.later, rw c.2 refl)
         | inr c ↦ elim k.others_follow [
           | inl d ↦ let e : true ≡ false = sym d.0 ∙ sym (ap (λ (t : Message). t.closes) one.0) ∙ c.0 in cc

@@ -10,7 +10,7 @@ use Rattle.mg_engine.specs.Commands.{Asked, Answer, refused, reply_of, next}
 use Rattle.mg_engine.specs.World.{World}
 use Rattle.mg_http.specs.declared.sessions.SessionEnd.{SessionEnd}
 use Rattle.mg_http.specs.declared.sessions.SessionEnd.TheVariants.{Eof, Closed, Refused, ReadFault, WriteFault, Limit}
-use Rattle.mg_http.specs.Device.{IsPrefix}
+use Rattle.mg_http.specs.Device.{IsBytePrefix}
 use Rattle.mg_http.specs.Head.{framed, unframed, asks_of, is_silent, closes_after}
 use Rattle.mg_http.specs.Message.{Message, HasHead, Begins, IsRefused, IsNoHead, CanGoOn}
 use Rattle.mg_http.specs.Reply.{text_of, reply_text}
@@ -30,7 +30,7 @@ messages_in [] = []
 messages_in (call ∷ calls) = call.message ∷ messages_in calls
 
 -- a prefix of a prefix is a prefix
-prefix_of_prefix : (xs ys zs : List ℕ) → IsPrefix xs ys → IsPrefix ys zs → IsPrefix xs zs
+prefix_of_prefix : (xs ys zs : List ℕ) → IsBytePrefix xs ys → IsBytePrefix ys zs → IsBytePrefix xs zs
 prefix_of_prefix xs ys zs a b =
     (a.0 ++ b.0, sym (append_assoc xs a.0 b.0) ∙ ap (λ (t : List ℕ). t ++ b.0) a.1 ∙ b.1)
 
@@ -133,7 +133,7 @@ module _ (db : List ℕ) where
 
   -- the reply to the first message is a prefix of each transcript, whatever bytes follow
   call_begins : (w : World) (rest more : List ℕ) (call : Call) (whole : List ℕ) (u : World) (ms : List Message) (later : List ℕ)
-      → IsLastCall AtWorld db call (exchange w rest whole u) → IsAnswered call → Speaks AtWorld db ms (passage w (rest ++ more) later) → IsPrefix whole later
+      → IsLastCall AtWorld db call (exchange w rest whole u) → IsAnswered call → Speaks AtWorld db ms (passage w (rest ++ more) later) → IsBytePrefix whole later
   call_begins w rest more call whole u [] later a has k =
       absurd (no_stop db (rest ++ more) call.message (a.after ++ more) later (Begins-append db rest call.message a.after more a.begins) k)
   call_begins w rest more call whole u (n ∷ ns) later a has k =
@@ -148,15 +148,15 @@ module _ (db : List ℕ) where
   -- a text that refuses the bytes is a prefix of each transcript of them, whatever bytes follow
   refusal_begins : (w : World) (rest more whole : List ℕ) (ms : List Message) (later : List ℕ)
       → ((refusal : Refusal) × (silent : Bool) × IsRefused db rest refusal silent × (whole ≡ text_of silent (refused refusal)))
-      → Speaks AtWorld db ms (passage w (rest ++ more) later) → IsPrefix whole later
+      → Speaks AtWorld db ms (passage w (rest ++ more) later) → IsBytePrefix whole later
   refusal_begins w rest more whole ms later r k = after_stop db w rest more whole ms later (inr r) k
 
-  nothing_begins : (last later : List ℕ) → last ≡ [] → IsPrefix last later
+  nothing_begins : (last later : List ℕ) → last ≡ [] → IsBytePrefix last later
   nothing_begins last later e = (later, rw e refl)
 
   -- the last text is a prefix of each transcript of the rest of the bytes, whatever bytes follow
   last_begins : (end : SessionEnd) (w : World) (rest last : List ℕ) (u : World) (e : Ends AtWorld db end (exchange w rest last u))
-      → EndsAmply AtWorld db end (exchange w rest last u) e → (more : List ℕ) (ms : List Message) (later : List ℕ) → Speaks AtWorld db ms (passage w (rest ++ more) later) → IsPrefix last later
+      → EndsAmply AtWorld db end (exchange w rest last u) e → (more : List ℕ) (ms : List Message) (later : List ℕ) → Speaks AtWorld db ms (passage w (rest ++ more) later) → IsBytePrefix last later
   last_begins Eof w rest last u e ample more ms later k = nothing_begins last later e.1
   last_begins ReadFault w rest last u e ample more ms later k = nothing_begins last later e.1
   last_begins Limit w rest last u e ample more ms later k = nothing_begins last later e.0
@@ -170,7 +170,7 @@ module _ (db : List ℕ) where
   last_begins WriteFault w rest last u (whole, prefix, inr (inr r, same)) ample more ms later k = absurd ample
 
   pub prefix_of_transcript : (w : World) (bytes written : List ℕ) (u : World) (end : SessionEnd) (t : ConversesAt db end (exchange w bytes written u))
-      → IsAmple AtWorld db end (exchange w bytes written u) t → (more text : List ℕ) → IsTranscriptAt db w (bytes ++ more) text → IsPrefix written text
+      → IsAmple AtWorld db end (exchange w bytes written u) t → (more text : List ℕ) → IsTranscriptAt db w (bytes ++ more) text → IsBytePrefix written text
   prefix_of_transcript w bytes written u end t ample more text k =
       let served = Serves-append AtWorld db w bytes t.calls t.text t.rest t.mid more t.served in
       let left = follows w (bytes ++ more) t.calls t.text (t.rest ++ more) t.mid k.0 text served ample.calls k.1 in

@@ -4,7 +4,7 @@ use Rattle.mg_engine.specs.Commands.{Asked, Answer}
 use Rattle.mg_engine.specs.Execution.{Answers}
 use Rattle.mg_engine.specs.World.{World}
 use Rattle.mg_http.specs.declared.sessions.SessionEnd.{SessionEnd}
-use Rattle.mg_http.specs.Device.{IsPrefix}
+use Rattle.mg_http.specs.Device.{IsBytePrefix}
 use Rattle.mg_http.specs.Session.{Exchange, Converses}
 use Rattle.mg_http.specs.Transcript.{Course, WroteTranscript, IsAmple, IsTranscript}
 
@@ -26,4 +26,4 @@ pub record WroteTranscriptAt (db : List ℕ) (course : Course World) : Type 0 wh
   pub session : WroteTranscript AtWorld db course
   pub prefix
       : IsAmple AtWorld db course.end (record { old = course.old; bytes = session.bytes; text = session.written; new = course.new }) session.conversation
-      → (more text : List ℕ) → IsTranscriptAt db course.old (session.bytes ++ more) text → IsPrefix session.written text
+      → (more text : List ℕ) → IsTranscriptAt db course.old (session.bytes ++ more) text → IsBytePrefix session.written text

@@ -13,12 +13,12 @@ abbrev pub has_failed : {T : Type 0} → Device T → Bool
 has_failed d = d.failed
 
 -- xs is a prefix of ys
-abbrev pub IsPrefix : List ℕ → List ℕ → Type 0
-IsPrefix xs ys = (rest : List ℕ) × (xs ++ rest ≡ ys)
+abbrev pub IsBytePrefix : List ℕ → List ℕ → Type 0
+IsBytePrefix xs ys = (rest : List ℕ) × (xs ++ rest ≡ ys)
 
 -- a prefix of these bytes was written
 abbrev pub WritesPrefix : Option (List ℕ) → Option (List ℕ) → List ℕ → Type 0
-WritesPrefix old new bytes = (sent : List ℕ) × IsPrefix sent bytes × Appends old new sent
+WritesPrefix old new bytes = (sent : List ℕ) × IsBytePrefix sent bytes × Appends old new sent
 
 -- these bytes were written; after an error, a prefix of them
 abbrev pub WritesBytes : {A : Type 0} → Option (List ℕ) → Option (List ℕ) → List ℕ → Result A IoFault → Type 0

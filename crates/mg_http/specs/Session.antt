@@ -11,7 +11,7 @@ use Rattle.mg_http.specs.declared.request.routes.Endpoint.{Endpoint}
 use Rattle.mg_http.specs.declared.request.routes.Endpoint.TheVariants.{BulkDocs, Find, Explain, CreateIndex, Reshard}
 use Rattle.mg_http.specs.declared.sessions.SessionEnd.{SessionEnd}
 use Rattle.mg_http.specs.declared.sessions.SessionEnd.TheVariants.{Eof, Closed, Refused, ReadFault, WriteFault, Limit}
-use Rattle.mg_http.specs.Device.{IsPrefix}
+use Rattle.mg_http.specs.Device.{IsBytePrefix}
 use Rattle.mg_http.specs.Head.{is_silent}
 use Rattle.mg_http.specs.Message.{Message, Begins, HasHead, IsRefused, IsPartHead, IsWaiting}
 use Rattle.mg_http.specs.Reply.{text_of, reply_text}
@@ -117,7 +117,7 @@ Ends answers db Limit last = (last.text ≡ []) × (last.new ≡ last.old)
 Ends answers db Closed last = (call : Call) × (call.message.closes ≡ true) × IsLastCall answers db call last
 Ends answers db Refused last = IsRefusalText db last.bytes last.text × (last.new ≡ last.old)
 Ends answers db WriteFault last =
-    (whole : List ℕ) × IsPrefix last.text whole
+    (whole : List ℕ) × IsBytePrefix last.text whole
     × (((call : Call) × IsLastCall answers db call (record last { text = whole }))
     ⊎ (IsRefusalText db last.bytes whole × (last.new ≡ last.old)))
 

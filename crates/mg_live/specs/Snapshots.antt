@@ -13,8 +13,8 @@ abbrev pub commits_of : {P : Type 0} → Snapshot P → List Commit
 commits_of s = commits_seen s.prefix.seen.log
 
 -- what a snapshot's engine holds
-abbrev pub shown_of : {P : Type 0} → Snapshot P → Shown
-shown_of s = (arc_value s.point.engine).1
+abbrev pub state_of : {P : Type 0} → Snapshot P → Shown
+state_of s = (arc_value s.point.engine).1
 
 -- a snapshot of the database with this commit log and name, whose documents are placed by `place` and which was opened with `opened`
 -- shards: its point stands after its commits
@@ -28,7 +28,7 @@ pub record IsOf {P : Type 0} (place : P → List ℕ → ℕ → ℕ) (log : Boo
 pub record StandsAfter {P : Type 0} (place : P → List ℕ → ℕ → ℕ) (name : List ℕ) (opened : ℕ) (s : Snapshot P) (cs : List Commit) : Type 0 where
   pub commits : commits_of s ≡ cs
   pub stands : Stands place (arc_value s.point.engine) (world_of name cs)
-  pub shards : length (shown_of s).shards ≡ shards_of opened cs
+  pub shards : length (state_of s).shards ≡ shards_of opened cs
 
 -- there is a snapshot right after these commits
 abbrev pub IsPublished : {P : Type 0} → (P → List ℕ → ℕ → ℕ) → List ℕ → ℕ → List Commit → Type 0

@@ -5,7 +5,7 @@ ghost use Rattle.mg_engine.specs.Commands.{is_write};
 ghost use Rattle.mg_engine.specs.Settled.{accepts};
 ghost use Rattle.mg_engine.specs.View.{asked, said};
 ghost use Rattle.mg_live.specs.Published.{Nexts};
-ghost use Rattle.mg_live.specs.Snapshots.{IsOf, commits_of, shown_of};
+ghost use Rattle.mg_live.specs.Snapshots.{IsOf, commits_of, state_of};
 ghost use Rattle.mg_shard.specs.Shard.{shards_seen};
 ghost use Rattle.mg_live.specs.Rules.{head_of};
 
@@ -29,16 +29,16 @@ pub struct Snapshot<P = Md5Placement> {
 impl<P: Placement + Drop> Snapshot<P> {
     /// The catalog of its indexes. Takes no memory.
     pub fn catalog(&self) -> &Catalog
-        ensures { result.now ≡ (shown_of self.now).catalog }
+        ensures { result.now ≡ (state_of self.now).catalog }
     {
         self.point.engine.catalog()
     }
 
     /// Its shards, each of which has the rows of exactly the indexes of the catalog. Takes no memory.
     pub fn shards(&self) -> &[Arc<Shard>]
-        ensures shards { shards_seen result.now ≡ (shown_of self.now).shards }
-        ensures number { length result.now ≡ length (shown_of self.now).shards }
-        ensures rows { All (λ s. s.definitions ≡ (shown_of self.now).catalog) (shards_seen result.now) }
+        ensures shards { shards_seen result.now ≡ (state_of self.now).shards }
+        ensures number { length result.now ≡ length (state_of self.now).shards }
+        ensures rows { All (λ s. s.definitions ≡ (state_of self.now).catalog) (shards_seen result.now) }
     {
         self.point.engine.shards()
     }
