@@ -239,7 +239,8 @@ impl<P: Placement + Drop> Engine<P> {
         requires some { 1 ≤ workers }
         requires most { workers ≤ 32 }
         ensures run { (w : World) → Stands P.place self.old w → IfOk result
-            (λ replies. IsExecution w (map asked commands.now) (map said replies.items) (Stands P.place self.new)) }
+            (λ replies. IsExecution w (map asked commands.now) (map said replies.items)
+            (Stands P.place self.new)) }
         ensures none_run { OnErr result (self.new ≡ self.old) }
         ensures shards { IfOk result (λ replies. shard_count self.new
             ≡ shards_after_all (shard_count self.old)

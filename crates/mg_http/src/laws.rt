@@ -17,7 +17,8 @@ pub fn one_message()
 /// Any cut of the input: the transcript of some bytes is a prefix of each transcript of those bytes and more.
 pub fn any_cut()
     ensures { (db : List ℕ) (w : World) (bytes more text longer : List ℕ)
-        → IsTranscriptAt db w bytes text → IsTranscriptAt db w (bytes ++ more) longer → IsBytePrefix text longer }
+        → IsTranscriptAt db w bytes text → IsTranscriptAt db w (bytes ++ more) longer
+        → IsBytePrefix text longer }
 {}
 
 /// A session for which memory sufficed writes the transcript of the bytes that it read, unless it ended at a write fault or at its
@@ -30,7 +31,8 @@ pub fn sessions_write_transcripts()
     ensures prefix { (db : List ℕ) (end : SessionEnd) (all : Exchange World)
         (conversation : ConversesAt db end all)
         → IsAmple AtWorld db end all conversation
-        → (more text : List ℕ) → IsTranscriptAt db all.old (all.bytes ++ more) text → IsBytePrefix all.text text }
+        → (more text : List ℕ) → IsTranscriptAt db all.old (all.bytes ++ more) text
+        → IsBytePrefix all.text text }
 {}
 
 /// Every input has a transcript, from every world. This is stated as a double negation, since the definition of a head gives no way to

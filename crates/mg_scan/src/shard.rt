@@ -147,7 +147,8 @@ fn hits_of_all<'a>(
     search: Search<'_>,
 ) -> Result<Vec<Hit<'a>>, NoMemory>
     ensures rows { IfOk result
-        (λ v. hit_rows v.items ≡ scanned (search_input search.entry all_columns) (docs_of shard.now.documents)) }
+        (λ v. hit_rows v.items
+        ≡ scanned (search_input search.entry all_columns) (docs_of shard.now.documents)) }
     ensures documents { IfOk result (λ v. AreHitsOf shard.now.documents v.items) }
 {
     shard.ids_are_own();

@@ -35,7 +35,8 @@ pub struct Solo<P> {
 impl<P: Placement + Drop> Service for Solo<P> {
     // The answer is right at each world that the engine stands for; or memory ran out, and the engine is unchanged.
     ghost answers = { λ old command answer new.
-        EngineAnswers P.place old.engine command answer new.engine × IfNone answer (new.engine ≡ old.engine) };
+        EngineAnswers P.place old.engine command answer new.engine
+        × IfNone answer (new.engine ≡ old.engine) };
 
     fn ask<H: Wait + Threads + Sync>(&mut self, rt: &H, alloc: Global, command: Command) -> Reply {
         self.engine.step(rt, alloc, &command, self.workers)
