@@ -15,7 +15,7 @@ use Rattle.mg_engine.specs.declared.bulk.read.ReadBulk.TheVariants.{Edits, Refus
 use Rattle.mg_engine.specs.declared.refusal.Refusal.{Refusal}
 use Rattle.mg_engine.specs.declared.reply.Reply.{Reply}
 use Rattle.mg_engine.proofs.Executions.{answered}
-use Rattle.mg_engine.proofs.Whole.{read_whole}
+use Rattle.mg_engine.proofs.Objects.{edits_bring_objects}
 
 -- a bulk whose documents were all read
 pub all_read : (v : Value) (b : Bulk) (es : BulkEdits) → bulk_of v ≡ Some b → edits_or_refusal b.new_edits (edits_of b.new_edits b.documents) ≡ Ok es
@@ -23,7 +23,7 @@ pub all_read : (v : Value) (b : Bulk) (es : BulkEdits) → bulk_of v ≡ Some b 
 all_read v b es is read =
     let bulk_is : edits_read (bulk_of v) ≡ Ok es = ap edits_read is ∙ read in
     record {
-      objects = read_whole b.new_edits b.documents es read;
+      objects = edits_bring_objects b.new_edits b.documents es read;
       reply = λ w. ap (λ (r : Result BulkEdits Refusal). (bulk_effect w r).answer) bulk_is;
       world = λ w. ap (λ (r : Result BulkEdits Refusal). (bulk_effect w r).world) bulk_is;
       shards = λ n. refl;

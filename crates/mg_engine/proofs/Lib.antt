@@ -9,5 +9,5 @@ mod Members
 mod Resharding
 mod Pages
 mod Ahead
-pub mod Whole
+pub mod Objects
 mod Entries

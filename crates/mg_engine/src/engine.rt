@@ -222,7 +222,7 @@ impl<P: Placement + Drop> Engine<P> {
         ensures shards { shards_seen result.now ≡ self.now.1.shards }
         ensures rows { All (λ s. s.definitions ≡ self.now.1.catalog) (shards_seen result.now) }
     {
-        self.state.whole_shards()
+        self.state.indexed_shards()
     }
 
     /// Executes commands in order, and returns one reply for each. A command whose reply is `NoMemory` has changed nothing; the other

@@ -39,7 +39,7 @@ impl State {
             (λ r. (place : Placing) (w : World) → StateStandsFor place self.now w
             → said r ≡ Some (reply_of w (find (view body.now)))) }
     {
-        let line = page_line(context, &self.catalog, self.whole_shards(), body);
+        let line = page_line(context, &self.catalog, self.indexed_shards(), body);
         let reply = make_reply(context.alloc, line)?;
         Ok(reply)
     }

@@ -98,7 +98,7 @@ impl State {
     }
 
     /// The shards, each of which has the rows of exactly the indexes of the catalog. Takes no memory.
-    pub(crate) fn whole_shards(&self) -> &[Arc<Shard>]
+    pub(crate) fn indexed_shards(&self) -> &[Arc<Shard>]
         ensures shards { shards_seen result.now ≡ self.now.shards }
         ensures rows { All (λ s. s.definitions ≡ self.now.catalog) (shards_seen result.now) }
     {

@@ -13,7 +13,7 @@ use Rattle.mg_engine.specs.Stands.{StateStandsFor, Shown, definitions_of}
 use Rattle.mg_engine.specs.declared.bulk.apply.Outcome.{Outcome}
 use Rattle.mg_engine.proofs.Entries.{by_ids}
 use Rattle.mg_engine.proofs.Indexes.{have_same}
-use Rattle.mg_engine.proofs.Whole.{still_objects}
+use Rattle.mg_engine.proofs.Objects.{still_objects}
 use Rattle.mg_engine.proofs.state.State.accept.Goals as goal
 
 abbrev answer : List ℕ → Option Answer

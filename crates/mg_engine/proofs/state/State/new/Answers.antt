@@ -7,7 +7,7 @@ use Rattle.mg_shard.specs.Shard.{ShardView, shards_seen}
 use Rattle.mg_engine.specs.Stands.{HaveRows}
 use Rattle.mg_engine.specs.StateView.{empty_shard}
 use Rattle.mg_engine.proofs.Indexes.{each_empty, no_rows}
-use Rattle.mg_engine.proofs.Whole.{none_at_first}
+use Rattle.mg_engine.proofs.Objects.{none_at_first}
 use Rattle.mg_engine.proofs.state.State.new.Goals as goal
 
 pub invariant_of-result : goal.invariant_of-result

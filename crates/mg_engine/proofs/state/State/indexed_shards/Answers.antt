@@ -5,7 +5,7 @@ use Rattle.mg_index.specs.Definition.{IndexDefinition}
 use Rattle.mg_shard.specs.Shard.{ShardView, shards_seen}
 use Rattle.mg_engine.specs.Stands.{HaveRows, Shown}
 use Rattle.mg_engine.proofs.Indexes.{each_has}
-use Rattle.mg_engine.proofs.state.State.whole_shards.Goals as goal
+use Rattle.mg_engine.proofs.state.State.indexed_shards.Goals as goal
 
 pub returns-clause-rows : goal.returns-clause-rows
 returns-clause-rows c =

@@ -90,8 +90,8 @@ not_refused new_edits (Ok x) es h = ap Ok (ap (λ r. edits_in r es.edits) h)
 not_refused new_edits (Err e) es h = absurd cc
 
 -- the edits that are read from a bulk
-pub read_whole : (new_edits : Bool) (vs : Items) (es : BulkEdits) → edits_or_refusal new_edits (edits_of new_edits vs) ≡ Ok es → BringObjects es.edits
-read_whole new_edits vs es h = read_objects new_edits vs es.edits (not_refused new_edits (edits_of new_edits vs) es h)
+pub edits_bring_objects : (new_edits : Bool) (vs : Items) (es : BulkEdits) → edits_or_refusal new_edits (edits_of new_edits vs) ≡ Ok es → BringObjects es.edits
+edits_bring_objects new_edits vs es h = read_objects new_edits vs es.edits (not_refused new_edits (edits_of new_edits vs) es h)
 
 named_if : (n : ℕ) (e f : Edit) (b : Bool) → is_object e.body ≡ true → is_object f.body ≡ true → is_object (cond b e f).body ≡ true
 named_if n e f true h k = h
@@ -205,34 +205,34 @@ one_step : (o : Option Value) → is_some o ≡ true → is_some (option_and_the
 one_step None h = h
 one_step (Some v) h = refl
 
-form_whole : (id : List ℕ) (r : List ℕ) (body : Value) → is_object body ≡ true
+form_has_both : (id : List ℕ) (r : List ℕ) (body : Value) → is_object body ≡ true
     → Has (with_member (codes "_id") (text id) (with_member (codes "_rev") (text r) body)) id_path × Has (with_member (codes "_id") (text id) (with_member (codes "_rev") (text r) body)) rev_path
-form_whole id r (object ms) h = (
+form_has_both id r (object ms) h = (
   one_step (get_member (codes "_id") (put (codes "_id") (text id) (put (codes "_rev") (text r) ms))) (put_some (codes "_id") (text id) (put (codes "_rev") (text r) ms)),
   one_step (get_member (codes "_rev") (put (codes "_id") (text id) (put (codes "_rev") (text r) ms)))
       (keep_some (codes "_rev") (codes "_id") (text id) (put (codes "_rev") (text r) ms) (put_some (codes "_rev") (text r) ms)),
 )
-form_whole id r null h = absurd cc
-form_whole id r (flag b) h = absurd cc
-form_whole id r (whole z) h = absurd cc
-form_whole id r (text s) h = absurd cc
-form_whole id r (list vs) h = absurd cc
+form_has_both id r null h = absurd cc
+form_has_both id r (flag b) h = absurd cc
+form_has_both id r (whole z) h = absurd cc
+form_has_both id r (text s) h = absurd cc
+form_has_both id r (list vs) h = absurd cc
 
 -- ---- candidates
 
-shown_whole : (b : Bool) (id : List ℕ) (l : Leaf) (form : Value) → IsGood l → cond b None (Some (served_form id l)) ≡ Some form → Has form id_path × Has form rev_path
-shown_whole true id l form g e = absurd cc
-shown_whole false id l form g e = subst (λ (v : Value). Has v id_path × Has v rev_path) (the_some (served_form id l) form e) (form_whole id (revision_text l.rev) l.body g)
+shown_has_both : (b : Bool) (id : List ℕ) (l : Leaf) (form : Value) → IsGood l → cond b None (Some (served_form id l)) ≡ Some form → Has form id_path × Has form rev_path
+shown_has_both true id l form g e = absurd cc
+shown_has_both false id l form g e = subst (λ (v : Value). Has v id_path × Has v rev_path) (the_some (served_form id l) form e) (form_has_both id (revision_text l.rev) l.body g)
 
-served_whole : (id : List ℕ) (o : Option Leaf) (form : Value) → ((l : Leaf) → o ≡ Some l → IsGood l) → option_and_then (shown_leaf id) o ≡ Some form → Has form id_path × Has form rev_path
-served_whole id None form good e = absurd cc
-served_whole id (Some l) form good e = shown_whole l.deleted id l form (good l refl) e
+served_has_both : (id : List ℕ) (o : Option Leaf) (form : Value) → ((l : Leaf) → o ≡ Some l → IsGood l) → option_and_then (shown_leaf id) o ≡ Some form → Has form id_path × Has form rev_path
+served_has_both id None form good e = absurd cc
+served_has_both id (Some l) form good e = shown_has_both l.deleted id l form (good l refl) e
 
-each_whole : (hs : Histories) → HaveObjects hs → (cs : List Candidate) → AllByRecursion (IsKnown hs) cs → HaveIdsAndRevs cs
-each_whole hs had [] k = tt
-each_whole hs had (c ∷ cs) k =
-    (served_whole c.id (winner_of c.history) c.form (λ l e. winner_object c.history l (had.each c.id c.history k.0.0) e) k.0.1, each_whole hs had cs k.1)
+each_has_both : (hs : Histories) → HaveObjects hs → (cs : List Candidate) → AllByRecursion (IsKnown hs) cs → HaveIdsAndRevs cs
+each_has_both hs had [] k = tt
+each_has_both hs had (c ∷ cs) k =
+    (served_has_both c.id (winner_of c.history) c.form (λ l e. winner_object c.history l (had.each c.id c.history k.0.0) e) k.0.1, each_has_both hs had cs k.1)
 
 -- each document that is served has its id and its revision among its members
-pub are_whole : (hs : Histories) → HaveObjects hs → HaveIdsAndRevs (candidates_of hs)
-are_whole hs had = each_whole hs had (candidates_of hs) (all_known hs)
+pub have_ids_and_revs : (hs : Histories) → HaveObjects hs → HaveIdsAndRevs (candidates_of hs)
+have_ids_and_revs hs had = each_has_both hs had (candidates_of hs) (all_known hs)
