@@ -2,13 +2,15 @@ ghost use Rattle.std.specs.Prelude.{◌≡◌, ◌+◌, ◌≤◌, OnOk, vec_cap
 
 use mg_value::NoMemory;
 
-/// Reserves capacity for `more` items. An empty list gets exactly that, because most documents have one revision; another list
-/// grows as a `Vec` does.
+// A list of fewer items gets exactly the capacity that it needs: most documents have one revision or a few.
+const SHORT: usize = 4;
+
+/// Reserves capacity for `more` items. A short list gets exactly that; a longer one grows as a `Vec` does.
 pub fn reserve<T>(list: &mut Vec<T>, more: usize) -> Result<(), NoMemory>
     ensures items { list.new.items ≡ list.old.items }
     ensures ok { OnOk result (vec_len list.new + more ≤ vec_capacity list.new) }
 {
-    if list.is_empty() {
+    if list.len() < SHORT {
         list.reserve_exact(more)?;
         return Ok(());
     }
