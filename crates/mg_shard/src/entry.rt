@@ -105,6 +105,7 @@ impl IndexEntry {
     ghost use Rattle.std.specs.Prelude.{◌≡◌, IfOk, OnOk, option_map};
     ghost use Rattle.std.specs.Arc.{arc_value};
     ghost use Rattle.std.specs.FinMap.{insert};
+    ghost use Rattle.mg_index.specs.Catalog.{is_at};
     ghost use Rattle.mg_shard.specs.Documents.{Kept, KeptDocuments, form_at};
     ghost use Rattle.mg_shard.specs.Index.{HasRows};
 
@@ -127,6 +128,13 @@ impl IndexEntry {
         ensures { arc_value result.now ≡ self.now.0 }
     {
         &self.definition
+    }
+
+    /// Whether it has this design document and name. Takes no memory. Cost: a comparison of both texts.
+    pub(crate) fn is_at(&self, ddoc: &str, name: &str) -> bool
+        ensures { result ≡ is_at ddoc.now name.now self.now.0 }
+    {
+        name == self.definition.name() && ddoc == self.definition.ddoc()
     }
 
     /// Its rows. Takes no memory.
