@@ -1,7 +1,7 @@
 -- What an edit brings to a history, by the change that its tree takes.
 use Rattle.std.proofs.Common.{◌≡◌, ℕ, ◌+◌, List, [], ◌∷◌, Bool, true, false, ◌==◌, inl, inr, Option, Some, None, option_map, Result, Ok, Err, refl, sym, ap, ◌∙◌, subst}
 use Rattle.std.specs.Option.{option_to_list}
-use Rattle.std.specs.Result.{IsErrAnd, result_err}
+use Rattle.std.specs.Result.{IsErrAnd, result_err, result_map_both}
 use Rattle.mg_value.specs.Value.{Value}
 use Rattle.mg_revtree.specs.Revision.{Revision}
 use Rattle.mg_revtree.specs.History.{Paths, newest_of, fits, all_links}
@@ -17,7 +17,7 @@ use Rattle.mg_revtree.proofs.Extend.{refused_position}
 use Rattle.mg_revtree.proofs.Replicas.{whole_fits, whole_stands}
 use Rattle.mg_doc.specs.Applied.{Applied, Foreseen, Refuses, error_of, refusal_told}
 use Rattle.mg_doc.specs.Brought.{Brings, Missing}
-use Rattle.mg_doc.specs.Base.{LooksFor, Misfits, base_found, extended_by, made_found, made_on, unplaced}
+use Rattle.mg_doc.specs.Base.{LooksFor, Misfits, base_found, extended_by, look_of, made_found, made_on, unplaced}
 use Rattle.mg_doc.specs.Digest.{digest_of}
 use Rattle.mg_doc.specs.Document.{Edit}
 use Rattle.mg_doc.specs.Edit.{Accepted, accepted_by, extended, first_refusal, history_after, is_unnamed, made_over, newest_accepted, refused_by, replicated, unless}
@@ -175,7 +175,7 @@ module _ (h : Paths) (e : Edit) (run : List Revision) (is : e.change ≡ Replica
   refuses_run None k = rw is (rw k refl)
   refuses_run (Some refused) k = ap newest_accepted (accepted_run ∙ misfits h run k.1) ∙ ap Err (sym k.0)
 
-  pub looks_for : (r : Result (Option Revision) EditError) → StandsFor t h → LooksFor h run r → Foreseen h e r t
+  pub looks_for : (r : Result (Option Revision) EditError) → StandsFor t h → LooksFor h run r → Foreseen h e (result_map_both (look_of e) (λ x. x) r) t
   looks_for (Ok None) s k = (rw is (rw k.0 refl), rw is k.1)
   looks_for (Err x) s k = refuses_run (refusal_told x) k
   looks_for (Ok (Some r)) s k =
@@ -184,7 +184,7 @@ module _ (h : Paths) (e : Edit) (run : List Revision) (is : e.change ≡ Replica
       let said : accepted_by h e ≡ Ok (r, d.0) = accepted_run ∙ d.1 in
       let P : Paths → Type 0 = StandsFor t in
       let Q : List Revision → Type 0 = λ x. StandsFor t (with_path h (path_of x e.deleted e.body)) in
-      (ap newest_accepted said, subst P (sym (ap (history_after h e) said)) (subst Q d.2 (whole_stands t h run e.deleted e.body k.1 s)))
+      (rw is k.1, ap newest_accepted said, subst P (sym (ap (history_after h e) said)) (subst Q d.2 (whole_stands t h run e.deleted e.body k.1 s)))
 
 -- memory runs out for a path that fits
 pub looks_want : (h : Paths) (run : List Revision) (r : Result (Option Revision) EditError) → fits h run ≡ true → IsErrAnd r (λ x. x ≡ no_memory) → LooksFor h run r

@@ -1,5 +1,5 @@
 -- What applying an edit to a tree gives, for each history that the tree stands for.
-use Rattle.std.specs.Prelude.{◌≡◌, Bool, false, Option, Some, None, Result, Ok, Err}
+use Rattle.std.specs.Prelude.{◌≡◌, Bool, false, true, Option, Some, None, Result, Ok, Err}
 use Rattle.mg_revtree.specs.Revision.{Revision}
 use Rattle.mg_revtree.specs.History.{Paths, is_whole}
 use Rattle.mg_revtree.specs.Tree.{Tree, StandsFor}
@@ -7,6 +7,8 @@ use Rattle.mg_doc.specs.Document.{Edit}
 use Rattle.mg_doc.specs.Edit.{edited, first_refusal, outcome_of}
 use Rattle.mg_doc.specs.declared.change.Change.{Change}
 use Rattle.mg_doc.specs.declared.change.Change.TheVariants.{New, Replica}
+use Rattle.mg_doc.specs.declared.edit.apply.Look.{Look}
+use Rattle.mg_doc.specs.declared.edit.apply.Look.TheVariants.{Known, Ready}
 use Rattle.mg_doc.specs.declared.error.EditError.{EditError}
 use Rattle.mg_doc.specs.declared.error.EditError.TheVariants.{Conflict as conflict, BadHistory as bad_history, NoMemory as no_memory}
 use Rattle.mg_doc.specs.declared.error.Refused.{Refused}
@@ -38,9 +40,18 @@ abbrev pub changes_nothing : Paths → Change → Bool
 changes_nothing h (New named) = false
 changes_nothing h (Replica run) = is_whole h run
 
--- what is foreseen of an edit: it is a path that is known whole, so that the tree already stands for the edited
--- history; or it is no such path, and is not refused so far; or its error
-abbrev pub Foreseen : Paths → Edit → Result (Option Revision) EditError → Tree → Type 0
-Foreseen h e (Ok (Some r)) t = (outcome_of h e ≡ Ok r) × StandsFor t (edited h e)
-Foreseen h e (Ok None) t = (first_refusal h e.change ≡ None) × (changes_nothing h e.change ≡ false)
+-- an edit is ready: the history does not refuse it before its revision is made, and does not know its path whole
+abbrev pub IsReady : Paths → Edit → Type 0
+IsReady h e = (first_refusal h e.change ≡ None) × (changes_nothing h e.change ≡ false)
+
+-- what a look foresees of an edit: it is a path that is known whole, so that the tree already stands for the edited
+-- history; or it is ready; or its error
+abbrev pub Foreseen : Paths → Edit → Result Look EditError → Tree → Type 0
+Foreseen h e (Ok (Known r)) t = (changes_nothing h e.change ≡ true) × (outcome_of h e ≡ Ok r) × StandsFor t (edited h e)
+Foreseen h e (Ok (Ready ready)) t = IsReady h ready
 Foreseen h e (Err x) t = Refuses h e (refusal_told x)
+
+-- a look that finds an edit ready gives the edit itself
+abbrev pub Keeps : Edit → Look → Type 0
+Keeps e (Known r) = Unit {0}
+Keeps e (Ready ready) = ready ≡ e

@@ -8,7 +8,10 @@ use Rattle.mg_revtree.specs.Changes.{next_position, refusal_of}
 use Rattle.mg_doc.specs.Applied.{refusal_told}
 use Rattle.mg_doc.specs.Brought.{Missing}
 use Rattle.mg_doc.specs.Digest.{digest_of}
+use Rattle.mg_doc.specs.Document.{Edit}
 use Rattle.mg_doc.specs.Edit.{Accepted, base_of, is_unnamed, made_over, refused_by, unless}
+use Rattle.mg_doc.specs.declared.edit.apply.Look.{Look}
+use Rattle.mg_doc.specs.declared.edit.apply.Look.TheVariants.{Known, Ready}
 use Rattle.mg_doc.specs.declared.error.EditError.{EditError}
 use Rattle.mg_doc.specs.declared.error.Refused.{Refused}
 use Rattle.mg_doc.specs.declared.error.Refused.TheVariants.{BadHistory, Conflict}
@@ -51,3 +54,8 @@ abbrev pub LooksFor : Paths → List Revision → Result (Option Revision) EditE
 LooksFor h run (Ok (Some r)) = (newest_of run ≡ Some r) × (is_whole h run ≡ true)
 LooksFor h run (Ok None) = (fits h run ≡ true) × (is_whole h run ≡ false)
 LooksFor h run (Err x) = Misfits h run (refusal_told x)
+
+-- what a look at an edit gives for what it found: the newest revision of a path that is known whole, or nothing
+abbrev pub look_of : Edit → Option Revision → Look
+look_of e (Some r) = Known r
+look_of e None = Ready e

@@ -10,6 +10,7 @@ use crate::error::DocError;
 use crate::fault::gives_change;
 use crate::members::{checked_mark, keep_own, take_id};
 use crate::revisions::take_change;
+pub use apply::{Look, ReadyEdit};
 use mg_value::{Json, NoMemory};
 use std::alloc::Global;
 use std::collections::BTreeMap;

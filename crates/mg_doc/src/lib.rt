@@ -15,5 +15,5 @@ pub use change::Change;
 pub use conflicts::with_conflicts;
 pub use digest::rev_id;
 pub use document::{served, served_packed};
-pub use edit::Edit;
+pub use edit::{Edit, Look, ReadyEdit};
 pub use error::{DocError, EditError, Refused};

@@ -1,6 +1,5 @@
 -- Indexes in the order of their definitions: one that is put among them or left out, and one after another that is mended.
-use Rattle.std.proofs.Common.{IfSome, None}
-use Rattle.std.proofs.Common.{◌≡◌, ℕ, zero, suc, ◌+◌, ◌<◌, ◌≤◌, Bool, true, false, cond, not, ◌&&◌, List, [], ◌∷◌, ◌++◌, Option, Some, option_map, Ordering, Less, Equal, Greater, is_eq, is_gt, is_lt, length, slice_get, set, unwrap_or, refl, sym, ap, ap₂, ◌∙◌, subst, arith}
+use Rattle.std.proofs.Common.{◌≡◌, ℕ, zero, suc, ◌+◌, ◌<◌, ◌≤◌, Bool, true, false, cond, not, ◌&&◌, List, [], ◌∷◌, ◌++◌, Option, Some, None, option_map, Ordering, Less, Equal, Greater, is_eq, is_gt, is_lt, length, slice_get, set, unwrap_or, refl, sym, ap, ap₂, ◌∙◌, subst, arith}
 use Rattle.std.proofs.lemmas.Cmp.{nat_list_cmp_total, tied_itself}
 use Rattle.std.proofs.lemmas.Map.Text.{is_eq-slice_cmp}
 use Rattle.std.specs.Cmp.{IsTotalOrder}
@@ -275,11 +274,6 @@ above_those d (x ∷ xs) h = (h.0, above_those d xs h.1)
 pub catalog_ascends : (xs : List Index) → IsCatalog (definitions_of xs) → Ascends index_order xs
 catalog_ascends [] c = tt
 catalog_ascends (x ∷ xs) c = (above_those x.0 xs c.0, catalog_ascends xs c.1)
-
--- what is said of what may be there
-pub if_some_map : {A : Type 0} (o : Option A) (P Q : A → Type 0) → ((x : A) → P x → Q x) → IfSome o P → IfSome o Q
-if_some_map None P Q f h = h
-if_some_map (Some x) P Q f h = f x h
 
 -- what is made of what may be there
 pub twice_mapped : {A B C : Type 0} (f : A → B) (g : B → C) (o : Option A) → option_map (λ x. g (f x)) o ≡ option_map g (option_map f o)

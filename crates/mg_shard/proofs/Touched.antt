@@ -1,5 +1,5 @@
 -- Trees that a bulk has touched, and the histories for which they stand beside the documents.
-use Rattle.std.proofs.Common.{◌≡◌, ℕ, zero, suc, ◌<◌, Bool, true, false, List, [], ◌∷◌, Ok, Err, Result, String, Global, Option, Some, None, unwrap_or, is_ok, map, length, cond, string_bytes, string_cmp, is_eq, refl, ap, sym, ◌∙◌, subst, arith}
+use Rattle.std.proofs.Common.{◌≡◌, ℕ, zero, suc, ◌<◌, Bool, true, false, List, [], ◌∷◌, Ok, Err, Result, String, Global, Option, Some, None, option_map, unwrap_or, is_ok, map, length, cond, string_bytes, string_cmp, is_eq, refl, ap, sym, ◌∙◌, subst, arith}
 use Rattle.std.proofs.lemmas.Cmp.{nat_list_cmp_total, eq_by_cmp_equiv, tied_itself}
 use Rattle.std.proofs.lemmas.Map.Text.{btree_map_updates_text, is_eq-slice_cmp}
 use Rattle.std.specs.BTreeMap.{BTreeMap, UpdatesBy, get_by_text, is_at}
@@ -11,17 +11,21 @@ use Rattle.std.specs.FinMap.{empty, find, get, get-empty, get-from_entries, get-
 use Rattle.mg_revtree.specs.Revision.{Revision}
 use Rattle.mg_revtree.specs.History.{Paths}
 use Rattle.mg_revtree.specs.Tree.{StandsFor, Tree}
+use Rattle.mg_value.specs.Value.{Value}
+use Rattle.mg_doc.specs.Applied.{Refuses, changes_nothing}
 use Rattle.mg_doc.specs.Document.{Edit}
-use Rattle.mg_doc.specs.Edit.{Accepted, accepted_by, edited, history_after, newest_accepted, outcome_of}
+use Rattle.mg_doc.specs.Edit.{Accepted, accepted_by, accepted_of, edited, history_after, newest_accepted, outcome_of}
 use Rattle.mg_doc.specs.Served.{served_of}
+use Rattle.mg_doc.specs.declared.change.Change.{Change}
+use Rattle.mg_doc.specs.declared.change.Change.TheVariants.{New, Replica}
 use Rattle.mg_doc.specs.declared.error.Refused.{Refused}
-use Rattle.mg_shard.specs.Documents.{Kept, KeptDocuments, StandFor, StandsAt}
-use Rattle.mg_shard.specs.Draft.{DraftAt, DraftStandsFor, DraftView, TouchedStandFor, Trees, touched_of}
+use Rattle.mg_shard.specs.Documents.{Kept, KeptDocuments, StandFor, StandsAt, tree_at}
+use Rattle.mg_shard.specs.Draft.{DraftAt, DraftStandsFor, DraftView, TouchedStandFor, Touches, Trees, touched_of}
 use Rattle.mg_shard.specs.Edits.{after_edit, history_put, id_in, outcome_in}
 use Rattle.mg_shard.specs.Histories.{Histories, history_at}
 use Rattle.mg_shard.specs.Shard.{ShardView}
 use Rattle.mg_shard.proofs.Shown.{bytes_cmp, bytes_exact}
-use Rattle.mg_shard.proofs.Standing.{same_id}
+use Rattle.mg_shard.proofs.Standing.{same_id, still_stands, tree_absent, tree_there}
 
 abbrev pub TreeMap : Type 0
 TreeMap = BTreeMap (String Global) Tree
@@ -209,3 +213,77 @@ looked_stands ds ts hs e (Ok r) is none s st q =
     (known_at (eq_by_cmp bytes_cmp q id) q h (get ts q) (get ds q) (get hs q) (λ b. ap (get ts) (same_id q id b) ∙ none)
     (λ b. subst (λ i. StandsAt i (get ds i) (Some h)) (sym (same_id q id b)) s) (st q))
 looked_stands ds ts hs e (Err x) is none s st q = subst (λ (m : Histories). DraftAt q (get ts q) (get ds q) (get m q)) (sym (after_refused hs e x (sym is))) (st q)
+
+-- ---- for a look at an edit
+
+-- the reply for an error says what becomes of the edit, which leaves the history
+pub reply_refused : (h : Paths) (e : Edit) (o : Option Refused) (r : Result Revision Refused) → option_map Err o ≡ Some r → Refuses h e o → (r ≡ outcome_of h e) × (edited h e ≡ h)
+reply_refused h e None r is k = absurd cc
+reply_refused h e (Some x) r is k = let same : Err x ≡ r = cc in (sym same ∙ sym k, refused_leaves h e x k)
+
+-- after a refusal the tree, if it is as it was, stands for what it stood for
+pub refused_tree : (h : Paths) (e : Edit) (o : Option Refused) (r : Result Revision Refused) (s t : Tree) → option_map Err o ≡ Some r → Refuses h e o → t ≡ s → StandsFor s h
+    → (r ≡ outcome_of h e) × StandsFor t (edited h e)
+refused_tree h e o r s t is k same st =
+    let d = reply_refused h e o r is k in
+    (d.0, subst (λ (g : Paths). StandsFor t g) (sym d.1) (subst (λ (x : Tree). StandsFor x h) (sym same) st))
+
+unknown_yet : (c : Change) (deleted : Bool) (body : Value) (r : Revision) → changes_nothing [] c ≡ true → newest_accepted (accepted_of [] deleted body c) ≡ Ok r → ⊥
+unknown_yet (New named) deleted body r known is = absurd cc
+unknown_yet (Replica []) deleted body r known is = absurd cc
+unknown_yet (Replica (q ∷ qs)) deleted body r known is = absurd cc
+
+-- a path that is known whole is that of a document
+pub known_there : (e : Edit) (h : Paths) (r : Revision) → changes_nothing h e.change ≡ true → outcome_of h e ≡ Ok r → h ≡ [] → ⊥
+known_there e h r known is none =
+    unknown_yet e.change e.deleted e.body r (subst (λ (g : Paths). changes_nothing g e.change ≡ true) none known) (subst (λ (g : Paths). outcome_of g e ≡ Ok r) none is)
+
+-- ---- the first edit of a document: its tree, or the empty one, is looked at
+
+tree_or_none : (ds : KeptDocuments) (hs : Histories) (id : List ℕ) (none t : Tree) (o : Option Tree) → tree_at ds id ≡ o → t ≡ unwrap_or o none → StandsFor none [] → StandsAt id (get ds id) (get hs id)
+    → StandsFor t (history_at hs id)
+tree_or_none ds hs id none t None is same s st = subst (λ (h : Paths). StandsFor t h) (sym (tree_absent ds hs id is st)) (subst (λ (x : Tree). StandsFor x []) (sym same) s)
+tree_or_none ds hs id none t (Some x) is same s st = tree_there ds hs id t (is ∙ ap Some (sym same)) st
+
+known_at_id : (ds : KeptDocuments) (hs : Histories) (id : List ℕ) (e : Edit) (r : Revision) (none t : Tree) (o : Option Tree) → tree_at ds id ≡ o → t ≡ unwrap_or o none
+    → StandsAt id (get ds id) (get hs id) → changes_nothing (history_at hs id) e.change ≡ true → outcome_of (history_at hs id) e ≡ Ok r → StandsFor t (edited (history_at hs id) e)
+    → StandsAt id (get ds id) (Some (edited (history_at hs id) e))
+known_at_id ds hs id e r none t None is same st known done left = absurd (known_there e (history_at hs id) r known done (tree_absent ds hs id is st))
+known_at_id ds hs id e r none t (Some x) is same st known done left = still_stands id t (get ds id) (get hs id) (edited (history_at hs id) e) (is ∙ ap Some (sym same)) st left
+
+module _ (ds : KeptDocuments) (ts : Trees) (e : Edit) (id : List ℕ) (named : id ≡ id_in e) (none t : Tree) (is : t ≡ unwrap_or (tree_at ds id) none) (out : get ts (id_in e) ≡ None) where
+  is_tree : t ≡ unwrap_or (tree_at ds (id_in e)) none
+  is_tree = is ∙ ap (λ i. unwrap_or (tree_at ds i) none) named
+
+  -- the tree stands for the history of the id
+  pub tree_before : (hs : Histories) → StandsFor none [] → TouchedStandFor ds ts hs → StandsFor t (history_at hs (id_in e))
+  tree_before hs s st = tree_or_none ds hs (id_in e) none t (tree_at ds (id_in e)) refl is_tree s (document_at ds ts hs (id_in e) out st)
+
+  -- an edit whose path is known whole touches nothing
+  pub known_stands : (hs : Histories) (r : Revision) → changes_nothing (history_at hs (id_in e)) e.change ≡ true → outcome_in hs e ≡ Ok r → StandsFor t (edited (history_at hs (id_in e)) e)
+      → TouchedStandFor ds ts hs → TouchedStandFor ds ts (after_edit hs e)
+  known_stands hs r known done left st =
+      looked_stands ds ts hs e (Ok r) (sym done) out
+      (known_at_id ds hs (id_in e) e r none t (tree_at ds (id_in e)) refl is_tree (document_at ds ts hs (id_in e) out st) known done left) st
+
+-- an edit that is refused touches nothing
+pub not_touched : (h : Paths) (e : Edit) (r : Result Revision Refused) (ts us : Trees) → is_ok r ≡ false → us ≡ ts → Touches h e r ts us
+not_touched h e (Ok r) ts us not same = absurd cc
+not_touched h e (Err x) ts us not same = same
+
+-- an edit that is done leaves its tree
+pub now_touched : (h : Paths) (e : Edit) (r : Result Revision Refused) (ts us : Trees) (t : Tree) → is_ok r ≡ true → StandsFor t (edited h e) → us ≡ insert ts (id_in e) t → Touches h e r ts us
+now_touched h e (Ok r) ts us t done s put = (t, s, put)
+now_touched h e (Err x) ts us t done s put = absurd cc
+
+-- the trees after the first edit of a document stand beside the documents
+pub first_stands : (ds : KeptDocuments) (ts us : Trees) (hs : Histories) (e : Edit) (r : Result Revision Refused) → r ≡ outcome_in hs e → Touches (history_at hs (id_in e)) e r ts us
+    → TouchedStandFor ds ts hs → TouchedStandFor ds us (after_edit hs e)
+first_stands ds ts us hs e (Ok r) is k st = first_kept ds ts us hs e k.0 (Ok r) is refl k.2 k.1 st
+first_stands ds ts us hs e (Err x) is k st = subst (λ (m : Trees). TouchedStandFor ds m (after_edit hs e)) (sym k) (refused_stands ds ts hs e (Err x) is refl st)
+
+-- a refused edit of a document that was not touched leaves all as it was
+pub reply_stands : (ds : KeptDocuments) (ts : Trees) (hs : Histories) (e : Edit) (o : Option Refused) (r : Result Revision Refused) → option_map Err o ≡ Some r → Refuses (history_at hs (id_in e)) e o
+    → TouchedStandFor ds ts hs → TouchedStandFor ds ts (after_edit hs e)
+reply_stands ds ts hs e None r is k st = absurd cc
+reply_stands ds ts hs e (Some x) r is k st = subst (λ (m : Histories). TouchedStandFor ds ts m) (sym (after_refused hs e x k)) st

@@ -1,14 +1,19 @@
 -- What clauses see of a shard while a bulk is applied, and the histories that it stands for.
-use Rattle.std.specs.Prelude.{ℕ, List, map, String, string_bytes, Option, Some, None, refl}
+use Rattle.std.specs.Prelude.{◌≡◌, ℕ, List, map, String, string_bytes, Option, Some, None, Result, Ok, Err, refl}
 use Rattle.std.specs.Cmp.Lexicographic.{slice_cmp}
 use Rattle.std.specs.Coded.{Coded, code_by, coded×, coded_ℕ, coded_list}
 use Rattle.std.specs.FinMap as finite
-use Rattle.std.specs.FinMap.{FinMap, from_entries, get}
+use Rattle.std.specs.FinMap.{FinMap, from_entries, get, insert}
 use Rattle.std.specs.Ordering.{nat_cmp}
 use Rattle.std.specs.declared.alloc.Global.{Global}
+use Rattle.mg_revtree.specs.Revision.{Revision}
 use Rattle.mg_revtree.specs.History.{Paths}
 use Rattle.mg_revtree.specs.Tree.{Tree, StandsFor, tree_code}
+use Rattle.mg_doc.specs.Document.{Edit}
+use Rattle.mg_doc.specs.Edit.{edited}
+use Rattle.mg_doc.specs.declared.error.Refused.{Refused}
 use Rattle.mg_shard.specs.Documents.{Kept, KeptDocuments, StandsAt}
+use Rattle.mg_shard.specs.Edits.{id_in}
 use Rattle.mg_shard.specs.Histories.{Histories}
 use Rattle.mg_shard.specs.Shard.{ShardView, shard_code}
 
@@ -44,3 +49,8 @@ TouchedStandFor ds ts hs = (id : List ℕ) → DraftAt id (get ts id) (get ds id
 -- a draft stands for histories where its documents and trees do
 abbrev pub DraftStandsFor : DraftView → Histories → Type 0
 DraftStandsFor d hs = TouchedStandFor d.shard.documents d.touched hs
+
+-- the touched trees after an edit: a refused one leaves them; any other puts a tree that stands for the edited history under its id
+abbrev pub Touches : Paths → Edit → Result Revision Refused → Trees → Trees → Type 0
+Touches h e (Ok r) ts us = (t : Tree) × StandsFor t (edited h e) × (us ≡ insert ts (id_in e) t)
+Touches h e (Err x) ts us = us ≡ ts

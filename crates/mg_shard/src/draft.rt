@@ -1,23 +1,24 @@
 //! A shard while a bulk is applied.
-ghost use Rattle.std.specs.Prelude.{◌≡◌, ℕ, List, None, Some, unwrap_or, IfOk, IfSome, OnOk, map, option_map, string_bytes};
+ghost use Rattle.std.specs.Prelude.{◌≡◌, Err, None, Some, unwrap_or, IfOk, OnOk, map, option_map, string_bytes};
 ghost use Rattle.std.specs.FinMap as finite;
 ghost use Rattle.std.specs.FinMap.{get, insert};
 ghost use Rattle.mg_revtree.specs.History.{Paths};
 ghost use Rattle.mg_revtree.specs.Tree.{StandsFor, Tree};
+ghost use Rattle.mg_doc.specs.Applied.{IsReady, refusal_told};
 ghost use Rattle.mg_doc.specs.Edit.{edited, outcome_of};
-ghost use Rattle.mg_shard.specs.Documents.{KeptDocuments, StandFor, StandsAt, shown, tree_at};
-ghost use Rattle.mg_shard.specs.Draft.{DraftStandsFor, TouchedStandFor, touched_of};
+ghost use Rattle.mg_shard.specs.Documents.{StandFor, shown, tree_at};
+ghost use Rattle.mg_shard.specs.Draft.{DraftStandsFor, TouchedStandFor, Touches, touched_of};
 ghost use Rattle.std.specs.List.{AllByRecursion};
 ghost use Rattle.mg_shard.specs.Index.{HasRows, definitions_of};
 ghost use Rattle.mg_shard.specs.Edits.{after_edit, after_edits, id_in, outcome_in, outcome_seen, outcomes};
-ghost use Rattle.mg_shard.specs.Histories.{Histories, history_at};
+ghost use Rattle.mg_shard.specs.Histories.{Histories};
 
 use crate::document::Document;
 use crate::entry::IndexEntry;
 use crate::indexes::{list_in_pages, mend_all, share_indexes};
 use crate::reply::EditReply;
 use crate::shard::Shard;
-use mg_doc::{Edit, EditError};
+use mg_doc::{Edit, EditError, Look, ReadyEdit};
 use mg_pages::{Pages, Shared};
 use mg_revtree::RevTree;
 use mg_rows::KeyBytes;
@@ -69,7 +70,8 @@ impl<'a> Draft<'a> {
     /// known whole, touches no document.
     ///
     /// Errors: `NoMemory` if an allocation fails. The draft then stands for nothing, and is only good to drop.
-    /// Cost: that of `Edit::bring`, and a copy of the document's tree if the draft has not touched the document yet. No copy of the body.
+    /// Cost: that of `Edit::look` and `ReadyEdit::bring`, and a copy of the document's tree if the draft has not touched the
+    /// document yet. No copy of the body.
     pub fn edit(&mut self, alloc: Global, edit: Edit) -> Result<EditReply, NoMemory>
         ensures outcome { IfOk result
             (λ r. (hs : Histories) → DraftStandsFor self.old hs → outcome_seen r ≡ outcome_in hs edit) }
@@ -122,62 +124,45 @@ impl<'a> Draft<'a> {
     }
 }
 
-// What becomes of an edit that needs no copy of the tree: it is refused, or its path is known whole. `None` for any other edit.
-fn look(edit: &Edit, tree: &RevTree) -> Result<Option<EditReply>, NoMemory>
-    ensures { IfOk result (λ o. (h : Paths) → StandsFor tree.now h
-        → IfSome o (λ r. (outcome_seen r ≡ outcome_of h edit.now) × StandsFor tree.now (edited h edit.now))) }
+// The reply to an edit that an error refuses.
+fn reply_of(error: EditError) -> Result<EditReply, NoMemory>
+    ensures { IfOk result (λ r. option_map Err (refusal_told error) ≡ Some (outcome_seen r)) }
 {
-    match edit.look(tree) {
-        Ok(Some(rev)) => Ok(Some(EditReply::Done(rev))),
-        Ok(None) => Ok(None),
-        Err(EditError::Conflict) => Ok(Some(EditReply::Conflict)),
-        Err(EditError::BadHistory) => Ok(Some(EditReply::BadHistory)),
-        Err(EditError::NoMemory) => Err(NoMemory),
+    match error {
+        EditError::Conflict => Ok(EditReply::Conflict),
+        EditError::BadHistory => Ok(EditReply::BadHistory),
+        EditError::NoMemory => Err(NoMemory),
     }
 }
 
-// What `look` finds for an edit of the document with this tree; `None` if there is no such document yet.
-fn look_if_there(edit: &Edit, tree: Option<&RevTree>) -> Result<Option<EditReply>, NoMemory>
-    ensures { IfOk result
-        (λ o. (ds : KeptDocuments) (hs : Histories) (id : List ℕ)
-        → option_map (λ t. t.now) tree.entry ≡ tree_at ds id → StandsAt id (get ds id) (get hs id)
-        → IfSome o (λ r. (outcome_seen r ≡ outcome_of (history_at hs id) edit.now)
-        × StandsAt id (get ds id) (Some (edited (history_at hs id) edit.now)))) }
-{
-    match tree {
-        Some(tree) => Ok(look(edit, tree)?),
-        None => Ok(None),
-    }
-}
-
-// A copy of the document's tree; an empty tree if there is no such document yet.
-fn copy_tree(alloc: Global, tree: Option<&RevTree>) -> Result<RevTree, NoMemory>
-    ensures { IfOk result
-        (λ t. (ds : KeptDocuments) (hs : Histories) (id : List ℕ)
-        → option_map (λ t. t.now) tree.entry ≡ tree_at ds id → StandsAt id (get ds id) (get hs id)
-        → StandsFor t (history_at hs id)) }
-{
-    match tree {
-        Some(tree) => Ok(tree.copy(alloc)?),
-        None => Ok(RevTree::new(alloc)),
-    }
-}
-
-// Applies an edit to a tree, into which its body moves. Returns what became of the edit, and the tree after it.
-fn apply_edit(
+// Applies an edit that was looked at on this tree, or on one of which it is a copy. Returns what became of the edit, and the tree
+// after it, into which its body moved.
+fn bring_edit(
     alloc: Global,
-    edit: Edit,
+    ready: ReadyEdit,
     mut tree: RevTree,
 ) -> Result<(EditReply, RevTree), NoMemory>
+    requires { (h : Paths) → StandsFor tree h → IsReady h ready }
+    ensures { IfOk result
+        (λ r. (h : Paths) → StandsFor tree h → (outcome_seen r.0 ≡ outcome_of h ready)
+        × StandsFor r.1 (edited h ready)) }
+{
+    match ready.bring(alloc, &mut tree) {
+        Ok(rev) => Ok((EditReply::Done(rev), tree)),
+        Err(error) => Ok((reply_of(error)?, tree)),
+    }
+}
+
+// Looks at an edit and applies it. Returns what became of the edit, and the tree after it, into which its body moved.
+fn apply_edit(alloc: Global, edit: Edit, tree: RevTree) -> Result<(EditReply, RevTree), NoMemory>
     ensures { IfOk result
         (λ r. (h : Paths) → StandsFor tree h → (outcome_seen r.0 ≡ outcome_of h edit)
         × StandsFor r.1 (edited h edit)) }
 {
-    match edit.bring(alloc, &mut tree) {
-        Ok(rev) => Ok((EditReply::Done(rev), tree)),
-        Err(EditError::Conflict) => Ok((EditReply::Conflict, tree)),
-        Err(EditError::BadHistory) => Ok((EditReply::BadHistory, tree)),
-        Err(EditError::NoMemory) => Err(NoMemory),
+    match edit.look(&tree) {
+        Ok(Look::Known(rev)) => Ok((EditReply::Done(rev), tree)),
+        Ok(Look::Ready(ready)) => Ok(bring_edit(alloc, ready, tree)?),
+        Err(error) => Ok((reply_of(error)?, tree)),
     }
 }
 
@@ -215,15 +200,42 @@ fn edit_first(
         → TouchedStandFor shard.now.documents (touched_of touched.old.entries) hs
         → TouchedStandFor shard.now.documents (touched_of touched.new.entries) (after_edit hs edit)) }
 {
-    let id = id_in(&edit);
-    let before = shard.tree(id);
-    let look = look_if_there(&edit, before)?;
-    if let Some(known) = look {
-        return Ok(known);
+    let empty = RevTree::new(alloc);
+    let before = tree_or(shard, id_in(&edit), &empty);
+    match edit.look(before) {
+        Ok(Look::Known(rev)) => Ok(EditReply::Done(rev)),
+        Ok(Look::Ready(ready)) => Ok(touch(alloc, touched, ready, before)?),
+        Err(error) => Ok(reply_of(error)?),
     }
-    let key = String::from_str(alloc, id)?;
-    let tree = copy_tree(alloc, before)?;
-    let (reply, tree) = apply_edit(alloc, edit, tree)?;
+}
+
+// The tree of the document of this id; the other one if there is no such document.
+fn tree_or<'a>(shard: &'a Shard, id: &str, other: &'a RevTree) -> &'a RevTree
+    ensures { result.now ≡ unwrap_or (tree_at shard.now.documents id.now) other.now }
+{
+    match shard.tree(id) {
+        Some(tree) => tree,
+        None => other,
+    }
+}
+
+// Applies an edit that was looked at on this tree to a copy of it, which is touched now, unless the edit is refused.
+fn touch(
+    alloc: Global,
+    touched: &mut BTreeMap<String, RevTree>,
+    ready: ReadyEdit,
+    before: &RevTree,
+) -> Result<EditReply, NoMemory>
+    requires { (h : Paths) → StandsFor before.now h → IsReady h ready }
+    ensures outcome { IfOk result
+        (λ r. (h : Paths) → StandsFor before.now h → outcome_seen r ≡ outcome_of h ready) }
+    ensures touched { IfOk result
+        (λ r. (h : Paths) → StandsFor before.now h
+        → Touches h ready (outcome_seen r) (touched_of touched.old.entries) (touched_of touched.new.entries)) }
+{
+    let key = String::from_str(alloc, id_in(ready.edit()))?;
+    let tree = before.copy(alloc)?;
+    let (reply, tree) = bring_edit(alloc, ready, tree)?;
     if !reply.is_done() {
         return Ok(reply);
     }

@@ -1,11 +1,11 @@
-ghost use Rattle.std.specs.Prelude.{◌≡◌, ◌+◌, ◌==◌, IfErr, IfSome, OnErr, OnOk, None, Some, false, option_copied, string_bytes};
+ghost use Rattle.std.specs.Prelude.{◌≡◌, ◌+◌, ◌==◌, IfErr, IfOk, IfSome, OnErr, OnOk, None, Some, false, option_copied, string_bytes};
 ghost use Rattle.std.specs.Result.{result_map_both};
 ghost use Rattle.mg_value.specs.View.{view};
 ghost use Rattle.mg_revtree.specs.Changes.{position_below};
 ghost use Rattle.mg_revtree.specs.History.{Paths};
 ghost use Rattle.mg_revtree.specs.Tree.{StandsFor};
-ghost use Rattle.mg_doc.specs.Applied.{Applied, Foreseen};
-ghost use Rattle.mg_doc.specs.Base.{CopyIs, LooksFor, base_found, extended_by, made_on};
+ghost use Rattle.mg_doc.specs.Applied.{Applied, Foreseen, IsReady, Keeps};
+ghost use Rattle.mg_doc.specs.Base.{CopyIs, LooksFor, base_found, extended_by, look_of, made_on};
 ghost use Rattle.mg_doc.specs.Brought.{Brings};
 ghost use Rattle.mg_doc.specs.Digest.{digest_of};
 ghost use Rattle.mg_doc.specs.Edit.{first_refusal, replicated};
@@ -18,22 +18,46 @@ use crate::error::{EditError, Refused};
 use mg_revtree::{History, Rev, RevTree};
 use mg_value::Json;
 use std::alloc::Global;
+use std::marker::Model;
+
+/// What a look at an edit finds.
+#[derive(Debug, Drop)]
+pub enum Look {
+    /// The newest revision of a replica's path that is known whole. Such an edit changes nothing.
+    Known(Rev),
+    /// Any other edit that is not refused before its revision is made.
+    Ready(ReadyEdit),
+}
+
+/// An edit that was looked at and not refused, and whose path, if it is a replica's, is not known whole. `Edit::look` makes it.
+#[derive(Debug, Drop)]
+pub struct ReadyEdit {
+    edit: Edit,
+}
+
+impl Model for ReadyEdit {
+    ghost use Rattle.mg_doc.specs.Code.{edit_code};
+    ghost use Rattle.mg_doc.specs.Document.{Edit as EditValue};
+
+    ghost Value = { EditValue };
+
+    ghost coded = { edit_code };
+
+    ghost view = { λ r. r.edit };
+}
 
 impl Edit {
-    /// Foresees what the edit does to the tree of its document, without changing the tree. Returns the newest revision of a
-    /// replica's path that is known whole, since such an edit changes nothing; `None` if the edit has to be applied.
+    /// Foresees what the edit does to the tree of its document, without changing the tree.
     ///
-    /// Errors: those of `apply`, except the `Conflict` of a made revision that is already known, which only `apply` finds. No
+    /// Errors: those of `apply`, except the `Conflict` of a made revision that is already known, which only `ReadyEdit::bring` finds. No
     /// refusal needs memory. Cost: the look-ups of a path, or one look-up among the leaves.
-    pub fn look(&self, tree: &RevTree) -> Result<Option<Rev>, EditError>
-        ensures { (h : Paths) → StandsFor tree.now h → Foreseen h self.now result tree.now }
+    pub fn look(self, tree: &RevTree) -> Result<Look, EditError>
+        ensures foreseen { (h : Paths) → StandsFor tree.now h → Foreseen h self result tree.now }
+        ensures edit { IfOk result (Keeps self) }
     {
-        match &self.change {
-            Change::New(named) => {
-                check_base(tree, named.as_ref())?;
-                Ok(None)
-            }
-            Change::Replica(path) => look_for(tree, path),
+        match self.foresee(tree)? {
+            Some(rev) => Ok(Look::Known(rev)),
+            None => Ok(Look::Ready(ReadyEdit { edit: self })),
         }
     }
 
@@ -47,35 +71,61 @@ impl Edit {
     /// deleted, or if the made revision is already known; `BadHistory` if the extended leaf has the
     /// last position, 4,294,967,295, or if a replica's path does not fit; else `NoMemory` if an allocation fails. No refusal needs
     /// memory, except that of a made revision that is already known. An error leaves the tree as it was.
-    /// Cost: a copy of the edit, unless its path is known whole, and the cost of `bring`.
+    /// Cost: that of `look`; and, unless a path is known whole, a copy of the edit and the cost of `ReadyEdit::bring`.
     /// Source: CouchDB's `_bulk_docs` with `new_edits` true and false.
     pub fn apply(&self, alloc: Global, tree: &mut RevTree) -> Result<Rev, EditError>
         ensures applied { (h : Paths) → StandsFor tree.old h → Applied h self.now result tree.new }
         ensures unchanged { OnErr result (tree.new ≡ tree.old) }
     {
-        if let Some(rev) = self.look(tree)? {
+        if let Some(rev) = self.foresee(tree)? {
             return Ok(rev);
         }
         let edit = self.copy(alloc)?;
-        edit.bring(alloc, tree)
+        ReadyEdit { edit }.bring(alloc, tree)
     }
 
-    /// Does what `apply` does, without a copy of the edit. Cost: that of `RevTree::extend` or `RevTree::merge`, and the length of
-    /// the body's text if the id of the revision was not made ahead, or was made ahead over nothing and a deleted winner is extended.
+    // What `look` finds: the newest revision of a path that is known whole; `None` if the edit is ready.
+    fn foresee(&self, tree: &RevTree) -> Result<Option<Rev>, EditError>
+        ensures { (h : Paths) → StandsFor tree.now h
+            → Foreseen h self.now (result_map_both (look_of self.now) (λ e. e) result) tree.now }
+    {
+        match &self.change {
+            Change::New(named) => {
+                check_base(tree, named.as_ref())?;
+                Ok(None)
+            }
+            Change::Replica(path) => look_for(tree, path),
+        }
+    }
+}
+
+impl ReadyEdit {
+    /// The edit. Takes no memory.
+    pub fn edit(&self) -> &Edit
+        ensures { result.now ≡ self.now }
+    {
+        &self.edit
+    }
+
+    /// Applies the edit to the tree that was looked at, or to a copy of it, and returns the revision that the edit brings. Does not
+    /// look again.
+    ///
+    /// Errors: `Conflict` if the made revision is already known; else `NoMemory` if an allocation fails. An error leaves the tree as
+    /// it was. Cost: that of `RevTree::extend` or `RevTree::merge`, and the length of the body's text if the id of the revision was
+    /// not made ahead, or was made ahead over nothing and a deleted winner is extended.
     pub fn bring(self, alloc: Global, tree: &mut RevTree) -> Result<Rev, EditError>
+        requires { (h : Paths) → StandsFor tree.old h → IsReady h self }
         ensures applied { (h : Paths) → StandsFor tree.old h → Applied h self result tree.new }
         ensures unchanged { OnErr result (tree.new ≡ tree.old) }
     {
-        if let Some(rev) = self.look(tree)? {
-            return Ok(rev);
-        }
+        let edit = self.edit;
         let Edit {
             id: _,
             change,
             deleted,
             body,
             ahead,
-        } = self;
+        } = edit;
         match change {
             Change::New(named) => extend(alloc, tree, named.as_ref(), deleted, body, ahead),
             Change::Replica(path) => merge(tree, &path, deleted, body),

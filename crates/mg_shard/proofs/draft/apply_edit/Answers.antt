@@ -1,19 +1,16 @@
-use Rattle.std.proofs.Common.{◌≡◌, Err, sym, subst}
-use Rattle.mg_revtree.specs.History.{Paths}
-use Rattle.mg_revtree.specs.Tree.{StandsFor, Tree}
-use Rattle.mg_doc.specs.Edit.{outcome_of}
-use Rattle.mg_doc.specs.declared.error.Refused.TheVariants.{BadHistory, Conflict}
-use Rattle.mg_shard.proofs.Touched.{refused_leaves}
+use Rattle.std.proofs.Common.{refl, sym}
+use Rattle.mg_doc.specs.Applied.{refusal_told}
+use Rattle.mg_shard.specs.Edits.{outcome_seen}
+use Rattle.mg_shard.proofs.Touched.{refused_tree}
 use Rattle.mg_shard.proofs.draft.apply_edit.Goals as goal
 
-pub returns-in-Err-Conflict : goal.returns-in-Err-Conflict
-returns-in-Err-Conflict c = λ h st.
-    let e = c.args.edit in
-    let refused : outcome_of h e ≡ Err Conflict = rw c.in-Err-Conflict.field-0-is at (c.in-Err-Conflict.ensures.applied h st) in
-    (sym refused, subst (λ (g : Paths). StandsFor c.bring.new.tree g) (sym (refused_leaves h e Conflict refused)) (subst (λ (t : Tree). StandsFor t h) (sym c.in-Err-Conflict.ensures.unchanged) st))
+pub returns-in_ok-reply_of-in-Err : goal.returns-in_ok-reply_of-in-Err
+returns-in_ok-reply_of-in-Err c = λ h st.
+    refused_tree h c.args.edit (refusal_told c.in-Err.error) (outcome_seen c.in_ok-reply_of-in-Err.field-0) c.args.tree c.args.tree c.in_ok-reply_of-in-Err.ensures
+    (c.in-Err.ensures.foreseen h st) refl st
 
-pub returns-in-Err-BadHistory : goal.returns-in-Err-BadHistory
-returns-in-Err-BadHistory c = λ h st.
-    let e = c.args.edit in
-    let refused : outcome_of h e ≡ Err BadHistory = rw c.in-Err-BadHistory.field-0-is at (c.in-Err-BadHistory.ensures.applied h st) in
-    (sym refused, subst (λ (g : Paths). StandsFor c.bring.new.tree g) (sym (refused_leaves h e BadHistory refused)) (subst (λ (t : Tree). StandsFor t h) (sym c.in-Err-BadHistory.ensures.unchanged) st))
+pub returns-in-Ok-Known : goal.returns-in-Ok-Known
+returns-in-Ok-Known c = λ h st. let known = rw c.in-Ok-Known.field-0-is at (c.in-Ok-Known.ensures.foreseen h st) in (sym known.1, known.2)
+
+pub bring_edit-requires : goal.bring_edit-requires
+bring_edit-requires c = λ h st. rw c.in-Ok-Ready.field-0-is at (c.in-Ok-Ready.ensures.foreseen h st)
