@@ -96,6 +96,42 @@ impl<P: Placement + Drop> Engine<P> {
         reply
     }
 
+    /// Executes one command, which is given away, as `step` does: the documents of a bulk are moved into their trees. Cost: as for `step`,
+    /// without a copy of the documents.
+    pub fn execute<R: Threads + Sync>(
+        &mut self,
+        rt: &R,
+        alloc: Global,
+        command: Command,
+        workers: usize,
+    ) -> Reply
+        requires some { 1 ≤ workers }
+        requires most { workers ≤ 32 }
+        ensures answers { (w : World) → Stands P.place self.old w
+            → Answers w (asked command) (said result) (Stands P.place self.new) }
+        ensures refused { IfNone (said result) (self.new ≡ self.old) }
+        ensures shards { IfSome (said result)
+            (λ _. shard_count self.new ≡ shards_after (shard_count self.old) (asked command)) }
+        ensures placement { self.new.0 ≡ self.old.0 }
+    {
+        let Ok(prepared) = Prepared::of(alloc, command) else {
+            return Reply::NoMemory;
+        };
+        let context = Context {
+            rt,
+            alloc,
+            workers: Workers::most(workers),
+            gate: &NoGate,
+        };
+        let (reply, next) = self
+            .state
+            .execute_prepared(&context, &*self.placement, prepared);
+        if let Some(next) = next {
+            self.state = next;
+        }
+        reply
+    }
+
     /// Returns the reply to a read, by exactly `workers` workers; `NoMemory` if an allocation fails. A query passes the gate at
     /// `ShardBegun` before it reads the first row of a shard, and at `ShardDone` after the last. The gate does not change the reply.
     /// Cost: as for `step`.

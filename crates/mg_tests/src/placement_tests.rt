@@ -183,7 +183,7 @@ fn answers<R: Threads + Sync + Abort>(
     step: &Step,
 ) {
     let command = command_of(rt, alloc, step);
-    let reply = engine.step(rt, alloc, &command, 2);
+    let reply = engine.execute(rt, alloc, command, 2);
     let holds = reply.status() == step.2 && reply.body() == step.3.as_bytes();
     check(rt, holds, step.1);
 }

@@ -39,7 +39,7 @@ impl<P: Placement + Drop> Service for Solo<P> {
         × IfNone answer (new.engine ≡ old.engine) };
 
     fn ask<H: Wait + Threads + Sync>(&mut self, rt: &H, alloc: Global, command: Command) -> Reply {
-        self.engine.step(rt, alloc, &command, self.workers)
+        self.engine.execute(rt, alloc, command, self.workers)
     }
 }
 
