@@ -127,15 +127,15 @@ impl IndexDef {
         })
     }
 
-    // Whether the definition has this design document and name.
-    pub(crate) fn is_at(&self, ddoc: &str, name: &str) -> bool
+    /// Whether the definition has this design document and name. Takes no memory. Cost: the length of both texts.
+    pub fn is_at(&self, ddoc: &str, name: &str) -> bool
         ensures { result ≡ is_the_one ddoc.now name.now self.now }
     {
-        ddoc == self.ddoc.as_str() && name == self.name.as_str()
+        name == self.name.as_str() && ddoc == self.ddoc.as_str()
     }
 
-    // The order of definitions in a catalog: by design document, then name.
-    pub(crate) fn order(&self, other: &IndexDef) -> Ordering
+    /// The order of definitions in a catalog: by design document, then name. Takes no memory.
+    pub fn order(&self, other: &IndexDef) -> Ordering
         ensures { result ≡ definition_order self.now other.now }
     {
         let by_ddoc = self.ddoc.as_str().cmp(other.ddoc.as_str());

@@ -1,11 +1,10 @@
 //! An index of a shard, as an element of the list of its indexes.
 ghost use Rattle.std.specs.Prelude.{◌≡◌};
-ghost use Rattle.mg_index.specs.Catalog.{definition_order};
 
 use crate::index::mend_rows;
 use mg_index::IndexDef;
 use mg_packed::Written;
-use mg_pages::{Element, Keyed, Pages, Probe, text_hint};
+use mg_pages::{Element, Keyed, Pages, Probe};
 use mg_rows::{KeyBytes, RowBytes};
 use mg_value::NoMemory;
 use std::alloc::{AllocError, Global};
@@ -43,24 +42,6 @@ impl Element for IndexEntry {
     }
 }
 
-// The order of two definitions, by design document, then name.
-fn order(definition: &IndexDef, other: &IndexDef) -> Ordering
-    ensures { result ≡ definition_order definition.now other.now }
-{
-    let by_ddoc = definition.ddoc().cmp(other.ddoc());
-    by_ddoc.then(definition.name().cmp(other.name()))
-}
-
-// What the name of each design document begins with.
-const DESIGN_FRONT: &str = "_design/";
-
-// The hint of an index: four bytes of its design document, after `_design/`, and four of its name. It falls at most where design documents
-// have these four bytes in common.
-fn index_hint(ddoc: &str, name: &str) -> u64 {
-    let document = text_hint(ddoc.strip_prefix(DESIGN_FRONT).unwrap_or(ddoc));
-    (document & 0xFFFF_FFFF_0000_0000) | (text_hint(name) >> 32)
-}
-
 impl Keyed for IndexEntry {
     ghost use Rattle.mg_shard.specs.Index.{index_order, index_order_total};
 
@@ -68,12 +49,8 @@ impl Keyed for IndexEntry {
 
     ghost total = { index_order_total };
 
-    fn hint(&self) -> u64 {
-        index_hint(self.definition.ddoc(), self.definition.name())
-    }
-
     fn order(&self, other: &IndexEntry) -> Ordering {
-        order(&self.definition, &other.definition)
+        self.definition.order(&other.definition)
     }
 }
 
@@ -90,10 +67,6 @@ impl<'a> Probe<IndexEntry> for IndexName<'a> {
     ghost against = { λ key x. name_against key.ddoc.now key.name.now x };
 
     ghost probes = { λ key. name_probes key.ddoc.now key.name.now };
-
-    fn hint(&self) -> u64 {
-        index_hint(self.ddoc, self.name)
-    }
 
     fn against(&self, element: &IndexEntry) -> Ordering {
         let by_ddoc = self.ddoc.cmp(element.definition.ddoc());
@@ -134,7 +107,7 @@ impl IndexEntry {
     pub(crate) fn is_at(&self, ddoc: &str, name: &str) -> bool
         ensures { result ≡ is_at ddoc.now name.now self.now.0 }
     {
-        name == self.definition.name() && ddoc == self.definition.ddoc()
+        self.definition.is_at(ddoc, name)
     }
 
     /// Its rows. Takes no memory.
