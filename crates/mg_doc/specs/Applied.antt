@@ -51,7 +51,7 @@ Foreseen h e (Ok (Known r)) t = (changes_nothing h e.change ≡ true) × (outcom
 Foreseen h e (Ok (Ready ready)) t = IsReady h ready
 Foreseen h e (Err x) t = Refuses h e (refusal_told x)
 
--- a look that finds an edit ready gives the edit itself
-abbrev pub Keeps : Edit → Look → Type 0
-Keeps e (Known r) = Unit {0}
-Keeps e (Ready ready) = ready ≡ e
+-- a look that finds an edit ready gives it back
+abbrev pub GivesBack : Edit → Look → Type 0
+GivesBack e (Known r) = Unit {0}
+GivesBack e (Ready ready) = ready ≡ e

@@ -4,7 +4,7 @@ ghost use Rattle.mg_value.specs.View.{view};
 ghost use Rattle.mg_revtree.specs.Changes.{position_below};
 ghost use Rattle.mg_revtree.specs.History.{Paths};
 ghost use Rattle.mg_revtree.specs.Tree.{StandsFor};
-ghost use Rattle.mg_doc.specs.Applied.{Applied, Foreseen, IsReady, Keeps};
+ghost use Rattle.mg_doc.specs.Applied.{Applied, Foreseen, GivesBack, IsReady};
 ghost use Rattle.mg_doc.specs.Base.{CopyIs, LooksFor, base_found, extended_by, look_of, made_on};
 ghost use Rattle.mg_doc.specs.Brought.{Brings};
 ghost use Rattle.mg_doc.specs.Digest.{digest_of};
@@ -29,7 +29,7 @@ pub enum Look {
     Ready(ReadyEdit),
 }
 
-/// An edit that was looked at and not refused, and whose path, if it is a replica's, is not known whole. `Edit::look` makes it.
+/// An edit that was looked at and not refused, and whose path, if it is a replica's, is not known whole. Made by `Edit::look`.
 #[derive(Debug, Drop)]
 pub struct ReadyEdit {
     edit: Edit,
@@ -49,11 +49,11 @@ impl Model for ReadyEdit {
 impl Edit {
     /// Foresees what the edit does to the tree of its document, without changing the tree.
     ///
-    /// Errors: those of `apply`, except the `Conflict` of a made revision that is already known, which only `ReadyEdit::bring` finds. No
-    /// refusal needs memory. Cost: the look-ups of a path, or one look-up among the leaves.
+    /// Errors: those of `apply`, except the `Conflict` of a made revision that is already known, which only `ReadyEdit::bring`
+    /// finds. No refusal needs memory. Cost: the look-ups of a path, or one look-up among the leaves.
     pub fn look(self, tree: &RevTree) -> Result<Look, EditError>
         ensures foreseen { (h : Paths) → StandsFor tree.now h → Foreseen h self result tree.now }
-        ensures edit { IfOk result (Keeps self) }
+        ensures edit { IfOk result (GivesBack self) }
     {
         match self.foresee(tree)? {
             Some(rev) => Ok(Look::Known(rev)),

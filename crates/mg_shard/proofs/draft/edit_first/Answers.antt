@@ -30,8 +30,8 @@ returns-in-Ok-Known-clause-stands c = λ hs st.
 pub touch-requires : goal.touch-requires
 touch-requires c = λ h st. rw c.in-Ok-Ready.field-0-is at (c.in-Ok-Ready.ensures.foreseen h st)
 
-pub returns-in_ok-touch-in-Ok-Ready-clause-outcome : goal.returns-in_ok-touch-in-Ok-Ready-clause-outcome
-returns-in_ok-touch-in-Ok-Ready-clause-outcome c = λ hs st.
+pub returns-in-Ok-Ready-clause-outcome : goal.returns-in-Ok-Ready-clause-outcome
+returns-in-Ok-Ready-clause-outcome c = λ hs st.
     let ts = touched_of c.args.touched.now.entries in
     let e = c.args.edit in
     let h = history_at hs (id_in e) in
@@ -39,8 +39,8 @@ returns-in_ok-touch-in-Ok-Ready-clause-outcome c = λ hs st.
     let same = rw c.in-Ok-Ready.field-0-is at c.in-Ok-Ready.ensures.edit in
     c.in_ok-touch-in-Ok-Ready.ensures.outcome h tree ∙ ap (outcome_of h) same
 
-pub returns-in_ok-touch-in-Ok-Ready-clause-stands : goal.returns-in_ok-touch-in-Ok-Ready-clause-stands
-returns-in_ok-touch-in-Ok-Ready-clause-stands c = λ hs st.
+pub returns-in-Ok-Ready-clause-stands : goal.returns-in-Ok-Ready-clause-stands
+returns-in-Ok-Ready-clause-stands c = λ hs st.
     let ds = c.args.shard.now.documents in
     let ts = touched_of c.args.touched.now.entries in
     let us = touched_of c.touch.new.touched.entries in
@@ -52,16 +52,16 @@ returns-in_ok-touch-in-Ok-Ready-clause-stands c = λ hs st.
     let P : Edit → Type 0 = λ x. Touches h x r ts us in
     first_stands ds ts us hs e r (c.in_ok-touch-in-Ok-Ready.ensures.outcome h tree ∙ ap (outcome_of h) same) (subst P same (c.in_ok-touch-in-Ok-Ready.ensures.touched h tree)) st
 
-pub returns-in_ok-reply_of-in-Err-clause-outcome : goal.returns-in_ok-reply_of-in-Err-clause-outcome
-returns-in_ok-reply_of-in-Err-clause-outcome c = λ hs st.
+pub returns-clause-outcome : goal.returns-clause-outcome
+returns-clause-outcome c = λ hs st.
     let ts = touched_of c.args.touched.now.entries in
     let e = c.args.edit in
     let h = history_at hs (id_in e) in
     let tree = tree_before c.args.shard.now.documents ts e c.id_in.result.now c.id_in.ensures c.new-empty.result c.tree_or-before.result.now c.tree_or-before.ensures c.requires hs c.new-empty.ensures st in
     (reply_refused h e (refusal_told c.in-Err.error) (outcome_seen c.in_ok-reply_of-in-Err.field-0) c.in_ok-reply_of-in-Err.ensures (c.in-Err.ensures.foreseen h tree)).0
 
-pub returns-in_ok-reply_of-in-Err-clause-stands : goal.returns-in_ok-reply_of-in-Err-clause-stands
-returns-in_ok-reply_of-in-Err-clause-stands c = λ hs st.
+pub returns-clause-stands : goal.returns-clause-stands
+returns-clause-stands c = λ hs st.
     let ds = c.args.shard.now.documents in
     let ts = touched_of c.args.touched.now.entries in
     let e = c.args.edit in
