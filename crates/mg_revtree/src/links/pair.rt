@@ -1,4 +1,4 @@
-ghost use Rattle.std.specs.Prelude.{◌≡◌, ◌<◌, ◌≤◌, [], ◌∷◌, IfOk, length, true};
+ghost use Rattle.std.specs.Prelude.{◌≡◌, ◌-◌, ◌<◌, ◌≤◌, [], ◌∷◌, IfOk, None, length, true};
 ghost use Rattle.mg_revtree.specs.Nodes.{AreWithin, link_in, links_in, text_of_part};
 ghost use Rattle.mg_revtree.specs.Pair.{pair_links};
 
@@ -7,12 +7,19 @@ use crate::links::parts::add;
 use crate::revision::Rev;
 use mg_value::NoMemory;
 
+// Whether a node is at the position below a position, and has no known parent.
+fn is_root_below(node: Node, pos: u32) -> bool
+    ensures { result ≡ true → (0 < pos) × (node.pos ≡ pos - 1) × (node.parent ≡ None) }
+{
+    pos > 0 && node.pos == pos - 1 && node.parent.is_none()
+}
+
 /// Whether two nodes are those of a revision's parent, which has no known parent, and of the revision.
 pub fn is_pair(texts: &[u8], below: Node, child: Node, rev: &Rev) -> bool
     ensures { result ≡ true → (0 < rev.now.0) × (links_in texts.now (below ∷ child ∷ [])
         ≡ pair_links rev.now (text_of_part texts.now below.id)) }
 {
-    if rev.pos == 0 || below.pos != rev.pos - 1 || below.parent.is_some() {
+    if !is_root_below(below, rev.pos) {
         return false;
     }
     if !child.order(texts, rev.pos, rev.id.as_bytes()).is_eq() {
