@@ -64,7 +64,7 @@ pub(crate) fn search_claimed<'a, G: Gate>(
 
 // Puts each list of hits into the slot of its shard. If a slot is filled twice, both lists have the same rows.
 fn put_in_slots<'a>(slots: &mut Vec<Option<Vec<Hit<'a>>>>, given: Vec<Done<'a>>)
-    ensures slots { (search : Search) (shards : List ShardView) → AllDone search shards given.items
+    ensures slots { (search : Search) (shards : List ShardView) → AllDone search shards given.entry.items
         → AllSlots search shards slots.old.items → AllSlots search shards slots.new.items }
     ensures len { vec_len slots.new ≡ vec_len slots.old }
 {

@@ -1,4 +1,4 @@
-use Rattle.std.proofs.Common.{List, [], ◌∷◌, subst}
+use Rattle.std.proofs.Common.{List, [], ◌∷◌, refl, subst}
 use Rattle.std.specs.List.{AllByRecursion}
 use Rattle.mg_pages.proofs.Sorted.{all_left, all_right}
 use Rattle.mg_scan.specs.Worked.{HitsAnswer}
@@ -11,6 +11,17 @@ loop-shard-init c = (λ search shards done slots. (done, slots), refl)
 
 pub loop-shard-preserved-then-shard-len : goal.loop-shard-preserved-then-shard-len
 loop-shard-preserved-then-shard-len c = (
+  λ search shards done slots.
+      let i = c.loop-shard.invariant.0 search shards done slots in
+      let P : Done → Type 0 = λ d. HitsAnswer search shards d.shard d.hits.items in
+      let d = c.in-Some.field-0 in
+      let whole = subst (λ (ds : List Done). AllByRecursion P ds) c.in-Some.ensures.items i.0 in
+      (all_left P c.pop.new.self.items (d ∷ []) whole, slots-set search shards c.loop-shard.slots.items d.shard d.hits i.1 (all_right P c.pop.new.self.items (d ∷ []) whole).0),
+  c.loop-shard.invariant.1,
+)
+
+pub loop-shard-preserved-then-shard-len-2 : goal.loop-shard-preserved-then-shard-len-2
+loop-shard-preserved-then-shard-len-2 c = (
   λ search shards done slots.
       let i = c.loop-shard.invariant.0 search shards done slots in
       let P : Done → Type 0 = λ d. HitsAnswer search shards d.shard d.hits.items in
