@@ -37,7 +37,9 @@ impl Model for SplitBytes {
 }
 
 impl SplitBytes {
-    /// Makes the first part of `front` and the byte `last`, and the second part of `back`.
+    /// Copies bytes: the first part is `front` with the byte `last` behind it, the second part is `back`.
+    ///
+    /// Errors: `NoMemory` if an allocation fails; up to 45 bytes take no memory. Cost: the number of bytes.
     pub(crate) fn of(
         alloc: Global,
         front: &[u8],
@@ -66,7 +68,7 @@ impl SplitBytes {
         lend(&self.held).split_at(end)
     }
 
-    /// Duplicates the bytes. Takes no memory.
+    /// A copy, which shares the block if there is one. Takes no memory. Errors: `NoMemory` if too many copies share the block.
     #[inline(always)]
     pub(crate) fn again(&self) -> Result<SplitBytes, NoMemory>
         ensures { IfOk result (λ split. split ≡ self.now) }
