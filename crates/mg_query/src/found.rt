@@ -173,7 +173,7 @@ fn search_of<'a>(query: &Query<'_>, plan: &'a Plan<'_>, range: &'a RowRange<'_>)
     }
 }
 
-// The hits of the page, and how many hits in front of them the page does not show.
+// The hits of the page, and how many of the first of them the page does not show.
 fn page_hits<'a, R: Threads + Sync, G: Gate + Sync>(
     rt: &R,
     alloc: Global,

@@ -26,9 +26,10 @@ use mg_scan::Target;
 use mg_value::{Json, NoMemory};
 use std::alloc::Global;
 
-// The column of the index of all documents, and its name.
+// The column of the index of all documents.
 const ID_COLUMN: &str = "_id";
 
+// The name of the index of all documents.
 const ALL_DOCS: &str = "_all_docs";
 
 // The index that serves a query: that of all documents, or a defined one, lent by its catalog.
@@ -38,7 +39,8 @@ pub(crate) enum Source<'a> {
     Defined(&'a IndexDef),
 }
 
-// The index that serves the query. Errors: `NoUsableIndex` if there is none, then `BadBookmark` if the query's bookmark does not fit it.
+// The index that serves the query. Errors: `NoUsableIndex` if no index is usable, else `BadBookmark` if the query's bookmark does not
+// belong to the chosen index.
 pub(crate) fn served_by<'a>(
     query: &Query<'_>,
     normal: &Normal,
@@ -120,7 +122,6 @@ impl<'a> Source<'a> {
         }
     }
 
-    // Its name.
     pub(crate) fn name(self) -> &'a str
         ensures { result.now ≡ name_of (source_seen self.entry) }
     {
