@@ -27,7 +27,7 @@ pub(crate) struct Outcome {
 
 /// Applies edits that have ids, in order. Returns what became of each, and the shards after them, into which the bodies are moved.
 ///
-/// Errors: `NoMemory` if an allocation fails. Cost: the edits, each with its document, and the number of shards.
+/// Errors: `NoMemory` if an allocation fails. Cost: that of `Draft::edit` for each edit, and of `Draft::finish` for each shard.
 pub(crate) fn apply_edits<P: Placement>(
     alloc: Global,
     placement: &P,
@@ -87,7 +87,7 @@ fn edit_all<P: Placement>(
     Ok(outcomes)
 }
 
-// Applies one edit, to the draft of its id's shard.
+// Applies one edit to the draft of the shard on which its id is placed.
 fn edit_one<P: Placement>(
     alloc: Global,
     placement: &P,
