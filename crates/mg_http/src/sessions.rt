@@ -1,4 +1,4 @@
-//! A session: reads messages and writes their replies, until an end of one of six kinds.
+//! A session: reads messages and writes their replies, until it ends in one of six ways.
 ghost use Rattle.std.specs.Prelude.{◌≡◌, ◌↔◌, ℕ, ◌<◌, ◌≤◌, List, [], ◌++◌, length, drop, false, IsTrue, IsErrOf, is_ok, if◌then◌else◌, OnOk};
 ghost use Rattle.std.specs.Io.KnownBytes.{Appends, Consumes, IsAtEnd};
 ghost use Rattle.httparse.specs.Grammar.{RequestHead};
@@ -194,6 +194,8 @@ fn turn<H: Wait + Threads + Sync, S: Service, R: Read, W: Write>(
 }
 
 /// Answers message after message until the session ends.
+///
+/// Errors: each error ends the session; see `SessionEnd`. Cost: that of the service, and one pass over the bytes.
 pub fn session<H: Wait + Threads + Sync, S: Service, R: Read, W: Write>(
     rt: &H,
     alloc: Global,

@@ -213,7 +213,8 @@ where
     Snapshot<P>: Absorb<(), State = ()>,
 {
     /// Opens an empty database named `db`, with 1 to 64 shards, on which `placement` places the documents, and 1 to 16 seats, which are
-    /// numbered from 0. The ledger has one part for each seat. `ends` ends the database once this `Live` and all seats are dropped.
+    /// numbered from 0. `blank` is the new ledger of its tallies, with one part for each seat; `commit_log` is its new commit log. `ends`
+    /// ends the database once this `Live` and all seats are dropped.
     ///
     /// Errors: `NoMemory` if an allocation fails. Cost: the number of shards and of seats, and the name.
     pub fn open(
@@ -267,7 +268,8 @@ where
     /// Closes the database, and counts its commits. The caller hands over all its seats.
     ///
     /// Errors: `Missing` if a seat is absent, else `Ahead` if a seat has seen more commits than all seats together have made. An error
-    /// hands the database and the seats back. Takes no memory. Cost: the number of seats; waits for the writer's lock, and as `ends` does.
+    /// hands the database and the seats back. Takes no memory. Cost: the number of seats. Waits for the writer's lock, and for what `ends`
+    /// waits for.
     pub fn close<R: Wait>(
         self,
         rt: &R,

@@ -16,7 +16,7 @@ use httparse::{Error, Status};
 use mg_engine::Refusal;
 use std::alloc::{AllocError, Global};
 
-/// The most fields of a head.
+/// The most fields that a head may have. One with more is refused.
 const MAX_FIELDS: usize = 64;
 
 /// A head whose body's length is known.
@@ -45,7 +45,7 @@ pub(crate) enum Pending {
     Message(Framed),
 }
 
-/// The target's own refusal, if it is one; else this one.
+/// The refusal of the target, if the target is refused; else this one.
 fn refusal_before(refusal: Refusal, target: &RequestTarget) -> Refusal
     ensures { result ≡ refusal_before refusal (request_in target.now) }
 {
@@ -56,8 +56,8 @@ fn refusal_before(refusal: Refusal, target: &RequestTarget) -> Refusal
     }
 }
 
-/// The number of bytes of the body, or the refusal before it. `coded`: a Transfer-Encoding is given, which is refused. `post`: a
-/// length is required.
+/// The number of bytes of the body, or why the message is refused before its body. `coded`: a Transfer-Encoding is given, which is
+/// refused. `post`: a length is required.
 fn frame_body(
     length: Length,
     coded: bool,
@@ -173,7 +173,7 @@ fn read_whole(
     }
 }
 
-/// Reads the head that at most 16,384 bytes begin with; `spans` is room for its fields.
+/// Reads the head that at most 16,384 bytes begin with. `spans` is room for its fields: no more than 5,461 fit into these bytes.
 pub(crate) fn read_head(
     alloc: Global,
     db: &str,

@@ -10,7 +10,7 @@ use mg_value::ReadBuffer;
 use std::alloc::{AllocError, Global};
 use std::io::Read;
 
-/// The most fields of a head: no more fit into 16,384 bytes.
+/// How many fields a head has at most: no more fit into 16,384 bytes. A head with more than 64 is refused after it is parsed.
 const SPANS: usize = 5_461;
 
 /// How many bytes the reader is asked for at a time.
