@@ -53,7 +53,7 @@ impl<'a, H: Clock> Connection<'a, H> {
         self.has_paused.get()
     }
 
-    /// Enters a phase. `is_new`: another activity begins now, and so does its time.
+    /// Enters a phase. `is_new`: a message, a reply or a silence begins now, and its time is counted from now.
     fn enter(&self, phase: Phase, is_new: bool) -> io::Result<()> {
         if is_new {
             self.since.set(Instant::now(self.rt)?);
@@ -80,7 +80,7 @@ impl<'a, H: Clock> Connection<'a, H> {
         }
     }
 
-    /// Sets the read timeout of the socket, unless it is set already.
+    /// Sets the read timeout of the socket, unless it has this value already.
     fn limit_read(&self, millis: u64) -> io::Result<()> {
         if self.read_wait.get() != millis {
             self.stream
@@ -90,7 +90,7 @@ impl<'a, H: Clock> Connection<'a, H> {
         Ok(())
     }
 
-    /// Sets the write timeout of the socket, unless it is set already.
+    /// Sets the write timeout of the socket, unless it has this value already.
     fn limit_write(&self, seconds: u64) -> io::Result<()> {
         if self.write_wait.get() != seconds {
             self.stream
@@ -134,8 +134,8 @@ fn is_nothing_yet(kind: ErrorKind) -> bool {
     )
 }
 
-/// Reads a connection. The last byte that has come is given by a read of its own, so that the session's replies show where its messages
-/// end (see `Phase`).
+/// Reads from a connection. The last of the bytes that have come is given by a read of its own: a reply after that read shows that
+/// everything read is answered (see `Phase`).
 #[derive(Drop)]
 pub(crate) struct Incoming<'a, H> {
     connection: &'a Connection<'a, H>,
@@ -193,7 +193,7 @@ impl<H: Clock> Read for Incoming<'_, H> {
     }
 }
 
-/// Writes a connection.
+/// Writes to a connection.
 #[derive(Drop)]
 pub(crate) struct Outgoing<'a, H> {
     connection: &'a Connection<'a, H>,
