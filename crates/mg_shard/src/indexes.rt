@@ -45,11 +45,7 @@ pub(crate) fn list_in_pages(
 }
 
 // The index of this design document and name, if there is one. In one page names are compared in turn, since a look-up takes longer.
-fn index_there<'a>(
-    indexes: &'a Pages<IndexEntry>,
-    ddoc: &str,
-    name: &str,
-) -> Option<&'a IndexEntry>
+fn index_there<'a>(indexes: &'a Pages<IndexEntry>, ddoc: &str, name: &str) -> Option<&'a IndexEntry>
     ensures { option_map (λ x. x.now) result ≡ find (λ x. is_at ddoc.now name.now x.0) indexes.now }
 {
     match indexes.in_one_page() {

@@ -8,7 +8,7 @@ use Rattle.mg_scan.proofs.workers.put_in_slots.Given as goal
 abbrev pub invariant-loop-shard : goal.invariant-loop-shard
 invariant-loop-shard l =
     ((search : Search) (shards : List ShardView) → AllDone search shards l.fn.given.items → AllSlots search shards l.fn.slots.items
-        → AllDone search shards l.given.items × AllSlots search shards l.slots.items)
+    → AllDone search shards l.given.items × AllSlots search shards l.slots.items)
     × (vec_len l.slots ≡ vec_len l.fn.slots)
 
 abbrev pub decreases-loop-shard : goal.decreases-loop-shard
