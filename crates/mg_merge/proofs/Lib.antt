@@ -5,3 +5,4 @@ pub mod Pulls
 pub mod Queues
 pub mod Rows
 pub mod Shards
+pub mod Trees

@@ -11,6 +11,7 @@ mod queue;
 mod ranked;
 mod rests;
 mod source;
+mod winners;
 mod work;
 
 pub use merging::{merge, merge_all};

@@ -81,7 +81,7 @@ fn place_of<T: Ranked, B: Begins<T>>(
 }
 
 // The order of two lists in the queue: by their first rows, then by number.
-fn turn<T: Ranked, B: Begins<T>>(
+pub(crate) fn turn<T: Ranked, B: Begins<T>>(
     lists: &B,
     list: usize,
     other: usize,

@@ -1,0 +1,32 @@
+use Rattle.std.proofs.Common.{◌≡◌, ◌+◌, ◌*◌, ◌/◌, get_or, length, set, arith, ap, ◌∙◌, subst, sym}
+use Rattle.mg_merge.specs.Merged.{order_by}
+use Rattle.mg_merge.specs.Rests.{turn_order}
+use Rattle.mg_merge.specs.Winners.{AreWinners, winner_of}
+use Rattle.mg_merge.proofs.Queues.{turn_total}
+use Rattle.mg_merge.proofs.Rows.{by_total}
+use Rattle.mg_merge.proofs.Trees.{above_bottom, up_decided}
+use Rattle.mg_merge.proofs.winners.Winners.update.Goals as goal
+
+pub loop-place-init : goal.loop-place-init
+loop-place-init g c =
+    let lists = g.B.Begins.lists c.args.lists.now in
+    let turns = turn_order (order_by g.T.Ranked.row_of c.args.direction) lists in
+    record {
+      within = omega arith;
+      winners = subst (λ n. AreWinners turns (length lists) ((n + c.args.list) / 2) c.args.self.now.places.items) (sym c.count.ensures) (above_bottom turns (length lists) c.args.list c.args.self.now.places.items c.requires.winners);
+    }
+
+pub loop-place-preserved : goal.loop-place-preserved
+loop-place-preserved g c =
+    let lists = g.B.Begins.lists c.args.lists.now in
+    let order = order_by g.T.Ranked.row_of c.args.direction in
+    let turns = turn_order order lists in
+    let total = turn_total order (by_total g.T.Ranked.row_of c.args.direction) lists in
+    let place = c.loop-place.place in
+    let items = c.loop-place.self.places.items in
+    let first : c.winner-first.result ≡ winner_of turns (get_or items (2 * place) 0) (get_or items (2 * place + 1) 0) =
+        c.winner-first.ensures ∙ ap (λ ws. winner_of turns (get_or ws (2 * place) 0) (get_or ws (2 * place + 1) 0)) c.deref.ensures.value in
+    record {
+      within = omega arith;
+      winners = subst (λ w. AreWinners turns (length lists) (place / 2) (set items place w)) (sym first) (up_decided turns total (length lists) place items (omega arith) c.loop-place.invariant.within c.loop-place.invariant.winners);
+    }
