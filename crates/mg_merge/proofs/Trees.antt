@@ -1,12 +1,15 @@
--- Winner trees of numbers, by an order of their turns.
-use Rattle.std.proofs.Common.{◌≡◌, ◌≢◌, ℕ, zero, suc, ◌+◌, ◌-◌, ◌*◌, ◌/◌, ◌^◌, ◌<◌, ◌≤◌, List, length, get_or, set, Bool, true, false, if◌then◌else◌, ◌⊎◌, inl, inr, Ordering, Less, Equal, Greater, is_gt, refl, sym, ap, ap₂, ◌∙◌, subst, arith}
+-- Winner trees, first of numbers, by any total order, then of lists.
+use Rattle.std.proofs.Common.{◌≡◌, ◌≢◌, ℕ, zero, suc, ◌+◌, ◌-◌, ◌*◌, ◌/◌, ◌^◌, ◌<◌, ◌≤◌, List, [], length, get_or, set, Bool, true, false, if◌then◌else◌, ◌⊎◌, inl, inr, Bor, Ordering, Less, Equal, Greater, is_gt, refl, sym, ap, ap₂, ◌∙◌, subst, arith}
 use Rattle.std.specs.Cmp.{IsTotalOrder}
-use Rattle.std.specs.Ordering.{ordering_reverse}
+use Rattle.std.specs.Ordering.{nat_cmp, ordering_reverse, ordering_then}
 use Rattle.std.proofs.lemmas.Bool.{cases_eq}
 use Rattle.std.proofs.lemmas.Cmp.{upto, tied_itself}
 use Rattle.std.proofs.lemmas.List.{get_or-set_other, get_or-set_same, length-set}
 use Rattle.std.proofs.lemmas.Nat.{shr_le, shr-shr}
-use Rattle.mg_merge.specs.Winners.{AreWinners, IsAbove, IsFromBelow, IsWon, winner_of}
+use Rattle.mg_merge.specs.Rests.{BeginsFirst, begin_order, rests_of, turn_order}
+use Rattle.mg_merge.specs.Winners.{AreWinners, IsAbove, IsFromBelow, IsWinnerTree, IsWinnerTreeBut, IsWon, winner_of}
+use Rattle.mg_merge.proofs.Heads.{rests_of-set}
+use Rattle.mg_merge.proofs.Turns.{turn_total, turns_first}
 
 -- ---- which places stand above a place
 
@@ -192,3 +195,46 @@ first_of_all turns o n ws h k l =
     let same = is_bottom n (get_or ws (n + k) 0) (n + k) below.0 (omega arith) below.1 in
     let at : get_or ws (n + k) 0 ≡ k = omega (arith, same) in
     subst (λ x. is_gt (turns (get_or ws 1 0) x) ≡ false) at (not_after_any turns o n ws h (n + k) (n + k) (omega arith) (omega arith) (omega arith))
+
+-- ---- winner trees of lists
+
+-- the list at place 1 begins first
+pub first_begins : {X : Type 0} (order : X → X → Ordering) → IsTotalOrder order → (lists : List (List X)) (ws : List ℕ) (p : ℕ) → IsWinnerTree order lists ws → 1 < length ws → p ≡ get_or ws 1 0
+    → (p < length lists) × BeginsFirst order lists (length lists) p
+first_begins order o lists ws p tree l e =
+    let turns = turn_order order lists in
+    let size = tree.size in
+    let low = tree.below 1 (omega arith) (omega (arith, size)) in
+    let within : p < length lists = subst (λ w. w < length lists) (sym e) low.0 in
+    (within, turns_first order lists (length lists) p within
+    (subst (λ w. (k : ℕ) → k < length lists → is_gt (turns w k) ≡ false) (sym e) (first_of_all turns (turn_total order o lists) (length lists) ws tree)))
+
+-- without a place 1 there are no lists
+pub none_begin : {X : Type 0} (order : X → X → Ordering) (lists : List (List X)) (ws : List ℕ) → IsWinnerTree order lists ws → length ws ≤ 1 → length lists ≡ 0
+none_begin order lists ws tree l = let size = tree.size in omega (arith, size)
+
+other_of_two : (n k j : ℕ) (ws : List ℕ) → IsFromBelow n ws j → (IsAbove j (n + k) → ⊥) → get_or ws j 0 ≢ k
+other_of_two n k j ws below apart e = apart (subst (λ w. IsAbove j (n + w)) e below.1)
+
+same_turn : {X : Type 0} (order : X → X → Ordering) (lists : List (List X)) (p j k : ℕ) (rest : List X) → j ≢ p → k ≢ p → turn_order order (set lists p rest) j k ≡ turn_order order lists j k
+same_turn order lists p j k rest m n =
+    ap₂ (λ xs ys. ordering_then (begin_order order xs ys) (nat_cmp j k)) (get_or-set_other lists p j rest [] m) (get_or-set_other lists p k rest [] n)
+
+-- a change of one list leaves the winners right that are not above it
+pub one_changed : {X : Type 0} (order : X → X → Ordering) (lists : List (List X)) (ws : List ℕ) (p : ℕ) (rest : List X) → IsWinnerTree order lists ws → IsWinnerTreeBut order (set lists p rest) p ws
+one_changed order lists ws p rest tree =
+    let n = length lists in
+    subst (λ m. AreWinners (turn_order order (set lists p rest)) m (m + p) ws) (sym (length-set lists p rest)) (record {
+      size = tree.size;
+      below = tree.below;
+      won = λ j l r apart.
+          let won = tree.won j l r (none_above j l) in
+          let here = other_of_two n p j ws (tree.below j l (omega arith)) apart in
+          let left = other_of_two n p (2 * j) ws (tree.below (2 * j) (omega arith) (omega arith)) (λ up. apart (subst (λ i. IsAbove i (n + p)) (omega arith) (above_half (2 * j) (n + p) up))) in
+          let right = other_of_two n p (2 * j + 1) ws (tree.below (2 * j + 1) (omega arith) (omega arith)) (λ up. apart (subst (λ i. IsAbove i (n + p)) (omega arith) (above_half (2 * j + 1) (n + p) up))) in
+          (ap is_gt (same_turn order lists p (get_or ws j 0) (get_or ws (2 * j) 0) rest here left) ∙ won.0,
+          ap is_gt (same_turn order lists p (get_or ws j 0) (get_or ws (2 * j + 1) 0) rest here right) ∙ won.1);
+    })
+
+pub rest_changed : {X : Type 0} (order : X → X → Ordering) (rests : List (Bor (List X))) (ws : List ℕ) (p : ℕ) (left : Bor (List X)) → IsWinnerTree order (rests_of rests) ws → IsWinnerTreeBut order (rests_of (set rests p left)) p ws
+rest_changed order rests ws p left tree = subst (λ lists. IsWinnerTreeBut order lists p ws) (sym (rests_of-set rests p left)) (one_changed order (rests_of rests) ws p left.now tree)

@@ -3,6 +3,7 @@
 use Rattle.std.specs.Prelude.{◌≡◌, ℕ, ◌+◌, ◌*◌, ◌/◌, ◌^◌, ◌<◌, ◌≤◌, List, get_or, length, false, if◌then◌else◌}
 use Rattle.std.specs.declared.cmp.Ordering.{Ordering}
 use Rattle.std.specs.Ordering.{is_gt}
+use Rattle.mg_merge.specs.Rests.{turn_order}
 
 -- which of two numbers comes first; the left one if they tie
 abbrev pub winner_of : (ℕ → ℕ → Ordering) → ℕ → ℕ → ℕ
@@ -25,3 +26,11 @@ pub record AreWinners (turns : ℕ → ℕ → Ordering) (n changed : ℕ) (winn
   pub size : length winners ≡ 2 * n
   pub below : (j : ℕ) → 1 ≤ j → j < 2 * n → IsFromBelow n winners j
   pub won : (j : ℕ) → 1 ≤ j → j < n → (IsAbove j changed → ⊥) → IsWon turns winners j
+
+-- a winner tree of lists, by the order of their turns
+abbrev pub IsWinnerTree : {X : Type 0} → (X → X → Ordering) → List (List X) → List ℕ → Type 0
+IsWinnerTree order lists winners = AreWinners (turn_order order lists) (length lists) 0 winners
+
+-- a winner tree of lists of which one has changed
+abbrev pub IsWinnerTreeBut : {X : Type 0} → (X → X → Ordering) → List (List X) → ℕ → List ℕ → Type 0
+IsWinnerTreeBut order lists changed winners = AreWinners (turn_order order lists) (length lists) (length lists + changed) winners

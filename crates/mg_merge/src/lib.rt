@@ -7,7 +7,6 @@ pub mod laws;
 mod merging;
 mod order;
 mod pulled;
-mod queue;
 mod ranked;
 mod rests;
 mod source;

@@ -6,10 +6,9 @@
 ghost use Rattle.std.specs.Prelude.{◌≡◌, ◌+◌, ◌*◌, ◌<◌, ◌≤◌, ℕ, get_or, length, IfOk, IfSome, IfNone};
 ghost use Rattle.mg_merge.specs.Merged.{order_by};
 ghost use Rattle.mg_merge.specs.Rests.{turn_order};
-ghost use Rattle.mg_merge.specs.Winners.{AreWinners, winner_of};
+ghost use Rattle.mg_merge.specs.Winners.{IsWinnerTree, IsWinnerTreeBut, winner_of};
 
 use crate::begins::Begins;
-use crate::queue::turn;
 use crate::ranked::Ranked;
 use mg_collate::Direction;
 use mg_value::NoMemory;
@@ -28,8 +27,8 @@ impl Winners {
         lists: &B,
         direction: Direction,
     ) -> Result<Winners, NoMemory>
-        ensures { IfOk result (λ winners. AreWinners (turn_order (order_by T.row_of direction) (B.lists lists.now))
-            (length (B.lists lists.now)) 0 winners.places.items) }
+        ensures { IfOk result (λ winners. IsWinnerTree (order_by T.row_of direction)
+            (B.lists lists.now) winners.places.items) }
     {
         let mut places = bottom(alloc, lists.count())?;
         let mut place = lists.count();
@@ -58,10 +57,10 @@ impl Winners {
         direction: Direction,
     )
         requires list { list < length (B.lists lists.now) }
-        requires winners { AreWinners (turn_order (order_by T.row_of direction) (B.lists lists.now))
-            (length (B.lists lists.now)) (length (B.lists lists.now) + list) self.old.places.items }
-        ensures { AreWinners (turn_order (order_by T.row_of direction) (B.lists lists.now))
-            (length (B.lists lists.now)) 0 self.new.places.items }
+        requires others { IsWinnerTreeBut (order_by T.row_of direction) (B.lists lists.now) list
+            self.old.places.items }
+        ensures { IsWinnerTree (order_by T.row_of direction) (B.lists lists.now)
+            self.new.places.items }
     {
         let mut place = (lists.count() + list) / 2;
         while place > 0 {
@@ -101,7 +100,8 @@ fn winner<T: Ranked, B: Begins<T>>(
 {
     let left = places[2 * place];
     let right = places[2 * place + 1];
-    if turn(lists, left, right, direction).is_gt() {
+    let turn = lists.begin(left, right, direction).then(left.cmp(&right));
+    if turn.is_gt() {
         right
     } else {
         left

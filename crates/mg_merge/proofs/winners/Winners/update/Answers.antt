@@ -2,7 +2,7 @@ use Rattle.std.proofs.Common.{◌≡◌, ◌+◌, ◌*◌, ◌/◌, get_or, leng
 use Rattle.mg_merge.specs.Merged.{order_by}
 use Rattle.mg_merge.specs.Rests.{turn_order}
 use Rattle.mg_merge.specs.Winners.{AreWinners, winner_of}
-use Rattle.mg_merge.proofs.Queues.{turn_total}
+use Rattle.mg_merge.proofs.Turns.{turn_total}
 use Rattle.mg_merge.proofs.Rows.{by_total}
 use Rattle.mg_merge.proofs.Trees.{above_bottom, up_decided}
 use Rattle.mg_merge.proofs.winners.Winners.update.Goals as goal
@@ -13,7 +13,7 @@ loop-place-init g c =
     let turns = turn_order (order_by g.T.Ranked.row_of c.args.direction) lists in
     record {
       within = omega arith;
-      winners = subst (λ n. AreWinners turns (length lists) ((n + c.args.list) / 2) c.args.self.now.places.items) (sym c.count.ensures) (above_bottom turns (length lists) c.args.list c.args.self.now.places.items c.requires.winners);
+      winners = subst (λ n. AreWinners turns (length lists) ((n + c.args.list) / 2) c.args.self.now.places.items) (sym c.count.ensures) (above_bottom turns (length lists) c.args.list c.args.self.now.places.items c.requires.others);
     }
 
 pub loop-place-preserved : goal.loop-place-preserved
