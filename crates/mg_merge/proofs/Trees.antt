@@ -56,6 +56,10 @@ if_first turns o x y false e = (ap is_gt (tied_itself o x), e)
 wins_first : (turns : ℕ → ℕ → Ordering) → IsTotalOrder turns → (x y : ℕ) → (is_gt (turns (winner_of turns x y) x) ≡ false) × (is_gt (turns (winner_of turns x y) y) ≡ false)
 wins_first turns o x y = if_first turns o x y (is_gt (turns x y)) refl
 
+-- the winner of two places that were read in a copy of the places
+pub winner_read : (turns : ℕ → ℕ → Ordering) (i w : ℕ) (ws copy : List ℕ) → copy ≡ ws → w ≡ winner_of turns (get_or copy (2 * i) 0) (get_or copy (2 * i + 1) 0) → w ≡ winner_of turns (get_or ws (2 * i) 0) (get_or ws (2 * i + 1) 0)
+winner_read turns i w ws copy e h = h ∙ ap (λ xs. winner_of turns (get_or xs (2 * i) 0) (get_or xs (2 * i + 1) 0)) e
+
 -- ---- a place is decided
 
 decided_below : (turns : ℕ → ℕ → Ordering) (n i : ℕ) (ws : List ℕ) → i < length ws → IsFromBelow n ws (2 * i) → IsFromBelow n ws (2 * i + 1)
@@ -65,8 +69,8 @@ decided_below turns n i ws l left right =
     let half : 2 * i / 2 ≡ i = omega arith in
     let half_next : (2 * i + 1) / 2 ≡ i = omega arith in
     let stands : (w < n) × IsAbove i (n + w) = either_wins (λ x. (x < n) × IsAbove i (n + x)) turns (get_or ws (2 * i) 0) (get_or ws (2 * i + 1) 0)
-        (left.0, subst (λ j. IsAbove j (n + get_or ws (2 * i) 0)) half (above_half (2 * i) (n + get_or ws (2 * i) 0) left.1))
-        (right.0, subst (λ j. IsAbove j (n + get_or ws (2 * i + 1) 0)) half_next (above_half (2 * i + 1) (n + get_or ws (2 * i + 1) 0) right.1)) in
+    (left.0, subst (λ j. IsAbove j (n + get_or ws (2 * i) 0)) half (above_half (2 * i) (n + get_or ws (2 * i) 0) left.1))
+    (right.0, subst (λ j. IsAbove j (n + get_or ws (2 * i + 1) 0)) half_next (above_half (2 * i + 1) (n + get_or ws (2 * i + 1) 0) right.1)) in
     subst (λ x. (x < n) × IsAbove i (n + x)) (sym (get_or-set_same ws i w 0 l)) stands
 
 decided_won : (turns : ℕ → ℕ → Ordering) → IsTotalOrder turns → (i : ℕ) (ws : List ℕ) → 1 ≤ i → i < length ws → IsWon turns (set ws i (winner_of turns (get_or ws (2 * i) 0) (get_or ws (2 * i + 1) 0))) i
@@ -205,9 +209,11 @@ first_begins order o lists ws p tree l e =
     let turns = turn_order order lists in
     let size = tree.size in
     let low = tree.below 1 (omega arith) (omega (arith, size)) in
-    let within : p < length lists = subst (λ w. w < length lists) (sym e) low.0 in
-    (within, turns_first order lists (length lists) p within
-    (subst (λ w. (k : ℕ) → k < length lists → is_gt (turns w k) ≡ false) (sym e) (first_of_all turns (turn_total order o lists) (length lists) ws tree)))
+    let within : p < length lists = subst (λ w. w < length lists) (sym e) low.0 in (
+      within,
+      turns_first order lists (length lists) p within
+          (subst (λ w. (k : ℕ) → k < length lists → is_gt (turns w k) ≡ false) (sym e) (first_of_all turns (turn_total order o lists) (length lists) ws tree)),
+    )
 
 -- without a place 1 there are no lists
 pub none_begin : {X : Type 0} (order : X → X → Ordering) (lists : List (List X)) (ws : List ℕ) → IsWinnerTree order lists ws → length ws ≤ 1 → length lists ≡ 0
@@ -231,9 +237,10 @@ one_changed order lists ws p rest tree =
           let won = tree.won j l r (none_above j l) in
           let here = other_of_two n p j ws (tree.below j l (omega arith)) apart in
           let left = other_of_two n p (2 * j) ws (tree.below (2 * j) (omega arith) (omega arith)) (λ up. apart (subst (λ i. IsAbove i (n + p)) (omega arith) (above_half (2 * j) (n + p) up))) in
-          let right = other_of_two n p (2 * j + 1) ws (tree.below (2 * j + 1) (omega arith) (omega arith)) (λ up. apart (subst (λ i. IsAbove i (n + p)) (omega arith) (above_half (2 * j + 1) (n + p) up))) in
-          (ap is_gt (same_turn order lists p (get_or ws j 0) (get_or ws (2 * j) 0) rest here left) ∙ won.0,
-          ap is_gt (same_turn order lists p (get_or ws j 0) (get_or ws (2 * j + 1) 0) rest here right) ∙ won.1);
+          let right = other_of_two n p (2 * j + 1) ws (tree.below (2 * j + 1) (omega arith) (omega arith)) (λ up. apart (subst (λ i. IsAbove i (n + p)) (omega arith) (above_half (2 * j + 1) (n + p) up))) in (
+            ap is_gt (same_turn order lists p (get_or ws j 0) (get_or ws (2 * j) 0) rest here left) ∙ won.0,
+            ap is_gt (same_turn order lists p (get_or ws j 0) (get_or ws (2 * j + 1) 0) rest here right) ∙ won.1,
+          );
     })
 
 pub rest_changed : {X : Type 0} (order : X → X → Ordering) (rests : List (Bor (List X))) (ws : List ℕ) (p : ℕ) (left : Bor (List X)) → IsWinnerTree order (rests_of rests) ws → IsWinnerTreeBut order (rests_of (set rests p left)) p ws

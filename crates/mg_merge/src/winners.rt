@@ -101,9 +101,5 @@ fn winner<T: Ranked, B: Begins<T>>(
     let left = places[2 * place];
     let right = places[2 * place + 1];
     let turn = lists.begin(left, right, direction).then(left.cmp(&right));
-    if turn.is_gt() {
-        right
-    } else {
-        left
-    }
+    if turn.is_gt() { right } else { left }
 }

@@ -1,4 +1,4 @@
-use Rattle.std.proofs.Common.{◌≡◌, ◌<◌, [], get_or, length, map, set, arith, ◌∙◌}
+use Rattle.std.proofs.Common.{◌≡◌, ◌<◌, [], get_or, length, map, set, arith, rules, ◌∙◌}
 use Rattle.std.proofs.lemmas.List.{length-map, length-set}
 use Rattle.mg_merge.specs.Merged.{order_by}
 use Rattle.mg_merge.specs.Pulled.{firsts_of, remaining}
@@ -17,7 +17,9 @@ returns-in_err-source-clause-end g c =
 pub index-requires : goal.index-requires
 index-requires g c =
     let some = c.in_ok-source.ensures.some in
-    (first_source g.T.Ranked.row_of c.args.direction c.args.heads.now.items c.args.winners.now.places.items c.in_ok-source.source c.requires.tree some.0 some.1).0
+    let first = first_source g.T.Ranked.row_of c.args.direction c.args.heads.now.items c.args.winners.now.places.items c.in_ok-source.source c.requires.tree some.0 some.1 in
+    let within = first.0 in
+    omega (arith, within)
 
 pub returns-in_err-item-clause-end : goal.returns-in_err-item-clause-end
 returns-in_err-item-clause-end g c =
@@ -28,7 +30,17 @@ returns-in_err-item-clause-end g c =
     let some = c.in_ok-source.ensures.some in
     let first = first_source row c.args.direction heads c.args.winners.now.places.items source c.requires.tree some.0 some.1 in
     let front = front_at heads source c.index.result.now c.index.result.now first.0 c.index.ensures in
-    if_none c.from_residual-in_err-item.result _ (all_ended row c.args.direction heads rests source c.requires.size first.0 first.1 (front ∙ c.in_err-item.is))
+    if_none c.from_residual-in_err-item.result _ (all_ended row c.args.direction heads rests source c.requires.size first.0 first.1 (front ∙ c.in_err-item.was))
+
+pub offset_bounds-sources-source : goal.offset_bounds-sources-source
+offset_bounds-sources-source g c =
+    let some = c.in_ok-source.ensures.some in
+    let first = first_source g.T.Ranked.row_of c.args.direction c.args.heads.now.items c.args.winners.now.places.items c.in_ok-source.source c.requires.tree some.0 some.1 in
+    let within = first.0 in
+    let counted = length-map c.args.sources.now g.S.RowSource.rest in
+    let size = c.requires.size in
+    let inside : c.in_ok-source.source < length c.args.sources.now = omega (arith, counted, size, within) in
+    search rules
 
 pub bounds-sources-source : goal.bounds-sources-source
 bounds-sources-source g c =
@@ -42,7 +54,9 @@ bounds-sources-source g c =
 pub index_mut-requires : goal.index_mut-requires
 index_mut-requires g c =
     let some = c.in_ok-source.ensures.some in
-    (first_source g.T.Ranked.row_of c.args.direction c.args.heads.now.items c.args.winners.now.places.items c.in_ok-source.source c.requires.tree some.0 some.1).0
+    let first = first_source g.T.Ranked.row_of c.args.direction c.args.heads.now.items c.args.winners.now.places.items c.in_ok-source.source c.requires.tree some.0 some.1 in
+    let within = first.0 in
+    omega (arith, within)
 
 pub update-requires-clause-list : goal.update-requires-clause-list
 update-requires-clause-list g c =
@@ -76,7 +90,7 @@ returns-clause-ahead g c =
     let s = get_or sources source c.index-sources-source.result in
     let at : s ≡ get_or sources source s = value_at sources source c.index-sources-source.result s inside in
     let was = was_remaining row c.next.result (rest s) (rest c.next.new.self) c.next.ensures.item c.next.ensures.end in
-    source_ahead row rest direction heads sources c.update.new.self.places.items source c.in_ok-item.item c.next.result s c.next.new.self c.requires.size c.requires.order within (front ∙ c.in_ok-item.is) inside at was c.update.ensures
+    source_ahead row rest direction heads sources c.update.new.self.places.items source c.in_ok-item.item c.next.result s c.next.new.self c.requires.size c.requires.order within (front ∙ c.in_ok-item.was) inside at was c.update.ensures
 
 pub returns-clause-first : goal.returns-clause-first
 returns-clause-first g c =
@@ -96,7 +110,7 @@ returns-clause-first g c =
     let s = get_or sources source c.index-sources-source.result in
     let at : s ≡ get_or sources source s = value_at sources source c.index-sources-source.result s inside in
     let was = was_remaining row c.next.result (rest s) (rest c.next.new.self) c.next.ensures.item c.next.ensures.end in
-    source_first row rest direction heads sources source c.in_ok-item.item c.next.result s c.next.new.self c.requires.size c.requires.order within first.1 (front ∙ c.in_ok-item.is) inside at was
+    source_first row rest direction heads sources source c.in_ok-item.item c.next.result s c.next.new.self c.requires.size c.requires.order within first.1 (front ∙ c.in_ok-item.was) inside at was
 
 pub returns-clause-given : goal.returns-clause-given
 returns-clause-given g c = λ start from.
@@ -105,7 +119,7 @@ returns-clause-given g c = λ start from.
     let some = c.in_ok-source.ensures.some in
     let first = first_source g.T.Ranked.row_of c.args.direction heads c.args.winners.now.places.items source c.requires.tree some.0 some.1 in
     let front = front_at heads source c.index.result.now c.index.result.now first.0 c.index.ensures in
-    one_given g.S.RowSource.gives start heads c.args.sources.now source c.in_ok-item.item from first.0 (front ∙ c.in_ok-item.is)
+    one_given g.S.RowSource.gives start heads c.args.sources.now source c.in_ok-item.item from first.0 (front ∙ c.in_ok-item.was)
 
 pub returns-clause-from : goal.returns-clause-from
 returns-clause-from g c = λ start from.

@@ -4,7 +4,7 @@ use Rattle.mg_merge.specs.Rests.{turn_order}
 use Rattle.mg_merge.specs.Winners.{winner_of}
 use Rattle.mg_merge.proofs.Turns.{turn_total}
 use Rattle.mg_merge.proofs.Rows.{by_total}
-use Rattle.mg_merge.proofs.Trees.{AreDecided, all_decided, next_decided, none_decided}
+use Rattle.mg_merge.proofs.Trees.{AreDecided, all_decided, next_decided, none_decided, winner_read}
 use Rattle.mg_merge.proofs.winners.Winners.new.Goals as goal
 
 pub loop-place-init : goal.loop-place-init
@@ -24,8 +24,7 @@ loop-place-preserved g c =
     let total = turn_total order (by_total g.T.Ranked.row_of c.args.direction) lists in
     let place = c.loop-place.place - 1 in
     let items = c.loop-place.places.items in
-    let first : c.winner.result ≡ winner_of turns (get_or items (2 * place) 0) (get_or items (2 * place + 1) 0) =
-        c.winner.ensures ∙ ap (λ ws. winner_of turns (get_or ws (2 * place) 0) (get_or ws (2 * place + 1) 0)) c.deref.ensures.value in
+    let first = winner_read turns place c.winner.result items c.deref.result.now c.deref.ensures.value c.winner.ensures in
     let next : c.loop-place.place ≡ place + 1 = omega arith in
     subst (λ w. AreDecided turns (length lists) place (set items place w)) (sym first)
     (next_decided turns total (length lists) place items (omega arith) (subst (λ p. AreDecided turns (length lists) p items) next c.loop-place.invariant))

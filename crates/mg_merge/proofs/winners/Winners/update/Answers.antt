@@ -4,7 +4,7 @@ use Rattle.mg_merge.specs.Rests.{turn_order}
 use Rattle.mg_merge.specs.Winners.{AreWinners, winner_of}
 use Rattle.mg_merge.proofs.Turns.{turn_total}
 use Rattle.mg_merge.proofs.Rows.{by_total}
-use Rattle.mg_merge.proofs.Trees.{above_bottom, up_decided}
+use Rattle.mg_merge.proofs.Trees.{above_bottom, up_decided, winner_read}
 use Rattle.mg_merge.proofs.winners.Winners.update.Goals as goal
 
 pub loop-place-init : goal.loop-place-init
@@ -24,8 +24,7 @@ loop-place-preserved g c =
     let total = turn_total order (by_total g.T.Ranked.row_of c.args.direction) lists in
     let place = c.loop-place.place in
     let items = c.loop-place.self.places.items in
-    let first : c.winner-first.result ≡ winner_of turns (get_or items (2 * place) 0) (get_or items (2 * place + 1) 0) =
-        c.winner-first.ensures ∙ ap (λ ws. winner_of turns (get_or ws (2 * place) 0) (get_or ws (2 * place + 1) 0)) c.deref.ensures.value in
+    let first = winner_read turns place c.winner-first.result items c.deref.result.now c.deref.ensures.value c.winner-first.ensures in
     record {
       within = omega arith;
       winners = subst (λ w. AreWinners turns (length lists) (place / 2) (set items place w)) (sym first) (up_decided turns total (length lists) place items (omega arith) c.loop-place.invariant.within c.loop-place.invariant.winners);
