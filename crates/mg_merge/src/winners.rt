@@ -77,8 +77,8 @@ fn bottom(alloc: Global, count: usize) -> Result<Vec<usize>, NoMemory>
     ensures bottom { IfOk result
         (λ places. (k : ℕ) → k < count → get_or places.items (count + k) 0 ≡ k) }
 {
-    let mut places = vec![in alloc; 0; count]?;
-    places.reserve(count)?;
+    let mut places = Vec::with_capacity(alloc, count.saturating_mul(2))?;
+    places.resize(count, 0)?;
     for list in 0..count {
         places.push(list)?;
     }

@@ -1,4 +1,4 @@
-use Rattle.std.proofs.Common.{◌≡◌, ◌∷◌, IfOk, IfSome, All, length, take, ap, refl, subst, sym, ◌∙◌, arith}
+use Rattle.std.proofs.Common.{◌≡◌, ◌∷◌, IfOk, IfSome, All, take, ap, refl, subst, sym, ◌∙◌, arith}
 use Rattle.mg_collate.specs.Sorted.{sorted}
 use Rattle.mg_merge.specs.Merged.{IsInOrderBy, contents_of, joined, order_by}
 use Rattle.mg_merge.specs.Rests.{lent_of, rests_of}

@@ -1,4 +1,4 @@
-use Rattle.std.proofs.Common.{◌<◌, length, arith}
+use Rattle.std.proofs.Common.{arith}
 use Rattle.mg_merge.specs.Merged.{order_by}
 use Rattle.mg_merge.specs.Rests.{rests_of}
 use Rattle.mg_merge.proofs.Heads.{ended, if_none, rest_order, rest_taken, rests_size}
