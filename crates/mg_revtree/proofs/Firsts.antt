@@ -5,7 +5,7 @@ use Rattle.mg_revtree.specs.Revision.{Revision, run_from, same_revision}
 use Rattle.mg_revtree.specs.History.{Leaf, Link, Paths, all_links, are_held, fit, is_known, links, newest_of}
 use Rattle.mg_revtree.specs.Growth.{empty_tree, first_tree, is_empty, is_run_of, line_tree, tree_in}
 use Rattle.mg_revtree.specs.declared.growth.Growth.{Growth}
-use Rattle.mg_revtree.specs.declared.growth.Growth.TheVariants.{Empty, First, Line, Grown}
+use Rattle.mg_revtree.specs.declared.growth.Growth.TheVariants.{Empty, First, Pair, Line, Grown}
 use Rattle.mg_revtree.specs.Tree.{AreNodes, StandsFor, Tree, find, node}
 use Rattle.mg_revtree.specs.Steps.{agrees_found, held_found, put}
 use Rattle.mg_revtree.specs.Changes.{found_of, path_of, with_path}
@@ -119,6 +119,7 @@ nothing_known = record { same = λ r. refl; sorted = tt }
 pub empty_is : (g : Growth) → is_empty g ≡ true → tree_in g ≡ empty_tree
 empty_is Empty e = refl
 empty_is (First leaf) e = cc
+empty_is (Pair pair) e = cc
 empty_is (Line leaf known) e = cc
 empty_is (Grown grown) e = cc
 

@@ -21,3 +21,4 @@ pub mod Replicas
 pub mod Leafless
 pub mod Bodies
 pub mod Firsts
+pub mod Pairs

@@ -4,7 +4,7 @@ use Rattle.mg_revtree.specs.Revision.{Revision, same_revision}
 use Rattle.mg_revtree.specs.History.{Leaf, Link}
 use Rattle.mg_revtree.specs.Tree.{Tree}
 use Rattle.mg_revtree.specs.declared.growth.Growth.{Growth}
-use Rattle.mg_revtree.specs.declared.growth.Growth.TheVariants.{Empty, First, Line, Grown}
+use Rattle.mg_revtree.specs.declared.growth.Growth.TheVariants.{Empty, First, Pair, Line, Grown}
 
 -- the tree without revisions
 abbrev pub empty_tree : Tree
@@ -22,6 +22,7 @@ line_tree known leaf = record { links = known; leaves = leaf ∷ [] }
 abbrev pub tree_in : Growth → Tree
 tree_in Empty = empty_tree
 tree_in (First leaf) = first_tree leaf
+tree_in (Pair pair) = pair
 tree_in (Line leaf known) = line_tree known.value leaf
 tree_in (Grown grown) = grown.value
 
@@ -29,6 +30,7 @@ tree_in (Grown grown) = grown.value
 abbrev pub is_empty : Growth → Bool
 is_empty Empty = true
 is_empty (First leaf) = false
+is_empty (Pair pair) = false
 is_empty (Line leaf known) = false
 is_empty (Grown grown) = false
 

@@ -11,3 +11,4 @@ pub mod Known
 pub mod Body
 pub mod Block
 pub mod Growth
+pub mod Pair

@@ -157,8 +157,8 @@ fn links_of(alloc: Global, rev: &Rev) -> Result<Known, NoMemory>
     Ok(known)
 }
 
-// The leaves of a tree that has this one alone, with capacity for one more.
-fn leaves_of(alloc: Global, first: &SharedLeaf) -> Result<Vec<SharedLeaf>, NoMemory>
+/// The leaves of a tree that has this one alone, with capacity for one more.
+pub(crate) fn leaves_of(alloc: Global, first: &SharedLeaf) -> Result<Vec<SharedLeaf>, NoMemory>
     ensures { IfOk result (λ leaves. leaves.items ≡ first.now ∷ []) }
 {
     let mut leaves = Vec::with_capacity(alloc, 2)?;

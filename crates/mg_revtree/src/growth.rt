@@ -14,18 +14,22 @@ use crate::form::Form;
 use crate::grown::{Grown, only_leaf};
 use crate::leaf::{Leaf, SharedLeaf};
 use crate::links::Known;
+use crate::pair::Pair;
 use crate::revision::Rev;
 use mg_value::{Json, NoMemory};
 use std::alloc::Global;
 use std::slice;
 
-/// How a tree is kept. Most documents have one revision: their tree is its leaf alone.
+/// How a tree is kept. Most documents have one revision: their tree is its leaf alone. Most others were edited or deleted once: their
+/// tree is the leaf and the id of its parent.
 #[derive(Drop)]
 pub(crate) enum Growth {
     // no revision
     Empty,
     // one revision, which has no parent and is the leaf
     First(SharedLeaf),
+    // the leaf and its parent, which has no known parent
+    Pair(Pair),
     // one leaf, and all known revisions: the tree of an edited document that never had a second leaf
     Line(SharedLeaf, Box<Known>),
     // all known revisions, and a list of the leaves
@@ -40,6 +44,7 @@ impl Growth {
         match self {
             Growth::Empty => &[],
             Growth::First(leaf) => slice::from_ref(leaf),
+            Growth::Pair(pair) => pair.leaves(),
             Growth::Line(leaf, _) => slice::from_ref(leaf),
             Growth::Grown(grown) => &grown.leaves,
         }
@@ -53,6 +58,7 @@ impl Growth {
         match self {
             Growth::Empty => false,
             Growth::First(leaf) => leaf.leaf().rev.is(pos, id.as_bytes()),
+            Growth::Pair(pair) => pair.knows(pos, id),
             Growth::Line(_, known) => known.knows(pos, id),
             Growth::Grown(grown) => grown.links.knows(pos, id),
         }
@@ -67,6 +73,7 @@ impl Growth {
         match self {
             Growth::Empty => true,
             Growth::First(_) => true,
+            Growth::Pair(pair) => pair.fits(start, ids),
             Growth::Line(_, known) => known.fits(start, ids),
             Growth::Grown(grown) => grown.links.fits(start, ids),
         }
@@ -82,6 +89,7 @@ impl Growth {
         match self {
             Growth::Empty => false,
             Growth::First(leaf) => is_run_of(&leaf.leaf().rev, start, ids),
+            Growth::Pair(pair) => pair.holds(start, ids),
             Growth::Line(_, known) => known.holds(start, ids),
             Growth::Grown(grown) => grown.links.holds(start, ids),
         }
@@ -95,6 +103,7 @@ impl Growth {
         match self {
             Growth::Empty => {}
             Growth::First(leaf) => leaf.move_into(form),
+            Growth::Pair(pair) => pair.share_form(form),
             Growth::Line(leaf, _) => leaf.move_into(form),
             Growth::Grown(grown) => grown.share_form(form),
         }
@@ -107,6 +116,7 @@ impl Growth {
         match self {
             Growth::Empty => Ok(Growth::Empty),
             Growth::First(leaf) => Ok(Growth::First(leaf.share()?)),
+            Growth::Pair(pair) => Ok(Growth::Pair(pair.copy(alloc)?)),
             Growth::Line(leaf, known) => Ok(Growth::Line(leaf.share()?, copy_boxed(alloc, known)?)),
             Growth::Grown(grown) => Ok(Growth::Grown(Box::new(alloc, grown.copy(alloc)?)?)),
         }
@@ -203,6 +213,7 @@ impl Growth {
         match self {
             Growth::Empty => Ok(Grown::new(alloc)),
             Growth::First(leaf) => Grown::of_first(alloc, leaf),
+            Growth::Pair(pair) => pair.in_lists(alloc),
             Growth::Line(leaf, known) => Grown::of_line(alloc, leaf, known),
             Growth::Grown(grown) => grown.copy(alloc),
         }
@@ -216,7 +227,7 @@ fn copy_boxed(alloc: Global, known: &Known) -> Result<Box<Known>, NoMemory>
     Ok(Box::new(alloc, known.copy(alloc)?)?)
 }
 
-// Keeps lists as a line if they have one leaf.
+// Keeps lists as a pair or a line if they have one leaf.
 fn growth_of(alloc: Global, grown: Grown) -> Result<Growth, NoMemory>
     ensures { IfOk result (λ growth. tree_in growth ≡ grown) }
 {
@@ -224,8 +235,11 @@ fn growth_of(alloc: Global, grown: Grown) -> Result<Growth, NoMemory>
         return Ok(Growth::Grown(Box::new(alloc, grown)?));
     }
     let Grown { links, mut leaves } = grown;
-    let known = Box::new(alloc, links)?;
-    Ok(Growth::Line(leaves.swap_remove(0), known))
+    let leaf = leaves.swap_remove(0);
+    match Pair::of(alloc, &leaf, &links)? {
+        Some(pair) => Ok(Growth::Pair(pair)),
+        None => Ok(Growth::Line(leaf, Box::new(alloc, links)?)),
+    }
 }
 
 // Accepts a run on a line, which is given by its leaf and all known revisions. If there are then several leaves, also returns the lists

@@ -12,6 +12,7 @@ pub mod laws;
 mod leaf;
 mod leaf_list;
 mod links;
+mod pair;
 mod revision;
 mod tree;
 

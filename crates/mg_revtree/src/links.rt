@@ -6,7 +6,9 @@ mod list;
 mod lookup;
 mod node;
 mod older;
+mod pair;
 mod parts;
 mod room;
 
 pub(crate) use known::Known;
+pub(crate) use lookup::{LookUp, all_agree, all_held};

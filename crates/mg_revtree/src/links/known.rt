@@ -1,12 +1,13 @@
-ghost use Rattle.std.specs.Prelude.{◌≡◌, ◌+◌, ◌≤◌, ◌++◌, ◌*◌, ◌||◌, List, [], IfOk, OnErr, OnOk, is_some, length, map, nat_le, option_copied, option_map, string_bytes};
+ghost use Rattle.std.specs.Prelude.{◌≡◌, ◌+◌, ◌<◌, ◌≤◌, ◌++◌, ◌*◌, ◌||◌, List, [], IfOk, IfSome, OnErr, OnOk, is_some, length, map, nat_le, option_copied, option_map, string_bytes};
 ghost use Rattle.mg_revtree.specs.Revision.{run_from};
 ghost use Rattle.mg_revtree.specs.History.{Link, are_held, fit, links};
 ghost use Rattle.mg_revtree.specs.Tree.{AreNodes, AreSorted, find};
-ghost use Rattle.mg_revtree.specs.Known.{parent_below};
+ghost use Rattle.mg_revtree.specs.Pair.{pair_links};
 
 use crate::links::list::Links;
-use crate::links::lookup::{all_agree, all_held};
+use crate::links::lookup::{LookUp, all_agree, all_held};
 use crate::links::older::Older;
+use crate::revision::Rev;
 use mg_value::NoMemory;
 use std::alloc::Global;
 use std::marker::Model;
@@ -72,18 +73,6 @@ impl Known {
         }
     }
 
-    /// Looks up a revision: the id of its parent, `Some(None)` if it has no known parent, `None` if it is unknown. Cost: the
-    /// logarithm of the known revisions.
-    pub fn look_up_parent(&self, pos: u32, id: &[u8]) -> Option<Option<&[u8]>>
-        ensures { option_map (λ p. parent_below pos (option_copied p)) result ≡ find (pos, id.now) self.now }
-    {
-        match self.older.look_up_parent(pos, id) {
-            Some(Some(parent)) => Some(Some(parent)),
-            Some(None) => Some(self.newer.look_up_parent(pos, id).flatten()),
-            None => self.newer.look_up_parent(pos, id),
-        }
-    }
-
     /// Whether a revision is known. Cost: the logarithm of the known revisions.
     pub fn knows(&self, pos: u32, id: &String) -> bool
         ensures { AreSorted self.now → result ≡ is_some (find (pos, string_bytes id.now) self.now) }
@@ -130,6 +119,29 @@ impl Known {
         Ok(())
     }
 
+    /// The known revisions that are a revision and its parent, which has no known parent. The parent is given by its id.
+    pub fn of_pair(alloc: Global, rev: &Rev, parent: &[u8]) -> Result<Known, NoMemory>
+        requires { 0 < rev.now.0 }
+        ensures { IfOk result (λ known. known ≡ pair_links rev.now parent.now) }
+    {
+        Ok(Known {
+            older: Older::none(),
+            newer: Links::of_pair(alloc, rev, parent)?,
+        })
+    }
+
+    /// The id of a revision's parent, if the known revisions are exactly these two, and the parent has no known parent. Takes no
+    /// memory. May also return `None` if there are older revisions.
+    pub fn parent_in_pair(&self, rev: &Rev) -> Option<&[u8]>
+        ensures { IfSome result
+            (λ parent. (0 < rev.now.0) × (self.now ≡ pair_links rev.now parent.now)) }
+    {
+        if self.older.len() != 0 {
+            return None;
+        }
+        self.newer.parent_in_pair(rev)
+    }
+
     /// A copy that shares the older list. Cost: copies the two blocks of memory of the newer list, with no work for each
     /// revision.
     pub fn copy(&self, alloc: Global) -> Result<Known, NoMemory>
@@ -139,5 +151,17 @@ impl Known {
             older: self.older.share()?,
             newer: self.newer.copy(alloc)?,
         })
+    }
+}
+
+impl LookUp for Known {
+    ghost kept = { λ known. known };
+
+    fn look_up_parent(&self, pos: u32, id: &[u8]) -> Option<Option<&[u8]>> {
+        match self.older.look_up_parent(pos, id) {
+            Some(Some(parent)) => Some(Some(parent)),
+            Some(None) => Some(self.newer.look_up_parent(pos, id).flatten()),
+            None => self.newer.look_up_parent(pos, id),
+        }
     }
 }

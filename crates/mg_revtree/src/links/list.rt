@@ -1,15 +1,18 @@
-ghost use Rattle.std.specs.Prelude.{◌≡◌, ◌+◌, ◌≤◌, ◌++◌, List, [], IfOk, OnErr, OnOk, length, map, option_copied, option_map, string_bytes};
+ghost use Rattle.std.specs.Prelude.{◌≡◌, ◌+◌, ◌<◌, ◌≤◌, ◌++◌, List, [], IfOk, IfSome, OnErr, OnOk, length, map, option_copied, option_map, string_bytes};
 ghost use Rattle.mg_revtree.specs.Revision.{run_from};
 ghost use Rattle.mg_revtree.specs.History.{Link, links};
 ghost use Rattle.mg_revtree.specs.Tree.{AreNodes, AreSorted, find};
 ghost use Rattle.mg_revtree.specs.Known.{parent_below, with_links};
+ghost use Rattle.mg_revtree.specs.Pair.{pair_links};
 
 use crate::capacity::reserve;
 use crate::links::fold::fold_links;
 use crate::links::lookup::place;
 use crate::links::node::Node;
+use crate::links::pair::{is_pair, pair_nodes};
 use crate::links::parts::parts_for;
 use crate::links::room::join_all;
+use crate::revision::Rev;
 use mg_value::NoMemory;
 use std::alloc::Global;
 use std::marker::Model;
@@ -110,6 +113,38 @@ impl Links {
         };
         join_all(&self.texts, &mut self.nodes, start, &parts);
         Ok(())
+    }
+
+    /// The links of a revision and its parent, which has no known parent. The parent is given by its id.
+    pub fn of_pair(alloc: Global, rev: &Rev, parent: &[u8]) -> Result<Links, NoMemory>
+        ensures { IfOk result (λ links. links ≡ pair_links rev.now parent.now) }
+    {
+        let id = rev.id.as_bytes();
+        let bytes = parent
+            .len()
+            .saturating_add(id.len())
+            .saturating_add(SPARE_BYTES);
+        let mut texts = Vec::with_capacity(alloc, bytes)?;
+        let (below, child) = pair_nodes(&mut texts, rev.pos, id, parent)?;
+        let mut nodes = Vec::with_capacity(alloc, 2 + SPARE_NODES)?;
+        nodes.push(below)?;
+        nodes.push(child)?;
+        Ok(Links { texts, nodes })
+    }
+
+    /// The id of a revision's parent, if the links are exactly those of the two, and the parent has no known parent. Takes no memory.
+    pub fn parent_in_pair(&self, rev: &Rev) -> Option<&[u8]>
+        ensures { IfSome result
+            (λ parent. (0 < rev.now.0) × (self.now ≡ pair_links rev.now parent.now)) }
+    {
+        if self.nodes.len() != 2 {
+            return None;
+        }
+        let below = self.nodes[0];
+        if !is_pair(&self.texts, below, self.nodes[1], rev) {
+            return None;
+        }
+        Some(below.id.of(&self.texts))
     }
 
     /// A copy of the links. Cost: copies two blocks of memory, with no work for each revision.

@@ -3,10 +3,20 @@ ghost use Rattle.mg_revtree.specs.Revision.{run_from};
 ghost use Rattle.mg_revtree.specs.History.{Link, fit, are_held, links};
 ghost use Rattle.mg_revtree.specs.Tree.{AreNodes, AreSorted, find};
 ghost use Rattle.mg_revtree.specs.Nodes.{links_in};
+ghost use Rattle.mg_revtree.specs.Known.{parent_below};
 ghost use Rattle.mg_revtree.specs.Steps.{IsGap, IsLinkAt, agrees_found, held_found};
 
-use crate::links::known::Known;
 use crate::links::node::Node;
+
+/// Known revisions with their parents, in which a revision can be looked up.
+pub(crate) trait LookUp {
+    // the list of them
+    ghost kept: { Self → List Link };
+
+    /// Looks up a revision: the id of its parent, `Some(None)` if it has no known parent, `None` if it is unknown. Takes no memory.
+    fn look_up_parent(&self, pos: u32, id: &[u8]) -> Option<Option<&[u8]>>
+        ensures { option_map (λ p. parent_below pos (option_copied p)) result ≡ find (pos, id.now) (kept self.now) };
+}
 
 /// The place of a revision's node, or the place where it would go.
 pub fn place(texts: &[u8], nodes: &[Node], pos: u32, id: &[u8]) -> Result<usize, usize>
@@ -22,9 +32,9 @@ pub fn place(texts: &[u8], nodes: &[Node], pos: u32, id: &[u8]) -> Result<usize,
 }
 
 // Whether the parent given for a revision does not contradict the known one.
-fn agrees(known: &Known, pos: u32, id: &String, parent: Option<&String>) -> bool
+fn agrees<K: LookUp>(known: &K, pos: u32, id: &String, parent: Option<&String>) -> bool
     ensures { result
-        ≡ agrees_found (find (pos, string_bytes id.now) known.now) (option_map
+        ≡ agrees_found (find (pos, string_bytes id.now) (K.kept known.now)) (option_map
         (λ p. (pos - 1, string_bytes p)) (option_copied parent.entry)) }
 {
     match (known.look_up_parent(pos, id.as_bytes()), parent) {
@@ -34,8 +44,8 @@ fn agrees(known: &Known, pos: u32, id: &String, parent: Option<&String>) -> bool
 }
 
 /// Whether no parent in a run contradicts a known one.
-pub fn all_agree(known: &Known, start: u32, ids: &[String]) -> bool
-    ensures { (ls : List Link) → AreNodes known.now ls
+pub fn all_agree<K: LookUp>(known: &K, start: u32, ids: &[String]) -> bool
+    ensures { (ls : List Link) → AreNodes (K.kept known.now) ls
         → result ≡ fit ls (links (run_from start (map string_bytes ids.now))) }
 {
     let mut pos = start;
@@ -49,9 +59,9 @@ pub fn all_agree(known: &Known, start: u32, ids: &[String]) -> bool
 }
 
 // Whether a revision is known, and with the given parent, if one is given.
-fn holds(known: &Known, pos: u32, id: &String, parent: Option<&String>) -> bool
+fn holds<K: LookUp>(known: &K, pos: u32, id: &String, parent: Option<&String>) -> bool
     ensures { result
-        ≡ held_found (find (pos, string_bytes id.now) known.now) (option_map
+        ≡ held_found (find (pos, string_bytes id.now) (K.kept known.now)) (option_map
         (λ p. (pos - 1, string_bytes p)) (option_copied parent.entry)) }
 {
     match (known.look_up_parent(pos, id.as_bytes()), parent) {
@@ -62,8 +72,8 @@ fn holds(known: &Known, pos: u32, id: &String, parent: Option<&String>) -> bool
 }
 
 /// Whether all revisions of a run are known, with the parents that the run gives them.
-pub fn all_held(known: &Known, start: u32, ids: &[String]) -> bool
-    ensures { (ls : List Link) → AreNodes known.now ls
+pub fn all_held<K: LookUp>(known: &K, start: u32, ids: &[String]) -> bool
+    ensures { (ls : List Link) → AreNodes (K.kept known.now) ls
         → result ≡ are_held ls (links (run_from start (map string_bytes ids.now))) }
 {
     let mut pos = start;

@@ -9,8 +9,8 @@ use mg_value::NoMemory;
 // The texts take at most this many bytes, so that a place in them has 32 bits.
 const MOST_BYTES: usize = 4_294_967_295;
 
-// Adds an id to the texts. `NoMemory` also if they would take more than `MOST_BYTES`.
-fn add(texts: &mut Vec<u8>, id: &[u8]) -> Result<IdPart, NoMemory>
+/// Adds an id to the texts. `NoMemory` also if they would take more than `MOST_BYTES`.
+pub fn add(texts: &mut Vec<u8>, id: &[u8]) -> Result<IdPart, NoMemory>
     ensures grows { Grows texts.old.items texts.new.items }
     ensures part { IfOk result
         (λ p. LiesWithin (length texts.new.items) p × (text_of_part texts.new.items p ≡ id.now)) }

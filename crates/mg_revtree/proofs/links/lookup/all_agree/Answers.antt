@@ -7,7 +7,7 @@ use Rattle.mg_revtree.proofs.Runs.{all-next, newest_got}
 use Rattle.mg_revtree.proofs.links.lookup.all_agree.Goals as goal
 
 pub loop-i-preserved : goal.loop-i-preserved
-loop-i-preserved c = λ ls nodes.
+loop-i-preserved g c = λ ls nodes.
     let n = c.loop-i.pos in
     let id = string_bytes c.index-ids-i.result in
     let o = option_map {U = Revision} (λ p. (n - 1, string_bytes p)) (option_copied c.get.result) in

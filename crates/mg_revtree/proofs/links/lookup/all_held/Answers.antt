@@ -7,7 +7,7 @@ use Rattle.mg_revtree.proofs.Runs.{all-next, newest_got}
 use Rattle.mg_revtree.proofs.links.lookup.all_held.Goals as goal
 
 pub loop-i-preserved : goal.loop-i-preserved
-loop-i-preserved c = λ ls nodes.
+loop-i-preserved g c = λ ls nodes.
     let n = c.loop-i.pos in
     let id = string_bytes c.index-ids-i.result in
     let o = option_map {U = Revision} (λ p. (n - 1, string_bytes p)) (option_copied c.get.result) in
@@ -18,7 +18,7 @@ loop-i-preserved c = λ ls nodes.
     ∙ ap (λ (m : ℕ). are_held ls (links (run_from m (map string_bytes (drop (c.loop-i.i + 1) c.args.ids.now))))) (sym c.saturating_sub-pos.ensures)
 
 pub returns-then-not-holds : goal.returns-then-not-holds
-returns-then-not-holds c = λ ls nodes.
+returns-then-not-holds g c = λ ls nodes.
     let n = c.loop-i.pos in
     let id = string_bytes c.index-ids-i.result in
     let o = option_map {U = Revision} (λ p. (n - 1, string_bytes p)) (option_copied c.get.result) in

@@ -1,0 +1,151 @@
+//! Trees of a leaf and its parent, which has no known parent.
+ghost use Rattle.std.specs.Prelude.{◌≡◌, ◌<◌, List, IfOk, IfSome, is_some, map, string_bytes};
+ghost use Rattle.mg_revtree.specs.Revision.{run_from};
+ghost use Rattle.mg_revtree.specs.Body.{IsFormOf};
+ghost use Rattle.mg_revtree.specs.History.{Link, are_held, first_of, fit, links};
+ghost use Rattle.mg_revtree.specs.Growth.{line_tree};
+ghost use Rattle.mg_revtree.specs.Pair.{pair_links};
+ghost use Rattle.mg_revtree.specs.Tree.{AreNodes, find};
+
+use crate::form::Form;
+use crate::grown::{Grown, leaves_of};
+use crate::leaf::SharedLeaf;
+use crate::links::{Known, LookUp, all_agree, all_held};
+use crate::revision::Rev;
+use mg_value::NoMemory;
+use std::alloc::Global;
+use std::marker::Model;
+use std::slice;
+
+// The ids of edits that are made here have this many bytes.
+const ID_BYTES: usize = 32;
+
+/// A leaf, and the id of its parent, which stands at the position below and has no known parent: the tree of a document that was
+/// edited or deleted once. The id has 32 bytes, so that it is one block of memory without its length; a tree with another id of the
+/// parent is kept as a line. Contracts see the tree.
+#[derive(Drop)]
+pub(crate) struct Pair {
+    leaf: SharedLeaf,
+    parent: Box<[u8; 32]>,
+}
+
+impl Model for Pair {
+    ghost use Rattle.std.specs.Prelude.{◌<◌};
+    ghost use Rattle.mg_revtree.specs.Pair.{pair_tree};
+    ghost use Rattle.mg_revtree.specs.Tree.{Tree, tree_code};
+
+    ghost Value = { Tree };
+
+    ghost coded = { tree_code };
+
+    ghost view = { λ p. pair_tree p.leaf p.parent.value };
+
+    ghost invariant = { λ p. 0 < p.leaf.rev.0 };
+}
+
+impl Pair {
+    /// The pair of a leaf and its parent, if these are the known revisions, and the parent's id has 32 bytes.
+    pub fn of(alloc: Global, leaf: &SharedLeaf, known: &Known) -> Result<Option<Pair>, NoMemory>
+        ensures { IfOk result (λ found. IfSome found (λ pair. pair ≡ line_tree known.now leaf.now)) }
+    {
+        match parent_of(alloc, &leaf.leaf().rev, known)? {
+            Some(parent) => Ok(Some(Pair {
+                leaf: leaf.share()?,
+                parent,
+            })),
+            None => Ok(None),
+        }
+    }
+
+    /// The leaf, as a list. Takes no memory.
+    pub fn leaves(&self) -> &[SharedLeaf]
+        ensures { result.now ≡ self.now.leaves }
+    {
+        slice::from_ref(&self.leaf)
+    }
+
+    /// Whether a revision is known. Takes no memory.
+    pub fn knows(&self, pos: u32, id: &String) -> bool
+        ensures { result ≡ is_some (find (pos, string_bytes id.now) self.now.links) }
+    {
+        self.look_up_parent(pos, id.as_bytes()).is_some()
+    }
+
+    /// Whether a run, given by its start and its ids, newest first, gives neither revision a parent other than the known one. Takes no
+    /// memory. Cost: the length of the run.
+    pub fn fits(&self, start: u32, ids: &[String]) -> bool
+        ensures { (ls : List Link) → AreNodes self.now.links ls
+            → result ≡ fit ls (links (run_from start (map string_bytes ids.now))) }
+    {
+        all_agree(self, start, ids)
+    }
+
+    /// Whether all revisions of a run, given by its start and its ids, newest first, are known with the parents that the run
+    /// gives them. Takes no memory. Cost: the length of the run.
+    pub fn holds(&self, start: u32, ids: &[String]) -> bool
+        ensures { (ls : List Link) → AreNodes self.now.links ls
+            → result ≡ are_held ls (links (run_from start (map string_bytes ids.now))) }
+    {
+        all_held(self, start, ids)
+    }
+
+    /// Moves the leaf's body into the block of its form, if no copy of the tree shares the leaf. Takes no memory.
+    pub fn share_form(&mut self, form: Form)
+        requires { IfSome (first_of self.old.leaves) (λ l. IsFormOf l.body form) }
+        ensures { self.new ≡ self.old }
+    {
+        self.leaf.move_into(form);
+    }
+
+    /// A copy that shares the leaf with its body.
+    pub fn copy(&self, alloc: Global) -> Result<Pair, NoMemory>
+        ensures { IfOk result (λ pair. pair ≡ self.now) }
+    {
+        Ok(Pair {
+            leaf: self.leaf.share()?,
+            parent: Box::new(alloc, *self.parent)?,
+        })
+    }
+
+    /// A copy as lists.
+    pub fn in_lists(&self, alloc: Global) -> Result<Grown, NoMemory>
+        ensures { IfOk result (λ grown. grown ≡ self.now) }
+    {
+        let links = Known::of_pair(alloc, &self.leaf.leaf().rev, self.parent.as_slice())?;
+        let leaves = leaves_of(alloc, &self.leaf)?;
+        Ok(Grown { links, leaves })
+    }
+}
+
+impl LookUp for Pair {
+    ghost kept = { λ pair. pair.links };
+
+    fn look_up_parent(&self, pos: u32, id: &[u8]) -> Option<Option<&[u8]>> {
+        let rev = &self.leaf.leaf().rev;
+        let parent = self.parent.as_slice();
+        let below = rev.pos.saturating_sub(1);
+        if pos.cmp(&below).then(id.cmp(parent)).is_eq() {
+            return Some(None);
+        }
+        if rev.is(pos, id) {
+            return Some(Some(parent));
+        }
+        None
+    }
+}
+
+// The id of a revision's parent, if the known revisions are these two, and the id has 32 bytes.
+fn parent_of(alloc: Global, rev: &Rev, known: &Known) -> Result<Option<Box<[u8; 32]>>, NoMemory>
+    ensures { IfOk result (λ found. IfSome found
+        (λ parent. (0 < rev.now.0) × (known.now ≡ pair_links rev.now parent.value))) }
+{
+    let Some(id) = known.parent_in_pair(rev) else {
+        return Ok(None);
+    };
+    if id.len() != ID_BYTES {
+        return Ok(None);
+    }
+    let mut parent = Box::new(alloc, [0u8; 32])?;
+    parent.copy_from_slice(id);
+    Ok(Some(parent))
+}
