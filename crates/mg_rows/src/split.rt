@@ -1,5 +1,5 @@
 // Immutable bytes in two parts: up to 45 are stored in the value itself, more in a block that copies share.
-ghost use Rattle.std.specs.Prelude.{◌≡◌, ◌≤◌, ◌+◌, ◌++◌, [], ◌∷◌, IfOk, length, take};
+ghost use Rattle.std.specs.Prelude.{◌≡◌, ◌≤◌, ◌+◌, ◌++◌, [], ◌∷◌, IfOk, IfSome, length, take};
 ghost use Rattle.mg_rows.specs.Split.{held_bytes, held_end, held_parts, IsSound};
 
 use mg_value::NoMemory;
@@ -75,6 +75,19 @@ impl SplitBytes {
     {
         let held = hold_again(&self.held)?;
         Ok(SplitBytes { held })
+    }
+
+    /// A copy of bytes that are stored in the value itself; `None` where they have a block.
+    #[inline(always)]
+    pub(crate) fn copy_inline(&self) -> Option<SplitBytes>
+        ensures { IfSome result (λ split. split ≡ self.now) }
+    {
+        match &self.held {
+            Held::Inline(count, end, inside) => Some(SplitBytes {
+                held: Held::Inline(*count, *end, *inside),
+            }),
+            Held::Shared(_, _) => None,
+        }
     }
 
     /// How many copies share the block; 0 where there is no block.
