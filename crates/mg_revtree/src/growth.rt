@@ -20,8 +20,8 @@ use mg_value::{Json, NoMemory};
 use std::alloc::Global;
 use std::slice;
 
-/// How a tree is kept. Most documents have one revision: their tree is its leaf alone. Most others were edited or deleted once: their
-/// tree is the leaf and the id of its parent.
+/// How a tree is kept. Most documents have one revision: their tree is its leaf alone. The tree of a document that was edited or
+/// deleted once is its leaf and the id of its parent.
 #[derive(Drop)]
 pub(crate) enum Growth {
     // no revision
@@ -35,6 +35,9 @@ pub(crate) enum Growth {
     // all known revisions, and a list of the leaves
     Grown(Box<Grown>),
 }
+
+// Every document has a tree, so no case takes more than two pointers.
+const _: () = prove!(size_of::<Growth>() == 24);
 
 impl Growth {
     /// The leaves, best first. Takes no memory.

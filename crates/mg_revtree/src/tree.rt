@@ -52,8 +52,13 @@ fn ids_over(alloc: Global, id: String, parent: Option<&Rev>) -> Result<Vec<Strin
 /// and bodies. Contracts speak of every list of accepted paths that the tree stands for.
 ///
 /// A body is kept once, at its leaf, in at most one block of memory. Most documents have one revision; their tree is its leaf alone.
+<<<<<<< ours
 /// Any other tree has two lists of known revisions, an older and a newer one. It keeps the id of a revision in one of them, or in
 /// both, and once more if the revision is a leaf.
+=======
+/// That of a document which was edited or deleted once is its leaf and the id of its parent. Any other tree keeps the id of a revision
+/// in the older or the newer of two lists of known revisions, or in both; and once more if the revision is a leaf.
+>>>>>>> theirs
 #[derive(Drop)]
 pub struct RevTree {
     alloc: Global,
@@ -135,8 +140,8 @@ impl RevTree {
     /// A copy of the tree. It shares the leaves with their bodies, and the older known revisions.
     ///
     /// Errors: `NoMemory` if an allocation fails, or if there are too many references to what is shared. Cost: one reference count for
-    /// each leaf; for a tree of more than one revision also copies of the two blocks that hold the newer known revisions, of which
-    /// there are at most 64, or about four times the square root of the number of older ones.
+    /// each leaf; for a leaf and its parent also a copy of the parent's id; for a tree of more revisions also copies of the two blocks
+    /// that hold the newer known revisions, of which there are at most 64, or about four times the square root of the number of older ones.
     pub fn copy(&self, alloc: Global) -> Result<RevTree, NoMemory>
         ensures { IfOk result (λ tree. tree ≡ self.now) }
     {
