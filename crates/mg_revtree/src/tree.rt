@@ -52,13 +52,9 @@ fn ids_over(alloc: Global, id: String, parent: Option<&Rev>) -> Result<Vec<Strin
 /// and bodies. Contracts speak of every list of accepted paths that the tree stands for.
 ///
 /// A body is kept once, at its leaf, in at most one block of memory. Most documents have one revision; their tree is its leaf alone.
-<<<<<<< ours
-/// Any other tree has two lists of known revisions, an older and a newer one. It keeps the id of a revision in one of them, or in
-/// both, and once more if the revision is a leaf.
-=======
-/// That of a document which was edited or deleted once is its leaf and the id of its parent. Any other tree keeps the id of a revision
-/// in the older or the newer of two lists of known revisions, or in both; and once more if the revision is a leaf.
->>>>>>> theirs
+/// That of a document which was edited or deleted once is its leaf and the id of its parent. Any other tree has two lists of known
+/// revisions, an older and a newer one. It keeps the id of a revision in one of them, or in both, and once more if the revision is
+/// a leaf.
 #[derive(Drop)]
 pub struct RevTree {
     alloc: Global,
