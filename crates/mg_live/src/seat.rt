@@ -157,7 +157,7 @@ where
         let Ok(snapshot) = self.snapshot() else {
             return Reply::NoMemory;
         };
-        match snapshot.point.reply(rt, self.alloc, command, workers) {
+        match snapshot.point.read_at_most(rt, self.alloc, command, workers) {
             Ok(reply) => reply,
             Err(_) => Reply::NoMemory,
         }
