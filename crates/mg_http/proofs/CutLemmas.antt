@@ -15,7 +15,7 @@ use Rattle.mg_http.specs.Session.{Handles, HandlesBody, asked_by}
 use Rattle.mg_http.specs.AtWorld.{AtWorld}
 use Rattle.mg_http.specs.Target.{Request, body, asks, refuses}
 use Rattle.mg_http.specs.Transcript.{Stops, Speaks}
-use Rattle.mg_http.proofs.Forms.{passage, step}
+use Rattle.mg_http.proofs.Forms.{passage, handling}
 use Rattle.mg_http.proofs.MessageLemmas.{in_window, one_head, HasHead-append, Begins-append, two_messages, never_framed, framed_request, no_head_more, never_none, window_more, window_full}
 
 module _ (db : List ℕ) where
@@ -90,7 +90,7 @@ some_some : {X : Type 0} (x y : X) → Some x ≡ Some y → x ≡ y
 some_some x y e = cc
 
 one_body : (w : World) (endpoint : Endpoint) (bytes : List ℕ) (a b : Answer) (u v : World)
-    → HandlesBody AtWorld endpoint bytes (step w (Some a) u) → HandlesBody AtWorld endpoint bytes (step w (Some b) v) → (a ≡ b) × (u ≡ v)
+    → HandlesBody AtWorld endpoint bytes (handling w (Some a) u) → HandlesBody AtWorld endpoint bytes (handling w (Some b) v) → (a ≡ b) × (u ≡ v)
 one_body w endpoint bytes a b u v (inl x) (inl y) =
     let same = one_value bytes x.0 y.0 x.1 y.1 in
     (x.2.0 ∙ ap (λ (t : Value). reply_of w (asked_by endpoint t)) same ∙ sym y.2.0, sym x.2.1 ∙ ap (λ (t : Value). next w (asked_by endpoint t)) same ∙ y.2.1)
@@ -102,7 +102,7 @@ one_body w endpoint bytes a b u v (inl x) (inr (inr y)) = absurd (some_none b y.
 one_body w endpoint bytes a b u v (inr (inl x)) (inr (inr y)) = absurd (some_none b y.0)
 
 pub one_reply : (w : World) (request : Request) (bytes : List ℕ) (a b : Answer) (u v : World)
-    → Handles AtWorld request bytes (step w (Some a) u) → Handles AtWorld request bytes (step w (Some b) v) → (a ≡ b) × (u ≡ v)
+    → Handles AtWorld request bytes (handling w (Some a) u) → Handles AtWorld request bytes (handling w (Some b) v) → (a ≡ b) × (u ≡ v)
 one_reply w (body endpoint) bytes a b u v x y = one_body w endpoint bytes a b u v x y
 one_reply w (asks command) bytes a b u v x y = (x.0 ∙ sym y.0, sym x.1 ∙ y.1)
 one_reply w (refuses refusal) bytes a b u v x y = (some_some a b (x.0 ∙ sym y.0), x.1 ∙ sym y.1)

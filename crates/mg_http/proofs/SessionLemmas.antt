@@ -1,4 +1,4 @@
--- How the turns of a session compose: what was done before stays true when the session continues.
+-- How the steps of a session compose: what was done before stays true when the session continues.
 use Rattle.std.proofs.Common.{◌≡◌, ◌⊎◌, ℕ, ◌+◌, ◌-◌, ◌<◌, ◌≤◌, List, [], ◌∷◌, ◌++◌, length, take, drop, Option, Some, None, refl, sym, ap, ◌∙◌, subst, append_assoc, append-nil, take-append-drop, drop-drop, arith, length-append, length-drop, inl, inr, Result, Ok, Err, is_ok, cond, Bool, true, false}
 use Rattle.std.specs.Prelude.{slice_range}
 use Rattle.std.specs.Bool.{⊤}
@@ -20,8 +20,8 @@ use Rattle.mg_http.specs.Message.{HasHead, Begins, IsRefused, IsWaiting}
 use Rattle.mg_http.specs.Reply.{text_of, reply_text}
 use Rattle.mg_http.specs.Session.{Call, IsHandled, Handles, call_text, Serves, LacksMemory, IsRefusalText, Ends, Converses}
 use Rattle.mg_http.specs.Transcript.{IsAtLimit}
-use Rattle.mg_http.specs.Turns.{request_in, message_of, IsFramed, LacksMemoryForHead, Turns, Progress, Counts, StopsWith}
-use Rattle.mg_http.proofs.Forms.{exchange, step}
+use Rattle.mg_http.specs.Steps.{request_in, message_of, IsFramed, LacksMemoryForHead, Steps, Progress, Counts, StopsWith}
+use Rattle.mg_http.proofs.Forms.{exchange, handling}
 use Rattle.mg_http.proofs.HeadLemmas.{head_long}
 use Rattle.mg_http.proofs.MessageLemmas.{HasHead-append, Begins-append}
 
@@ -97,7 +97,7 @@ pub refused_text : {A : Type 0} (written : Result A IoFault) (end : SessionEnd) 
 refused_text (Ok a) end bytes e = rw e tt
 refused_text (Err x) end bytes e = rw e tt
 
--- the progress of a turn that answered a message
+-- the progress of a step that answered a message
 pub answered_counts : {A : Type 0} (old new : Progress) (came : List ℕ) (written : Result A IoFault) (closes : Bool) (result : Result ⊤ SessionEnd)
     → result ≡ cond (is_ok written) (cond closes (Err Closed) (Ok tt)) (Err WriteFault)
     → new.requests + new.held ≤ old.requests + (old.held + length came) → new.reads ≤ old.reads + length came
@@ -173,12 +173,12 @@ module _ {S : Type 0} (answers : S → Asked → Option Answer → S → Type 0)
     written_is = ap (λ (t : List ℕ). text ++ t) k.written_is ∙ sym (append_assoc text k.text k.last);
   }
 
-  -- the turn ended the session: what was read and written, and how it ended
+  -- the step ended the session: what was read and written, and how it ended
   abbrev pub Promises : Option (List ℕ) → Option (List ℕ) → Option (List ℕ) → Option (List ℕ) → S → List ℕ → S → SessionEnd → Type 0
   Promises r r' w w' old held new end =
       (came : List ℕ) × (written : List ℕ) × Consumes r r' came × Appends w w' written × Converses answers db end (exchange old (held ++ came) written new)
 
-  -- the turn continues the session: what was read and written, and the calls that it served
+  -- the step continues the session: what was read and written, and the calls that it served
   abbrev pub Runs : Option (List ℕ) → Option (List ℕ) → Option (List ℕ) → Option (List ℕ) → S → List ℕ → List ℕ → S → Type 0
   Runs r r' w w' old before held new =
       (came : List ℕ) × (written : List ℕ) × Consumes r r' came × Appends w w' written
@@ -188,7 +188,7 @@ module _ {S : Type 0} (answers : S → Asked → Option Answer → S → Type 0)
   pub handled_one : {A : Type 0} (w w' : Option (List ℕ)) (old : S) (bytes rest : List ℕ) (new : S) (call : Call) (written : Result A IoFault) (closes : Bool)
       → call.message.closes ≡ closes → Begins db bytes call.message rest → IsHandled answers old call new → WritesBytes w w' (call_text call) written
       → (text : List ℕ) × Appends w w' text
-      × Turns answers db (exchange old bytes text new) rest (cond (is_ok written) (cond closes (Err Closed) (Ok tt)) (Err WriteFault))
+      × Steps answers db (exchange old bytes text new) rest (cond (is_ok written) (cond closes (Err Closed) (Ok tt)) (Err WriteFault))
   handled_one w w' old bytes rest new call (Ok a) true c h k t =
       (call_text call, t, ends_at old bytes (call_text call) new Closed (call, c, record { after = rest; begins = h; handled = k; text_is = refl }))
   handled_one w w' old bytes rest new call (Ok a) false c h k t =
@@ -202,17 +202,17 @@ module _ {S : Type 0} (answers : S → Asked → Option Answer → S → Type 0)
       (written : Result A IoFault) (result : Result ⊤ SessionEnd)
       → HasHead held h (drop f.len held) → IsFramed db h f → f.len ≤ length held → Consumes r r' came → bytes ≡ held ++ came → f.len + f.body ≤ length bytes
       → left ≡ drop (f.len + f.body) bytes
-      → Handles answers (request_in f.target) (slice_range bytes f.len (f.len + f.body)) (step old reply new) → WritesBytes w w' (reply_text f.silent reply) written
+      → Handles answers (request_in f.target) (slice_range bytes f.len (f.len + f.body)) (handling old reply new) → WritesBytes w w' (reply_text f.silent reply) written
       → result ≡ cond (is_ok written) (cond f.closes (Err Closed) (Ok tt)) (Err WriteFault)
-      → (came : List ℕ) × (text : List ℕ) × Consumes r r' came × Appends w w' text × Turns answers db (exchange old (held ++ came) text new) left result
+      → (came : List ℕ) × (text : List ℕ) × Consumes r r' came × Appends w w' text × Steps answers db (exchange old (held ++ came) text new) left result
   answered r r' w w' old held came bytes left h f new reply written result has is within read joined there rest handled wrote e =
       let now : HasHead bytes h (drop f.len bytes) = subst (λ (t : List ℕ). HasHead t h (drop f.len t)) (sym joined) (head_with db h f held has is came within) in
       let message = whole_message db h f bytes now is there in
       let call : Call = record { message = message_of f (slice_range bytes f.len (f.len + f.body)); reply = reply } in
       let one = handled_one w w' old bytes (drop (f.len + f.body) bytes) new call written f.closes refl message handled wrote in
-      let last : Turns answers db (exchange old bytes one.0 new) left result =
-      subst (λ (t : List ℕ). Turns answers db (exchange old bytes one.0 new) t result) (sym rest) (subst (Turns answers db (exchange old bytes one.0 new) (drop (f.len + f.body) bytes)) (sym e) one.2) in
-      (came, one.0, read, one.1, subst (λ (t : List ℕ). Turns answers db (exchange old t one.0 new) left result) joined last)
+      let last : Steps answers db (exchange old bytes one.0 new) left result =
+      subst (λ (t : List ℕ). Steps answers db (exchange old bytes one.0 new) t result) (sym rest) (subst (Steps answers db (exchange old bytes one.0 new) (drop (f.len + f.body) bytes)) (sym e) one.2) in
+      (came, one.0, read, one.1, subst (λ (t : List ℕ). Steps answers db (exchange old t one.0 new) left result) joined last)
 
   -- the session stopped reading within a message or between two
   pub stopped : (w w' : Option (List ℕ)) (old : S) (bytes : List ℕ) (silent : Bool) (s : Stop) (end : SessionEnd) → IsWaiting db bytes → LacksMemory bytes silent

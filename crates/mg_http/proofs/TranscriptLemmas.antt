@@ -18,7 +18,7 @@ use Rattle.mg_http.specs.Session.{Call, Handles, call_text, Serves, IsLastCall, 
 use Rattle.mg_http.specs.AtWorld.{AtWorld, ConversesAt, IsTranscriptAt, WroteTranscriptAt}
 use Rattle.mg_http.specs.Target.{Request, body, asks, refuses}
 use Rattle.mg_http.specs.Transcript.{Stops, Speaks, IsTranscript, IsAnswered, EndsAmply, IsAmple, IsAtLimit, WroteAll, WroteTranscript}
-use Rattle.mg_http.proofs.Forms.{course, exchange, passage, step}
+use Rattle.mg_http.proofs.Forms.{course, exchange, passage, handling}
 use Rattle.mg_http.proofs.MessageLemmas.{has_head, two_messages, Begins-append}
 use Rattle.mg_http.proofs.HeadLemmas.{head_long}
 use Rattle.mg_http.proofs.CutLemmas.{no_stop, one_reply, after_stop}
@@ -37,9 +37,9 @@ prefix_of_prefix xs ys zs a b =
 module _ {S : Type 0} (answers : S → Asked → Option Answer → S → Type 0) (db : List ℕ) where
   -- a call that has an answer was handled with that answer
   known : (w : S) (call : Call) (u : S) (has : IsAnswered call)
-      → Handles answers call.message.request call.message.body (step w call.reply u)
-      → Handles answers call.message.request call.message.body (step w (Some has.0) u)
-  known w call u has h = subst (λ (r : Option Answer). Handles answers call.message.request call.message.body (step w r u)) has.1 h
+      → Handles answers call.message.request call.message.body (handling w call.reply u)
+      → Handles answers call.message.request call.message.body (handling w (Some has.0) u)
+  known w call u has h = subst (λ (r : Option Answer). Handles answers call.message.request call.message.body (handling w r u)) has.1 h
 
   -- what the calls wrote and then a transcript of the rest are a transcript of the whole
   speaks : (w : S) (bytes : List ℕ) (calls : List Call) (text rest : List ℕ) (u : S) (ms : List Message) (later : List ℕ)
@@ -112,8 +112,8 @@ module _ (db : List ℕ) where
   follows w bytes (call ∷ calls) text rest u (n ∷ ns) longer h all k =
       let has = All-head IsAnswered call calls all in
       let one = two_messages db bytes call.message n h.after k.after h.begins k.begins in
-      let mine : Handles AtWorld n.request n.body (step w (Some has.0) h.mid) =
-      subst (λ (m : Message). Handles AtWorld m.request m.body (step w (Some has.0) h.mid)) one.0 (known AtWorld db w call h.mid has h.handled) in
+      let mine : Handles AtWorld n.request n.body (handling w (Some has.0) h.mid) =
+      subst (λ (m : Message). Handles AtWorld m.request m.body (handling w (Some has.0) h.mid)) one.0 (known AtWorld db w call h.mid has h.handled) in
       let reply = one_reply w n.request n.body has.0 k.answer h.mid k.mid mine k.handled in
       let first : call_text call ≡ text_of n.silent k.answer =
       ap (λ (r : Option Answer). reply_text call.message.silent r) has.1 ∙ ap (λ (m : Message). text_of m.silent has.0) one.0 ∙ ap (text_of n.silent) reply.0 in
@@ -138,8 +138,8 @@ module _ (db : List ℕ) where
       absurd (no_stop db (rest ++ more) call.message (a.after ++ more) later (Begins-append db rest call.message a.after more a.begins) k)
   call_begins w rest more call whole u (n ∷ ns) later a has k =
       let one = two_messages db (rest ++ more) call.message n (a.after ++ more) k.after (Begins-append db rest call.message a.after more a.begins) k.begins in
-      let mine : Handles AtWorld n.request n.body (step w (Some has.0) u) =
-      subst (λ (m : Message). Handles AtWorld m.request m.body (step w (Some has.0) u)) one.0 (known AtWorld db w call u has a.handled) in
+      let mine : Handles AtWorld n.request n.body (handling w (Some has.0) u) =
+      subst (λ (m : Message). Handles AtWorld m.request m.body (handling w (Some has.0) u)) one.0 (known AtWorld db w call u has a.handled) in
       let reply = one_reply w n.request n.body has.0 k.answer u k.mid mine k.handled in
       let first : whole ≡ text_of n.silent k.answer =
       a.text_is ∙ ap (λ (r : Option Answer). reply_text call.message.silent r) has.1 ∙ ap (λ (m : Message). text_of m.silent has.0) one.0 ∙ ap (text_of n.silent) reply.0 in
@@ -189,7 +189,7 @@ module _ (db : List ℕ) where
 
   -- a request has some reply
   some_reply : (w : World) (request : Request) (bytes : List ℕ)
-      → ((answer : Answer) (u : World) → ¬ (Handles AtWorld request bytes (step w (Some answer) u))) → ⊥
+      → ((answer : Answer) (u : World) → ¬ (Handles AtWorld request bytes (handling w (Some answer) u))) → ⊥
   some_reply w (refuses refusal) bytes lacking = lacking (refused refusal) w (refl, refl)
   some_reply w (asks command) bytes lacking = lacking (reply_of w command) (next w command) (refl, refl)
   some_reply w (body endpoint) bytes lacking =
@@ -230,7 +230,7 @@ module _ (db : List ℕ) where
                     framed = record { asks = rw size e; silent = refl; closes = refl };
                     joined = sym (take-append-drop n after);
                   } in
-                  let one : (text later : List ℕ) (answer : Answer) (u : World) (ms : List Message) → Handles AtWorld request (take n after) (step w (Some answer) u)
+                  let one : (text later : List ℕ) (answer : Answer) (u : World) (ms : List Message) → Handles AtWorld request (take n after) (handling w (Some answer) u)
                   → text ≡ text_of (is_silent h) answer ++ later
                   → ((closes_after h ≡ true) × (ms ≡ []) × (later ≡ [])) ⊎ ((closes_after h ≡ false) × Speaks AtWorld db ms (passage u (drop n after) later))
                   → Speaks AtWorld db (m ∷ ms) (passage w bytes text) =

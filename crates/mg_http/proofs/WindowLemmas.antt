@@ -2,7 +2,7 @@
 use Rattle.std.proofs.Common.{◌≡◌, ◌++◌, ℕ, Bool, List, length, take, drop, min, inl, inr, arith}
 use Rattle.mg_engine.specs.declared.refusal.Refusal.{Refusal}
 use Rattle.mg_http.specs.declared.request.head.Pending.TheVariants as pending
-use Rattle.mg_http.specs.Turns.{IsHeadRead, IsPending}
+use Rattle.mg_http.specs.Steps.{IsHeadRead, IsPending}
 use Rattle.mg_http.proofs.MessageLemmas.{has_head, same_window}
 
 pub refused_in_window : (db bytes : List ℕ) (k : ℕ) (refusal : Refusal) (silent : Bool) → k ≡ min (length bytes) 16384

@@ -25,25 +25,25 @@ asked_by Explain v = explain v
 asked_by CreateIndex v = create_index v
 asked_by Reshard v = reshard v
 
--- a step of a service: its state before, the reply (`None`: out of memory), and its state after
-pub record Step (S : Type 0) : Type 0 where
+-- how a service handles a request: its state before, the reply (`None`: out of memory), and its state after
+pub record Handling (S : Type 0) : Type 0 where
   pub old : S
   pub reply : Option Answer
   pub new : S
 
 -- The reply to a body: the service's reply to the value; or invalid JSON, for a body that is not a value; or out of memory before the
 -- service was asked.
-abbrev pub HandlesBody : {S : Type 0} → (S → Asked → Option Answer → S → Type 0) → Endpoint → List ℕ → Step S → Type 0
-HandlesBody answers endpoint bytes step =
-    ((value : Value) × Reads bytes value × answers step.old (asked_by endpoint value) step.reply step.new)
-    ⊎ ((((value : Value) → ¬ (Reads bytes value)) × (step.reply ≡ Some (refused InvalidJson)) × (step.new ≡ step.old))
-    ⊎ ((step.reply ≡ None) × (step.new ≡ step.old)))
+abbrev pub HandlesBody : {S : Type 0} → (S → Asked → Option Answer → S → Type 0) → Endpoint → List ℕ → Handling S → Type 0
+HandlesBody answers endpoint bytes handling =
+    ((value : Value) × Reads bytes value × answers handling.old (asked_by endpoint value) handling.reply handling.new)
+    ⊎ ((((value : Value) → ¬ (Reads bytes value)) × (handling.reply ≡ Some (refused InvalidJson)) × (handling.new ≡ handling.old))
+    ⊎ ((handling.reply ≡ None) × (handling.new ≡ handling.old)))
 
 -- the reply to a request with this body; only an endpoint uses the body
-abbrev pub Handles : {S : Type 0} → (S → Asked → Option Answer → S → Type 0) → Request → List ℕ → Step S → Type 0
-Handles answers (body endpoint) bytes step = HandlesBody answers endpoint bytes step
-Handles answers (asks command) bytes step = answers step.old command step.reply step.new
-Handles answers (refuses refusal) bytes step = (step.reply ≡ Some (refused refusal)) × (step.new ≡ step.old)
+abbrev pub Handles : {S : Type 0} → (S → Asked → Option Answer → S → Type 0) → Request → List ℕ → Handling S → Type 0
+Handles answers (body endpoint) bytes handling = HandlesBody answers endpoint bytes handling
+Handles answers (asks command) bytes handling = answers handling.old command handling.reply handling.new
+Handles answers (refuses refusal) bytes handling = (handling.reply ≡ Some (refused refusal)) × (handling.new ≡ handling.old)
 
 -- a message, and its reply
 pub record Call : Type 0 where

@@ -1,6 +1,6 @@
 //! Reads one request: what the bytes that a session has not answered begin with.
 ghost use Rattle.std.specs.Prelude.{◌≡◌, ◌≤◌, length};
-ghost use Rattle.mg_http.specs.Turns.{IsPending};
+ghost use Rattle.mg_http.specs.Steps.{IsPending};
 
 mod decode;
 mod fields;

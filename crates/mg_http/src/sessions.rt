@@ -3,10 +3,10 @@ ghost use Rattle.std.specs.Prelude.{◌≡◌, ◌↔◌, ℕ, ◌<◌, ◌≤�
 ghost use Rattle.std.specs.Io.KnownBytes.{Appends, Consumes, IsAtEnd};
 ghost use Rattle.httparse.specs.Grammar.{RequestHead};
 ghost use Rattle.mg_http.specs.Device.{inner_of, has_failed};
-ghost use Rattle.mg_http.specs.Inbox.{unanswered, turns_left};
+ghost use Rattle.mg_http.specs.Inbox.{unanswered, steps_left};
 ghost use Rattle.mg_http.specs.Message.{HasHead};
 ghost use Rattle.mg_http.specs.Transcript.{WroteTranscript};
-ghost use Rattle.mg_http.specs.Turns.{IsFramed, Turns, Counts, StopsWith, progress_of};
+ghost use Rattle.mg_http.specs.Steps.{IsFramed, Steps, Counts, StopsWith, progress_of};
 
 mod answer;
 mod device;
@@ -109,7 +109,7 @@ fn answer_message<H: Wait + Threads + Sync, S: Service, R: Read, W: Write>(
         → IsFramed db h framed → (came : List ℕ) × (written : List ℕ)
         × Consumes (R.remaining (inner_of reader.old)) (R.remaining (inner_of reader.new)) came
         × Appends (W.contents (inner_of writer.old)) (W.contents (inner_of writer.new)) written
-        × Turns S.answers db
+        × Steps S.answers db
         (record {
           old = service.old;
           bytes = unanswered inbox.old ++ came;
@@ -121,7 +121,7 @@ fn answer_message<H: Wait + Threads + Sync, S: Service, R: Read, W: Write>(
     ensures end { IsErrOf result SessionEnd.Eof → IsAtEnd (R.remaining (inner_of reader.new)) }
     ensures read_fault { IsTrue (has_failed reader.new) ↔ IsErrOf result SessionEnd.ReadFault }
     ensures write_fault { IsTrue (has_failed writer.new) ↔ IsErrOf result SessionEnd.WriteFault }
-    ensures progress { OnOk result (turns_left inbox.new < turns_left inbox.old) }
+    ensures progress { OnOk result (steps_left inbox.new < steps_left inbox.old) }
 {
     let end = framed.len + framed.body as usize;
     if let Err(stop) = inbox.fill(reader, end) {
@@ -147,8 +147,8 @@ fn answer_message<H: Wait + Threads + Sync, S: Service, R: Read, W: Write>(
     continue_after(written, framed.closes)
 }
 
-/// One turn: answers a message, or reads more bytes, or ends the session.
-fn turn<H: Wait + Threads + Sync, S: Service, R: Read, W: Write>(
+/// One step: answers a message, or reads more bytes, or ends the session.
+fn step<H: Wait + Threads + Sync, S: Service, R: Read, W: Write>(
     rt: &H,
     alloc: Global,
     db: &str,
@@ -162,7 +162,7 @@ fn turn<H: Wait + Threads + Sync, S: Service, R: Read, W: Write>(
     ensures bytes { (came : List ℕ) × (written : List ℕ)
         × Consumes (R.remaining (inner_of reader.old)) (R.remaining (inner_of reader.new)) came
         × Appends (W.contents (inner_of writer.old)) (W.contents (inner_of writer.new)) written
-        × Turns S.answers db.now
+        × Steps S.answers db.now
         (record {
           old = service.old;
           bytes = unanswered inbox.old ++ came;
@@ -174,7 +174,7 @@ fn turn<H: Wait + Threads + Sync, S: Service, R: Read, W: Write>(
     ensures end { IsErrOf result SessionEnd.Eof → IsAtEnd (R.remaining (inner_of reader.new)) }
     ensures read_fault { IsTrue (has_failed reader.new) ↔ IsErrOf result SessionEnd.ReadFault }
     ensures write_fault { IsTrue (has_failed writer.new) ↔ IsErrOf result SessionEnd.WriteFault }
-    ensures progress { OnOk result (turns_left inbox.new < turns_left inbox.old) }
+    ensures progress { OnOk result (steps_left inbox.new < steps_left inbox.old) }
 {
     match inbox.pending(alloc, db) {
         Pending::Waiting => match inbox.read_piece(reader) {
@@ -227,7 +227,7 @@ pub fn session<H: Wait + Threads + Sync, S: Service, R: Read, W: Write>(
         }
     };
     loop {
-        match turn(rt, alloc, db, &mut inbox, reader, writer, service) {
+        match step(rt, alloc, db, &mut inbox, reader, writer, service) {
             Ok(()) => {}
             Err(end) => return end,
         }

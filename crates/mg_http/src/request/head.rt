@@ -5,7 +5,7 @@ ghost use Rattle.httparse.specs.Grammar.{RequestHead, NeverHasRequest};
 ghost use Rattle.httparse.specs.Spans.{IsHeaderWithin, header_bytes, IsRequestWithin, IsRequestAt};
 ghost use Rattle.mg_http.specs.Fields.{asks_close};
 ghost use Rattle.mg_http.specs.Head.{framed_by, refusal_before, parts_ask};
-ghost use Rattle.mg_http.specs.Turns.{IsHeadRead, request_in, IsBodyFramed, IsFramedBy};
+ghost use Rattle.mg_http.specs.Steps.{IsHeadRead, request_in, IsBodyFramed, IsFramedBy};
 
 use crate::request::fields::{Length, asks_close, has_field, length_in};
 use crate::request::table::Table;

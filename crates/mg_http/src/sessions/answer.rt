@@ -8,7 +8,7 @@ ghost use Rattle.mg_http.specs.Device.{inner_of, has_failed, WritesBytes};
 ghost use Rattle.mg_http.specs.Message.{Message};
 ghost use Rattle.mg_http.specs.Reply.{reply_text};
 ghost use Rattle.mg_http.specs.Session.{asked_by, HandlesBody, Handles};
-ghost use Rattle.mg_http.specs.Turns.{request_in};
+ghost use Rattle.mg_http.specs.Steps.{request_in};
 
 use crate::request::{Endpoint, RequestTarget};
 use crate::sessions::device::{Device, IoFault};

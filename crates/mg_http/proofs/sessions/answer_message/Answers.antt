@@ -1,6 +1,6 @@
 use Rattle.std.proofs.Common.{Err, ap, length, sym, inl, inr, ◌+◌, arith, drop-drop, length-append, length-drop}
 use Rattle.mg_http.specs.Inbox.{unanswered}
-use Rattle.mg_http.specs.Turns.{progress_of}
+use Rattle.mg_http.specs.Steps.{progress_of}
 use Rattle.mg_http.proofs.SessionLemmas.{answered, stopped_in_body, limited, stops_at_limit, head_counts, answered_counts}
 use Rattle.mg_http.proofs.sessions.answer_message.Goals as goal
 

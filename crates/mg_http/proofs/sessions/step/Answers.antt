@@ -1,7 +1,7 @@
 use Rattle.std.proofs.Common.{Err, false, ap, length, inl, inr, refl, arith, length-append}
 use Rattle.mg_http.specs.Inbox.{unanswered}
 use Rattle.mg_http.proofs.SessionLemmas.{refuses_by, refuses_now, stopped_in_head, reads_on, stops_at_limit, refused_counts}
-use Rattle.mg_http.proofs.sessions.turn.Goals as goal
+use Rattle.mg_http.proofs.sessions.step.Goals as goal
 
 pub returns-in-Ok-clause-bytes : goal.returns-in-Ok-clause-bytes
 returns-in-Ok-clause-bytes g c =

@@ -76,9 +76,9 @@ IsPending db bytes (pending.Message f) =
     × (h : RequestHead) × HasHead bytes h (drop f.len bytes) × IsFramed db h f
 
 -- The session continues with the bytes `left` unanswered, or it ended.
-abbrev pub Turns : {S : Type 0} → (S → Asked → Option Answer → S → Type 0) → List ℕ → Exchange S → List ℕ → Result ⊤ SessionEnd → Type 0
-Turns answers db all left (Ok a) = (calls : List Call) × Serves answers db calls left all
-Turns answers db all left (Err end) = Converses answers db end all
+abbrev pub Steps : {S : Type 0} → (S → Asked → Option Answer → S → Type 0) → List ℕ → Exchange S → List ℕ → Result ⊤ SessionEnd → Type 0
+Steps answers db all left (Ok a) = (calls : List Call) × Serves answers db calls left all
+Steps answers db all left (Err end) = Converses answers db end all
 
 -- what a session has done so far: how many messages it answered, how often it called its reader, and how many bytes it holds unanswered
 pub record Progress : Type 0 where
@@ -90,8 +90,8 @@ pub record Progress : Type 0 where
 abbrev pub progress_of : Inbox → Progress
 progress_of inbox = record { requests = inbox.requests; reads = inbox.reads; held = length (unanswered inbox) }
 
--- How a turn that read the bytes `came` changes the progress: each answered message, and each read that continued the session, has at
--- least one byte. The turn ends the session at its limit only after that many messages or reads.
+-- How a step that read the bytes `came` changes the progress: each answered message, and each read that continued the session, has at
+-- least one byte. The step ends the session at its limit only after that many messages or reads.
 abbrev pub Counts : Progress → Progress → List ℕ → Result ⊤ SessionEnd → Type 0
 Counts old new came (Ok a) =
     (new.requests + new.held ≤ old.requests + (old.held + length came)) × (new.reads ≤ old.reads + length came)
