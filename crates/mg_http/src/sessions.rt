@@ -72,19 +72,24 @@ fn continue_after(written: Result<(), IoFault>, closes: bool) -> Result<(), Sess
 fn end_after_stop<W: Write>(
     writer: &mut Device<W>,
     output: &mut Vec<u8>,
-    silent: bool,
+    omits_body: bool,
     stop: Stop,
 ) -> SessionEnd
     requires { has_failed writer.old ≡ false }
     ensures bytes { StopsWith (W.contents (inner_of writer.old)) (W.contents (inner_of writer.new))
-        silent stop result }
+        omits_body stop result }
     ensures write_fault { IsTrue (has_failed writer.new) ↔ (result ≡ SessionEnd.WriteFault) }
 {
     match stop {
         Stop::End => SessionEnd::Eof,
         Stop::Failed => SessionEnd::ReadFault,
         Stop::Limit => SessionEnd::Limit,
-        Stop::NoMemory => end_after_refusal(write_reply(writer, output, silent, &Reply::NoMemory)),
+        Stop::NoMemory => end_after_refusal(write_reply(
+            writer,
+            output,
+            omits_body,
+            &Reply::NoMemory,
+        )),
     }
 }
 
@@ -125,7 +130,7 @@ fn answer_message<H: Wait + Threads + Sync, S: Service, R: Read, W: Write>(
 {
     let end = framed.len + framed.body as usize;
     if let Err(stop) = inbox.fill(reader, end) {
-        return Err(end_after_stop(writer, &mut inbox.output, framed.silent, stop));
+        return Err(end_after_stop(writer, &mut inbox.output, framed.omits_body, stop));
     }
     if inbox.requests == u32::MAX {
         return Err(SessionEnd::Limit);
@@ -138,7 +143,7 @@ fn answer_message<H: Wait + Threads + Sync, S: Service, R: Read, W: Write>(
         writer,
         &mut inbox.output,
         &mut inbox.buffer,
-        framed.silent,
+        framed.omits_body,
         framed.target,
         body,
     );
@@ -181,10 +186,10 @@ fn step<H: Wait + Threads + Sync, S: Service, R: Read, W: Write>(
             Ok(()) => Ok(()),
             Err(stop) => Err(end_after_stop(writer, &mut inbox.output, false, stop)),
         },
-        Pending::Refused(refusal, silent) => Err(end_after_refusal(write_refusal(
+        Pending::Refused(refusal, omits_body) => Err(end_after_refusal(write_refusal(
             writer,
             &mut inbox.output,
-            silent,
+            omits_body,
             refusal,
         ))),
         Pending::Message(framed) => answer_message(
