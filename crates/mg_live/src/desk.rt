@@ -4,11 +4,11 @@ ghost use Rattle.mg_engine.specs.Commands.{is_write};
 ghost use Rattle.mg_engine.specs.View.{asked, said};
 ghost use Rattle.mg_machine.specs.Laws.{IsPrefix};
 ghost use Rattle.mg_live.specs.Published.{Publishes, standing};
-ghost use Rattle.mg_live.specs.Rules.{head_of};
+ghost use Rattle.mg_live.specs.Rules.{log_word_of};
 ghost use Rattle.mg_live.specs.Snapshots.{IsOf, IsPublished, commits_of};
 ghost use Rattle.mg_live.specs.View.{commits_seen};
 
-use crate::commit_log::{Head, Prefix, Write};
+use crate::commit_log::{LogWord, Prefix, Write};
 use crate::database::{Database, Ends};
 use crate::publication::{SnapshotWriter, publish};
 use crate::snapshot::Snapshot;
@@ -87,7 +87,7 @@ where
         &mut self,
         rt: &R,
         alloc: Global,
-        head: &Head,
+        log_word: &LogWord,
         write: &Write,
         prepared: Prepared,
         tally: &mut Tally<D>,
@@ -97,7 +97,7 @@ where
         requires prepared { prepared ≡ asked write.now.command.value }
         requires some { 1 ≤ write.now.workers }
         requires most { write.now.workers ≤ 32 }
-        requires here { (prefix.old.seen.book ≡ D.commit_log) × (head.now.word ≡ head_of D.commit_log) }
+        requires here { (prefix.old.seen.book ≡ D.commit_log) × (log_word.now.word ≡ log_word_of D.commit_log) }
         ensures here { prefix.new.seen.book ≡ D.commit_log }
         ensures publishes { Publishes D.db (write.now.seat, asked write.now.command.value)
             (standing self.old prefix.old tally.old) (said result.0)
@@ -107,7 +107,7 @@ where
         if !prefix.begins(&now.prefix) {
             return (Reply::NoMemory, None);
         }
-        let (reply, next) = now.next::<D, R>(rt, alloc, head, write, prepared);
+        let (reply, next) = now.next::<D, R>(rt, alloc, log_word, write, prepared);
         let Some(next) = next else {
             match reply {
                 Reply::NoMemory => {}

@@ -6,7 +6,7 @@ ghost use Rattle.mg_live.specs.Sitting.{AreAll, IsAhead, all_tallies, new_seats}
 ghost use Rattle.mg_live.specs.View.{commits_seen};
 ghost use Rattle.mg_live.specs.declared.live.CloseError.TheVariants.{Ahead, Missing};
 
-use crate::commit_log::{CommitLog, Head, Prefix};
+use crate::commit_log::{CommitLog, LogWord, Prefix};
 use crate::database::{Database, Ends};
 use crate::desk::Desk;
 use crate::markers::Ours;
@@ -116,7 +116,7 @@ where
     ensures all { IfOk result (λ s. (s.all.parts ≡ D.parts) × (s.all.amount ≡ 0)) }
     ensures prefix { IfOk result (λ s. (s.prefix.seen.book ≡ D.commit_log) × (s.prefix.seen.log ≡ [])) }
 {
-    let (head, prefix) = commit_log.parts();
+    let (log_word, prefix) = commit_log.parts();
     let (book, all) = blank.open::<D>();
     let first = Snapshot {
         point: Point::first(alloc, db, placement, shards)?,
@@ -128,7 +128,7 @@ where
     let desk = Desk::new(ends, writer, book);
     let shared = SharedDesk {
         named: Named {
-            head,
+            log_word,
             of: PhantomData,
         },
         desk: Mutex::new(desk),
