@@ -117,7 +117,7 @@ where
     ensures prefix { IfOk result (λ s. (s.prefix.seen.book ≡ D.commit_log) × (s.prefix.seen.log ≡ [])) }
 {
     let (log_word, prefix) = commit_log.parts();
-    let (book, all) = blank.open::<D>();
+    let (tally_book, all) = blank.open::<D>();
     let first = Snapshot {
         point: Point::first(alloc, db, placement, shards)?,
         prefix: prefix.again(),
@@ -125,7 +125,7 @@ where
     let second = first.again()?;
     let writer: SnapshotWriter<D, P> = Writer::new(alloc, first, second, seats)?;
     let factory = writer.factory().another();
-    let desk = Desk::new(ends, writer, book);
+    let desk = Desk::new(ends, writer, tally_book);
     let shared = SharedDesk {
         named: Named {
             log_word,
