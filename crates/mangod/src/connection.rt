@@ -21,9 +21,9 @@ pub(crate) struct Connection<'a, H> {
     phase: Cell<Phase>,
     /// When the current message, reply or silence began.
     since: Cell<Instant>,
-    /// The read timeout of the socket in milliseconds, and its write timeout in seconds. 0: not set yet.
-    read_wait: Cell<u64>,
-    write_wait: Cell<u64>,
+    /// The read timeout of the socket, and its write timeout. 0: not set yet.
+    read_millis: Cell<u64>,
+    write_seconds: Cell<u64>,
     has_paused: Cell<bool>,
 }
 
@@ -42,8 +42,8 @@ impl<'a, H: Clock> Connection<'a, H> {
             began,
             phase: Cell::new(Phase::Idle),
             since: Cell::new(began),
-            read_wait: Cell::new(0),
-            write_wait: Cell::new(0),
+            read_millis: Cell::new(0),
+            write_seconds: Cell::new(0),
             has_paused: Cell::new(false),
         }
     }
@@ -82,20 +82,20 @@ impl<'a, H: Clock> Connection<'a, H> {
 
     /// Sets the read timeout of the socket, unless it has this value already.
     fn limit_read(&self, millis: u64) -> io::Result<()> {
-        if self.read_wait.get() != millis {
+        if self.read_millis.get() != millis {
             self.stream
                 .set_read_timeout(Some(Duration::from_millis(millis)))?;
-            self.read_wait.set(millis);
+            self.read_millis.set(millis);
         }
         Ok(())
     }
 
     /// Sets the write timeout of the socket, unless it has this value already.
     fn limit_write(&self, seconds: u64) -> io::Result<()> {
-        if self.write_wait.get() != seconds {
+        if self.write_seconds.get() != seconds {
             self.stream
                 .set_write_timeout(Some(Duration::from_secs(seconds)))?;
-            self.write_wait.set(seconds);
+            self.write_seconds.set(seconds);
         }
         Ok(())
     }

@@ -75,7 +75,7 @@ impl<P: Placement + Drop> Point<P> {
     /// The reply to a read, with at most `workers` workers.
     ///
     /// Errors: `NoMemory` if an allocation fails. Cost: that of the engine's reply.
-    pub fn reply<R: Threads + Sync>(
+    pub fn read_at_most<R: Threads + Sync>(
         &self,
         rt: &R,
         alloc: Global,

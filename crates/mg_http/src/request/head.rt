@@ -5,7 +5,7 @@ ghost use Rattle.httparse.specs.Grammar.{RequestHead, NeverHasRequest};
 ghost use Rattle.httparse.specs.Spans.{IsHeaderWithin, header_bytes, IsRequestWithin, IsRequestAt};
 ghost use Rattle.mg_http.specs.Fields.{asks_close};
 ghost use Rattle.mg_http.specs.Head.{framed_by, refusal_before, parts_ask};
-ghost use Rattle.mg_http.specs.Turns.{IsHeadRead, request_in, IsBodyFramed, IsFramedBy};
+ghost use Rattle.mg_http.specs.Steps.{IsHeadRead, request_in, IsBodyFramed, IsFramedBy};
 
 use crate::request::fields::{Length, asks_close, has_field, length_in};
 use crate::request::table::Table;
@@ -29,7 +29,7 @@ pub struct Framed {
     /// The number of bytes of the body.
     pub body: u64,
     /// Whether the reply leaves out the bytes of its body.
-    pub silent: bool,
+    pub omits_body: bool,
     /// Whether the session ends after the reply.
     pub closes: bool,
 }
@@ -111,7 +111,7 @@ fn read_framing(
 }
 
 /// The first `count` spans.
-fn first_of(spans: &[HeaderSpan], count: usize) -> &[HeaderSpan]
+fn front_of(spans: &[HeaderSpan], count: usize) -> &[HeaderSpan]
     requires { count ≤ length spans.now }
     ensures { result.now ≡ take count spans.now }
 {
@@ -119,7 +119,7 @@ fn first_of(spans: &[HeaderSpan], count: usize) -> &[HeaderSpan]
 }
 
 /// Whether the method is HEAD.
-fn is_head(method: &[u8]) -> bool
+fn is_head_method(method: &[u8]) -> bool
     ensures { result ≡ bytes_eq method.now (codes "HEAD") }
 {
     method == b"HEAD".as_slice()
@@ -159,15 +159,15 @@ fn read_whole(
         → IsHeadRead db.now bytes.now result }
 {
     let method = head.method.of(bytes);
-    let fields = first_of(spans, head.headers);
-    let silent = is_head(method);
+    let fields = front_of(spans, head.headers);
+    let omits_body = is_head_method(method);
     match read_framing(alloc, db, table, method, head.path.of(bytes), bytes, fields) {
-        Err(refusal) => Pending::Refused(refusal, silent),
+        Err(refusal) => Pending::Refused(refusal, omits_body),
         Ok((target, body)) => Pending::Message(Framed {
             target,
             len: head.len,
             body,
-            silent,
+            omits_body,
             closes: closes_after(head.version, bytes, fields),
         }),
     }
