@@ -21,9 +21,9 @@ pub(crate) struct Connection<'a, H> {
     phase: Cell<Phase>,
     /// When the current message, reply or silence began.
     since: Cell<Instant>,
-    /// The read timeout of the socket in milliseconds, and its write timeout in seconds. 0: not set yet.
-    read_wait: Cell<u64>,
-    write_wait: Cell<u64>,
+    /// The read timeout of the socket, and its write timeout. 0: not set yet.
+    read_millis: Cell<u64>,
+    write_seconds: Cell<u64>,
     has_paused: Cell<bool>,
 }
 
@@ -42,8 +42,8 @@ impl<'a, H: Clock> Connection<'a, H> {
             began,
             phase: Cell::new(Phase::Idle),
             since: Cell::new(began),
-            read_wait: Cell::new(0),
-            write_wait: Cell::new(0),
+            read_millis: Cell::new(0),
+            write_seconds: Cell::new(0),
             has_paused: Cell::new(false),
         }
     }
@@ -53,7 +53,7 @@ impl<'a, H: Clock> Connection<'a, H> {
         self.has_paused.get()
     }
 
-    /// Enters a phase. `is_new`: another activity begins now, and so does its time.
+    /// Enters a phase. `is_new`: a message, a reply or a silence begins now, and its time is counted from now.
     fn enter(&self, phase: Phase, is_new: bool) -> io::Result<()> {
         if is_new {
             self.since.set(Instant::now(self.rt)?);
@@ -80,22 +80,22 @@ impl<'a, H: Clock> Connection<'a, H> {
         }
     }
 
-    /// Sets the read timeout of the socket, unless it is set already.
+    /// Sets the read timeout of the socket, unless it has this value already.
     fn limit_read(&self, millis: u64) -> io::Result<()> {
-        if self.read_wait.get() != millis {
+        if self.read_millis.get() != millis {
             self.stream
                 .set_read_timeout(Some(Duration::from_millis(millis)))?;
-            self.read_wait.set(millis);
+            self.read_millis.set(millis);
         }
         Ok(())
     }
 
-    /// Sets the write timeout of the socket, unless it is set already.
+    /// Sets the write timeout of the socket, unless it has this value already.
     fn limit_write(&self, seconds: u64) -> io::Result<()> {
-        if self.write_wait.get() != seconds {
+        if self.write_seconds.get() != seconds {
             self.stream
                 .set_write_timeout(Some(Duration::from_secs(seconds)))?;
-            self.write_wait.set(seconds);
+            self.write_seconds.set(seconds);
         }
         Ok(())
     }
@@ -134,8 +134,8 @@ fn is_nothing_yet(kind: ErrorKind) -> bool {
     )
 }
 
-/// Reads a connection. The last byte that has come is given by a read of its own, so that the session's replies show where its messages
-/// end (see `Phase`).
+/// Reads from a connection. The last of the bytes that have come is given by a read of its own: a reply after that read shows that
+/// everything read is answered (see `Phase`).
 #[derive(Drop)]
 pub(crate) struct Incoming<'a, H> {
     connection: &'a Connection<'a, H>,
@@ -193,7 +193,7 @@ impl<H: Clock> Read for Incoming<'_, H> {
     }
 }
 
-/// Writes a connection.
+/// Writes to a connection.
 #[derive(Drop)]
 pub(crate) struct Outgoing<'a, H> {
     connection: &'a Connection<'a, H>,

@@ -8,10 +8,10 @@ use Rattle.mg_doc.specs.declared.error.Refused.TheVariants.{BadHistory, Conflict
 use Rattle.mg_shard.specs.Edits.{id_in}
 use Rattle.mg_engine.specs.Bulk.{entries_of, entry_before, entry_of, refused_entry}
 use Rattle.mg_engine.specs.Outcomes.{entries_seen, reply_in, id_seen}
-use Rattle.mg_engine.specs.declared.bulk.apply.Outcome.{Outcome}
+use Rattle.mg_engine.specs.declared.bulk.apply.EditEntry.{EditEntry}
 
 -- the entries by the outcomes are those by the edits, if both have the same ids
-pub by_ids : (b : Bool) (es : List Edit) (os : List Outcome) → map id_in es ≡ map id_seen os → entries_of b es (map reply_in os) ≡ entries_seen b os
+pub by_ids : (b : Bool) (es : List Edit) (os : List EditEntry) → map id_in es ≡ map id_seen os → entries_of b es (map reply_in os) ≡ entries_seen b os
 by_ids b [] [] h = refl
 by_ids b [] (o ∷ os) h = absurd cc
 by_ids b (e ∷ es) [] h = absurd cc

@@ -1,4 +1,4 @@
--- What clauses see of a state, and of shards while a bulk is applied.
+-- What contracts see of a state, and of shards while a bulk is applied.
 use Rattle.std.specs.Prelude.{◌≡◌, ◌<◌, List, [], ◌∷◌, length, map, string_bytes}
 use Rattle.std.specs.Arc.{arc_value}
 use Rattle.std.specs.FinMap as finite

@@ -8,14 +8,14 @@ use Rattle.mg_engine.specs.Commands.{Answer, refused, reply_of, next}
 use Rattle.mg_engine.specs.World.{World}
 use Rattle.mg_http.specs.declared.request.routes.Endpoint.{Endpoint}
 use Rattle.mg_http.specs.Device.{IsBytePrefix}
-use Rattle.mg_http.specs.Head.{framed, unframed, asks_of, is_silent}
+use Rattle.mg_http.specs.Head.{framed, unframed, asks_of, omits_body_of}
 use Rattle.mg_http.specs.Message.{Message, HasHead, Begins, IsRefused, IsWaiting}
 use Rattle.mg_http.specs.Reply.{text_of}
 use Rattle.mg_http.specs.Session.{Handles, HandlesBody, asked_by}
 use Rattle.mg_http.specs.AtWorld.{AtWorld}
 use Rattle.mg_http.specs.Target.{Request, body, asks, refuses}
 use Rattle.mg_http.specs.Transcript.{Stops, Speaks}
-use Rattle.mg_http.proofs.Forms.{passage, step}
+use Rattle.mg_http.proofs.Forms.{passage, handling}
 use Rattle.mg_http.proofs.MessageLemmas.{in_window, one_head, HasHead-append, Begins-append, two_messages, never_framed, framed_request, no_head_more, never_none, window_more, window_full}
 
 module _ (db : List ℕ) where
@@ -34,7 +34,7 @@ module _ (db : List ℕ) where
   refused_once bytes r q s t (inl x) (inl y) =
       let one = one_head bytes x.0 y.0 x.1 y.1 x.2 y.2 in
       let same : unframed r ≡ unframed q = sym x.3 ∙ ap (asks_of db) one.0 ∙ y.3 in
-      (cc, x.4 ∙ ap is_silent one.0 ∙ sym y.4)
+      (cc, x.4 ∙ ap omits_body_of one.0 ∙ sym y.4)
   refused_once bytes r q s t (inl x) (inr (inl y)) = absurd (never_none _ _ _ y.0.0 (in_window bytes x.0 x.1 x.2))
   refused_once bytes r q s t (inl x) (inr (inr y)) = absurd (y.1.0 _ _ (in_window bytes x.0 x.1 x.2))
   refused_once bytes r q s t (inr (inl x)) (inl y) = absurd (never_none _ _ _ x.0.0 (in_window bytes y.0 y.1 y.2))
@@ -90,7 +90,7 @@ some_some : {X : Type 0} (x y : X) → Some x ≡ Some y → x ≡ y
 some_some x y e = cc
 
 one_body : (w : World) (endpoint : Endpoint) (bytes : List ℕ) (a b : Answer) (u v : World)
-    → HandlesBody AtWorld endpoint bytes (step w (Some a) u) → HandlesBody AtWorld endpoint bytes (step w (Some b) v) → (a ≡ b) × (u ≡ v)
+    → HandlesBody AtWorld endpoint bytes (handling w (Some a) u) → HandlesBody AtWorld endpoint bytes (handling w (Some b) v) → (a ≡ b) × (u ≡ v)
 one_body w endpoint bytes a b u v (inl x) (inl y) =
     let same = one_value bytes x.0 y.0 x.1 y.1 in
     (x.2.0 ∙ ap (λ (t : Value). reply_of w (asked_by endpoint t)) same ∙ sym y.2.0, sym x.2.1 ∙ ap (λ (t : Value). next w (asked_by endpoint t)) same ∙ y.2.1)
@@ -102,7 +102,7 @@ one_body w endpoint bytes a b u v (inl x) (inr (inr y)) = absurd (some_none b y.
 one_body w endpoint bytes a b u v (inr (inl x)) (inr (inr y)) = absurd (some_none b y.0)
 
 pub one_reply : (w : World) (request : Request) (bytes : List ℕ) (a b : Answer) (u v : World)
-    → Handles AtWorld request bytes (step w (Some a) u) → Handles AtWorld request bytes (step w (Some b) v) → (a ≡ b) × (u ≡ v)
+    → Handles AtWorld request bytes (handling w (Some a) u) → Handles AtWorld request bytes (handling w (Some b) v) → (a ≡ b) × (u ≡ v)
 one_reply w (body endpoint) bytes a b u v x y = one_body w endpoint bytes a b u v x y
 one_reply w (asks command) bytes a b u v x y = (x.0 ∙ sym y.0, sym x.1 ∙ y.1)
 one_reply w (refuses refusal) bytes a b u v x y = (some_some a b (x.0 ∙ sym y.0), x.1 ∙ sym y.1)
@@ -127,7 +127,7 @@ module _ (db : List ℕ) where
   begins w bytes more (m ∷ ms) text (n ∷ ns) longer h k =
       let one = two_messages db (bytes ++ more) m n (h.after ++ more) k.after (Begins-append db bytes m h.after more h.begins) k.begins in
       let reply = one_reply w n.request n.body h.answer k.answer h.mid k.mid (rw one.0 at h.handled) k.handled in
-      let first : text_of m.silent h.answer ≡ text_of n.silent k.answer = ap (λ (t : Message). text_of t.silent h.answer) one.0 ∙ ap (text_of n.silent) reply.0 in
+      let first : text_of m.omits_body h.answer ≡ text_of n.omits_body k.answer = ap (λ (t : Message). text_of t.omits_body h.answer) one.0 ∙ ap (text_of n.omits_body) reply.0 in
       let tail : IsBytePrefix h.later k.later = elim h.others_follow [
         | inl c ↦ (k.later, rw c.2 refl)
         | inr c ↦ elim k.others_follow [
@@ -136,6 +136,6 @@ module _ (db : List ℕ) where
         ]
       ] in (
         tail.0,
-        ap (λ (t : List ℕ). t ++ tail.0) h.text_is ∙ append_assoc (text_of m.silent h.answer) h.later tail.0 ∙ ap (λ (t : List ℕ). text_of m.silent h.answer ++ t) tail.1
+        ap (λ (t : List ℕ). t ++ tail.0) h.text_is ∙ append_assoc (text_of m.omits_body h.answer) h.later tail.0 ∙ ap (λ (t : List ℕ). text_of m.omits_body h.answer ++ t) tail.1
             ∙ ap (λ (t : List ℕ). t ++ k.later) first ∙ sym k.text_is,
       )

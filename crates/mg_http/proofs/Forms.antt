@@ -2,11 +2,11 @@
 use Rattle.std.specs.Prelude.{ℕ, List, Option}
 use Rattle.mg_engine.specs.Commands.{Answer}
 use Rattle.mg_http.specs.declared.sessions.SessionEnd.{SessionEnd}
-use Rattle.mg_http.specs.Session.{Step, Exchange}
+use Rattle.mg_http.specs.Session.{Handling, Exchange}
 use Rattle.mg_http.specs.Transcript.{Passage, Course}
 
-abbrev pub step : {S : Type 0} → S → Option Answer → S → Step S
-step old reply new = record { old = old; reply = reply; new = new }
+abbrev pub handling : {S : Type 0} → S → Option Answer → S → Handling S
+handling old reply new = record { old = old; reply = reply; new = new }
 
 abbrev pub exchange : {S : Type 0} → S → List ℕ → List ℕ → S → Exchange S
 exchange old bytes text new = record { old = old; bytes = bytes; text = text; new = new }

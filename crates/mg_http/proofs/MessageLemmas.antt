@@ -8,7 +8,7 @@ use Rattle.std.proofs.Math.Seq.{take-append_seam, drop-append_seam, take-append-
 use Rattle.httparse.specs.Grammar.{RequestHead, IsRequestHead, LineEnd, crlf, print_blank, print_request, ReadsRequest, NeverHasRequest, EndsInTarget, IsToken, AllPass, is_uri_byte, IsField}
 use Rattle.httparse.proofs.GrammarLemmas.{request_unique, ReadsRequest-append}
 use Rattle.mg_engine.specs.declared.refusal.Refusal.{Refusal}
-use Rattle.mg_http.specs.Head.{framed, unframed, asks_of, is_silent, closes_after}
+use Rattle.mg_http.specs.Head.{framed, unframed, asks_of, omits_body_of, closes_after}
 use Rattle.mg_http.specs.Message.{Message, HasHead, Begins, IsNoHead}
 use Rattle.mg_http.specs.Target.{Request}
 
@@ -65,11 +65,11 @@ framed_request r s n k e = (cc, cc)
 pub never_framed : (r : Request) (n : ℕ) (refusal : Refusal) → framed r n ≡ unframed refusal → ⊥
 never_framed r n refusal e = cc
 
-same_message : (m n : Message) → m.request ≡ n.request → m.body ≡ n.body → m.silent ≡ n.silent → m.closes ≡ n.closes → m ≡ n
+same_message : (m n : Message) → m.request ≡ n.request → m.body ≡ n.body → m.omits_body ≡ n.omits_body → m.closes ≡ n.closes → m ≡ n
 same_message m n a b c d =
-    let with : Request → List ℕ → Bool → Bool → Message = λ r x s e. record { request = r; body = x; silent = s; closes = e } in
-    ap (λ (r : Request). with r m.body m.silent m.closes) a ∙ ap (λ (x : List ℕ). with n.request x m.silent m.closes) b
-    ∙ ap (λ (s : Bool). with n.request n.body s m.closes) c ∙ ap (λ (e : Bool). with n.request n.body n.silent e) d
+    let with : Request → List ℕ → Bool → Bool → Message = λ r x s e. record { request = r; body = x; omits_body = s; closes = e } in
+    ap (λ (r : Request). with r m.body m.omits_body m.closes) a ∙ ap (λ (x : List ℕ). with n.request x m.omits_body m.closes) b
+    ∙ ap (λ (s : Bool). with n.request n.body s m.closes) c ∙ ap (λ (e : Bool). with n.request n.body n.omits_body e) d
 
 -- bytes begin with at most one message
 pub two_messages : (db bytes : List ℕ) (m n : Message) (p q : List ℕ) → Begins db bytes m p → Begins db bytes n q → (m ≡ n) × (p ≡ q)
@@ -78,9 +78,9 @@ two_messages db bytes m n p q x y =
     let asked : framed m.request (length m.body) ≡ framed n.request (length n.body) = sym x.framed.asks ∙ ap (asks_of db) one.0 ∙ y.framed.asks in
     let parts = framed_request m.request n.request (length m.body) (length n.body) asked in
     let bodies = same_length m.body n.body p q parts.1 (sym x.joined ∙ one.1 ∙ y.joined) in
-    let silent : m.silent ≡ n.silent = x.framed.silent ∙ ap is_silent one.0 ∙ sym y.framed.silent in
+    let omits_body : m.omits_body ≡ n.omits_body = x.framed.omits_body ∙ ap omits_body_of one.0 ∙ sym y.framed.omits_body in
     let closes : m.closes ≡ n.closes = x.framed.closes ∙ ap closes_after one.0 ∙ sym y.framed.closes in
-    (same_message m n parts.0 bodies.0 silent closes, bodies.1)
+    (same_message m n parts.0 bodies.0 omits_body closes, bodies.1)
 
 -- ---- refused bytes stay refused
 

@@ -13,6 +13,6 @@ found_or_nothing f None d o none e z = rw (← e) z
 found_or_nothing f (Some x) d o none e z = rw (← e) refl
 
 -- a reply's status and body are those of its text
-pub said_text : (silent : Bool) (r : Reply) → text_of silent (answer_in r) ≡ reply_text silent (said r)
-said_text silent (Full status body) = refl
-said_text silent NoMemory = refl
+pub said_text : (omits_body : Bool) (r : Reply) → text_of omits_body (answer_in r) ≡ reply_text omits_body (said r)
+said_text omits_body (Full status body) = refl
+said_text omits_body NoMemory = refl

@@ -1,4 +1,4 @@
--- How the turns of a session compose: what was done before stays true when the session continues.
+-- How the steps of a session compose: what was done before stays true when the session continues.
 use Rattle.std.proofs.Common.{◌≡◌, ◌⊎◌, ℕ, ◌+◌, ◌-◌, ◌<◌, ◌≤◌, List, [], ◌∷◌, ◌++◌, length, take, drop, Option, Some, None, refl, sym, ap, ◌∙◌, subst, append_assoc, append-nil, take-append-drop, drop-drop, arith, length-append, length-drop, inl, inr, Result, Ok, Err, is_ok, cond, Bool, true, false}
 use Rattle.std.specs.Prelude.{slice_range}
 use Rattle.std.specs.Bool.{⊤}
@@ -20,8 +20,8 @@ use Rattle.mg_http.specs.Message.{HasHead, Begins, IsRefused, IsWaiting}
 use Rattle.mg_http.specs.Reply.{text_of, reply_text}
 use Rattle.mg_http.specs.Session.{Call, IsHandled, Handles, call_text, Serves, LacksMemory, IsRefusalText, Ends, Converses}
 use Rattle.mg_http.specs.Transcript.{IsAtLimit}
-use Rattle.mg_http.specs.Turns.{request_in, message_of, IsFramed, LacksMemoryForHead, Turns, Progress, Counts, StopsWith}
-use Rattle.mg_http.proofs.Forms.{exchange, step}
+use Rattle.mg_http.specs.Steps.{request_in, message_of, IsFramed, LacksMemoryForHead, Steps, Progress, Counts, StopsWith}
+use Rattle.mg_http.proofs.Forms.{exchange, handling}
 use Rattle.mg_http.proofs.HeadLemmas.{head_long}
 use Rattle.mg_http.proofs.MessageLemmas.{HasHead-append, Begins-append}
 
@@ -47,7 +47,7 @@ module _ (db : List ℕ) (h : RequestHead) (f : Framed) (bytes : List ℕ) (has 
         head = h;
         after = drop f.len bytes;
         has = has;
-        framed = record { asks = rw long is.asks; silent = is.silent; closes = is.closes };
+        framed = record { asks = rw long is.asks; omits_body = is.omits_body; closes = is.closes };
         joined = cut bytes f.len f.body;
       }
 
@@ -57,8 +57,8 @@ module _ (db : List ℕ) (h : RequestHead) (f : Framed) (bytes : List ℕ) (has 
       inr (h, drop f.len bytes, request_in f.target, f.body, has, is.asks, omega (arith, within, short, length-drop f.len bytes))
 
   -- there may be no memory after a complete head
-  pub lacks_memory : LacksMemory bytes f.silent
-  lacks_memory = inr (inr (h, drop f.len bytes, has, is.silent))
+  pub lacks_memory : LacksMemory bytes f.omits_body
+  lacks_memory = inr (inr (h, drop f.len bytes, has, is.omits_body))
 
   -- the bytes still begin with the head when more arrive
   pub head_with : (more : List ℕ) → f.len ≤ length bytes → HasHead (bytes ++ more) h (drop f.len (bytes ++ more))
@@ -70,23 +70,23 @@ head_counts bytes h len has within =
     omega (arith, within, head_long h has.reads.0, ap length has.reads.1, length-append (print_request h) (drop len bytes), length-drop len bytes)
 
 -- the text of a refusal refuses the bytes, or says that memory ran out
-pub refuses_by : (db bytes : List ℕ) (refusal : Refusal) (silent : Bool) → IsRefused db bytes refusal silent ⊎ LacksMemoryForHead bytes refusal silent
-    → IsRefusalText db bytes (text_of silent (refused refusal))
-refuses_by db bytes refusal silent (inl is) = inl (refusal, silent, is, refl)
-refuses_by db bytes refusal silent (inr (is, h, after, has, quiet)) =
-    inr (silent, inr (inr (h, after, has, quiet)), ap (λ (r : Refusal). text_of silent (refused r)) is)
+pub refuses_by : (db bytes : List ℕ) (refusal : Refusal) (omits_body : Bool) → IsRefused db bytes refusal omits_body ⊎ LacksMemoryForHead bytes refusal omits_body
+    → IsRefusalText db bytes (text_of omits_body (refused refusal))
+refuses_by db bytes refusal omits_body (inl is) = inl (refusal, omits_body, is, refl)
+refuses_by db bytes refusal omits_body (inr (is, h, after, has, quiet)) =
+    inr (omits_body, inr (inr (h, after, has, quiet)), ap (λ (r : Refusal). text_of omits_body (refused r)) is)
 
 -- a session that stopped reading ends at its limit only if it may not call its reader again
-pub stops_at_limit : (old new : Option (List ℕ)) (silent : Bool) (s : Stop) (end : SessionEnd) → StopsWith old new silent s end → end ≡ Limit → s ≡ stop.Limit
-stops_at_limit old new silent stop.End end h e = let f : Eof ≡ Limit = sym h.0 ∙ e in cc
-stops_at_limit old new silent stop.Failed end h e = let f : ReadFault ≡ Limit = sym h.0 ∙ e in cc
-stops_at_limit old new silent stop.Limit end h e = refl
-stops_at_limit old new silent stop.NoMemory Refused h e = cc
-stops_at_limit old new silent stop.NoMemory WriteFault h e = cc
-stops_at_limit old new silent stop.NoMemory Eof h e = absurd h
-stops_at_limit old new silent stop.NoMemory Closed h e = absurd h
-stops_at_limit old new silent stop.NoMemory ReadFault h e = absurd h
-stops_at_limit old new silent stop.NoMemory Limit h e = absurd h
+pub stops_at_limit : (old new : Option (List ℕ)) (omits_body : Bool) (s : Stop) (end : SessionEnd) → StopsWith old new omits_body s end → end ≡ Limit → s ≡ stop.Limit
+stops_at_limit old new omits_body stop.End end h e = let f : Eof ≡ Limit = sym h.0 ∙ e in cc
+stops_at_limit old new omits_body stop.Failed end h e = let f : ReadFault ≡ Limit = sym h.0 ∙ e in cc
+stops_at_limit old new omits_body stop.Limit end h e = refl
+stops_at_limit old new omits_body stop.NoMemory Refused h e = cc
+stops_at_limit old new omits_body stop.NoMemory WriteFault h e = cc
+stops_at_limit old new omits_body stop.NoMemory Eof h e = absurd h
+stops_at_limit old new omits_body stop.NoMemory Closed h e = absurd h
+stops_at_limit old new omits_body stop.NoMemory ReadFault h e = absurd h
+stops_at_limit old new omits_body stop.NoMemory Limit h e = absurd h
 
 -- a session that wrote a refusing text, or a prefix of it, did not end at its limit
 pub refused_counts : {A P : Type 0} (written : Result A IoFault) (end : SessionEnd) → end ≡ cond (is_ok written) Refused WriteFault → end ≡ Limit → P
@@ -97,7 +97,7 @@ pub refused_text : {A : Type 0} (written : Result A IoFault) (end : SessionEnd) 
 refused_text (Ok a) end bytes e = rw e tt
 refused_text (Err x) end bytes e = rw e tt
 
--- the progress of a turn that answered a message
+-- the progress of a step that answered a message
 pub answered_counts : {A : Type 0} (old new : Progress) (came : List ℕ) (written : Result A IoFault) (closes : Bool) (result : Result ⊤ SessionEnd)
     → result ≡ cond (is_ok written) (cond closes (Err Closed) (Ok tt)) (Err WriteFault)
     → new.requests + new.held ≤ old.requests + (old.held + length came) → new.reads ≤ old.reads + length came
@@ -173,12 +173,12 @@ module _ {S : Type 0} (answers : S → Asked → Option Answer → S → Type 0)
     written_is = ap (λ (t : List ℕ). text ++ t) k.written_is ∙ sym (append_assoc text k.text k.last);
   }
 
-  -- the turn ended the session: what was read and written, and how it ended
+  -- the step ended the session: what was read and written, and how it ended
   abbrev pub Promises : Option (List ℕ) → Option (List ℕ) → Option (List ℕ) → Option (List ℕ) → S → List ℕ → S → SessionEnd → Type 0
   Promises r r' w w' old held new end =
       (came : List ℕ) × (written : List ℕ) × Consumes r r' came × Appends w w' written × Converses answers db end (exchange old (held ++ came) written new)
 
-  -- the turn continues the session: what was read and written, and the calls that it served
+  -- the step continues the session: what was read and written, and the calls that it served
   abbrev pub Runs : Option (List ℕ) → Option (List ℕ) → Option (List ℕ) → Option (List ℕ) → S → List ℕ → List ℕ → S → Type 0
   Runs r r' w w' old before held new =
       (came : List ℕ) × (written : List ℕ) × Consumes r r' came × Appends w w' written
@@ -188,7 +188,7 @@ module _ {S : Type 0} (answers : S → Asked → Option Answer → S → Type 0)
   pub handled_one : {A : Type 0} (w w' : Option (List ℕ)) (old : S) (bytes rest : List ℕ) (new : S) (call : Call) (written : Result A IoFault) (closes : Bool)
       → call.message.closes ≡ closes → Begins db bytes call.message rest → IsHandled answers old call new → WritesBytes w w' (call_text call) written
       → (text : List ℕ) × Appends w w' text
-      × Turns answers db (exchange old bytes text new) rest (cond (is_ok written) (cond closes (Err Closed) (Ok tt)) (Err WriteFault))
+      × Steps answers db (exchange old bytes text new) rest (cond (is_ok written) (cond closes (Err Closed) (Ok tt)) (Err WriteFault))
   handled_one w w' old bytes rest new call (Ok a) true c h k t =
       (call_text call, t, ends_at old bytes (call_text call) new Closed (call, c, record { after = rest; begins = h; handled = k; text_is = refl }))
   handled_one w w' old bytes rest new call (Ok a) false c h k t =
@@ -202,41 +202,41 @@ module _ {S : Type 0} (answers : S → Asked → Option Answer → S → Type 0)
       (written : Result A IoFault) (result : Result ⊤ SessionEnd)
       → HasHead held h (drop f.len held) → IsFramed db h f → f.len ≤ length held → Consumes r r' came → bytes ≡ held ++ came → f.len + f.body ≤ length bytes
       → left ≡ drop (f.len + f.body) bytes
-      → Handles answers (request_in f.target) (slice_range bytes f.len (f.len + f.body)) (step old reply new) → WritesBytes w w' (reply_text f.silent reply) written
+      → Handles answers (request_in f.target) (slice_range bytes f.len (f.len + f.body)) (handling old reply new) → WritesBytes w w' (reply_text f.omits_body reply) written
       → result ≡ cond (is_ok written) (cond f.closes (Err Closed) (Ok tt)) (Err WriteFault)
-      → (came : List ℕ) × (text : List ℕ) × Consumes r r' came × Appends w w' text × Turns answers db (exchange old (held ++ came) text new) left result
+      → (came : List ℕ) × (text : List ℕ) × Consumes r r' came × Appends w w' text × Steps answers db (exchange old (held ++ came) text new) left result
   answered r r' w w' old held came bytes left h f new reply written result has is within read joined there rest handled wrote e =
       let now : HasHead bytes h (drop f.len bytes) = subst (λ (t : List ℕ). HasHead t h (drop f.len t)) (sym joined) (head_with db h f held has is came within) in
       let message = whole_message db h f bytes now is there in
       let call : Call = record { message = message_of f (slice_range bytes f.len (f.len + f.body)); reply = reply } in
       let one = handled_one w w' old bytes (drop (f.len + f.body) bytes) new call written f.closes refl message handled wrote in
-      let last : Turns answers db (exchange old bytes one.0 new) left result =
-      subst (λ (t : List ℕ). Turns answers db (exchange old bytes one.0 new) t result) (sym rest) (subst (Turns answers db (exchange old bytes one.0 new) (drop (f.len + f.body) bytes)) (sym e) one.2) in
-      (came, one.0, read, one.1, subst (λ (t : List ℕ). Turns answers db (exchange old t one.0 new) left result) joined last)
+      let last : Steps answers db (exchange old bytes one.0 new) left result =
+      subst (λ (t : List ℕ). Steps answers db (exchange old bytes one.0 new) t result) (sym rest) (subst (Steps answers db (exchange old bytes one.0 new) (drop (f.len + f.body) bytes)) (sym e) one.2) in
+      (came, one.0, read, one.1, subst (λ (t : List ℕ). Steps answers db (exchange old t one.0 new) left result) joined last)
 
   -- the session stopped reading within a message or between two
-  pub stopped : (w w' : Option (List ℕ)) (old : S) (bytes : List ℕ) (silent : Bool) (s : Stop) (end : SessionEnd) → IsWaiting db bytes → LacksMemory bytes silent
-      → StopsWith w w' silent s end → (text : List ℕ) × Appends w w' text × Converses answers db end (exchange old bytes text old)
-  stopped w w' old bytes silent stop.End end waiting lacks h = ([], rw h.1 (Appends-nil w), rw h.0 (ends_at old bytes [] old Eof (waiting, refl, refl)))
-  stopped w w' old bytes silent stop.Failed end waiting lacks h = ([], rw h.1 (Appends-nil w), rw h.0 (ends_at old bytes [] old ReadFault (waiting, refl, refl)))
-  stopped w w' old bytes silent stop.Limit end waiting lacks h = ([], rw h.1 (Appends-nil w), rw h.0 (ends_at old bytes [] old Limit (refl, refl)))
-  stopped w w' old bytes silent stop.NoMemory Refused waiting lacks h =
-      (reply_text silent None, h, ends_at old bytes (reply_text silent None) old Refused (inr (silent, lacks, refl), refl))
-  stopped w w' old bytes silent stop.NoMemory WriteFault waiting lacks h =
-      (h.0, h.2, ends_at old bytes h.0 old WriteFault (reply_text silent None, h.1, inr (inr (silent, lacks, refl), refl)))
-  stopped w w' old bytes silent stop.NoMemory Eof waiting lacks h = absurd h
-  stopped w w' old bytes silent stop.NoMemory Closed waiting lacks h = absurd h
-  stopped w w' old bytes silent stop.NoMemory ReadFault waiting lacks h = absurd h
-  stopped w w' old bytes silent stop.NoMemory Limit waiting lacks h = absurd h
+  pub stopped : (w w' : Option (List ℕ)) (old : S) (bytes : List ℕ) (omits_body : Bool) (s : Stop) (end : SessionEnd) → IsWaiting db bytes → LacksMemory bytes omits_body
+      → StopsWith w w' omits_body s end → (text : List ℕ) × Appends w w' text × Converses answers db end (exchange old bytes text old)
+  stopped w w' old bytes omits_body stop.End end waiting lacks h = ([], rw h.1 (Appends-nil w), rw h.0 (ends_at old bytes [] old Eof (waiting, refl, refl)))
+  stopped w w' old bytes omits_body stop.Failed end waiting lacks h = ([], rw h.1 (Appends-nil w), rw h.0 (ends_at old bytes [] old ReadFault (waiting, refl, refl)))
+  stopped w w' old bytes omits_body stop.Limit end waiting lacks h = ([], rw h.1 (Appends-nil w), rw h.0 (ends_at old bytes [] old Limit (refl, refl)))
+  stopped w w' old bytes omits_body stop.NoMemory Refused waiting lacks h =
+      (reply_text omits_body None, h, ends_at old bytes (reply_text omits_body None) old Refused (inr (omits_body, lacks, refl), refl))
+  stopped w w' old bytes omits_body stop.NoMemory WriteFault waiting lacks h =
+      (h.0, h.2, ends_at old bytes h.0 old WriteFault (reply_text omits_body None, h.1, inr (inr (omits_body, lacks, refl), refl)))
+  stopped w w' old bytes omits_body stop.NoMemory Eof waiting lacks h = absurd h
+  stopped w w' old bytes omits_body stop.NoMemory Closed waiting lacks h = absurd h
+  stopped w w' old bytes omits_body stop.NoMemory ReadFault waiting lacks h = absurd h
+  stopped w w' old bytes omits_body stop.NoMemory Limit waiting lacks h = absurd h
 
   -- the session stopped reading within a body
   abbrev pub stopped_in_body : (r r' w w' : Option (List ℕ)) (old : S) (held came bytes : List ℕ) (h : RequestHead) (f : Framed) (s : Stop) (end : SessionEnd)
       → HasHead held h (drop f.len held) → IsFramed db h f → f.len ≤ length held → Consumes r r' came → bytes ≡ held ++ came → length bytes < f.len + f.body
-      → StopsWith w w' f.silent s end → Promises r r' w w' old held old end
+      → StopsWith w w' f.omits_body s end → Promises r r' w w' old held old end
   stopped_in_body r r' w w' old held came bytes h f s end has is within read joined short stops =
       let now : HasHead bytes h (drop f.len bytes) = subst (λ (t : List ℕ). HasHead t h (drop f.len t)) (sym joined) (head_with db h f held has is came within) in
       let inside : f.len ≤ length bytes = omega (arith, within, ap length joined, length-append held came) in
-      let one = stopped w w' old bytes f.silent s end (part_message db h f bytes now is inside short) (lacks_memory db h f bytes now is) stops in
+      let one = stopped w w' old bytes f.omits_body s end (part_message db h f bytes now is inside short) (lacks_memory db h f bytes now is) stops in
       (came, one.0, read, one.1, subst (λ (t : List ℕ). Converses answers db end (exchange old t one.0 old)) joined one.2)
 
   -- the session stopped reading between two messages or within a head

@@ -9,7 +9,7 @@ use Rattle.mg_http.specs.declared.sessions.SessionEnd.TheVariants.{Eof, Closed, 
 use Rattle.mg_http.specs.Session.{Call, HandlesBody, Handles, Serves, IsLastCall, Ends, Converses}
 use Rattle.mg_http.specs.AtWorld.{AtWorld}
 use Rattle.mg_http.specs.Target.{Request, body, asks, refuses}
-use Rattle.mg_http.proofs.Forms.{exchange, step}
+use Rattle.mg_http.proofs.Forms.{exchange, handling}
 
 -- a command that is answered at a world leaves a world for which the service stands
 pub at_world : (ends : World → Type 0) (w : World) (c : Asked) (r : Option Answer) → Answers w c r ends → (u : World) × AtWorld w c r u × ends u
@@ -21,16 +21,16 @@ module _ {S T : Type 0} (answers : S → Asked → Option Answer → S → Type 
   same : (old new : S) (w : T) → new ≡ old → stands old w → stands new w
   same old new w e h = subst (λ (s : S). stands s w) (sym e) h
 
-  body_handled : (old : S) (endpoint : Endpoint) (bytes : List ℕ) (reply : Option Answer) (new : S) (w : T) → HandlesBody answers endpoint bytes (step old reply new) → stands old w
-      → (u : T) × HandlesBody shown endpoint bytes (step w reply u) × stands new u
+  body_handled : (old : S) (endpoint : Endpoint) (bytes : List ℕ) (reply : Option Answer) (new : S) (w : T) → HandlesBody answers endpoint bytes (handling old reply new) → stands old w
+      → (u : T) × HandlesBody shown endpoint bytes (handling w reply u) × stands new u
   body_handled old endpoint bytes reply new w (inl asked) h =
       let s = steps old _ reply new w asked.2 h in
       (s.0, inl (asked.0, asked.1, s.1), s.2)
   body_handled old endpoint bytes reply new w (inr (inl none)) h = (w, inr (inl (none.0, none.1, refl)), same old new w none.2 h)
   body_handled old endpoint bytes reply new w (inr (inr refused)) h = (w, inr (inr (refused.0, refl)), same old new w refused.1 h)
 
-  handled : (old : S) (request : Request) (bytes : List ℕ) (reply : Option Answer) (new : S) (w : T) → Handles answers request bytes (step old reply new) → stands old w
-      → (u : T) × Handles shown request bytes (step w reply u) × stands new u
+  handled : (old : S) (request : Request) (bytes : List ℕ) (reply : Option Answer) (new : S) (w : T) → Handles answers request bytes (handling old reply new) → stands old w
+      → (u : T) × Handles shown request bytes (handling w reply u) × stands new u
   handled old (body endpoint) bytes reply new w k h = body_handled old endpoint bytes reply new w k h
   handled old (asks command) bytes reply new w k h = steps old command reply new w k h
   handled old (refuses refusal) bytes reply new w k h = (w, (k.0, refl), same old new w k.1 h)

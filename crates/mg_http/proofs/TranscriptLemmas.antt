@@ -11,14 +11,14 @@ use Rattle.mg_engine.specs.World.{World}
 use Rattle.mg_http.specs.declared.sessions.SessionEnd.{SessionEnd}
 use Rattle.mg_http.specs.declared.sessions.SessionEnd.TheVariants.{Eof, Closed, Refused, ReadFault, WriteFault, Limit}
 use Rattle.mg_http.specs.Device.{IsBytePrefix}
-use Rattle.mg_http.specs.Head.{framed, unframed, asks_of, is_silent, closes_after}
+use Rattle.mg_http.specs.Head.{framed, unframed, asks_of, omits_body_of, closes_after}
 use Rattle.mg_http.specs.Message.{Message, HasHead, Begins, IsRefused, IsNoHead, CanGoOn}
 use Rattle.mg_http.specs.Reply.{text_of, reply_text}
 use Rattle.mg_http.specs.Session.{Call, Handles, call_text, Serves, IsLastCall, Ends, Converses, asked_by}
 use Rattle.mg_http.specs.AtWorld.{AtWorld, ConversesAt, IsTranscriptAt, WroteTranscriptAt}
 use Rattle.mg_http.specs.Target.{Request, body, asks, refuses}
 use Rattle.mg_http.specs.Transcript.{Stops, Speaks, IsTranscript, IsAnswered, EndsAmply, IsAmple, IsAtLimit, WroteAll, WroteTranscript}
-use Rattle.mg_http.proofs.Forms.{course, exchange, passage, step}
+use Rattle.mg_http.proofs.Forms.{course, exchange, passage, handling}
 use Rattle.mg_http.proofs.MessageLemmas.{has_head, two_messages, Begins-append}
 use Rattle.mg_http.proofs.HeadLemmas.{head_long}
 use Rattle.mg_http.proofs.CutLemmas.{no_stop, one_reply, after_stop}
@@ -37,9 +37,9 @@ prefix_of_prefix xs ys zs a b =
 module _ {S : Type 0} (answers : S → Asked → Option Answer → S → Type 0) (db : List ℕ) where
   -- a call that has an answer was handled with that answer
   known : (w : S) (call : Call) (u : S) (has : IsAnswered call)
-      → Handles answers call.message.request call.message.body (step w call.reply u)
-      → Handles answers call.message.request call.message.body (step w (Some has.0) u)
-  known w call u has h = subst (λ (r : Option Answer). Handles answers call.message.request call.message.body (step w r u)) has.1 h
+      → Handles answers call.message.request call.message.body (handling w call.reply u)
+      → Handles answers call.message.request call.message.body (handling w (Some has.0) u)
+  known w call u has h = subst (λ (r : Option Answer). Handles answers call.message.request call.message.body (handling w r u)) has.1 h
 
   -- what the calls wrote and then a transcript of the rest are a transcript of the whole
   speaks : (w : S) (bytes : List ℕ) (calls : List Call) (text rest : List ℕ) (u : S) (ms : List Message) (later : List ℕ)
@@ -55,7 +55,7 @@ module _ {S : Type 0} (answers : S → Asked → Option Answer → S → Type 0)
         begins = h.begins;
         handled = known w call h.mid has h.handled;
         text_is = ap (λ (t : List ℕ). t ++ later) h.text_is ∙ append_assoc (call_text call) h.later later
-            ∙ ap (λ (r : Option Answer). reply_text call.message.silent r ++ (h.later ++ later)) has.1;
+            ∙ ap (λ (r : Option Answer). reply_text call.message.omits_body r ++ (h.later ++ later)) has.1;
         others_follow = inr (h.stays, speaks h.mid h.after calls h.later rest u ms later h.others_follow (All-tail IsAnswered call calls all) k);
       }
 
@@ -73,7 +73,7 @@ module _ {S : Type 0} (answers : S → Asked → Option Answer → S → Type 0)
       mid = u;
       begins = answered.begins;
       handled = known w call u ample answered.handled;
-      text_is = answered.text_is ∙ ap (λ (r : Option Answer). reply_text call.message.silent r) ample.1 ∙ sym (append-nil (text_of call.message.silent ample.0));
+      text_is = answered.text_is ∙ ap (λ (r : Option Answer). reply_text call.message.omits_body r) ample.1 ∙ sym (append-nil (text_of call.message.omits_body ample.0));
       others_follow = inl (closes, refl, refl);
     },
   )
@@ -112,11 +112,11 @@ module _ (db : List ℕ) where
   follows w bytes (call ∷ calls) text rest u (n ∷ ns) longer h all k =
       let has = All-head IsAnswered call calls all in
       let one = two_messages db bytes call.message n h.after k.after h.begins k.begins in
-      let mine : Handles AtWorld n.request n.body (step w (Some has.0) h.mid) =
-      subst (λ (m : Message). Handles AtWorld m.request m.body (step w (Some has.0) h.mid)) one.0 (known AtWorld db w call h.mid has h.handled) in
+      let mine : Handles AtWorld n.request n.body (handling w (Some has.0) h.mid) =
+      subst (λ (m : Message). Handles AtWorld m.request m.body (handling w (Some has.0) h.mid)) one.0 (known AtWorld db w call h.mid has h.handled) in
       let reply = one_reply w n.request n.body has.0 k.answer h.mid k.mid mine k.handled in
-      let first : call_text call ≡ text_of n.silent k.answer =
-      ap (λ (r : Option Answer). reply_text call.message.silent r) has.1 ∙ ap (λ (m : Message). text_of m.silent has.0) one.0 ∙ ap (text_of n.silent) reply.0 in
+      let first : call_text call ≡ text_of n.omits_body k.answer =
+      ap (λ (r : Option Answer). reply_text call.message.omits_body r) has.1 ∙ ap (λ (m : Message). text_of m.omits_body has.0) one.0 ∙ ap (text_of n.omits_body) reply.0 in
       elim k.others_follow [
         | inl d ↦ absurd (let e : true ≡ false = sym d.0 ∙ sym (ap (λ (m : Message). m.closes) one.0) ∙ h.stays in cc)
         | inr d ↦
@@ -138,16 +138,16 @@ module _ (db : List ℕ) where
       absurd (no_stop db (rest ++ more) call.message (a.after ++ more) later (Begins-append db rest call.message a.after more a.begins) k)
   call_begins w rest more call whole u (n ∷ ns) later a has k =
       let one = two_messages db (rest ++ more) call.message n (a.after ++ more) k.after (Begins-append db rest call.message a.after more a.begins) k.begins in
-      let mine : Handles AtWorld n.request n.body (step w (Some has.0) u) =
-      subst (λ (m : Message). Handles AtWorld m.request m.body (step w (Some has.0) u)) one.0 (known AtWorld db w call u has a.handled) in
+      let mine : Handles AtWorld n.request n.body (handling w (Some has.0) u) =
+      subst (λ (m : Message). Handles AtWorld m.request m.body (handling w (Some has.0) u)) one.0 (known AtWorld db w call u has a.handled) in
       let reply = one_reply w n.request n.body has.0 k.answer u k.mid mine k.handled in
-      let first : whole ≡ text_of n.silent k.answer =
-      a.text_is ∙ ap (λ (r : Option Answer). reply_text call.message.silent r) has.1 ∙ ap (λ (m : Message). text_of m.silent has.0) one.0 ∙ ap (text_of n.silent) reply.0 in
+      let first : whole ≡ text_of n.omits_body k.answer =
+      a.text_is ∙ ap (λ (r : Option Answer). reply_text call.message.omits_body r) has.1 ∙ ap (λ (m : Message). text_of m.omits_body has.0) one.0 ∙ ap (text_of n.omits_body) reply.0 in
       (k.later, ap (λ (t : List ℕ). t ++ k.later) first ∙ sym k.text_is)
 
   -- a text that refuses the bytes is a prefix of each transcript of them, whatever bytes follow
   refusal_begins : (w : World) (rest more whole : List ℕ) (ms : List Message) (later : List ℕ)
-      → ((refusal : Refusal) × (silent : Bool) × IsRefused db rest refusal silent × (whole ≡ text_of silent (refused refusal)))
+      → ((refusal : Refusal) × (omits_body : Bool) × IsRefused db rest refusal omits_body × (whole ≡ text_of omits_body (refused refusal)))
       → Speaks AtWorld db ms (passage w (rest ++ more) later) → IsBytePrefix whole later
   refusal_begins w rest more whole ms later r k = after_stop db w rest more whole ms later (inr r) k
 
@@ -189,7 +189,7 @@ module _ (db : List ℕ) where
 
   -- a request has some reply
   some_reply : (w : World) (request : Request) (bytes : List ℕ)
-      → ((answer : Answer) (u : World) → ¬ (Handles AtWorld request bytes (step w (Some answer) u))) → ⊥
+      → ((answer : Answer) (u : World) → ¬ (Handles AtWorld request bytes (handling w (Some answer) u))) → ⊥
   some_reply w (refuses refusal) bytes lacking = lacking (refused refusal) w (refl, refl)
   some_reply w (asks command) bytes lacking = lacking (reply_of w command) (next w command) (refl, refl)
   some_reply w (body endpoint) bytes lacking =
@@ -216,22 +216,22 @@ module _ (db : List ℕ) where
       let stops : (text : List ℕ) → ¬ (Stops db bytes text) = λ text s. none text ([], s) in
       no_head_stops bytes (λ h after has.
       elim (asks_of db h) as (λ a. asks_of db h ≡ a → ⊥) [
-        | unframed refusal ↦ λ e. stops (text_of (is_silent h) (refused refusal)) (inr (refusal, is_silent h, inl (h, after, has, e, refl), refl))
+        | unframed refusal ↦ λ e. stops (text_of (omits_body_of h) (refused refusal)) (inr (refusal, omits_body_of h, inl (h, after, has, e, refl), refl))
         | framed request n ↦ λ e.
             elim (cases_lt (length after) n) [
               | inl short ↦ stops [] (inl (inr (h, after, request, n, has, e, short), refl))
               | inr there ↦
-                  let m : Message = record { request = request; body = take n after; silent = is_silent h; closes = closes_after h } in
+                  let m : Message = record { request = request; body = take n after; omits_body = omits_body_of h; closes = closes_after h } in
                   let size : length (take n after) ≡ n = omega (arith, length-take n after, there) in
                   let begins : Begins db bytes m (drop n after) = record {
                     head = h;
                     after = after;
                     has = has;
-                    framed = record { asks = rw size e; silent = refl; closes = refl };
+                    framed = record { asks = rw size e; omits_body = refl; closes = refl };
                     joined = sym (take-append-drop n after);
                   } in
-                  let one : (text later : List ℕ) (answer : Answer) (u : World) (ms : List Message) → Handles AtWorld request (take n after) (step w (Some answer) u)
-                  → text ≡ text_of (is_silent h) answer ++ later
+                  let one : (text later : List ℕ) (answer : Answer) (u : World) (ms : List Message) → Handles AtWorld request (take n after) (handling w (Some answer) u)
+                  → text ≡ text_of (omits_body_of h) answer ++ later
                   → ((closes_after h ≡ true) × (ms ≡ []) × (later ≡ [])) ⊎ ((closes_after h ≡ false) × Speaks AtWorld db ms (passage u (drop n after) later))
                   → Speaks AtWorld db (m ∷ ms) (passage w bytes text) =
                   λ text later answer u ms handled is others. record {
@@ -246,10 +246,10 @@ module _ (db : List ℕ) where
                   } in
                   some_reply w request (take n after) (λ answer u handled.
                   elim (closes_after h) as (λ c. closes_after h ≡ c → ⊥) [
-                    | true ↦ λ c. none (text_of (is_silent h) answer ++ []) (m ∷ [], one (text_of (is_silent h) answer ++ []) [] answer u [] handled refl (inl (c, refl, refl)))
+                    | true ↦ λ c. none (text_of (omits_body_of h) answer ++ []) (m ∷ [], one (text_of (omits_body_of h) answer ++ []) [] answer u [] handled refl (inl (c, refl, refl)))
                     | false ↦ λ c.
                         some_transcript k (drop n after) u (rest_shorter bytes h after n k has small)
-                        (λ later t. none (text_of (is_silent h) answer ++ later) (m ∷ t.0, one (text_of (is_silent h) answer ++ later) later answer u t.0 handled refl (inr (c, t.1))))
+                        (λ later t. none (text_of (omits_body_of h) answer ++ later) (m ∷ t.0, one (text_of (omits_body_of h) answer ++ later) later answer u t.0 handled refl (inr (c, t.1))))
                   ] refl)
             ]
       ] refl) stops

@@ -43,8 +43,8 @@ abbrev pub asks_of : List ℕ → RequestHead → Asks
 asks_of db h = parts_ask db h.method h.target (map name_and_value h.fields)
 
 -- the reply leaves out the bytes of its body
-abbrev pub is_silent : RequestHead → Bool
-is_silent h = bytes_eq h.method (codes "HEAD")
+abbrev pub omits_body_of : RequestHead → Bool
+omits_body_of h = bytes_eq h.method (codes "HEAD")
 
 -- the session ends after the reply: the version is 1.0, or a Connection asks to close
 abbrev pub closes_after : RequestHead → Bool

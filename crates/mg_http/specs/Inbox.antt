@@ -7,5 +7,5 @@ abbrev pub unanswered : Inbox → List ℕ
 unanswered inbox = drop inbox.start inbox.held.items
 
 -- how many more messages may be answered and reads made
-abbrev pub turns_left : Inbox → ℕ
-turns_left inbox = (4294967295 - inbox.requests) + (4294967295 - inbox.reads)
+abbrev pub steps_left : Inbox → ℕ
+steps_left inbox = (4294967295 - inbox.requests) + (4294967295 - inbox.reads)

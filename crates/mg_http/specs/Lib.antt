@@ -15,5 +15,5 @@ pub mod Solo
 pub mod Target
 pub mod TargetScan
 pub mod Transcript
-pub mod Turns
+pub mod Steps
 pub mod Walk

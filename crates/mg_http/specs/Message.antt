@@ -3,14 +3,14 @@ use Rattle.std.specs.Prelude.{◌≡◌, ℕ, ◌<◌, ◌≤◌, ◌⊎◌, Boo
 use Rattle.httparse.specs.Grammar.{RequestHead, print_request, ReadsRequest, HasNoRequest, NeverHasRequest, EndsInTarget}
 use Rattle.mg_engine.specs.declared.refusal.Refusal.{Refusal}
 use Rattle.mg_engine.specs.declared.refusal.Refusal.TheVariants.{HeadTooLarge, BadHead}
-use Rattle.mg_http.specs.Head.{framed, unframed, asks_of, is_silent, closes_after}
+use Rattle.mg_http.specs.Head.{framed, unframed, asks_of, omits_body_of, closes_after}
 use Rattle.mg_http.specs.Target.{Request}
 
 -- a message: what it asks for, its body, whether its reply leaves out the body, and whether the session ends after it
 pub record Message : Type 0 where
   pub request : Request
   pub body : List ℕ
-  pub silent : Bool
+  pub omits_body : Bool
   pub closes : Bool
 
 -- the bytes are a head within its limit, and then `after`
@@ -21,7 +21,7 @@ pub record HasHead (bytes : List ℕ) (h : RequestHead) (after : List ℕ) : Typ
 -- the head is the head of the message
 pub record IsHeadOf (db : List ℕ) (h : RequestHead) (m : Message) : Type 0 where
   pub asks : asks_of db h ≡ framed m.request (length m.body)
-  pub silent : m.silent ≡ is_silent h
+  pub omits_body : m.omits_body ≡ omits_body_of h
   pub closes : m.closes ≡ closes_after h
 
 -- the bytes are the message, and then `rest`
@@ -43,10 +43,10 @@ CanGoOn bytes = HasNoRequest bytes × (¬ (IsNoHead bytes))
 -- Bytes that are refused, why, and whether the reply leaves out its body: a refused head, bytes that can never become a head, and a
 -- head that is longer than its limit.
 abbrev pub IsRefused : List ℕ → List ℕ → Refusal → Bool → Type 0
-IsRefused db bytes refusal silent =
-    ((h : RequestHead) × (after : List ℕ) × HasHead bytes h after × (asks_of db h ≡ unframed refusal) × (silent ≡ is_silent h))
-    ⊎ ((IsNoHead (take 16384 bytes) × (refusal ≡ BadHead) × (silent ≡ false))
-    ⊎ ((16384 ≤ length bytes) × CanGoOn (take 16384 bytes) × (refusal ≡ HeadTooLarge) × (silent ≡ false)))
+IsRefused db bytes refusal omits_body =
+    ((h : RequestHead) × (after : List ℕ) × HasHead bytes h after × (asks_of db h ≡ unframed refusal) × (omits_body ≡ omits_body_of h))
+    ⊎ ((IsNoHead (take 16384 bytes) × (refusal ≡ BadHead) × (omits_body ≡ false))
+    ⊎ ((16384 ≤ length bytes) × CanGoOn (take 16384 bytes) × (refusal ≡ HeadTooLarge) × (omits_body ≡ false)))
 
 -- an incomplete head within its limit
 abbrev pub IsPartHead : List ℕ → Type 0

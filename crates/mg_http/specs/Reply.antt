@@ -15,11 +15,11 @@ text_with code phrase size body =
     codes "HTTP/1.1 " ++ (code ++ (codes " " ++ (phrase
     ++ (codes "\r\nContent-Type: application/json\r\nContent-Length: " ++ (size ++ (codes "\r\n\r\n" ++ body))))))
 
--- the bytes of a reply; a silent one leaves the body out, but gives its length
+-- the bytes of a reply; one that omits its body still gives its length
 abbrev pub text_of : Bool → Answer → List ℕ
-text_of silent a =
-    text_with (decimal a.status) (phrase_of a.status) (decimal (length a.body)) (if silent then [] else a.body)
+text_of omits_body a =
+    text_with (decimal a.status) (phrase_of a.status) (decimal (length a.body)) (if omits_body then [] else a.body)
 
 -- the bytes of a service's answer; `None`: out of memory
 abbrev pub reply_text : Bool → Option Answer → List ℕ
-reply_text silent reply = text_of silent (unwrap_or reply (refused OutOfMemory))
+reply_text omits_body reply = text_of omits_body (unwrap_or reply (refused OutOfMemory))

@@ -12,7 +12,7 @@ use Rattle.mg_http.specs.declared.request.routes.Endpoint.TheVariants.{BulkDocs,
 use Rattle.mg_http.specs.declared.sessions.SessionEnd.{SessionEnd}
 use Rattle.mg_http.specs.declared.sessions.SessionEnd.TheVariants.{Eof, Closed, Refused, ReadFault, WriteFault, Limit}
 use Rattle.mg_http.specs.Device.{IsBytePrefix}
-use Rattle.mg_http.specs.Head.{is_silent}
+use Rattle.mg_http.specs.Head.{omits_body_of}
 use Rattle.mg_http.specs.Message.{Message, Begins, HasHead, IsRefused, IsPartHead, IsWaiting}
 use Rattle.mg_http.specs.Reply.{text_of, reply_text}
 use Rattle.mg_http.specs.Target.{Request, body, asks, refuses}
@@ -25,25 +25,25 @@ asked_by Explain v = explain v
 asked_by CreateIndex v = create_index v
 asked_by Reshard v = reshard v
 
--- a step of a service: its state before, the reply (`None`: out of memory), and its state after
-pub record Step (S : Type 0) : Type 0 where
+-- how a service handles a request: its state before, the reply (`None`: out of memory), and its state after
+pub record Handling (S : Type 0) : Type 0 where
   pub old : S
   pub reply : Option Answer
   pub new : S
 
 -- The reply to a body: the service's reply to the value; or invalid JSON, for a body that is not a value; or out of memory before the
 -- service was asked.
-abbrev pub HandlesBody : {S : Type 0} → (S → Asked → Option Answer → S → Type 0) → Endpoint → List ℕ → Step S → Type 0
-HandlesBody answers endpoint bytes step =
-    ((value : Value) × Reads bytes value × answers step.old (asked_by endpoint value) step.reply step.new)
-    ⊎ ((((value : Value) → ¬ (Reads bytes value)) × (step.reply ≡ Some (refused InvalidJson)) × (step.new ≡ step.old))
-    ⊎ ((step.reply ≡ None) × (step.new ≡ step.old)))
+abbrev pub HandlesBody : {S : Type 0} → (S → Asked → Option Answer → S → Type 0) → Endpoint → List ℕ → Handling S → Type 0
+HandlesBody answers endpoint bytes handling =
+    ((value : Value) × Reads bytes value × answers handling.old (asked_by endpoint value) handling.reply handling.new)
+    ⊎ ((((value : Value) → ¬ (Reads bytes value)) × (handling.reply ≡ Some (refused InvalidJson)) × (handling.new ≡ handling.old))
+    ⊎ ((handling.reply ≡ None) × (handling.new ≡ handling.old)))
 
 -- the reply to a request with this body; only an endpoint uses the body
-abbrev pub Handles : {S : Type 0} → (S → Asked → Option Answer → S → Type 0) → Request → List ℕ → Step S → Type 0
-Handles answers (body endpoint) bytes step = HandlesBody answers endpoint bytes step
-Handles answers (asks command) bytes step = answers step.old command step.reply step.new
-Handles answers (refuses refusal) bytes step = (step.reply ≡ Some (refused refusal)) × (step.new ≡ step.old)
+abbrev pub Handles : {S : Type 0} → (S → Asked → Option Answer → S → Type 0) → Request → List ℕ → Handling S → Type 0
+Handles answers (body endpoint) bytes handling = HandlesBody answers endpoint bytes handling
+Handles answers (asks command) bytes handling = answers handling.old command handling.reply handling.new
+Handles answers (refuses refusal) bytes handling = (handling.reply ≡ Some (refused refusal)) × (handling.new ≡ handling.old)
 
 -- a message, and its reply
 pub record Call : Type 0 where
@@ -57,7 +57,7 @@ IsHandled answers old call new =
 
 -- the text of the reply to the call's message
 abbrev pub call_text : Call → List ℕ
-call_text call = reply_text call.message.silent call.reply
+call_text call = reply_text call.message.omits_body call.reply
 
 -- input and output between two states of a service: the bytes that were read, and the text that was written
 pub record Exchange (S : Type 0) : Type 0 where
@@ -96,18 +96,18 @@ pub record IsLastCall
   pub text_is : all.text ≡ call_text call
 
 -- There was no memory for the message: before its first byte, or within its head, or after it, for its target or its body. After a
--- complete head the method decides whether the reply is silent.
+-- complete head the method decides whether the reply omits its body.
 abbrev pub LacksMemory : List ℕ → Bool → Type 0
-LacksMemory bytes silent =
-    ((bytes ≡ []) × (silent ≡ false))
-    ⊎ ((IsPartHead bytes × (silent ≡ false))
-    ⊎ ((h : RequestHead) × (after : List ℕ) × HasHead bytes h after × (silent ≡ is_silent h)))
+LacksMemory bytes omits_body =
+    ((bytes ≡ []) × (omits_body ≡ false))
+    ⊎ ((IsPartHead bytes × (omits_body ≡ false))
+    ⊎ ((h : RequestHead) × (after : List ℕ) × HasHead bytes h after × (omits_body ≡ omits_body_of h)))
 
 -- the text is a reply that refuses the bytes, or that says that memory ran out
 abbrev pub IsRefusalText : List ℕ → List ℕ → List ℕ → Type 0
 IsRefusalText db bytes text =
-    ((refusal : Refusal) × (silent : Bool) × IsRefused db bytes refusal silent × (text ≡ text_of silent (refused refusal)))
-    ⊎ ((silent : Bool) × LacksMemory bytes silent × (text ≡ reply_text silent None))
+    ((refusal : Refusal) × (omits_body : Bool) × IsRefused db bytes refusal omits_body × (text ≡ text_of omits_body (refused refusal)))
+    ⊎ ((omits_body : Bool) × LacksMemory bytes omits_body × (text ≡ reply_text omits_body None))
 
 -- How a session ends, from the last part of its input and output: the bytes that were still unanswered, and the last text.
 abbrev pub Ends : {S : Type 0} → (S → Asked → Option Answer → S → Type 0) → List ℕ → SessionEnd → Exchange S → Type 0

@@ -14,7 +14,7 @@ use Rattle.mg_http.specs.Session.{Call, Exchange, Handles, Ends, Converses}
 abbrev pub Stops : List ℕ → List ℕ → List ℕ → Type 0
 Stops db bytes text =
     (IsWaiting db bytes × (text ≡ []))
-    ⊎ ((refusal : Refusal) × (silent : Bool) × IsRefused db bytes refusal silent × (text ≡ text_of silent (refused refusal)))
+    ⊎ ((refusal : Refusal) × (omits_body : Bool) × IsRefused db bytes refusal omits_body × (text ≡ text_of omits_body (refused refusal)))
 
 -- a text for some bytes, from a state of a service
 pub record Passage (S : Type 0) : Type 0 where
@@ -33,7 +33,7 @@ pub record SpeaksFirst
   pub mid : S
   pub begins : Begins db all.bytes m after
   pub handled : Handles answers m.request m.body (record { old = all.from; reply = Some answer; new = mid })
-  pub text_is : all.text ≡ text_of m.silent answer ++ later
+  pub text_is : all.text ≡ text_of m.omits_body answer ++ later
   pub others_follow : others (record { from = mid; bytes = after; text = later })
 
 -- These are the messages of the bytes that are answered, and the text is their replies. What follows a message is answered from the state

@@ -1,6 +1,6 @@
 //! Reads one request: what the bytes that a session has not answered begin with.
 ghost use Rattle.std.specs.Prelude.{◌≡◌, ◌≤◌, length};
-ghost use Rattle.mg_http.specs.Turns.{IsPending};
+ghost use Rattle.mg_http.specs.Steps.{IsPending};
 
 mod decode;
 mod fields;
@@ -38,7 +38,7 @@ pub(crate) fn read_pending(
     match read_head(alloc, db, table, &bytes[..bytes.len().min(MAX_HEAD)], spans) {
         Pending::Waiting if bytes.len() < MAX_HEAD => Pending::Waiting,
         Pending::Waiting => Pending::Refused(Refusal::HeadTooLarge, false),
-        Pending::Refused(refusal, silent) => Pending::Refused(refusal, silent),
+        Pending::Refused(refusal, omits_body) => Pending::Refused(refusal, omits_body),
         Pending::Message(framed) => Pending::Message(framed),
     }
 }

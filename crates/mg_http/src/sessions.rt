@@ -1,12 +1,12 @@
-//! A session: reads messages and writes their replies, until an end of one of six kinds.
+//! A session: reads messages and writes their replies, until it ends in one of six ways.
 ghost use Rattle.std.specs.Prelude.{◌≡◌, ◌↔◌, ℕ, ◌<◌, ◌≤◌, List, [], ◌++◌, length, drop, false, IsTrue, IsErrOf, is_ok, if◌then◌else◌, OnOk};
 ghost use Rattle.std.specs.Io.KnownBytes.{Appends, Consumes, IsAtEnd};
 ghost use Rattle.httparse.specs.Grammar.{RequestHead};
 ghost use Rattle.mg_http.specs.Device.{inner_of, has_failed};
-ghost use Rattle.mg_http.specs.Inbox.{unanswered, turns_left};
+ghost use Rattle.mg_http.specs.Inbox.{unanswered, steps_left};
 ghost use Rattle.mg_http.specs.Message.{HasHead};
 ghost use Rattle.mg_http.specs.Transcript.{WroteTranscript};
-ghost use Rattle.mg_http.specs.Turns.{IsFramed, Turns, Counts, StopsWith, progress_of};
+ghost use Rattle.mg_http.specs.Steps.{IsFramed, Steps, Counts, StopsWith, progress_of};
 
 mod answer;
 mod device;
@@ -72,19 +72,24 @@ fn continue_after(written: Result<(), IoFault>, closes: bool) -> Result<(), Sess
 fn end_after_stop<W: Write>(
     writer: &mut Device<W>,
     output: &mut Vec<u8>,
-    silent: bool,
+    omits_body: bool,
     stop: Stop,
 ) -> SessionEnd
     requires { has_failed writer.old ≡ false }
     ensures bytes { StopsWith (W.contents (inner_of writer.old)) (W.contents (inner_of writer.new))
-        silent stop result }
+        omits_body stop result }
     ensures write_fault { IsTrue (has_failed writer.new) ↔ (result ≡ SessionEnd.WriteFault) }
 {
     match stop {
         Stop::End => SessionEnd::Eof,
         Stop::Failed => SessionEnd::ReadFault,
         Stop::Limit => SessionEnd::Limit,
-        Stop::NoMemory => end_after_refusal(write_reply(writer, output, silent, &Reply::NoMemory)),
+        Stop::NoMemory => end_after_refusal(write_reply(
+            writer,
+            output,
+            omits_body,
+            &Reply::NoMemory,
+        )),
     }
 }
 
@@ -109,7 +114,7 @@ fn answer_message<H: Wait + Threads + Sync, S: Service, R: Read, W: Write>(
         → IsFramed db h framed → (came : List ℕ) × (written : List ℕ)
         × Consumes (R.remaining (inner_of reader.old)) (R.remaining (inner_of reader.new)) came
         × Appends (W.contents (inner_of writer.old)) (W.contents (inner_of writer.new)) written
-        × Turns S.answers db
+        × Steps S.answers db
         (record {
           old = service.old;
           bytes = unanswered inbox.old ++ came;
@@ -121,11 +126,11 @@ fn answer_message<H: Wait + Threads + Sync, S: Service, R: Read, W: Write>(
     ensures end { IsErrOf result SessionEnd.Eof → IsAtEnd (R.remaining (inner_of reader.new)) }
     ensures read_fault { IsTrue (has_failed reader.new) ↔ IsErrOf result SessionEnd.ReadFault }
     ensures write_fault { IsTrue (has_failed writer.new) ↔ IsErrOf result SessionEnd.WriteFault }
-    ensures progress { OnOk result (turns_left inbox.new < turns_left inbox.old) }
+    ensures progress { OnOk result (steps_left inbox.new < steps_left inbox.old) }
 {
     let end = framed.len + framed.body as usize;
     if let Err(stop) = inbox.fill(reader, end) {
-        return Err(end_after_stop(writer, &mut inbox.output, framed.silent, stop));
+        return Err(end_after_stop(writer, &mut inbox.output, framed.omits_body, stop));
     }
     if inbox.requests == u32::MAX {
         return Err(SessionEnd::Limit);
@@ -138,7 +143,7 @@ fn answer_message<H: Wait + Threads + Sync, S: Service, R: Read, W: Write>(
         writer,
         &mut inbox.output,
         &mut inbox.buffer,
-        framed.silent,
+        framed.omits_body,
         framed.target,
         body,
     );
@@ -147,8 +152,8 @@ fn answer_message<H: Wait + Threads + Sync, S: Service, R: Read, W: Write>(
     continue_after(written, framed.closes)
 }
 
-/// One turn: answers a message, or reads more bytes, or ends the session.
-fn turn<H: Wait + Threads + Sync, S: Service, R: Read, W: Write>(
+/// One step: answers a message, or reads more bytes, or ends the session.
+fn step<H: Wait + Threads + Sync, S: Service, R: Read, W: Write>(
     rt: &H,
     alloc: Global,
     db: &str,
@@ -162,7 +167,7 @@ fn turn<H: Wait + Threads + Sync, S: Service, R: Read, W: Write>(
     ensures bytes { (came : List ℕ) × (written : List ℕ)
         × Consumes (R.remaining (inner_of reader.old)) (R.remaining (inner_of reader.new)) came
         × Appends (W.contents (inner_of writer.old)) (W.contents (inner_of writer.new)) written
-        × Turns S.answers db.now
+        × Steps S.answers db.now
         (record {
           old = service.old;
           bytes = unanswered inbox.old ++ came;
@@ -174,17 +179,17 @@ fn turn<H: Wait + Threads + Sync, S: Service, R: Read, W: Write>(
     ensures end { IsErrOf result SessionEnd.Eof → IsAtEnd (R.remaining (inner_of reader.new)) }
     ensures read_fault { IsTrue (has_failed reader.new) ↔ IsErrOf result SessionEnd.ReadFault }
     ensures write_fault { IsTrue (has_failed writer.new) ↔ IsErrOf result SessionEnd.WriteFault }
-    ensures progress { OnOk result (turns_left inbox.new < turns_left inbox.old) }
+    ensures progress { OnOk result (steps_left inbox.new < steps_left inbox.old) }
 {
     match inbox.pending(alloc, db) {
         Pending::Waiting => match inbox.read_piece(reader) {
             Ok(()) => Ok(()),
             Err(stop) => Err(end_after_stop(writer, &mut inbox.output, false, stop)),
         },
-        Pending::Refused(refusal, silent) => Err(end_after_refusal(write_refusal(
+        Pending::Refused(refusal, omits_body) => Err(end_after_refusal(write_refusal(
             writer,
             &mut inbox.output,
-            silent,
+            omits_body,
             refusal,
         ))),
         Pending::Message(framed) => answer_message(
@@ -194,6 +199,8 @@ fn turn<H: Wait + Threads + Sync, S: Service, R: Read, W: Write>(
 }
 
 /// Answers message after message until the session ends.
+///
+/// Errors: each error ends the session; see `SessionEnd`. Cost: that of the service, and one pass over the bytes.
 pub fn session<H: Wait + Threads + Sync, S: Service, R: Read, W: Write>(
     rt: &H,
     alloc: Global,
@@ -225,7 +232,7 @@ pub fn session<H: Wait + Threads + Sync, S: Service, R: Read, W: Write>(
         }
     };
     loop {
-        match turn(rt, alloc, db, &mut inbox, reader, writer, service) {
+        match step(rt, alloc, db, &mut inbox, reader, writer, service) {
             Ok(()) => {}
             Err(end) => return end,
         }

@@ -20,7 +20,7 @@ use Rattle.left_right.proofs.writer.Writer.TheSendSync as writer
 use Rattle.left_right.specs.contracts.reader.Reader as Reader
 use Rattle.left_right.specs.contracts.writer.Writer as Writer
 use Rattle.logbook.proofs.tokens.Seen.TheSendSync as seen
-use Rattle.mg_live.proofs.commit_log.Head.TheSendSync as head
+use Rattle.mg_live.proofs.commit_log.LogWord.TheSendSync as log_word
 use Rattle.mg_engine.specs.contracts.engine.Engine as Engine
 use Rattle.mg_engine.specs.contracts.engine.Engine.TheInside as engine
 use Rattle.mg_engine.specs.contracts.state.State as State
@@ -83,10 +83,10 @@ mutex_sync : (R : RattleType) → IsSend R → IsSync (Mutex.the_row R)
 mutex_sync R s = search (sendable, crosses, s) depth 20
 
 named_send : (D : RattleType) (d : database.Ghosts D.Denot) (l : ledger.Ghosts D.Denot) → IsSend (Named.the_row D d l)
-named_send D d l = declared_send (Named.the_type D d l) (head.the_send, (search (sendable, as_row_send) depth 10, tt))
+named_send D d l = declared_send (Named.the_type D d l) (log_word.the_send, (search (sendable, as_row_send) depth 10, tt))
 
 named_sync : (D : RattleType) (d : database.Ghosts D.Denot) (l : ledger.Ghosts D.Denot) → IsSync (Named.the_row D d l)
-named_sync D d l = declared_sync (Named.the_type D d l) (head.the_sync, (search (sendable, as_row_sync) depth 10, tt))
+named_sync D d l = declared_sync (Named.the_type D d l) (log_word.the_sync, (search (sendable, as_row_sync) depth 10, tt))
 
 unit_send : IsSend unit
 unit_send = search sendable depth 10

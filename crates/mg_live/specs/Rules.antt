@@ -9,8 +9,8 @@ abbrev pub IsKept : List Cell → List Entry → Type 0
 IsKept cells log = cells ≡ (length log, true) ∷ (0, true) ∷ []
 
 -- the word that counts the entries
-abbrev pub head_of : Book → Named
-head_of b = record { tracked = true; key = 0; book = b }
+abbrev pub log_word_of : Book → Named
+log_word_of b = record { tracked = true; key = 0; book = b }
 
 -- the entry was added after all that had been seen; or the log was longer, and all of it has then been seen
 abbrev pub Adds : Step Entry → View Entry ℕ → ℕ → View Entry ℕ → Type 0

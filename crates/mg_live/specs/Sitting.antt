@@ -1,4 +1,4 @@
--- What the calls of a seat do. Clauses see the seat's number, the commits that it has seen, and how many commits it has made.
+-- What the calls of a seat do. Contracts see the seat's number, the commits that it has seen, and how many commits it has made.
 use Rattle.std.specs.Prelude.{◌≡◌, ◌+◌, ℕ, zero, suc, List, [], ◌∷◌, ◌++◌, All, Any, ◌<◌, length, Option, Some, None, MatchBool, if◌then◌else◌, refl}
 use Rattle.std.specs.Coded.{Coded, code_by, coded×, coded_ℕ}
 use Rattle.std.specs.List.{sum_by}

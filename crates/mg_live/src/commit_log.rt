@@ -1,7 +1,7 @@
 //! The commit log of a database: its commits, each added in one step. In memory there is only its length; contracts see the entries.
 ghost use Rattle.std.specs.Prelude.{◌≡◌, ◌≢◌, ◌≤◌, ◌<◌, ◌++◌, ℕ, ◌∷◌, [], length, MatchBool, IfSome};
 ghost use Rattle.mg_machine.specs.Laws.{IsPrefix};
-ghost use Rattle.mg_live.specs.Rules.{head_of, log_entry};
+ghost use Rattle.mg_live.specs.Rules.{log_word_of, log_entry};
 ghost use Rattle.mg_live.specs.View.{commits_seen};
 
 use crate::markers::{Add, Entry, Law, Nothing};
@@ -37,7 +37,7 @@ impl Write {
 
 /// The word in memory that counts the entries of the commit log.
 #[derive(Drop)]
-pub struct Head {
+pub struct LogWord {
     word: Word<Entry, u64, Law>,
 }
 
@@ -52,7 +52,7 @@ pub struct Prefix {
 /// A new, empty commit log.
 #[derive(Drop)]
 pub struct CommitLog {
-    pub(crate) head: Head,
+    pub(crate) log_word: LogWord,
     pub(crate) prefix: Prefix,
 }
 
@@ -62,11 +62,11 @@ impl Model for CommitLog {
 
     ghost Value = { Book };
 
-    ghost use Rattle.mg_live.specs.Rules.{head_of};
+    ghost use Rattle.mg_live.specs.Rules.{log_word_of};
 
     ghost view = { λ h. h.prefix.seen.book };
 
-    ghost invariant = { λ h. (h.head.word ≡ head_of h.prefix.seen.book) × (h.prefix.seen.log ≡ []) };
+    ghost invariant = { λ h. (h.log_word.word ≡ log_word_of h.prefix.seen.book) × (h.prefix.seen.log ≡ []) };
 }
 
 impl CommitLog {
@@ -75,18 +75,18 @@ impl CommitLog {
         let (seen, mut first, _second) = Seen::open(Start::alone(), 0, 0);
         let word = Word::tracked(0, &mut first);
         CommitLog {
-            head: Head { word },
+            log_word: LogWord { word },
             prefix: Prefix { count: 0, seen },
         }
     }
 
     // The word of the log, and its empty prefix.
-    pub(crate) fn parts(self) -> (Head, Prefix)
-        ensures head { result.0.word ≡ head_of self }
+    pub(crate) fn parts(self) -> (LogWord, Prefix)
+        ensures log_word { result.0.word ≡ log_word_of self }
         ensures prefix { (result.1.seen.book ≡ self) × (result.1.seen.log ≡ []) }
     {
-        let CommitLog { head, prefix } = self;
-        (head, prefix)
+        let CommitLog { log_word, prefix } = self;
+        (log_word, prefix)
     }
 }
 
@@ -140,8 +140,8 @@ impl Prefix {
     }
 
     /// Adds a commit to the log right after this prefix. Returns the prefix with the commit, or `None` if the log is longer.
-    pub(crate) fn with(&self, head: &Head, write: &Write) -> Option<Prefix>
-        requires head { head.now.word ≡ head_of self.now.seen.book }
+    pub(crate) fn with(&self, log_word: &LogWord, write: &Write) -> Option<Prefix>
+        requires log_word { log_word.now.word ≡ log_word_of self.now.seen.book }
         requires room { length self.now.seen.log ≢ 18446744073709551615 }
         ensures { IfSome result (λ f.
             (f.seen.log ≡ self.now.seen.log ++ log_entry write.now.seat write.now.command.value ∷ [])
@@ -151,7 +151,7 @@ impl Prefix {
         let mut offer: Offer<Entry, u64, Law, Nothing> = seen.plain::<Nothing, Write, Add>(write);
         let mut pen = seen.no_pen();
         let count = self.count;
-        let found = head
+        let found = log_word
             .word
             .compare_exchange::<Add, Nothing>(count, count + 1, &mut seen, &mut offer, &mut pen);
         if found == count {

@@ -4,11 +4,11 @@ ghost use Rattle.mg_engine.specs.Commands.{is_write};
 ghost use Rattle.mg_engine.specs.View.{asked, said};
 ghost use Rattle.mg_machine.specs.Laws.{IsPrefix};
 ghost use Rattle.mg_live.specs.Published.{Publishes, standing};
-ghost use Rattle.mg_live.specs.Rules.{head_of};
+ghost use Rattle.mg_live.specs.Rules.{log_word_of};
 ghost use Rattle.mg_live.specs.Snapshots.{IsOf, IsPublished, commits_of};
 ghost use Rattle.mg_live.specs.View.{commits_seen};
 
-use crate::commit_log::{Head, Prefix, Write};
+use crate::commit_log::{LogWord, Prefix, Write};
 use crate::database::{Database, Ends};
 use crate::publication::{SnapshotWriter, publish};
 use crate::snapshot::Snapshot;
@@ -28,7 +28,7 @@ where
     Snapshot<P>: Absorb<(), State = ()>,
 {
     writer: SnapshotWriter<D, P>,
-    book: Book<D>,
+    tally_book: Book<D>,
     ends: C,
 }
 
@@ -48,7 +48,7 @@ where
 
     ghost view = { λ d. commits_of d.writer.desk.shown.value };
 
-    ghost invariant = { λ d. (d.book.total ≡ length (commits_of d.writer.desk.shown.value))
+    ghost invariant = { λ d. (d.tally_book.total ≡ length (commits_of d.writer.desk.shown.value))
         × IsOf P.place D.commit_log D.db D.shards d.writer.desk.shown.value };
 }
 
@@ -59,7 +59,7 @@ where
     fn drop(self) {
         let Desk {
             writer,
-            book: _,
+            tally_book: _,
             ends,
         } = self;
         ends.end(writer);
@@ -71,12 +71,16 @@ where
     Snapshot<P>: Absorb<(), State = ()>,
 {
     // A desk with no commit.
-    pub(crate) fn new(ends: C, writer: SnapshotWriter<D, P>, book: Book<D>) -> Desk<D, C, P>
-        requires empty { (commits_of writer.desk.shown.value ≡ []) × (book.total ≡ 0) }
+    pub(crate) fn new(ends: C, writer: SnapshotWriter<D, P>, tally_book: Book<D>) -> Desk<D, C, P>
+        requires empty { (commits_of writer.desk.shown.value ≡ []) × (tally_book.total ≡ 0) }
         requires here { IsOf P.place D.commit_log D.db D.shards writer.desk.shown.value }
         ensures { result ≡ [] }
     {
-        Desk { writer, book, ends }
+        Desk {
+            writer,
+            tally_book,
+            ends,
+        }
     }
 
     // Executes a write of a seat, after all published commits, and returns its reply. If it is accepted, it is published in one step,
@@ -87,7 +91,7 @@ where
         &mut self,
         rt: &R,
         alloc: Global,
-        head: &Head,
+        log_word: &LogWord,
         write: &Write,
         prepared: Prepared,
         tally: &mut Tally<D>,
@@ -97,7 +101,8 @@ where
         requires prepared { prepared ≡ asked write.now.command.value }
         requires some { 1 ≤ write.now.workers }
         requires most { write.now.workers ≤ 32 }
-        requires here { (prefix.old.seen.book ≡ D.commit_log) × (head.now.word ≡ head_of D.commit_log) }
+        requires here { (prefix.old.seen.book ≡ D.commit_log)
+            × (log_word.now.word ≡ log_word_of D.commit_log) }
         ensures here { prefix.new.seen.book ≡ D.commit_log }
         ensures publishes { Publishes D.db (write.now.seat, asked write.now.command.value)
             (standing self.old prefix.old tally.old) (said result.0)
@@ -107,7 +112,7 @@ where
         if !prefix.begins(&now.prefix) {
             return (Reply::NoMemory, None);
         }
-        let (reply, next) = now.next::<D, R>(rt, alloc, head, write, prepared);
+        let (reply, next) = now.next::<D, R>(rt, alloc, log_word, write, prepared);
         let Some(next) = next else {
             match reply {
                 Reply::NoMemory => {}
@@ -116,7 +121,7 @@ where
             return (reply, None);
         };
         *prefix = next.prefix.again();
-        tally.add(&mut self.book);
+        tally.add(&mut self.tally_book);
         let before = publish(rt, &mut self.writer, next);
         (reply, Some(before))
     }
@@ -147,7 +152,7 @@ where
         ensures commits { (result ≡ length self.old) × (result ≡ all.old.amount) }
         ensures begins { IsPrefix (commits_seen seen.now.seen.log) self.old }
     {
-        self.book.audit(all);
+        self.tally_book.audit(all);
         let now = self.writer.published();
         if !seen.begins(&now.prefix) {
             unreachable!();

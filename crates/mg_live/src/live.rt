@@ -6,7 +6,7 @@ ghost use Rattle.mg_live.specs.Sitting.{AreAll, IsAhead, all_tallies, new_seats}
 ghost use Rattle.mg_live.specs.View.{commits_seen};
 ghost use Rattle.mg_live.specs.declared.live.CloseError.TheVariants.{Ahead, Missing};
 
-use crate::commit_log::{CommitLog, Head, Prefix};
+use crate::commit_log::{CommitLog, LogWord, Prefix};
 use crate::database::{Database, Ends};
 use crate::desk::Desk;
 use crate::markers::Ours;
@@ -32,8 +32,8 @@ where
     Snapshot<P>: Absorb<(), State = ()>,
 {
     shared: Arc<SharedDesk<D, C, P>>,
-    first: Prefix,
-    rest: Share<D>,
+    empty: Prefix,
+    last_share: Share<D>,
     seats: usize,
 }
 
@@ -47,8 +47,8 @@ where
 
     ghost view = { λ l. l.seats };
 
-    ghost invariant = { λ l. (l.rest.parts ≡ 0) × (l.rest.amount ≡ 0)
-        × (l.first.seen.book ≡ D.commit_log) × (l.first.seen.log ≡ []) };
+    ghost invariant = { λ l. (l.last_share.parts ≡ 0) × (l.last_share.amount ≡ 0)
+        × (l.empty.seen.book ≡ D.commit_log) × (l.empty.seen.log ≡ []) };
 }
 
 /// A database that was closed. Contracts see the number of its commits.
@@ -116,8 +116,8 @@ where
     ensures all { IfOk result (λ s. (s.all.parts ≡ D.parts) × (s.all.amount ≡ 0)) }
     ensures prefix { IfOk result (λ s. (s.prefix.seen.book ≡ D.commit_log) × (s.prefix.seen.log ≡ [])) }
 {
-    let (head, prefix) = commit_log.parts();
-    let (book, all) = blank.open::<D>();
+    let (log_word, prefix) = commit_log.parts();
+    let (tally_book, all) = blank.open::<D>();
     let first = Snapshot {
         point: Point::first(alloc, db, placement, shards)?,
         prefix: prefix.again(),
@@ -125,10 +125,10 @@ where
     let second = first.again()?;
     let writer: SnapshotWriter<D, P> = Writer::new(alloc, first, second, seats)?;
     let factory = writer.factory().another();
-    let desk = Desk::new(ends, writer, book);
+    let desk = Desk::new(ends, writer, tally_book);
     let shared = SharedDesk {
         named: Named {
-            head,
+            log_word,
             of: PhantomData,
         },
         desk: Mutex::new(desk),
@@ -170,19 +170,19 @@ where
 
 // The longest prefix of the commit log that a seat has seen. The prefixes that the others have seen are prefixes of it.
 fn longest<D: Database, C: Ends, P: Placement + Drop>(
-    first: &Prefix,
+    empty: &Prefix,
     seats: &[Seat<D, C, P>],
     made: u128,
 ) -> Prefix
 where
     Snapshot<P>: Absorb<(), State = ()>,
-    requires first { (first.now.seen.book ≡ D.commit_log) × (first.now.seen.log ≡ []) }
+    requires empty { (empty.now.seen.book ≡ D.commit_log) × (empty.now.seen.log ≡ []) }
     requires within { All (λ s. length s.seen ≤ made) seats.now }
     ensures here { result.seen.book ≡ D.commit_log }
     ensures within { length (commits_seen result.seen.log) ≤ made }
     ensures begins { All (λ s. IsPrefix s.seen (commits_seen result.seen.log)) seats.now }
 {
-    let mut longest = first.again();
+    let mut longest = empty.again();
     for seat in seats {
         longest = longest.longer(&seat.prefix);
     }
@@ -191,16 +191,16 @@ where
 
 // Joins the seats' parts of the ledger.
 fn join_all<D: Database, C: Ends, P: Placement + Drop>(
-    rest: Share<D>,
+    last_share: Share<D>,
     seats: Vec<Seat<D, C, P>>,
 ) -> Share<D>
 where
     Snapshot<P>: Absorb<(), State = ()>,
-    requires { (rest.parts ≡ 0) × (rest.amount ≡ 0) }
+    requires { (last_share.parts ≡ 0) × (last_share.amount ≡ 0) }
     ensures parts { result.parts ≡ vec_len seats }
     ensures amount { result.amount ≡ all_tallies seats.items }
 {
-    let mut all = rest;
+    let mut all = last_share;
     for seat in seats {
         let Seat { tally, .. } = seat;
         tally.join(&mut all);
@@ -213,7 +213,8 @@ where
     Snapshot<P>: Absorb<(), State = ()>,
 {
     /// Opens an empty database named `db`, with 1 to 64 shards, on which `placement` places the documents, and 1 to 16 seats, which are
-    /// numbered from 0. The ledger has one part for each seat. `ends` ends the database once this `Live` and all seats are dropped.
+    /// numbered from 0. `blank` is the new ledger of its tallies, with one part for each seat; `commit_log` is its new commit log. `ends`
+    /// ends the database once this `Live` and all seats are dropped.
     ///
     /// Errors: `NoMemory` if an allocation fails. Cost: the number of shards and of seats, and the name.
     pub fn open(
@@ -257,8 +258,8 @@ where
         }
         let live = Live {
             shared,
-            first: prefix,
-            rest: all,
+            empty: prefix,
+            last_share: all,
             seats,
         };
         Ok((live, each))
@@ -267,7 +268,8 @@ where
     /// Closes the database, and counts its commits. The caller hands over all its seats.
     ///
     /// Errors: `Missing` if a seat is absent, else `Ahead` if a seat has seen more commits than all seats together have made. An error
-    /// hands the database and the seats back. Takes no memory. Cost: the number of seats; waits for the writer's lock, and as `ends` does.
+    /// hands the database and the seats back. Takes no memory. Cost: the number of seats. Waits for the writer's lock, and for what `ends`
+    /// waits for.
     pub fn close<R: Wait>(
         self,
         rt: &R,
@@ -287,9 +289,13 @@ where
         if is_ahead(seats.as_slice(), made) {
             return Err((self, seats, CloseError::Ahead));
         }
-        let seen = longest(&self.first, seats.as_slice(), made);
-        let Live { shared, rest, .. } = self;
-        let mut all = join_all(rest, seats);
+        let seen = longest(&self.empty, seats.as_slice(), made);
+        let Live {
+            shared,
+            last_share,
+            ..
+        } = self;
+        let mut all = join_all(last_share, seats);
         let commits = shared.desk.lock(rt).count_commits(&mut all, &seen);
         Ok(Closed { commits })
     }

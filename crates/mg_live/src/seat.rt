@@ -3,10 +3,10 @@ ghost use Rattle.std.specs.Prelude.{◌≡◌, ◌≤◌, true, false, IfOk, OnE
 ghost use Rattle.mg_engine.specs.Commands.{is_write};
 ghost use Rattle.mg_engine.specs.View.{asked, said};
 ghost use Rattle.mg_live.specs.Snapshots.{StandsAfter, IsPublished};
-ghost use Rattle.mg_live.specs.Rules.{head_of};
+ghost use Rattle.mg_live.specs.Rules.{log_word_of};
 ghost use Rattle.mg_live.specs.Sitting.{Answered, IsLater, SeatReads, Learned, SeatWrites};
 
-use crate::commit_log::{Head, Prefix, Write};
+use crate::commit_log::{LogWord, Prefix, Write};
 use crate::database::{Database, Ends};
 use crate::desk::Desk;
 use crate::publication::{SnapshotReader, look};
@@ -35,9 +35,9 @@ where
 /// The word of this database's commit log.
 #[derive(Drop)]
 pub(crate) struct Named<D: Database> {
-    pub(crate) head: Head,
+    pub(crate) log_word: LogWord,
     pub(crate) of: PhantomData<D>,
-    ghost is: { head.word ≡ head_of D.commit_log },
+    ghost is: { log_word.word ≡ log_word_of D.commit_log },
 }
 
 /// A seat at a database. Contracts see its number, the commits that it has seen, and the tally of those that it has made.
@@ -157,7 +157,10 @@ where
         let Ok(snapshot) = self.snapshot() else {
             return Reply::NoMemory;
         };
-        match snapshot.point.reply(rt, self.alloc, command, workers) {
+        match snapshot
+            .point
+            .read_at_most(rt, self.alloc, command, workers)
+        {
             Ok(reply) => reply,
             Err(_) => Reply::NoMemory,
         }
@@ -216,7 +219,7 @@ where
             desk.write(
                 rt,
                 *alloc,
-                &shared.named.head,
+                &shared.named.log_word,
                 &write,
                 prepared,
                 tally,

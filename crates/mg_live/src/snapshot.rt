@@ -7,9 +7,9 @@ ghost use Rattle.mg_engine.specs.View.{asked, said};
 ghost use Rattle.mg_live.specs.Published.{Nexts};
 ghost use Rattle.mg_live.specs.Snapshots.{IsOf, commits_of, state_of};
 ghost use Rattle.mg_shard.specs.Shard.{shards_seen};
-ghost use Rattle.mg_live.specs.Rules.{head_of};
+ghost use Rattle.mg_live.specs.Rules.{log_word_of};
 
-use crate::commit_log::{Head, Prefix, Write};
+use crate::commit_log::{LogWord, Prefix, Write};
 use crate::database::Database;
 use mg_engine::{Prepared, Reply};
 use mg_index::Catalog;
@@ -62,7 +62,7 @@ impl<P: Placement + Drop> Snapshot<P> {
         &self,
         rt: &R,
         alloc: Global,
-        head: &Head,
+        log_word: &LogWord,
         write: &Write,
         prepared: Prepared,
     ) -> (Reply, Option<Snapshot<P>>)
@@ -70,7 +70,7 @@ impl<P: Placement + Drop> Snapshot<P> {
         requires prepared { prepared ≡ asked write.now.command.value }
         requires some { 1 ≤ write.now.workers }
         requires most { write.now.workers ≤ 32 }
-        requires head { head.now.word ≡ head_of D.commit_log }
+        requires log_word { log_word.now.word ≡ log_word_of D.commit_log }
         requires here { IsOf P.place D.commit_log D.db D.shards self.now }
         ensures next { Nexts D.db (commits_of self.now) (write.now.seat, asked write.now.command.value)
             (said result.0)
@@ -86,7 +86,7 @@ impl<P: Placement + Drop> Snapshot<P> {
         if !accepts(&reply) {
             return (reply, None);
         }
-        let Some(prefix) = self.prefix.with(head, write) else {
+        let Some(prefix) = self.prefix.with(log_word, write) else {
             return (Reply::NoMemory, None);
         };
         (reply, Some(Snapshot { point, prefix }))

@@ -42,13 +42,13 @@ impl<L: Ledger> Tally<L> {
     }
 
     // Counts one more commit, here and in the book.
-    pub(crate) fn add(&mut self, book: &mut Book<L>)
-        requires room { book.old.total < 18446744073709551615 }
+    pub(crate) fn add(&mut self, tally_book: &mut Book<L>)
+        requires room { tally_book.old.total < 18446744073709551615 }
         ensures tally { self.new ≡ self.old + 1 }
-        ensures book { book.new.total ≡ book.old.total + 1 }
+        ensures tally_book { tally_book.new.total ≡ tally_book.old.total + 1 }
     {
-        book.audit(&mut self.share);
-        book.add(&mut self.share, 1);
+        tally_book.audit(&mut self.share);
+        tally_book.add(&mut self.share, 1);
         self.count += 1;
     }
 

@@ -25,7 +25,8 @@ pub struct Point<P> {
 
 impl<P: Placement + Drop> Point<P> {
     /// The point before the first commit to a database of this name, over `shards` shards on which `placement` places the documents.
-    /// Cost: the number of shards, and the name.
+    ///
+    /// Errors: `NoMemory` if an allocation fails. Cost: the number of shards, and the name.
     pub fn first(alloc: Global, db: &str, placement: P, shards: usize) -> Result<Point<P>, NoMemory>
         requires some { 1 ≤ shards }
         requires most { shards ≤ 64 }
@@ -37,7 +38,7 @@ impl<P: Placement + Drop> Point<P> {
         Ok(Point { engine, commits: 0 })
     }
 
-    /// A copy of this point, which shares the engine.
+    /// A copy of this point, which shares the engine. Takes no memory. Errors: `NoMemory` if there are too many references to the engine.
     pub fn again(&self) -> Result<Point<P>, NoMemory>
         ensures after { IfOk result
             (λ p. (name : List ℕ) (cs : List Commit) → IsAfter P.place name self.now cs
@@ -51,7 +52,9 @@ impl<P: Placement + Drop> Point<P> {
         })
     }
 
-    /// The reply to a read, with exactly `workers` workers, whatever the gate does. Cost: that of the engine's reply.
+    /// The reply to a read, with exactly `workers` workers, whatever the gate does.
+    ///
+    /// Errors: `NoMemory` if an allocation fails. Cost: that of the engine's reply.
     pub fn read<R: Threads + Sync, G: Gate + Sync>(
         &self,
         rt: &R,
@@ -69,8 +72,10 @@ impl<P: Placement + Drop> Point<P> {
         into_result(self.engine.answer(rt, alloc, command, workers, gate))
     }
 
-    /// The reply to a read, with at most `workers` workers. Cost: that of the engine's reply.
-    pub fn reply<R: Threads + Sync>(
+    /// The reply to a read, with at most `workers` workers.
+    ///
+    /// Errors: `NoMemory` if an allocation fails. Cost: that of the engine's reply.
+    pub fn read_at_most<R: Threads + Sync>(
         &self,
         rt: &R,
         alloc: Global,
@@ -87,7 +92,9 @@ impl<P: Placement + Drop> Point<P> {
     }
 
     /// The reply to a write, and the point after it: one commit later if the write is accepted, otherwise a copy of this point.
-    /// Cost: that of the engine's commit, and a copy of the command.
+    /// After 18,446,744,073,709,551,615 commits each write is refused as `TooLarge`.
+    ///
+    /// Errors: `NoMemory` if an allocation fails. Cost: that of the engine's commit, and a copy of the command.
     pub fn write<R: Threads + Sync>(
         &self,
         rt: &R,
@@ -110,7 +117,9 @@ impl<P: Placement + Drop> Point<P> {
         self.write_prepared(rt, alloc, prepared, workers)
     }
 
-    /// Does what `write` does, for a prepared command. Where no more commits can be counted, the write is refused as `TooLarge`.
+    /// Does what `write` does, for a prepared command, which is not copied.
+    ///
+    /// Errors: as for `write`. Cost: that of the engine's `commit_prepared`.
     pub fn write_prepared<R: Threads + Sync>(
         &self,
         rt: &R,

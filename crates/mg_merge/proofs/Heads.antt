@@ -1,5 +1,5 @@
 -- Taking the first element off lists that are in order.
-use Rattle.std.proofs.Common.{◌≡◌, ℕ, zero, suc, ◌+◌, ◌<◌, List, [], ◌∷◌, ◌++◌, length, get_or, set, take, All, Vec, Global, Bool, true, false, cond, if◌then◌else◌, Ordering, Less, Equal, Greater, is_eq, is_gt, Bor, refl, sym, ap, ◌∙◌, subst, arith}
+use Rattle.std.proofs.Common.{◌≡◌, Option, None, Some, IfNone, ℕ, zero, suc, ◌+◌, ◌<◌, List, [], ◌∷◌, ◌++◌, length, get_or, set, take, All, Vec, Global, Bool, true, false, cond, if◌then◌else◌, Ordering, Less, Equal, Greater, is_eq, is_gt, Bor, refl, sym, ap, ◌∙◌, subst, arith}
 use Rattle.std.specs.Cmp.{IsTotalOrder}
 use Rattle.std.specs.List.{AllByRecursion}
 use Rattle.std.specs.List.Sorted.{IsSorted}
@@ -190,3 +190,9 @@ one_list order o [] list count one e h = absurd (omega (arith, one))
 one_list {X} order o (xs ∷ []) list count one e h =
     ap (λ (l : Vec X Global). take count l.items) e ∙ sym (ap (take count) (ap (sorted order) (append-nil xs.items) ∙ sorted_risen order xs.items (rises order o xs.items (h 0 [] (omega arith)))))
 one_list order o (xs ∷ ys ∷ lists) list count one e h = absurd (omega (arith, one))
+
+-- ---- a search that has found nothing
+
+pub if_none : {X : Type 0} (o : Option X) (P : Type 0) → P → IfNone o P
+if_none None P p = p
+if_none (Some x) P p = tt

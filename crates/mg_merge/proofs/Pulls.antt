@@ -2,17 +2,17 @@
 use Rattle.std.proofs.Common.{◌≡◌, ℕ, zero, suc, ◌+◌, ◌<◌, ◌≤◌, List, [], ◌∷◌, ◌++◌, length, get_or, set, map, take, All, Option, None, Some, option_map, IfSome, IfNone, Ordering, Bool, true, false, if◌then◌else◌, append_assoc, refl, sym, ap, ap₂, ◌∙◌, subst, arith}
 use Rattle.std.specs.Ordering.{is_gt}
 use Rattle.std.proofs.lemmas.List.{get_or-map, length-map, length-set, map-append, map-set, length-append}
-use Rattle.std.specs.List.Sorted.{IsStrictlySortedBy}
 use Rattle.mg_collate.specs.declared.direction.Direction.{Direction}
 use Rattle.mg_collate.specs.Row.{RowValue, directed_order}
 use Rattle.mg_collate.specs.Sorted.{IsInOrder, sorted, sorted_with}
 use Rattle.mg_collate.proofs.Directed.{directed_total}
 use Rattle.mg_merge.specs.Merged.{joined, order_by}
 use Rattle.mg_merge.specs.Pulled.{AreFrom, IsAhead, IsGivenBy, remaining, all_remaining, firsts_of}
-use Rattle.mg_merge.specs.Rests.{AreInTurn, BeginsFirst, begin_order, turn_order}
+use Rattle.mg_merge.specs.Rests.{BeginsFirst, begin_order}
+use Rattle.mg_merge.specs.Winners.{IsWinnerTree, IsWinnerTreeBut}
 use Rattle.mg_merge.proofs.Heads.{first_taken, none_left, order_kept}
-use Rattle.mg_merge.proofs.Queues.{begins_first, first_enters, others_climb}
 use Rattle.mg_merge.proofs.Rows.{by_total}
+use Rattle.mg_merge.proofs.Trees.{first_begins, one_changed}
 
 -- ---- what each source has left
 
@@ -95,24 +95,19 @@ front row heads rests p h l =
     let size = length-map heads (option_map row) in
     all_remaining_at (map (option_map row) heads) rests p (size ∙ h) (omega (arith, size, l)) ∙ ap (λ o. remaining o (get_or rests p [])) (head_row_at row heads p)
 
--- where the first source of the queue has nothing left, no source has
-pub all_ended : {X : Type 0} (row : X → RowValue) (direction : Direction) (heads : List (Option X)) (rests : List (List RowValue)) (p : ℕ) (queue : List ℕ) → length heads ≡ length rests
-    → AreInTurn (order_by row direction) (firsts_of heads) (length (firsts_of heads)) (p ∷ queue) → get_or heads p None ≡ None → joined (all_remaining (map (option_map row) heads) rests) ≡ []
-all_ended row direction heads rests p queue h turns e =
-    let fronts = length-map heads (λ head. remaining head []) in
-    let low = turns.within.0 in
-    let l : p < length heads = omega (arith, fronts, low) in
-    let first = rows_begin row direction heads rests p h l (begins_first (order_by row direction) (by_total row direction) (firsts_of heads) (length (firsts_of heads)) p queue turns) in
+-- where the source that begins first has nothing left, no source has
+pub all_ended : {X : Type 0} (row : X → RowValue) (direction : Direction) (heads : List (Option X)) (rests : List (List RowValue)) (p : ℕ) → length heads ≡ length rests
+    → p < length heads → BeginsFirst (order_by row direction) (firsts_of heads) (length (firsts_of heads)) p → get_or heads p None ≡ None → joined (all_remaining (map (option_map row) heads) rests) ≡ []
+all_ended row direction heads rests p h l begins e =
+    let first = rows_begin row direction heads rests p h l begins in
     let empty = front row heads rests p h l ∙ ap (λ o. remaining (option_map row o) (get_or rests p [])) e in
     let all = all_remaining (map (option_map row) heads) rests in
     none_left (directed_order direction) all (λ k m. subst (λ ys. is_gt (begin_order (directed_order direction) ys (get_or all k [])) ≡ false) empty (first.least k m))
 
-pub none_in_turn : {X : Type 0} (row : X → RowValue) (order : X → X → Ordering) (heads : List (Option X)) (rests : List (List RowValue)) (queue : List ℕ) → length heads ≡ length rests
-    → AreInTurn order (firsts_of heads) (length (firsts_of heads)) queue → length queue ≡ 0 → joined (all_remaining (map (option_map row) heads) rests) ≡ []
-none_in_turn row order [] [] queue h turns e = refl
-none_in_turn row order [] (rest ∷ rests) queue h turns e = absurd (omega (arith, h))
-none_in_turn row order (head ∷ heads) rests [] h turns e = absurd (let there = turns.each 0 (omega arith) in cc)
-none_in_turn row order (head ∷ heads) rests (n ∷ queue) h turns e = absurd (omega (arith, e))
+pub none_pulled : {X : Type 0} (row : X → RowValue) (heads : List (Option X)) (rests : List (List RowValue)) → length heads ≡ length rests → length (firsts_of heads) ≡ 0 → joined (all_remaining (map (option_map row) heads) rests) ≡ []
+none_pulled row [] [] h e = refl
+none_pulled row [] (rest ∷ rests) h e = absurd (omega (arith, h))
+none_pulled row (head ∷ heads) rests h e = absurd (omega (arith, e))
 
 -- what the sources have left, after a pull from one of them
 pulled_set : {X : Type 0} (row : X → RowValue) (heads : List (Option X)) (rests : List (List RowValue)) (p : ℕ) (pulled : Option X) (new : List RowValue) → length heads ≡ length rests
@@ -120,48 +115,43 @@ pulled_set : {X : Type 0} (row : X → RowValue) (heads : List (Option X)) (rest
 pulled_set row heads rests p pulled new h =
     ap (λ hs. all_remaining hs (set rests p new)) (map-set (option_map row) heads p pulled) ∙ all_remaining_set (map (option_map row) heads) rests p (option_map row pulled) new (length-map heads (option_map row) ∙ h)
 
-pub pulled_first : {X : Type 0} (row : X → RowValue) (direction : Direction) (heads : List (Option X)) (rests : List (List RowValue)) (p : ℕ) (queue : List ℕ) (x : X) (pulled : Option X) (new : List RowValue)
+pub pulled_first : {X : Type 0} (row : X → RowValue) (direction : Direction) (heads : List (Option X)) (rests : List (List RowValue)) (p : ℕ) (x : X) (pulled : Option X) (new : List RowValue)
     → length heads ≡ length rests → All (IsInOrder direction) (all_remaining (map (option_map row) heads) rests)
-    → AreInTurn (order_by row direction) (firsts_of heads) (length (firsts_of heads)) (p ∷ queue) → get_or heads p None ≡ Some x → get_or rests p [] ≡ remaining (option_map row pulled) new
+    → p < length heads → BeginsFirst (order_by row direction) (firsts_of heads) (length (firsts_of heads)) p → get_or heads p None ≡ Some x → get_or rests p [] ≡ remaining (option_map row pulled) new
     → sorted (directed_order direction) (joined (all_remaining (map (option_map row) heads) rests)) ≡ row x ∷ sorted (directed_order direction) (joined (all_remaining (map (option_map row) (set heads p pulled)) (set rests p new)))
-pulled_first row direction heads rests p queue x pulled new h order turns e r =
-    let fronts = length-map heads (λ head. remaining head []) in
-    let low = turns.within.0 in
-    let l : p < length heads = omega (arith, fronts, low) in
+pulled_first row direction heads rests p x pulled new h order l begins e r =
     let all = all_remaining (map (option_map row) heads) rests in
     let mapped = length-map heads (option_map row) in
     let size = all_remaining_size (map (option_map row) heads) rests (mapped ∙ h) in
-    let first = rows_begin row direction heads rests p h l (begins_first (order_by row direction) (by_total row direction) (firsts_of heads) (length (firsts_of heads)) p queue turns) in
+    let first = rows_begin row direction heads rests p h l begins in
     let here : get_or all p [] ≡ row x ∷ remaining (option_map row pulled) new = front row heads rests p h l ∙ ap (λ o. remaining (option_map row o) (get_or rests p [])) e ∙ ap (λ ys. row x ∷ ys) r in
     first_taken (directed_order direction) (directed_total direction) all p (row x) (remaining (option_map row pulled) new) order (omega (arith, l, size, mapped)) here first
     ∙ ap (λ ls. row x ∷ sorted (directed_order direction) (joined ls)) (sym (pulled_set row heads rests p pulled new h))
 
-pub pulled_ahead : {X : Type 0} (row : X → RowValue) (direction : Direction) (heads : List (Option X)) (rests : List (List RowValue)) (p : ℕ) (queue : List ℕ) (x : X) (pulled : Option X) (new : List RowValue)
-    → length heads ≡ length rests → All (IsInOrder direction) (all_remaining (map (option_map row) heads) rests)
-    → AreInTurn (order_by row direction) (firsts_of heads) (length (firsts_of heads)) (p ∷ queue) → get_or heads p None ≡ Some x → get_or rests p [] ≡ remaining (option_map row pulled) new
-    → IsAhead row direction (set heads p pulled) (set rests p new) (sorted_with (turn_order (order_by row direction) (firsts_of (set heads p pulled))) p queue)
-pulled_ahead row direction heads rests p queue x pulled new h order turns e r =
-    let fronts = length-map heads (λ head. remaining head []) in
-    let low = turns.within.0 in
-    let l : p < length heads = omega (arith, fronts, low) in
+pulled_order : {X : Type 0} (row : X → RowValue) (direction : Direction) (heads : List (Option X)) (rests : List (List RowValue)) (p : ℕ) (x : X) (pulled : Option X) (new : List RowValue)
+    → length heads ≡ length rests → All (IsInOrder direction) (all_remaining (map (option_map row) heads) rests) → p < length heads → get_or heads p None ≡ Some x → get_or rests p [] ≡ remaining (option_map row pulled) new
+    → All (IsInOrder direction) (all_remaining (map (option_map row) (set heads p pulled)) (set rests p new))
+pulled_order row direction heads rests p x pulled new h order l e r =
     let all = all_remaining (map (option_map row) heads) rests in
     let mapped = length-map heads (option_map row) in
     let size = all_remaining_size (map (option_map row) heads) rests (mapped ∙ h) in
     let here : get_or all p [] ≡ row x ∷ remaining (option_map row pulled) new = front row heads rests p h l ∙ ap (λ o. remaining (option_map row o) (get_or rests p [])) e ∙ ap (λ ys. row x ∷ ys) r in
-    let ordered = order_by row direction in
-    record {
-      size = length-set heads p pulled ∙ h ∙ sym (length-set rests p new);
-      order = subst (All (IsInOrder direction)) (sym (pulled_set row heads rests p pulled new h)) (order_kept (directed_order direction) (directed_total direction) all p (row x) (remaining (option_map row pulled) new) order (omega (arith, l, size, mapped)) here);
-      turns = subst (λ lists. AreInTurn ordered lists (length lists) (sorted_with (turn_order ordered lists) p queue)) (sym (map-set (λ head. remaining head []) heads p pulled))
-          (subst (λ n. AreInTurn ordered (set (firsts_of heads) p (remaining pulled [])) n (sorted_with (turn_order ordered (set (firsts_of heads) p (remaining pulled []))) p queue)) (sym (length-set (firsts_of heads) p (remaining pulled [])))
-          (first_enters ordered (by_total row direction) (firsts_of heads) (length (firsts_of heads)) p queue (remaining pulled []) turns));
-    }
+    subst (All (IsInOrder direction)) (sym (pulled_set row heads rests p pulled new h)) (order_kept (directed_order direction) (directed_total direction) all p (row x) (remaining (option_map row pulled) new) order (omega (arith, l, size, mapped)) here)
 
-pub pulled_climb : {X : Type 0} (row : X → RowValue) (direction : Direction) (heads : List (Option X)) (p : ℕ) (queue : List ℕ) (pulled : Option X)
-    → AreInTurn (order_by row direction) (firsts_of heads) (length (firsts_of heads)) (p ∷ queue) → IsStrictlySortedBy (turn_order (order_by row direction) (firsts_of (set heads p pulled))) queue
-pulled_climb row direction heads p queue pulled turns =
-    subst (λ lists. IsStrictlySortedBy (turn_order (order_by row direction) lists) queue) (sym (map-set (λ head. remaining head []) heads p pulled))
-    (others_climb (order_by row direction) (by_total row direction) (firsts_of heads) (length (firsts_of heads)) p queue (remaining pulled []) turns)
+-- the winner tree after a pull from one source
+pub pulled_changed : {X : Type 0} (row : X → RowValue) (direction : Direction) (heads : List (Option X)) (winners : List ℕ) (p : ℕ) (pulled : Option X) → IsWinnerTree (order_by row direction) (firsts_of heads) winners
+    → IsWinnerTreeBut (order_by row direction) (firsts_of (set heads p pulled)) p winners
+pulled_changed row direction heads winners p pulled tree =
+    subst (λ lists. IsWinnerTreeBut (order_by row direction) lists p winners) (sym (map-set (λ head. remaining head []) heads p pulled)) (one_changed (order_by row direction) (firsts_of heads) winners p (remaining pulled []) tree)
+
+-- the source that a winner tree has as its first
+pub first_source : {X : Type 0} (row : X → RowValue) (direction : Direction) (heads : List (Option X)) (winners : List ℕ) (p : ℕ) → IsWinnerTree (order_by row direction) (firsts_of heads) winners → 1 < length winners → p ≡ get_or winners 1 0
+    → (p < length heads) × BeginsFirst (order_by row direction) (firsts_of heads) (length (firsts_of heads)) p
+first_source row direction heads winners p tree l e =
+    let first = first_begins (order_by row direction) (by_total row direction) (firsts_of heads) winners p tree l e in
+    let fronts = length-map heads (λ head. remaining head []) in
+    let within = first.0 in
+    (omega (arith, fronts, within), first.1)
 
 -- ---- a pull from the code's sources
 
@@ -173,22 +163,25 @@ front_at (h ∷ heads) (suc p) head d l e = front_at heads p head d (omega arith
 pub source_at : {S : Type 0} (rest : S → List RowValue) (sources : List S) (p : ℕ) (s : S) (all : List RowValue) → p < length sources → s ≡ get_or sources p s → rest s ≡ all → get_or (map rest sources) p [] ≡ all
 source_at rest sources p s all l e h = get_or-map rest sources p s [] l ∙ ap rest (sym e) ∙ h
 
-pub source_first : {T S : Type 0} (row : T → RowValue) (rest : S → List RowValue) (direction : Direction) (heads : List (Option T)) (sources : List S) (p : ℕ) (queue : List ℕ) (x : T) (pulled : Option T) (s new : S)
+pub source_first : {T S : Type 0} (row : T → RowValue) (rest : S → List RowValue) (direction : Direction) (heads : List (Option T)) (sources : List S) (p : ℕ) (x : T) (pulled : Option T) (s new : S)
     → length heads ≡ length (map rest sources) → All (IsInOrder direction) (all_remaining (map (option_map row) heads) (map rest sources))
-    → AreInTurn (order_by row direction) (firsts_of heads) (length (firsts_of heads)) (p ∷ queue) → get_or heads p None ≡ Some x → p < length sources → s ≡ get_or sources p s → rest s ≡ remaining (option_map row pulled) (rest new)
+    → p < length heads → BeginsFirst (order_by row direction) (firsts_of heads) (length (firsts_of heads)) p → get_or heads p None ≡ Some x → p < length sources → s ≡ get_or sources p s → rest s ≡ remaining (option_map row pulled) (rest new)
     → sorted (directed_order direction) (joined (all_remaining (map (option_map row) heads) (map rest sources)))
     ≡ row x ∷ sorted (directed_order direction) (joined (all_remaining (map (option_map row) (set heads p pulled)) (map rest (set sources p new))))
-source_first row rest direction heads sources p queue x pulled s new h order turns e l at was =
-    pulled_first row direction heads (map rest sources) p queue x pulled (rest new) h order turns e (source_at rest sources p s (remaining (option_map row pulled) (rest new)) l at was)
+source_first row rest direction heads sources p x pulled s new h order low begins e l at was =
+    pulled_first row direction heads (map rest sources) p x pulled (rest new) h order low begins e (source_at rest sources p s (remaining (option_map row pulled) (rest new)) l at was)
     ∙ ap (λ rs. row x ∷ sorted (directed_order direction) (joined (all_remaining (map (option_map row) (set heads p pulled)) rs))) (sym (map-set rest sources p new))
 
-pub source_ahead : {T S : Type 0} (row : T → RowValue) (rest : S → List RowValue) (direction : Direction) (heads : List (Option T)) (sources : List S) (p : ℕ) (queue : List ℕ) (x : T) (pulled : Option T) (s new : S)
-    → length heads ≡ length (map rest sources) → All (IsInOrder direction) (all_remaining (map (option_map row) heads) (map rest sources))
-    → AreInTurn (order_by row direction) (firsts_of heads) (length (firsts_of heads)) (p ∷ queue) → get_or heads p None ≡ Some x → p < length sources → s ≡ get_or sources p s → rest s ≡ remaining (option_map row pulled) (rest new)
-    → IsAhead row direction (set heads p pulled) (map rest (set sources p new)) (sorted_with (turn_order (order_by row direction) (firsts_of (set heads p pulled))) p queue)
-source_ahead row rest direction heads sources p queue x pulled s new h order turns e l at was =
-    subst (λ rs. IsAhead row direction (set heads p pulled) rs (sorted_with (turn_order (order_by row direction) (firsts_of (set heads p pulled))) p queue)) (sym (map-set rest sources p new))
-    (pulled_ahead row direction heads (map rest sources) p queue x pulled (rest new) h order turns e (source_at rest sources p s (remaining (option_map row pulled) (rest new)) l at was))
+pub source_ahead : {T S : Type 0} (row : T → RowValue) (rest : S → List RowValue) (direction : Direction) (heads : List (Option T)) (sources : List S) (winners : List ℕ) (p : ℕ) (x : T) (pulled : Option T) (s new : S)
+    → length heads ≡ length (map rest sources) → All (IsInOrder direction) (all_remaining (map (option_map row) heads) (map rest sources)) → p < length heads
+    → get_or heads p None ≡ Some x → p < length sources → s ≡ get_or sources p s → rest s ≡ remaining (option_map row pulled) (rest new) → IsWinnerTree (order_by row direction) (firsts_of (set heads p pulled)) winners
+    → IsAhead row direction (set heads p pulled) (map rest (set sources p new)) winners
+source_ahead row rest direction heads sources winners p x pulled s new h order low e l at was tree =
+    subst (λ rs. IsAhead row direction (set heads p pulled) rs winners) (sym (map-set rest sources p new)) (record {
+      size = length-set heads p pulled ∙ h ∙ sym (length-set (map rest sources) p (rest new));
+      order = pulled_order row direction heads (map rest sources) p x pulled (rest new) h order low e (source_at rest sources p s (remaining (option_map row pulled) (rest new)) l at was);
+      tree = tree;
+    })
 
 -- ---- of what kind the items are
 

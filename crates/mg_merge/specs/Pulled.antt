@@ -5,7 +5,7 @@ use Rattle.mg_collate.specs.declared.direction.Direction.{Direction}
 use Rattle.mg_collate.specs.Row.{RowValue}
 use Rattle.mg_collate.specs.Sorted.{IsInOrder}
 use Rattle.mg_merge.specs.Merged.{order_by}
-use Rattle.mg_merge.specs.Rests.{AreInTurn}
+use Rattle.mg_merge.specs.Winners.{IsWinnerTree}
 
 -- what remains of a source: its head and its rest; without a head nothing remains
 abbrev pub remaining : {X : Type 0} → Option X → List X → List X
@@ -35,8 +35,8 @@ pub record AreFrom {S T : Type 0} (gives : S → T → Type 0) (start : List S) 
   pub fronts : (k : ℕ) → k < length heads → IfSome (get_or heads k None) (IsGivenBy gives start)
   pub later : (k : ℕ) → k < length sources → (d : S) (x : T) → gives (get_or sources k d) x → IsGivenBy gives start x
 
--- a merge is under way: the head of each source was pulled, what remains of it is in order, and the queue has the sources in turn
-pub record IsAhead {T : Type 0} (row : T → RowValue) (direction : Direction) (heads : List (Option T)) (rests : List (List RowValue)) (queue : List ℕ) : Type 0 where
+-- a merge is under way: the head of each source was pulled, what remains of it is in order, and a winner tree has the source that begins first
+pub record IsAhead {T : Type 0} (row : T → RowValue) (direction : Direction) (heads : List (Option T)) (rests : List (List RowValue)) (winners : List ℕ) : Type 0 where
   pub size : length heads ≡ length rests
   pub order : All (IsInOrder direction) (all_remaining (map (option_map row) heads) rests)
-  pub turns : AreInTurn (order_by row direction) (firsts_of heads) (length (firsts_of heads)) queue
+  pub tree : IsWinnerTree (order_by row direction) (firsts_of heads) winners

@@ -1,7 +1,5 @@
 -- What is left of lists that are merged.
-use Rattle.std.specs.Prelude.{◌≡◌, ℕ, ◌<◌, List, [], ◌∷◌, get_or, map, Bool, true, false, ◌||◌, nat_eq}
-use Rattle.std.specs.List.{AllByRecursion}
-use Rattle.std.specs.List.Sorted.{IsStrictlySortedBy}
+use Rattle.std.specs.Prelude.{◌≡◌, ℕ, ◌<◌, List, [], ◌∷◌, get_or, map, false}
 use Rattle.std.specs.declared.cmp.Ordering.{Ordering}
 use Rattle.std.specs.declared.cmp.Ordering.TheVariants.{Less, Equal, Greater}
 use Rattle.std.specs.Borrow.{Bor}
@@ -25,17 +23,6 @@ begin_order order (x ∷ xs) (y ∷ ys) = order x y
 -- compares two lists, given by number: by begin_order, then by number
 abbrev pub turn_order : {X : Type 0} → (X → X → Ordering) → List (List X) → ℕ → ℕ → Ordering
 turn_order order lists = then_cmp (on (λ k. get_or lists k []) (begin_order order)) nat_cmp
-
--- whether a number is in a queue
-abbrev pub is_in : ℕ → List ℕ → Bool
-is_in k [] = false
-is_in k (n ∷ ns) = nat_eq k n || is_in k ns
-
--- the numbers of the first `size` lists, in the order in which these are taken from
-pub record AreInTurn {X : Type 0} (order : X → X → Ordering) (lists : List (List X)) (size : ℕ) (queue : List ℕ) : Type 0 where
-  pub climbs : IsStrictlySortedBy (turn_order order lists) queue
-  pub within : AllByRecursion (λ k. k < size) queue
-  pub each : (k : ℕ) → k < size → is_in k queue ≡ true
 
 -- list `first` is the least of the first `size` lists in begin_order, and the earliest of equals
 pub record BeginsFirst {X : Type 0} (order : X → X → Ordering) (lists : List (List X)) (size first : ℕ) : Type 0 where

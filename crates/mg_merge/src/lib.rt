@@ -7,10 +7,10 @@ pub mod laws;
 mod merging;
 mod order;
 mod pulled;
-mod queue;
 mod ranked;
 mod rests;
 mod source;
+mod winners;
 mod work;
 
 pub use merging::{merge, merge_all};

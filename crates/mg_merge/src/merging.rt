@@ -4,9 +4,9 @@ ghost use Rattle.mg_collate.specs.Sorted.{IsInOrder};
 ghost use Rattle.mg_merge.specs.Merged.{IsInOrderBy, contents_of, lists_view, merged, merged_by};
 ghost use Rattle.mg_merge.specs.Rests.{lent_of};
 
-use crate::queue::queue_of;
 use crate::ranked::Ranked;
 use crate::rests::{take_first, whole_lists};
+use crate::winners::Winners;
 use crate::work::Work;
 use mg_collate::{Direction, Row};
 use mg_value::NoMemory;
@@ -80,10 +80,10 @@ fn first_lent<'a, T: Ranked>(
         return first_of_one(alloc, lists[0].as_slice(), take);
     }
     let mut rests = whole_lists(alloc, lists)?;
-    let mut queue = queue_of(alloc, &rests, direction)?;
+    let mut winners = Winners::new(alloc, &rests, direction)?;
     let mut lent = Vec::new(alloc);
     while lent.len() < take {
-        match take_first(&mut rests, &mut queue, direction)? {
+        match take_first(&mut rests, &mut winners, direction) {
             Some(item) => lent.push(item)?,
             None => return Ok(lent),
         }

@@ -5,9 +5,9 @@ ghost use Rattle.mg_collate.specs.Sorted.{IsInOrder, sorted};
 ghost use Rattle.mg_merge.specs.Merged.{joined, merged};
 ghost use Rattle.mg_merge.specs.Pulled.{AreFrom, IsAhead, IsGivenBy, all_remaining, firsts_of};
 
-use crate::queue::{enter, queue_of};
 use crate::ranked::Ranked;
 use crate::source::RowSource;
+use crate::winners::Winners;
 use mg_collate::Direction;
 use mg_value::NoMemory;
 use std::alloc::Global;
@@ -37,8 +37,8 @@ pub fn merge_pulled<T: Ranked + Copy, S: RowSource<T>>(
         ≤ made.1 + length (joined (map S.rest sources.new))) }
 {
     let mut heads = first_heads(alloc, sources)?;
-    let mut queue = queue_of(alloc, &heads, direction)?;
-    let items = merge_ahead(alloc, &mut heads, sources, &mut queue, direction, take)?;
+    let mut winners = Winners::new(alloc, &heads, direction)?;
+    let items = merge_ahead(alloc, &mut heads, sources, &mut winners, direction, take)?;
     let pulled = (items.len() + count_heads(&heads)) as u64;
     Ok((items, pulled))
 }
@@ -66,11 +66,12 @@ fn merge_ahead<T: Ranked + Copy, S: RowSource<T>>(
     alloc: Global,
     heads: &mut Vec<Option<T>>,
     sources: &mut [S],
-    queue: &mut Vec<usize>,
+    winners: &mut Winners,
     direction: Direction,
     take: usize,
 ) -> Result<Vec<T>, NoMemory>
-    requires { IsAhead T.row_of direction heads.old.items (map S.rest sources.old) queue.old.items }
+    requires { IsAhead T.row_of direction heads.old.items (map S.rest sources.old)
+        winners.old.places.items }
     ensures within { IfOk result (λ items. length items.items ≤ take) }
     ensures size { OnOk result (length heads.new.items ≡ length heads.old.items) }
     ensures sources { OnOk result (length sources.new ≡ length sources.old) }
@@ -86,7 +87,7 @@ fn merge_ahead<T: Ranked + Copy, S: RowSource<T>>(
 {
     let mut items = Vec::with_capacity(alloc, take.min(FIRST_ROOM))?;
     while items.len() < take {
-        match pull_first(heads, sources, queue, direction)? {
+        match pull_first(heads, sources, winners, direction) {
             Some(item) => items.push(item)?,
             None => return Ok(items),
         }
@@ -94,45 +95,37 @@ fn merge_ahead<T: Ranked + Copy, S: RowSource<T>>(
     Ok(items)
 }
 
-// Takes the head of the source that is first in the queue, pulls that source's next item, and puts the
-// source's number back into the queue. `None` if no source has anything left.
+// Takes the head of the source that begins first, and pulls that source's next item. `None` if no source
+// has anything left.
 fn pull_first<T: Ranked + Copy, S: RowSource<T>>(
     heads: &mut Vec<Option<T>>,
     sources: &mut [S],
-    queue: &mut Vec<usize>,
+    winners: &mut Winners,
     direction: Direction,
-) -> Result<Option<T>, NoMemory>
-    requires { IsAhead T.row_of direction heads.old.items (map S.rest sources.old) queue.old.items }
-    ensures ahead { IfOk result (λ taken. IfSome taken (λ item. IsAhead T.row_of direction
-        heads.new.items (map S.rest sources.new) queue.new.items)) }
-    ensures first { IfOk result (λ taken. IfSome taken (λ item. sorted (directed_order direction)
+) -> Option<T>
+    requires { IsAhead T.row_of direction heads.old.items (map S.rest sources.old)
+        winners.old.places.items }
+    ensures ahead { IsAhead T.row_of direction heads.new.items (map S.rest sources.new)
+        winners.new.places.items }
+    ensures first { IfSome result (λ item. sorted (directed_order direction)
         (joined (all_remaining (map (option_map T.row_of) heads.old.items) (map S.rest sources.old)))
         ≡ T.row_of item ∷ sorted (directed_order direction)
-        (joined (all_remaining (map (option_map T.row_of) heads.new.items) (map S.rest sources.new))))) }
-    ensures given { IfOk result (λ taken. (start : List S)
-        → AreFrom S.gives start heads.old.items sources.old
-        → IfSome taken (IsGivenBy S.gives start)) }
-    ensures from { IfOk result (λ taken. (start : List S)
-        → AreFrom S.gives start heads.old.items sources.old
-        → AreFrom S.gives start heads.new.items sources.new) }
-    ensures size { OnOk result (length heads.new.items ≡ length heads.old.items) }
-    ensures end { IfOk result (λ taken. IfNone taken
-        (joined (all_remaining (map (option_map T.row_of) heads.old.items) (map S.rest sources.old)) ≡ [])) }
-    ensures stays { IfOk result (λ taken. IfNone taken
-        ((heads.new.items ≡ heads.old.items) × (sources.new ≡ sources.old))) }
+        (joined (all_remaining (map (option_map T.row_of) heads.new.items) (map S.rest sources.new)))) }
+    ensures given { (start : List S) → AreFrom S.gives start heads.old.items sources.old
+        → IfSome result (IsGivenBy S.gives start) }
+    ensures from { (start : List S) → AreFrom S.gives start heads.old.items sources.old
+        → AreFrom S.gives start heads.new.items sources.new }
+    ensures size { length heads.new.items ≡ length heads.old.items }
+    ensures end { IfNone result
+        (joined (all_remaining (map (option_map T.row_of) heads.old.items) (map S.rest sources.old)) ≡ []) }
+    ensures stays { IfNone result
+        ((heads.new.items ≡ heads.old.items) × (sources.new ≡ sources.old)) }
 {
-    if queue.is_empty() {
-        return Ok(None);
-    }
-    let source = queue.remove(0);
-    match heads[source] {
-        None => Ok(None),
-        Some(item) => {
-            heads[source] = sources[source].next();
-            enter(queue, heads, source, direction)?;
-            Ok(Some(item))
-        }
-    }
+    let source = winners.first()?;
+    let item = heads[source]?;
+    heads[source] = sources[source].next();
+    winners.update(heads, source, direction);
+    Some(item)
 }
 
 // How many items were pulled but not taken.

@@ -10,7 +10,6 @@ use std::marker::Model;
 #[derive(Drop)]
 pub struct Written {
     bytes: Vec<u8>,
-    // where the text begins
     text_start: usize,
 }
 

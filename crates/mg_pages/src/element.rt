@@ -1,5 +1,5 @@
 //! The elements of pages: values that are stored in the page, or blocks of memory that several pages share.
-ghost use Rattle.std.specs.Prelude.{◌≡◌, ◌≤◌, IfOk};
+ghost use Rattle.std.specs.Prelude.{◌≡◌, ◌≤◌, ◌<◌, ◌+◌, ◌++◌, ◌∷◌, [], IfOk, OnOk, vec_len, vec_capacity};
 ghost use Rattle.std.specs.Arc.{arc_value};
 
 use mg_value::NoMemory;
@@ -13,6 +13,20 @@ pub trait Element: Drop + Sized {
     /// Duplicates the element: a copy of its bytes, or one more owner of its block. Takes no memory.
     fn again(&self) -> Result<Self, AllocError>
         ensures { IfOk result (λ e. e ≡ self.now) };
+
+    /// Appends a duplicate to a list, which has room for it. Takes no memory. A type overrides it where the duplicate can be written to
+    /// its place at once.
+    #[inline(always)]
+    fn push_again(&self, list: &mut Vec<Self>) -> Result<(), AllocError>
+        requires { vec_len list.old < vec_capacity list.old }
+        ensures items { OnOk result (list.new.items ≡ list.old.items ++ self.now ∷ []) }
+        ensures capacity { vec_capacity list.new ≡ vec_capacity list.old }
+        ensures len { OnOk result (vec_len list.new ≡ vec_len list.old + 1) }
+    {
+        let own = self.again()?;
+        list.push_reserved(own);
+        Ok(())
+    }
 
     /// How many owners its block has, read from the block; 0 for an element that has no block.
     fn owners(&self) -> usize {
@@ -103,8 +117,7 @@ pub fn copy_elements<T: Element>(alloc: Global, elements: &[T]) -> Result<Vec<T>
     let mut copies = Vec::with_capacity(alloc, room_for(elements.len()))?;
     let _ = owners_of(elements);
     for element in elements {
-        let own = element.again()?;
-        copies.push_reserved(own);
+        element.push_again(&mut copies)?;
     }
     Ok(copies)
 }

@@ -26,7 +26,7 @@ impl<T: Drop, P: Drop> Drop for Level<T, P> {
     }
 }
 
-// The place of the first part whose last element has a hint that is not below the key's.
+// Guesses the index of the part where a key belongs: that of the first part whose hint is not below the key's.
 fn guess_among<T: Keyed, P: Subtree<T>, Q: Probe<T>>(parts: &[Child<T, P>], key: &Q) -> usize {
     if parts.len() < 2 {
         return 0;
@@ -45,7 +45,7 @@ fn guess_among<T: Keyed, P: Subtree<T>, Q: Probe<T>>(parts: &[Child<T, P>], key:
     low
 }
 
-// The part where a key belongs: the elements of earlier parts are below the key, those of later parts above it.
+// The index of the part where a key belongs: the elements of earlier parts are below the key, those of later parts above it.
 // Cost: the logarithm of the number of parts, in comparisons with last elements. It reads no part.
 fn place<T: Keyed, P: Subtree<T>, Q: Probe<T>>(parts: &[Child<T, P>], key: &Q) -> usize
     requires some { 0 < length parts.now }
@@ -126,8 +126,8 @@ fn run_upto<T: Keyed, P: Subtree<T>>(parts: &[Child<T, P>], i: usize) -> &[T]
     &[]
 }
 
-/// The page of the element at a place, counted over all the parts, and its place in that page. Cost: a read of the count of each
-/// part before it.
+/// The page that holds the element at a place, counted over all the parts, and the element's place in that page. Cost: a read of
+/// the count of each part before it.
 pub fn page_among<T: Keyed, P: Subtree<T>>(parts: &[Child<T, P>], place: usize) -> (&[T], usize)
     requires whole { AreWhole (child_whole P.is_whole P.seen) (children parts.now) }
     requires within { place < length (flat_map (child_seen P.seen) (children parts.now)) }
@@ -145,7 +145,10 @@ pub fn page_among<T: Keyed, P: Subtree<T>>(parts: &[Child<T, P>], place: usize) 
     (&[], 0)
 }
 
-/// Removes the element that ties with a key from the parts, and its part where that is then empty.
+/// Removes from the parts the element that ties with a key. A part that is then empty is removed too.
+///
+/// Errors: `AllocError` if an allocation fails; the elements stay the same. Cost: the logarithm of the number of elements, and a
+/// copy of each part on the way that others share.
 pub fn take_out_of_parts<T: Keyed, P: Subtree<T>, Q: Probe<T>>(
     alloc: Global,
     parts: &mut Vec<Child<T, P>>,
@@ -218,7 +221,7 @@ fn make_room<T: Keyed, P: Subtree<T>>(
     }
 }
 
-// Finds the part where an element belongs, and splits it if it has no room.
+// Splits the part where an element belongs, if it has no room. Returns the index of the part where the element then belongs.
 fn with_room<T: Keyed, P: Subtree<T>>(
     alloc: Global,
     parts: &mut Vec<Child<T, P>>,

@@ -261,6 +261,18 @@ impl<T: Keyed> Pages<T> {
         Iter::at(self, run)
     }
 
+    /// All elements in one slice, if they are in one page; a collection that was built of at most 64 elements has one page. Takes no
+    /// memory. Cost: constant.
+    pub fn in_one_page(&self) -> Option<&[T]>
+        ensures { IfSome result (λ page. page.now ≡ self.now) }
+    {
+        let run = self.first_run();
+        if run.len() < self.len() {
+            return None;
+        }
+        Some(run)
+    }
+
     /// The elements above the key, in ascending order. Cost: one look-up, and then a step for each element.
     pub fn after<Q: Probe<T>>(&self, key: &Q) -> Iter<'_, T>
         ensures { result ≡ above (Q.against key.now) self.now }

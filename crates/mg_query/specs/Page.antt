@@ -143,14 +143,14 @@ is_ddoc None None = true
 is_ddoc (Some a) (Some b) = bytes_eq a b
 is_ddoc a b = false
 
--- whether a place is one in the index, read in the query's direction
-abbrev pub is_place_in : Source → Query → Place → Bool
-is_place_in s q p =
+-- whether a bookmark's place fits the index, read in the query's direction
+abbrev pub fits_source : Source → Query → Place → Bool
+fits_source s q p =
     is_ddoc p.ddoc (ddoc_of s) && (bytes_eq p.name (name_of s) && (is_same p.direction q.direction && (length (item_list p.key) == length (source_columns s))))
 
--- whether the query's bookmark is a place in the index; true without a bookmark
+-- whether the query's bookmark fits the index; true without a bookmark
 abbrev pub accepts_bookmark : Source → Query → Bool
-accepts_bookmark s q = option_map_or (is_place_in s q) q.bookmark true
+accepts_bookmark s q = option_map_or (fits_source s q) q.bookmark true
 
 -- what serves the query, or why it is not answered
 abbrev pub served_by : List IndexDefinition → Query → Result Source Unanswered

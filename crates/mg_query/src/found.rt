@@ -173,7 +173,7 @@ fn search_of<'a>(query: &Query<'_>, plan: &'a Plan<'_>, range: &'a RowRange<'_>)
     }
 }
 
-// The hits of the page, and how many hits in front of them the page does not show.
+// The hits of the page, and how many of the first of them the page does not show.
 fn page_hits<'a, R: Threads + Sync, G: Gate + Sync>(
     rt: &R,
     alloc: Global,
@@ -192,8 +192,8 @@ fn page_hits<'a, R: Threads + Sync, G: Gate + Sync>(
         (λ made. AreOfPage (query_seen query.now) plan.now (shards_seen shards.now) made.1 made.0.items) }
 {
     let has_one_thread = workers.count() < 2 || shards.len() < 2;
-    let stays_here = has_one_thread || is_small(query, plan, range, shards);
-    if workers.is_alone(stays_here) {
+    let is_for_one_thread = has_one_thread || is_small(query, plan, range, shards);
+    if workers.is_alone(is_for_one_thread) {
         return find_alone(alloc, query, plan, range, shards);
     }
     let (hits, _) = merge_first(rt, alloc, query, plan, range, shards, workers.count(), gate)?;
@@ -322,7 +322,7 @@ const SMALL_PAGE: usize = 1000;
 
 // A page that shows at most this many rows is small if its range decides, whatever it skips: the caller's thread looks up no document for
 // a row that it skips, while workers would find as many hits in each shard as the page skips and shows.
-const SMALL_ROWS: usize = 4000;
+const SMALL_SHOWN: usize = 4000;
 
 // A scan that can read at most this many documents or rows, in all shards together, is small.
 const SMALL_SCAN: usize = 1000;
@@ -339,7 +339,7 @@ fn is_small_page(query: &Query<'_>, plan: &Plan<'_>) -> bool {
     let count = row_count(query);
     let has_bound = plan.range.entered_at(Direction::Asc).is_some()
         || plan.range.entered_at(Direction::Desc).is_some();
-    has_bound && count <= SMALL_PAGE || plan.is_decided && query.limit as usize <= SMALL_ROWS
+    has_bound && count <= SMALL_PAGE || plan.is_decided && query.limit as usize <= SMALL_SHOWN
 }
 
 // The row after which the page begins, as bytes, if there is a bookmark.

@@ -11,7 +11,7 @@ ghost use Rattle.mg_scan.specs.Found.{target_columns};
 ghost use Rattle.mg_selector.specs.View.{selector_of};
 ghost use Rattle.mg_query.specs.Plan.{IsDecidedBy};
 ghost use Rattle.mg_query.specs.Explain.{listed_source};
-ghost use Rattle.mg_query.specs.Page.{source_columns, ddoc_of, accepts_bookmark as accepts_bookmark_of, is_ddoc as is_same_ddoc, is_place_in as is_place_of_source, name_of, served_by as served_of};
+ghost use Rattle.mg_query.specs.Page.{source_columns, ddoc_of, accepts_bookmark as accepts_bookmark_of, is_ddoc as is_same_ddoc, fits_source as fits_source_of, name_of, served_by as served_of};
 ghost use Rattle.mg_query.specs.Seen.{query_seen};
 ghost use Rattle.mg_query.specs.Served.{PageAnswers, Chooses, IsListed, source_seen};
 
@@ -26,9 +26,10 @@ use mg_scan::Target;
 use mg_value::{Json, NoMemory};
 use std::alloc::Global;
 
-// The column of the index of all documents, and its name.
+// The column of the index of all documents.
 const ID_COLUMN: &str = "_id";
 
+// The name of the index of all documents.
 const ALL_DOCS: &str = "_all_docs";
 
 // The index that serves a query: that of all documents, or a defined one, lent by its catalog.
@@ -38,7 +39,8 @@ pub(crate) enum Source<'a> {
     Defined(&'a IndexDef),
 }
 
-// The index that serves the query. Errors: `NoUsableIndex` if there is none, then `BadBookmark` if the query's bookmark does not fit it.
+// The index that serves the query. Errors: `NoUsableIndex` if no index is usable, else `BadBookmark` if the query's bookmark does not
+// belong to the chosen index.
 pub(crate) fn served_by<'a>(
     query: &Query<'_>,
     normal: &Normal,
@@ -67,7 +69,7 @@ fn choose_source<'a>(
 {
     match choose(catalog, normal, &query.sort, &query.hint) {
         Ok(Choice::AllDocs) => Ok(Source::AllDocs),
-        Ok(Choice::Index(place)) => Ok(Source::Defined(&catalog.list()[place])),
+        Ok(Choice::Index(index)) => Ok(Source::Defined(&catalog.list()[index])),
         Err(_) => Err(PageError::NoUsableIndex),
     }
 }
@@ -77,13 +79,13 @@ fn accepts_bookmark(source: Source<'_>, query: &Query<'_>) -> bool
     ensures { result ≡ accepts_bookmark_of (source_seen source.entry) (query_seen query.now) }
 {
     match &query.bookmark {
-        Some(bookmark) => is_place_in(source, query, bookmark),
+        Some(bookmark) => fits_source(source, query, bookmark),
         None => true,
     }
 }
 
-fn is_place_in(source: Source<'_>, query: &Query<'_>, bookmark: &Bookmark) -> bool
-    ensures { result ≡ is_place_of_source (source_seen source.entry) (query_seen query.now)
+fn fits_source(source: Source<'_>, query: &Query<'_>, bookmark: &Bookmark) -> bool
+    ensures { result ≡ fits_source_of (source_seen source.entry) (query_seen query.now)
         (bookmark_place bookmark.now) }
 {
     is_ddoc(bookmark.ddoc.as_deref(), source.ddoc())
@@ -120,7 +122,6 @@ impl<'a> Source<'a> {
         }
     }
 
-    // Its name.
     pub(crate) fn name(self) -> &'a str
         ensures { result.now ≡ name_of (source_seen self.entry) }
     {

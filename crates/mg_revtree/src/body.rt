@@ -16,7 +16,6 @@ use std::marker::Model;
 pub(crate) enum Block {
     // no block: the object without members
     Empty,
-    // a block of its own
     Own(Packed),
     // the block of a form in which the document was served: the body with the document's id and the body's revision
     Served(Form),
@@ -79,7 +78,8 @@ impl Body {
         copy_body(alloc, &self.block)
     }
 
-    /// The body with this id and this revision, in one block. A body that is not an object has no members, and is its own form.
+    /// The form of the body: the body with this id as `_id` and this revision as `_rev`, in one block. A body that is not an object
+    /// is its own form.
     ///
     /// Errors: `NoMemory` if an allocation fails. Cost: three copies of the body's bytes, the text of the form, and a copy of the
     /// text. If the body is already in the block of this form, the block is shared and nothing is copied. If it is in the block of

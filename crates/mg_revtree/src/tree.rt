@@ -52,8 +52,9 @@ fn ids_over(alloc: Global, id: String, parent: Option<&Rev>) -> Result<Vec<Strin
 /// and bodies. Contracts speak of every list of accepted paths that the tree stands for.
 ///
 /// A body is kept once, at its leaf, in at most one block of memory. Most documents have one revision; their tree is its leaf alone.
-/// That of a document which was edited or deleted once is its leaf and the id of its parent. Any other tree keeps the id of a revision
-/// in the older or the newer of two lists of known revisions, or in both; and once more if the revision is a leaf.
+/// That of a document which was edited or deleted once is its leaf and the id of its parent. Any other tree has two lists of known
+/// revisions, an older and a newer one. It keeps the id of a revision in one of them, or in both, and once more if the revision is
+/// a leaf.
 #[derive(Drop)]
 pub struct RevTree {
     alloc: Global,
@@ -188,10 +189,10 @@ impl RevTree {
     /// An error leaves the tree as it was.
     ///
     /// Cost: the size of the body, the length of the path times the logarithms of the known revisions and of the leaves, a
-    /// move of one pointer for each leaf, and one pass over the newer known revisions at higher positions than the lowest unknown
-    /// one of the path; a path that extends the branch with the highest positions has no revision to pass over. If the newer
-    /// revisions and those of the path are more than 64, and more than about four times the square root of the number of older
-    /// ones, all known revisions are copied too. Source: the replication model of CouchDB.
+    /// move of one pointer for each leaf, and one pass over those of the newer known revisions that are at higher positions than
+    /// the lowest unknown revision of the path. If the path extends the branch with the highest positions, there are none. If the
+    /// newer revisions and those of the path are more than 64, and more than about four times the square root of the number of
+    /// older ones, all known revisions are copied too. Source: the replication model of CouchDB.
     pub fn merge(&mut self, path: &History, deleted: bool, body: Json) -> Result<Merged, MergeError>
         ensures accepted { OnOk result ((h : Paths) → StandsFor self.old h
             → StandsFor self.new (with_path h (path_of path.now deleted (view body)))) }

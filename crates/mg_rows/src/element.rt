@@ -16,6 +16,15 @@ impl Element for RowBytes {
     }
 
     #[inline(always)]
+    fn push_again(&self, list: &mut Vec<RowBytes>) -> Result<(), AllocError> {
+        match self.copy_inline() {
+            Some(row) => list.push_reserved(row),
+            None => list.push_reserved(Element::again(self)?),
+        }
+        Ok(())
+    }
+
+    #[inline(always)]
     fn owners(&self) -> usize {
         self.sharers()
     }

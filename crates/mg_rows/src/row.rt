@@ -45,7 +45,7 @@ impl Model for RowBytes {
 }
 
 impl RowBytes {
-    ghost use Rattle.std.specs.Prelude.{◌≡◌, IfOk};
+    ghost use Rattle.std.specs.Prelude.{◌≡◌, IfOk, IfSome};
     ghost use Rattle.mg_value.specs.Value.{Items, no_items, item, text};
     ghost use Rattle.mg_value.specs.View.{items_view};
     ghost use Rattle.mg_collate.specs.Row.{row_view, row_value_order};
@@ -83,6 +83,17 @@ impl RowBytes {
     {
         let bytes = self.bytes.again()?;
         Ok(RowBytes { bytes })
+    }
+
+    // A copy of a row that has no block of its own; `None` for a longer row.
+    #[inline(always)]
+    pub(crate) fn copy_inline(&self) -> Option<RowBytes>
+        ensures { IfSome result (λ row. row ≡ self.now) }
+    {
+        match self.bytes.copy_inline() {
+            Some(bytes) => Some(RowBytes { bytes }),
+            None => None,
+        }
     }
 
     /// The order of two rows: by key, and where keys tie by id. It compares bytes. Takes no memory.

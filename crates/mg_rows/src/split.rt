@@ -1,5 +1,5 @@
 // Immutable bytes in two parts: up to 45 are stored in the value itself, more in a block that copies share.
-ghost use Rattle.std.specs.Prelude.{◌≡◌, ◌≤◌, ◌+◌, ◌++◌, [], ◌∷◌, IfOk, length, take};
+ghost use Rattle.std.specs.Prelude.{◌≡◌, ◌≤◌, ◌+◌, ◌++◌, [], ◌∷◌, IfOk, IfSome, length, take};
 ghost use Rattle.mg_rows.specs.Split.{held_bytes, held_end, held_parts, IsSound};
 
 use mg_value::NoMemory;
@@ -37,7 +37,9 @@ impl Model for SplitBytes {
 }
 
 impl SplitBytes {
-    /// Makes the first part of `front` and the byte `last`, and the second part of `back`.
+    /// Copies bytes: the first part is `front` with the byte `last` behind it, the second part is `back`.
+    ///
+    /// Errors: `NoMemory` if an allocation fails; up to 45 bytes take no memory. Cost: the number of bytes.
     pub(crate) fn of(
         alloc: Global,
         front: &[u8],
@@ -66,13 +68,26 @@ impl SplitBytes {
         lend(&self.held).split_at(end)
     }
 
-    /// Duplicates the bytes. Takes no memory.
+    /// A copy, which shares the block if there is one. Takes no memory. Errors: `NoMemory` if too many copies share the block.
     #[inline(always)]
     pub(crate) fn again(&self) -> Result<SplitBytes, NoMemory>
         ensures { IfOk result (λ split. split ≡ self.now) }
     {
         let held = hold_again(&self.held)?;
         Ok(SplitBytes { held })
+    }
+
+    /// A copy of bytes that are stored in the value itself; `None` where they have a block.
+    #[inline(always)]
+    pub(crate) fn copy_inline(&self) -> Option<SplitBytes>
+        ensures { IfSome result (λ split. split ≡ self.now) }
+    {
+        match &self.held {
+            Held::Inline(count, end, inside) => Some(SplitBytes {
+                held: Held::Inline(*count, *end, *inside),
+            }),
+            Held::Shared(_, _) => None,
+        }
     }
 
     /// How many copies share the block; 0 where there is no block.

@@ -1,9 +1,10 @@
 //! Indexes built over shards, their keys extracted in parallel.
-ghost use Rattle.std.specs.Prelude.{◌≡◌, ◌+◌, ◌^◌, ◌<◌, ◌≤◌, Some, length, map, slice_get, vec_len, IfOk};
+ghost use Rattle.std.specs.Prelude.{◌≡◌, ◌+◌, ◌^◌, ◌<◌, ◌≤◌, List, Some, length, map, slice_get, vec_len, IfOk};
 ghost use Rattle.std.specs.Arc.{arc_value};
 ghost use Rattle.mg_scan.specs.Built.{with_index};
 ghost use Rattle.mg_scan.specs.Building.{AreRowsAt, AreRowsFrom, HasRowsAt};
-ghost use Rattle.mg_shard.specs.Shard.{shards_seen};
+ghost use Rattle.mg_index.specs.Definition.{IndexDefinition};
+ghost use Rattle.mg_shard.specs.Shard.{ShardView, shards_seen};
 ghost use Rattle.std.specs.Thread.{IsSync};
 
 use crate::gate::{Gate, Place};
@@ -149,16 +150,14 @@ fn with_these(
 fn take_rows(
     given: &mut Vec<Result<Pages<RowBytes>, NoMemory>>,
     i: usize,
-    shards: &[Arc<Shard>],
-    definition: &Arc<IndexDef>,
 ) -> Result<Pages<RowBytes>, NoMemory>
     requires inside { i < vec_len given.old }
-    requires given { AreRowsAt (arc_value definition.now) (shards_seen shards.now) given.old.items }
-    ensures rows { HasRowsAt (arc_value definition.now) (shards_seen shards.now) i result }
-    ensures given { AreRowsAt (arc_value definition.now) (shards_seen shards.now) given.new.items }
+    ensures rows { (d : IndexDefinition) (shards : List ShardView) → AreRowsAt d shards given.old.items
+        → HasRowsAt d shards i result }
+    ensures given { (d : IndexDefinition) (shards : List ShardView) → AreRowsAt d shards given.old.items
+        → AreRowsAt d shards given.new.items }
     ensures len { vec_len given.new ≡ vec_len given.old }
 {
-    let _ = (shards.len(), definition.columns().len());
     replace(&mut given[i], Err(NoMemory))
 }
 
@@ -177,7 +176,7 @@ fn with_all(
     let mut built = Vec::new(alloc);
     let mut given = given;
     for i in 0..shards.len() {
-        let rows = take_rows(&mut given, i, shards, definition);
+        let rows = take_rows(&mut given, i);
         let shard = with_these(alloc, shards, definition, i, rows)?;
         built.push(shard)?;
     }

@@ -1,4 +1,4 @@
-//! A long skip on several shards. A search passes over most of the rows that its page skips by counting them, without reading them.
+//! A long skip on several shards: of the rows that a page skips, most are counted, and are not read.
 ghost use Rattle.std.specs.Prelude.{◌≡◌, ◌<◌, IfOk, IfSome};
 ghost use Rattle.mg_shard.specs.Shard.{shards_seen};
 ghost use Rattle.mg_scan.specs.Passed.{HasPageOf, IsIndex, IsWithin, all_ahead, beyond_row};
@@ -29,7 +29,7 @@ pub(crate) struct Passed<'a> {
 }
 
 // Passes over most of the first `skip` rows of a search. Returns the search that begins after them, and how many rows its page still
-// skips. Documents are not passed over, since the counts include deleted ones.
+// skips. A search of all documents is returned as it is, since the counts of documents include deleted ones.
 pub(crate) fn pass_over<'a>(
     alloc: Global,
     shards: &'a [Arc<Shard>],
@@ -101,7 +101,7 @@ fn pass_rounds<'a>(
     Ok(passed)
 }
 
-// Passes over rows in one round. Reads rows only to choose the last one to pass over; how many rows that makes is counted.
+// Passes over rows in one round. Reads some rows to choose the last one to pass over, and then counts how many rows it passes over.
 fn pass_round<'a>(
     alloc: Global,
     shards: &'a [Arc<Shard>],
@@ -123,7 +123,7 @@ fn pass_round<'a>(
     }
 }
 
-// How many rows of all shards come after the place where a search begins; `None` if they cannot be counted.
+// How many rows of all shards come after the place where a search begins; `None` if the sum is too large for a `usize`.
 fn count_all(shards: &[Arc<Shard>], search: Search<'_>) -> Option<usize>
     ensures { IfSome result (λ n. n ≡ all_ahead (shards_seen shards.now) search.entry) }
 {
@@ -139,7 +139,8 @@ fn count_all(shards: &[Arc<Shard>], search: Search<'_>) -> Option<usize>
     Some(all)
 }
 
-// Passes over the rows up to and with this one, if it is in the range, after the place where the search begins, and the page skips them.
+// Passes over the rows up to and including this one, if it is in the range and after the place where the search begins, and if the
+// page skips them all.
 fn pass_to<'a>(shards: &[Arc<Shard>], passed: Passed<'a>, row: &'a RowBytes) -> Passed<'a>
     requires index { IsIndex passed.search.target }
     requires ahead { passed.ahead ≡ all_ahead (shards_seen shards.now) passed.search }
@@ -193,8 +194,8 @@ fn after<'a>(search: Search<'a>, row: &'a RowBytes, take: usize) -> Search<'a>
     }
 }
 
-// A row near the last of those that the page skips. In each shard a scout goes ahead by `stride` rows at a time. Of the rows that the
-// scouts reach, this is the last, in the order of the search, that the page surely skips, wherever the rows between them stand.
+// A row near the last one that the page skips. In each shard a scout goes ahead by `stride` rows at a time. Of the rows that the scouts
+// reach, this is the last one, in the order of the search, that the page skips for certain, wherever the rows between them stand.
 fn row_near<'a>(
     alloc: Global,
     shards: &'a [Arc<Shard>],

@@ -126,6 +126,7 @@ fn hits_of_documents<'a>(
         (entry_rows (map kept_entry documents.entry))) }
     ensures documents { IfOk result (λ v. AreHitsOf shard.now.documents v.items) }
 {
+    // Only the contract speaks of the shard.
     let _ = shard;
     let mut hits = Vec::with_capacity(alloc, search.take.min(FIRST_ROOM))?;
     for document in documents {

@@ -1,7 +1,7 @@
 //! Workers claim shards and search them. What they find does not depend on which worker claims which shard.
-ghost use Rattle.std.specs.Prelude.{◌≡◌, ◌<◌, length, vec_len, All, IfOk, IfSome};
+ghost use Rattle.std.specs.Prelude.{◌≡◌, ◌<◌, List, length, vec_len, All, IfOk, IfSome};
 ghost use Rattle.std.specs.List.{AllZip};
-ghost use Rattle.mg_shard.specs.Shard.{shards_seen};
+ghost use Rattle.mg_shard.specs.Shard.{ShardView, shards_seen};
 ghost use Rattle.mg_scan.specs.Worked.{AllDone, AllSlots, HitsAnswer, Gives};
 
 use crate::gate::{Gate, Place};
@@ -63,19 +63,11 @@ pub(crate) fn search_claimed<'a, G: Gate>(
 }
 
 // Puts each list of hits into the slot of its shard. If a slot is filled twice, both lists have the same rows.
-fn put_in_slots<'a>(
-    slots: &mut Vec<Option<Vec<Hit<'a>>>>,
-    given: Vec<Done<'a>>,
-    shards: &[Arc<Shard>],
-    search: Search<'_>,
-)
-    requires given { AllDone search (shards_seen shards.now) given.items }
-    requires slots { AllSlots search (shards_seen shards.now) slots.old.items }
-    ensures slots { AllSlots search.entry (shards_seen shards.now) slots.new.items }
+fn put_in_slots<'a>(slots: &mut Vec<Option<Vec<Hit<'a>>>>, given: Vec<Done<'a>>)
+    ensures slots { (search : Search) (shards : List ShardView) → AllDone search shards given.entry.items
+        → AllSlots search shards slots.old.items → AllSlots search shards slots.new.items }
     ensures len { vec_len slots.new ≡ vec_len slots.old }
 {
-    // Only the contract speaks of the shards and the search.
-    let _ = (shards.len(), search.take);
     let mut given = given;
     while let Some(Done { shard, hits }) = given.pop() {
         if shard < slots.len() {
@@ -84,19 +76,14 @@ fn put_in_slots<'a>(
     }
 }
 
-// Empty slots, one for each shard.
-fn empty_slots<'a>(
-    alloc: Global,
-    shards: &[Arc<Shard>],
-    search: Search<'_>,
-) -> Result<Vec<Option<Vec<Hit<'a>>>>, NoMemory>
-    ensures slots { IfOk result (λ v. AllSlots search.entry (shards_seen shards.now) v.items) }
-    ensures len { IfOk result (λ v. vec_len v ≡ length shards.now) }
+// Empty slots for this many shards.
+fn empty_slots<'a>(alloc: Global, count: usize) -> Result<Vec<Option<Vec<Hit<'a>>>>, NoMemory>
+    ensures slots { IfOk result
+        (λ v. (search : Search) (shards : List ShardView) → AllSlots search shards v.items) }
+    ensures len { IfOk result (λ v. vec_len v ≡ count) }
 {
-    // Only the contract speaks of the search.
-    let _ = search.take;
     let mut slots = Vec::new(alloc);
-    for _slot in 0..shards.len() {
+    for _slot in 0..count {
         slots.push(None)?;
     }
     Ok(slots)
@@ -113,29 +100,23 @@ pub(crate) fn fill_slots<'a>(
     ensures slots { IfOk result (λ v. AllSlots search.entry (shards_seen shards.now) v.items) }
     ensures len { IfOk result (λ v. vec_len v ≡ length shards.now) }
 {
-    let mut slots = empty_slots(alloc, shards, search)?;
+    let mut slots = empty_slots(alloc, shards.len())?;
     let mut given = given;
     while let Some(done) = given.pop() {
-        put_in_slots(&mut slots, done?, shards, search);
+        put_in_slots(&mut slots, done?);
     }
     Ok(slots)
 }
 
 // Takes the hits out of a slot, and leaves it empty.
-fn take_slot<'a>(
-    slots: &mut Vec<Option<Vec<Hit<'a>>>>,
-    i: usize,
-    shards: &[Arc<Shard>],
-    search: Search<'_>,
-) -> Option<Vec<Hit<'a>>>
+fn take_slot<'a>(slots: &mut Vec<Option<Vec<Hit<'a>>>>, i: usize) -> Option<Vec<Hit<'a>>>
     requires inside { i < vec_len slots.old }
-    requires slots { AllSlots search (shards_seen shards.now) slots.old.items }
-    ensures hits { IfSome result (λ v. HitsAnswer search.entry (shards_seen shards.now) i v.items) }
-    ensures slots { AllSlots search.entry (shards_seen shards.now) slots.new.items }
+    ensures hits { (search : Search) (shards : List ShardView) → AllSlots search shards slots.old.items
+        → IfSome result (λ v. HitsAnswer search shards i v.items) }
+    ensures slots { (search : Search) (shards : List ShardView) → AllSlots search shards slots.old.items
+        → AllSlots search shards slots.new.items }
     ensures len { vec_len slots.new ≡ vec_len slots.old }
 {
-    // Only the contract speaks of the shards and the search.
-    let _ = (shards.len(), search.take);
     slots[i].take()
 }
 
@@ -174,7 +155,7 @@ pub(crate) fn hits_in_order<'a, G: Gate>(
     let mut slots = slots;
     let mut all = Vec::new(alloc);
     for i in 0..shards.len() {
-        let found = take_slot(&mut slots, i, shards, search);
+        let found = take_slot(&mut slots, i);
         let hits = hits_or_search(alloc, found, shards, search, i, gate)?;
         all.push(hits)?;
     }

@@ -14,6 +14,7 @@ use Rattle.mg_revtree.specs.contracts.grown.Grown as Grown
 use Rattle.mg_revtree.specs.contracts.growth.Growth as Growth
 use Rattle.mg_revtree.specs.contracts.leaf.Leaf as Leaf
 use Rattle.mg_revtree.specs.contracts.leaf.SharedLeaf as Shared
+use Rattle.mg_revtree.specs.contracts.pair.Pair as Pair
 use Rattle.mg_revtree.specs.contracts.tree.RevTree as RevTree
 use Rattle.mg_revtree.proofs.links.list.Links.TheSendSync as links
 use Rattle.mg_revtree.proofs.revision.Rev.TheSendSync as revision
@@ -59,11 +60,17 @@ grown_send = search (sendable, crosses, maps, shared_send, links.the_send, links
 pub grown_sync : IsSync Grown.the_row
 grown_sync = search (sendable, crosses, maps, shared_sync, links.the_send, links.the_sync) depth 40
 
+pub pair_send : IsSend Pair.the_row
+pair_send = search (sendable, crosses, maps, shared_send) depth 40
+
+pub pair_sync : IsSync Pair.the_row
+pair_sync = search (sendable, crosses, maps, shared_sync) depth 40
+
 pub growth_send : IsSend Growth.the_row
-growth_send = search (sendable, crosses, maps, grown_send, shared_send, links.the_send, links.the_sync) depth 40
+growth_send = search (sendable, crosses, maps, grown_send, pair_send, shared_send, links.the_send, links.the_sync) depth 40
 
 pub growth_sync : IsSync Growth.the_row
-growth_sync = search (sendable, crosses, maps, grown_sync, shared_sync, links.the_send, links.the_sync) depth 40
+growth_sync = search (sendable, crosses, maps, grown_sync, pair_sync, shared_sync, links.the_send, links.the_sync) depth 40
 
 pub tree_send : IsSend RevTree.the_row
 tree_send = search (sendable, crosses, maps, heap_send, growth_send, shared_send, shared_sync, links.the_send, links.the_sync) depth 40 fits 50000

@@ -44,7 +44,7 @@ impl<'a> Model for Draft<'a> {
     ghost view = { λ d. record { shard = d.shard.now; touched = touched_of d.touched.entries } };
 }
 
-/// The id of an edit that has one. Takes no memory.
+/// The id of an edit; the empty text if it has none. Takes no memory.
 pub fn id_in(edit: &Edit) -> &str
     ensures { result.now ≡ id_in edit.now }
 {
@@ -124,7 +124,7 @@ impl<'a> Draft<'a> {
     }
 }
 
-// The reply to an edit that an error refuses.
+// The reply to an edit that this error refuses. `NoMemory` is not a reply, and stays an error.
 fn reply_of(error: EditError) -> Result<EditReply, NoMemory>
     ensures { IfOk result (λ r. option_map Err (refusal_told error) ≡ Some (outcome_seen r)) }
 {
@@ -135,8 +135,8 @@ fn reply_of(error: EditError) -> Result<EditReply, NoMemory>
     }
 }
 
-// Applies an edit that was looked at on this tree, or on one of which it is a copy. Returns what became of the edit, and the tree
-// after it, into which its body moved.
+// Applies an edit that was looked at on this tree, or on the tree of which this one is a copy. Returns what became of the edit, and
+// the tree after it, into which its body moved.
 fn bring_edit(
     alloc: Global,
     ready: ReadyEdit,
@@ -185,7 +185,8 @@ fn edit_touched(
     Ok(reply)
 }
 
-// Applies an edit to a document that was not touched before. It is touched now, unless the edit is refused or its path is known whole.
+// Applies an edit to a document that was not touched before. The document is then touched, unless the edit is refused or its path is
+// known whole.
 fn edit_first(
     alloc: Global,
     shard: &Shard,
@@ -219,7 +220,8 @@ fn tree_or<'a>(shard: &'a Shard, id: &str, other: &'a RevTree) -> &'a RevTree
     }
 }
 
-// Applies an edit that was looked at on this tree to a copy of it, which is touched now, unless the edit is refused.
+// Applies an edit to a copy of the tree on which it was looked at. Unless the edit is refused, its document is then touched, with
+// the copy as its tree.
 fn touch(
     alloc: Global,
     touched: &mut BTreeMap<String, RevTree>,

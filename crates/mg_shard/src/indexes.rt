@@ -44,36 +44,18 @@ pub(crate) fn list_in_pages(
     Pages::from_sorted(alloc, indexes)
 }
 
-// A list of at most this many indexes is read from its front, since to compare a few names takes less than a look-up.
-const FEW_INDEXES: usize = 8;
-
-// The index of this design document and name, by a comparison of names with each index.
-fn named_among<'a>(
-    indexes: &'a Pages<IndexEntry>,
-    ddoc: &str,
-    name: &str,
-) -> Option<&'a IndexEntry>
+// The index of this design document and name, if there is one. In one page names are compared in turn, since a look-up takes longer.
+fn index_there<'a>(indexes: &'a Pages<IndexEntry>, ddoc: &str, name: &str) -> Option<&'a IndexEntry>
     ensures { option_map (λ x. x.now) result ≡ find (λ x. is_at ddoc.now name.now x.0) indexes.now }
 {
-    indexes.iter().find(|index| index.is_at(ddoc, name))
-}
-
-// The index of this design document and name, if there is one.
-fn index_there<'a>(
-    indexes: &'a Pages<IndexEntry>,
-    ddoc: &str,
-    name: &str,
-) -> Option<&'a IndexEntry>
-    ensures { option_map (λ x. x.now) result ≡ find (λ x. is_at ddoc.now name.now x.0) indexes.now }
-{
-    if indexes.len() <= FEW_INDEXES {
-        return named_among(indexes, ddoc, name);
+    match indexes.in_one_page() {
+        Some(page) => page.iter().find(|index| index.is_at(ddoc, name)),
+        None => indexes.get(&IndexName { ddoc, name }),
     }
-    indexes.get(&IndexName { ddoc, name })
 }
 
 /// The rows of the index of this design document and name, if there is one. Takes no memory. Cost: a comparison of names with each index,
-/// or one look-up if there are more than eight.
+/// or one look-up if they are in several pages.
 pub(crate) fn rows_there<'a>(
     indexes: &'a Pages<IndexEntry>,
     ddoc: &str,

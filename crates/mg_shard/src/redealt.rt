@@ -28,8 +28,8 @@ use std::thread;
 use std::thread::Threads;
 
 /// Deals the documents of these shards to a new number of shards: each document goes, with its tree, to the shard that the placement
-/// gives, whatever placement dealt it before. Each new shard has the rows of all indexes that these shards have. Documents, trees and
-/// definitions are shared with the lent shards, not copied.
+/// gives, whatever placement dealt it before. Each new shard has the indexes of the first of these shards, with the rows of its own
+/// documents. Documents, trees and definitions are shared with the lent shards, not copied.
 ///
 /// The shards are the same for every number of workers. With one worker, or fewer than 1,000 documents, no thread is started;
 /// otherwise each shard is made by a thread of its own. If there are at least twice as many workers as shards, further threads extract

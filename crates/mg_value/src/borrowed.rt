@@ -17,11 +17,11 @@ use std::collections::BTreeMap;
 // How deep arrays and objects may nest: the limit of `serde_json`.
 const MAX_DEPTH: usize = 127;
 
-// The longest text, in bytes, for whose strings a buffer keeps room.
+// The longest text, in bytes, that is read in a buffer's room. A longer one has room of its own, which its read frees.
 const LONGEST_KEPT: usize = 65_536;
 
-/// Memory that reading needs besides the value, lent to one text after another: a table of 16 KiB, which is
-/// cleared once, and room for the strings of the longest text of at most 64 KiB.
+/// Memory that reading needs besides the value, kept from one text to the next: a table of 16 KiB, which is
+/// cleared once, and as many bytes as the longest text had that was read with it, up to 64 KiB.
 #[derive(Drop)]
 pub struct ReadBuffer {
     scratch: Scratch,

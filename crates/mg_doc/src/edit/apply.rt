@@ -25,7 +25,7 @@ use std::marker::Model;
 pub enum Look {
     /// The newest revision of a replica's path that is known whole. Such an edit changes nothing.
     Known(Rev),
-    /// Any other edit that is not refused before its revision is made.
+    /// Any other edit that is not refused. `ReadyEdit::bring` can still refuse it, if the revision that it makes is already known.
     Ready(ReadyEdit),
 }
 
@@ -157,7 +157,8 @@ fn merge(tree: &mut RevTree, path: &History, deleted: bool, body: Json) -> Resul
     Ok(rev)
 }
 
-// Checks whether a new edit that names this revision, or none, may make one. Does not check whether the made one is already known.
+// Checks whether a new edit may extend the revision that it names, or make a revision if it names none. Does not check whether
+// the revision that it would make is already known.
 fn check_base(tree: &RevTree, named: Option<&Rev>) -> Result<(), Refused>
     ensures ok { OnOk result ((h : Paths) → StandsFor tree.now h
         → first_refusal h (New (option_copied named.entry)) ≡ None) }
@@ -231,7 +232,7 @@ fn extend(
     }
 }
 
-// Keeps an id that was made ahead over nothing, if nothing is extended.
+// The id that was made ahead for a first revision; `None` if a base is extended, since the id over it is another.
 fn over_nothing(ahead: Option<String>, base: Option<&Rev>) -> Option<String>
     ensures { IfSome result (λ id. (ahead ≡ Some id) × (option_copied base.entry ≡ None)) }
 {

@@ -20,20 +20,20 @@ use std::sync::Arc;
 
 /// What became of an edit, with the edit's id.
 #[derive(Drop)]
-pub(crate) struct Outcome {
+pub(crate) struct EditEntry {
     pub(crate) id: String,
     pub(crate) reply: EditReply,
 }
 
 /// Applies edits that have ids, in order. Returns what became of each, and the shards after them, into which the bodies are moved.
 ///
-/// Errors: `NoMemory` if an allocation fails. Cost: the edits, each with its document, and the number of shards.
+/// Errors: `NoMemory` if an allocation fails. Cost: that of `Draft::edit` for each edit, and of `Draft::finish` for each shard.
 pub(crate) fn apply_edits<P: Placement>(
     alloc: Global,
     placement: &P,
     shards: &[Arc<Shard>],
     edits: Vec<Edit>,
-) -> Result<(Vec<Outcome>, Vec<Arc<Shard>>), NoMemory>
+) -> Result<(Vec<EditEntry>, Vec<Arc<Shard>>), NoMemory>
     requires { 0 < length shards.now }
     ensures replies { IfOk result
         (λ r. (hs : Histories) → ShardsStandFor (P.place placement.now) (shards_seen shards.now) hs
@@ -69,7 +69,7 @@ fn edit_all<P: Placement>(
     placement: &P,
     drafts: &mut [Draft<'_>],
     edits: Vec<Edit>,
-) -> Result<Vec<Outcome>, NoMemory>
+) -> Result<Vec<EditEntry>, NoMemory>
     requires { 0 < length drafts.old }
     ensures replies { IfOk result
         (λ v. (hs : Histories) → DraftsStandFor (P.place placement.now) drafts.old hs
@@ -87,13 +87,13 @@ fn edit_all<P: Placement>(
     Ok(outcomes)
 }
 
-// Applies one edit, to the draft of its id's shard.
+// Applies one edit to the draft of the shard on which its id is placed.
 fn edit_one<P: Placement>(
     alloc: Global,
     placement: &P,
     drafts: &mut [Draft<'_>],
     edit: Edit,
-) -> Result<Outcome, NoMemory>
+) -> Result<EditEntry, NoMemory>
     requires { 0 < length drafts.old }
     ensures reply { IfOk result (λ o. (hs : Histories) → DraftsStandFor (P.place placement.now) drafts.old hs
         → reply_in o ≡ outcome_in hs edit) }
@@ -108,7 +108,7 @@ fn edit_one<P: Placement>(
     let place = placement.shard_of(id_in(&edit), drafts.len());
     let draft = &mut drafts[place];
     let reply = draft.edit(alloc, edit)?;
-    Ok(Outcome { id, reply })
+    Ok(EditEntry { id, reply })
 }
 
 // Finishes the drafts of all shards. A shard whose draft touched no document is kept, and shared.
@@ -120,12 +120,12 @@ fn finish_drafts(
     requires { before drafts.items ≡ shards_seen shards.now }
     ensures { IfOk result (λ v. AllLeave drafts.entry.items (shards_seen v.items)) }
 {
-    let mut left = Vec::with_capacity(alloc, shards.len())?;
+    let mut next_shards = Vec::with_capacity(alloc, shards.len())?;
     for draft in drafts {
-        let shard = &shards[left.len()];
-        left.push(finish_draft(alloc, draft, shard)?)?;
+        let shard = &shards[next_shards.len()];
+        next_shards.push(finish_draft(alloc, draft, shard)?)?;
     }
-    Ok(left)
+    Ok(next_shards)
 }
 
 // Finishes the draft of a shard. If it touched no document, the shard is kept, and shared.

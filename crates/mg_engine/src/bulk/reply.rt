@@ -7,7 +7,7 @@ ghost use Rattle.mg_engine.specs.Bulk.{done_entry, entry_before, entry_of, refus
 ghost use Rattle.mg_engine.specs.Outcomes.{entries_seen, reply_in, id_seen};
 
 use crate::body::with_line_feed;
-use crate::bulk::apply::Outcome;
+use crate::bulk::apply::EditEntry;
 use crate::refusal::{BAD_HISTORY_ERROR, BAD_HISTORY_REASON, CONFLICT_ERROR, CONFLICT_REASON};
 use json::Writer;
 use mg_revtree::Rev;
@@ -24,7 +24,7 @@ const ENTRY_ROOM: usize = 96;
 pub(crate) fn entries_line(
     alloc: Global,
     new_edits: bool,
-    outcomes: &[Outcome],
+    outcomes: &[EditEntry],
 ) -> Result<Vec<u8>, NoMemory>
     ensures { IfOk result (λ b. b.items ≡ line_of (list (entries_seen new_edits outcomes.now))) }
 {
@@ -39,7 +39,7 @@ pub(crate) fn entries_line(
 fn write_entries(
     alloc: Global,
     new_edits: bool,
-    outcomes: &[Outcome],
+    outcomes: &[EditEntry],
     out: &mut Writer,
 ) -> Result<(), NoMemory>
     ensures tokens { OnOk result (out.new.tokens
@@ -57,7 +57,7 @@ fn write_entries(
 fn write_entry(
     alloc: Global,
     new_edits: bool,
-    outcome: &Outcome,
+    outcome: &EditEntry,
     out: &mut Writer,
 ) -> Result<(), NoMemory>
     ensures tokens { OnOk result ((vs : Items) → out.new.tokens ++ items_tokens_of vs

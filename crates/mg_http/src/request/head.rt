@@ -5,7 +5,7 @@ ghost use Rattle.httparse.specs.Grammar.{RequestHead, NeverHasRequest};
 ghost use Rattle.httparse.specs.Spans.{IsHeaderWithin, header_bytes, IsRequestWithin, IsRequestAt};
 ghost use Rattle.mg_http.specs.Fields.{asks_close};
 ghost use Rattle.mg_http.specs.Head.{framed_by, refusal_before, parts_ask};
-ghost use Rattle.mg_http.specs.Turns.{IsHeadRead, request_in, IsBodyFramed, IsFramedBy};
+ghost use Rattle.mg_http.specs.Steps.{IsHeadRead, request_in, IsBodyFramed, IsFramedBy};
 
 use crate::request::fields::{Length, asks_close, has_field, length_in};
 use crate::request::table::Table;
@@ -16,7 +16,7 @@ use httparse::{Error, Status};
 use mg_engine::Refusal;
 use std::alloc::{AllocError, Global};
 
-/// The most fields of a head.
+/// The most fields that a head may have. One with more is refused.
 const MAX_FIELDS: usize = 64;
 
 /// A head whose body's length is known.
@@ -29,7 +29,7 @@ pub struct Framed {
     /// The number of bytes of the body.
     pub body: u64,
     /// Whether the reply leaves out the bytes of its body.
-    pub silent: bool,
+    pub omits_body: bool,
     /// Whether the session ends after the reply.
     pub closes: bool,
 }
@@ -45,7 +45,7 @@ pub(crate) enum Pending {
     Message(Framed),
 }
 
-/// The target's own refusal, if it is one; else this one.
+/// The refusal of the target, if the target is refused; else this one.
 fn refusal_before(refusal: Refusal, target: &RequestTarget) -> Refusal
     ensures { result ≡ refusal_before refusal (request_in target.now) }
 {
@@ -56,8 +56,8 @@ fn refusal_before(refusal: Refusal, target: &RequestTarget) -> Refusal
     }
 }
 
-/// The number of bytes of the body, or the refusal before it. `coded`: a Transfer-Encoding is given, which is refused. `post`: a
-/// length is required.
+/// The number of bytes of the body, or why the message is refused before its body. `coded`: a Transfer-Encoding is given, which is
+/// refused. `post`: a length is required.
 fn frame_body(
     length: Length,
     coded: bool,
@@ -111,7 +111,7 @@ fn read_framing(
 }
 
 /// The first `count` spans.
-fn first_of(spans: &[HeaderSpan], count: usize) -> &[HeaderSpan]
+fn front_of(spans: &[HeaderSpan], count: usize) -> &[HeaderSpan]
     requires { count ≤ length spans.now }
     ensures { result.now ≡ take count spans.now }
 {
@@ -119,7 +119,7 @@ fn first_of(spans: &[HeaderSpan], count: usize) -> &[HeaderSpan]
 }
 
 /// Whether the method is HEAD.
-fn is_head(method: &[u8]) -> bool
+fn is_head_method(method: &[u8]) -> bool
     ensures { result ≡ bytes_eq method.now (codes "HEAD") }
 {
     method == b"HEAD".as_slice()
@@ -159,21 +159,21 @@ fn read_whole(
         → IsHeadRead db.now bytes.now result }
 {
     let method = head.method.of(bytes);
-    let fields = first_of(spans, head.headers);
-    let silent = is_head(method);
+    let fields = front_of(spans, head.headers);
+    let omits_body = is_head_method(method);
     match read_framing(alloc, db, table, method, head.path.of(bytes), bytes, fields) {
-        Err(refusal) => Pending::Refused(refusal, silent),
+        Err(refusal) => Pending::Refused(refusal, omits_body),
         Ok((target, body)) => Pending::Message(Framed {
             target,
             len: head.len,
             body,
-            silent,
+            omits_body,
             closes: closes_after(head.version, bytes, fields),
         }),
     }
 }
 
-/// Reads the head that at most 16,384 bytes begin with; `spans` is room for its fields.
+/// Reads the head that at most 16,384 bytes begin with. `spans` is room for its fields: no more than 5,461 fit into these bytes.
 pub(crate) fn read_head(
     alloc: Global,
     db: &str,

@@ -4,7 +4,7 @@ ghost use Rattle.std.specs.List.{list_all};
 ghost use Rattle.std.specs.Str.{is_utf8};
 ghost use Rattle.mg_http.specs.RouteViews.{match_in};
 ghost use Rattle.mg_http.specs.Target.{path_in, query_in, names, document_asked, drop_asked, request_of};
-ghost use Rattle.mg_http.specs.Turns.{request_in};
+ghost use Rattle.mg_http.specs.Steps.{request_in};
 ghost use Rattle.mg_http.specs.Walk.{request_at};
 
 use crate::request::decode::asks_conflicts;

@@ -8,7 +8,7 @@ ghost use Rattle.mg_http.specs.Device.{inner_of, has_failed, WritesBytes};
 ghost use Rattle.mg_http.specs.Message.{Message};
 ghost use Rattle.mg_http.specs.Reply.{reply_text};
 ghost use Rattle.mg_http.specs.Session.{asked_by, HandlesBody, Handles};
-ghost use Rattle.mg_http.specs.Turns.{request_in};
+ghost use Rattle.mg_http.specs.Steps.{request_in};
 
 use crate::request::{Endpoint, RequestTarget};
 use crate::sessions::device::{Device, IoFault};
@@ -44,7 +44,7 @@ fn answer_body<H: Wait + Threads + Sync, S: Service, W: Write>(
     writer: &mut Device<W>,
     output: &mut Vec<u8>,
     buffer: &mut ReadBuffer,
-    silent: bool,
+    omits_body: bool,
     endpoint: Endpoint,
     body: &[u8],
 ) -> Result<(), IoFault>
@@ -52,21 +52,21 @@ fn answer_body<H: Wait + Threads + Sync, S: Service, W: Write>(
         × HandlesBody S.answers endpoint body.now
         (record { old = service.old; reply = reply; new = service.new })
         × WritesBytes (W.contents (inner_of writer.old)) (W.contents (inner_of writer.new))
-        (reply_text silent reply) result }
+        (reply_text omits_body reply) result }
     ensures failed { has_failed writer.new ≡ (if is_ok result then has_failed writer.old else true) }
 {
     match read_in(alloc, body, buffer) {
         Ok(value) => {
             let reply = service.ask(rt, alloc, command_of(endpoint, value));
-            write_reply(writer, output, silent, &reply)
+            write_reply(writer, output, omits_body, &reply)
         }
-        Err(ReadError::NoMemory) => write_reply(writer, output, silent, &Reply::NoMemory),
-        Err(ReadError::NotJson) => write_refusal(writer, output, silent, Refusal::InvalidJson),
-        Err(ReadError::NotWhole) => write_refusal(writer, output, silent, Refusal::InvalidJson),
+        Err(ReadError::NoMemory) => write_reply(writer, output, omits_body, &Reply::NoMemory),
+        Err(ReadError::NotJson) => write_refusal(writer, output, omits_body, Refusal::InvalidJson),
+        Err(ReadError::NotWhole) => write_refusal(writer, output, omits_body, Refusal::InvalidJson),
     }
 }
 
-/// Answers a message and writes the reply; a silent reply is written without its body.
+/// Answers a message and writes the reply; with `omits_body`, the reply is written without its body.
 ///
 /// Errors: those of the writer.
 pub(crate) fn answer_request<H: Wait + Threads + Sync, S: Service, W: Write>(
@@ -76,7 +76,7 @@ pub(crate) fn answer_request<H: Wait + Threads + Sync, S: Service, W: Write>(
     writer: &mut Device<W>,
     output: &mut Vec<u8>,
     buffer: &mut ReadBuffer,
-    silent: bool,
+    omits_body: bool,
     target: RequestTarget,
     body: &[u8],
 ) -> Result<(), IoFault>
@@ -84,19 +84,19 @@ pub(crate) fn answer_request<H: Wait + Threads + Sync, S: Service, W: Write>(
         × Handles S.answers (request_in target) body.now
         (record { old = service.old; reply = reply; new = service.new })
         × WritesBytes (W.contents (inner_of writer.old)) (W.contents (inner_of writer.new))
-        (reply_text silent reply) result }
+        (reply_text omits_body reply) result }
     ensures failed { has_failed writer.new ≡ (if is_ok result then has_failed writer.old else true) }
 {
     match target {
         RequestTarget::Body(endpoint) => {
             answer_body(
-                rt, alloc, service, writer, output, buffer, silent, endpoint, body,
+                rt, alloc, service, writer, output, buffer, omits_body, endpoint, body,
             )
         }
         RequestTarget::Asks(command) => {
             let reply = service.ask(rt, alloc, command);
-            write_reply(writer, output, silent, &reply)
+            write_reply(writer, output, omits_body, &reply)
         }
-        RequestTarget::Refuses(refusal) => write_refusal(writer, output, silent, refusal),
+        RequestTarget::Refuses(refusal) => write_refusal(writer, output, omits_body, refusal),
     }
 }

@@ -10,7 +10,7 @@ use mg_value::ReadBuffer;
 use std::alloc::{AllocError, Global};
 use std::io::Read;
 
-/// The most fields of a head: no more fit into 16,384 bytes.
+/// How many fields a head has at most: no more fit into 16,384 bytes. A head with more than 64 is refused after it is parsed.
 const SPANS: usize = 5_461;
 
 /// How many bytes the reader is asked for at a time.
@@ -63,8 +63,8 @@ pub(crate) fn rest_of(held: &[u8], start: usize) -> &[u8]
 }
 
 impl Inbox {
-    ghost use Rattle.mg_http.specs.Inbox.{unanswered, turns_left};
-    ghost use Rattle.mg_http.specs.Turns.{IsPending};
+    ghost use Rattle.mg_http.specs.Inbox.{unanswered, steps_left};
+    ghost use Rattle.mg_http.specs.Steps.{IsPending};
 
     /// An empty inbox.
     ///
@@ -90,7 +90,7 @@ impl Inbox {
     pub(crate) fn pending(&mut self, alloc: Global, db: &str) -> Pending
         ensures pending { IsPending db.now (unanswered self.old) result }
         ensures held { unanswered self.new ≡ unanswered self.old }
-        ensures turns { turns_left self.new ≡ turns_left self.old }
+        ensures steps { steps_left self.new ≡ steps_left self.old }
         ensures requests { self.new.requests ≡ self.old.requests }
         ensures reads { self.new.reads ≡ self.old.reads }
     {
@@ -138,8 +138,8 @@ impl Inbox {
             ≤ self.old.reads + length (unanswered self.new)) }
         ensures limit { IsErrOf result Stop.Limit
             → 4294967295 + length (unanswered self.old) ≤ self.old.reads + length (unanswered self.new) }
-        ensures turns { OnOk result (turns_left self.new < turns_left self.old) }
-        ensures turns_most { turns_left self.new ≤ turns_left self.old }
+        ensures steps { OnOk result (steps_left self.new < steps_left self.old) }
+        ensures steps_most { steps_left self.new ≤ steps_left self.old }
     {
         self.drop_answered();
         if self.reads == u32::MAX {
@@ -178,7 +178,7 @@ impl Inbox {
             ≤ self.old.reads + length (unanswered self.new)) }
         ensures limit { IsErrOf result Stop.Limit
             → 4294967295 + length (unanswered self.old) ≤ self.old.reads + length (unanswered self.new) }
-        ensures turns_most { turns_left self.new ≤ turns_left self.old }
+        ensures steps_most { steps_left self.new ≤ steps_left self.old }
     {
         while self.held.len() - self.start < want {
             self.read_piece(reader)?;

@@ -48,25 +48,25 @@ fn write_parts<'a, W: Write>(
     )
 }
 
-/// The body that is written: empty for a silent reply.
-fn body_to_write(silent: bool, body: &[u8]) -> &[u8]
-    ensures { result.now ≡ (if silent then [] else body.now) }
+/// The body that is written: empty if the reply omits it.
+fn body_to_write(omits_body: bool, body: &[u8]) -> &[u8]
+    ensures { result.now ≡ (if omits_body then [] else body.now) }
 {
-    if silent { &[] } else { body }
+    if omits_body { &[] } else { body }
 }
 
-/// Writes the text of a reply with this status and body. A silent reply leaves the body out, but gives its length.
+/// Writes the text of a reply with this status and body. A reply that omits its body still gives its length.
 ///
 /// Errors: those of the writer.
 fn write_text<W: Write>(
     writer: &mut Device<W>,
     output: &mut Vec<u8>,
-    silent: bool,
+    omits_body: bool,
     status: u16,
     body: &[u8],
 ) -> Result<(), IoFault>
     ensures bytes { WritesBytes (W.contents (inner_of writer.old)) (W.contents (inner_of writer.new))
-        (text_of silent (record { status = status; body = body.now })) result }
+        (text_of omits_body (record { status = status; body = body.now })) result }
     ensures failed { has_failed writer.new ≡ (if is_ok result then has_failed writer.old else true) }
 {
     let mut code = Buffer::new();
@@ -77,7 +77,7 @@ fn write_text<W: Write>(
         code.format(status).as_bytes(),
         phrase(status).as_bytes(),
         length.format(body.len()).as_bytes(),
-        body_to_write(silent, body),
+        body_to_write(omits_body, body),
     )
 }
 
@@ -87,14 +87,14 @@ fn write_text<W: Write>(
 pub(crate) fn write_reply<W: Write>(
     writer: &mut Device<W>,
     output: &mut Vec<u8>,
-    silent: bool,
+    omits_body: bool,
     reply: &Reply,
 ) -> Result<(), IoFault>
     ensures bytes { WritesBytes (W.contents (inner_of writer.old)) (W.contents (inner_of writer.new))
-        (reply_text silent (said reply.now)) result }
+        (reply_text omits_body (said reply.now)) result }
     ensures failed { has_failed writer.new ≡ (if is_ok result then has_failed writer.old else true) }
 {
-    write_text(writer, output, silent, reply.status(), reply.body())
+    write_text(writer, output, omits_body, reply.status(), reply.body())
 }
 
 /// Writes a refusal as a reply. Allocates nothing but room in `output`.
@@ -103,17 +103,17 @@ pub(crate) fn write_reply<W: Write>(
 pub(crate) fn write_refusal<W: Write>(
     writer: &mut Device<W>,
     output: &mut Vec<u8>,
-    silent: bool,
+    omits_body: bool,
     refusal: Refusal,
 ) -> Result<(), IoFault>
     ensures bytes { WritesBytes (W.contents (inner_of writer.old)) (W.contents (inner_of writer.new))
-        (text_of silent (refused refusal)) result }
+        (text_of omits_body (refused refusal)) result }
     ensures failed { has_failed writer.new ≡ (if is_ok result then has_failed writer.old else true) }
 {
     write_text(
         writer,
         output,
-        silent,
+        omits_body,
         refusal.status(),
         refusal.body().as_bytes(),
     )

@@ -11,7 +11,7 @@ returns-in-Waiting-2 c =
 
 pub returns-in-Refused : goal.returns-in-Refused
 returns-in-Refused c =
-    refused_in_window c.args.db.now c.args.bytes.now c.min.result c.in-Refused.refusal c.in-Refused.silent c.min.ensures c.in-Refused.ensures
+    refused_in_window c.args.db.now c.args.bytes.now c.min.result c.in-Refused.refusal c.in-Refused.omits_body c.min.ensures c.in-Refused.ensures
 
 pub returns-in-Message : goal.returns-in-Message
 returns-in-Message c =

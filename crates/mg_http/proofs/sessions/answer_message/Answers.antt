@@ -1,6 +1,6 @@
 use Rattle.std.proofs.Common.{Err, ap, length, sym, inl, inr, ◌+◌, arith, drop-drop, length-append, length-drop}
 use Rattle.mg_http.specs.Inbox.{unanswered}
-use Rattle.mg_http.specs.Turns.{progress_of}
+use Rattle.mg_http.specs.Steps.{progress_of}
 use Rattle.mg_http.proofs.SessionLemmas.{answered, stopped_in_body, limited, stops_at_limit, head_counts, answered_counts}
 use Rattle.mg_http.proofs.sessions.answer_message.Goals as goal
 
@@ -13,7 +13,7 @@ returns-in-Err-clause-bytes g c = λ db h has is.
       done.2,
       done.3,
       done.4,
-      λ e. inr (omega (arith, c.in-Err.ensures.limit (ap Err (stops_at_limit _ _ c.args.framed.silent c.in-Err.stop _ c.end_after_stop.ensures.bytes e)), ap length read.2, length-append (unanswered c.args.inbox.now) read.0)),
+      λ e. inr (omega (arith, c.in-Err.ensures.limit (ap Err (stops_at_limit _ _ c.args.framed.omits_body c.in-Err.stop _ c.end_after_stop.ensures.bytes e)), ap length read.2, length-append (unanswered c.args.inbox.now) read.0)),
     )
 
 pub returns-then-inbox-clause-bytes : goal.returns-then-inbox-clause-bytes

@@ -1,7 +1,7 @@
 use Rattle.std.proofs.Common.{◌≡◌, ℕ, ◌+◌, ◌≤◌, List, length, false}
 use Rattle.std.specs.Io.KnownBytes.{Appends, Consumes}
 use Rattle.mg_http.specs.Device.{inner_of, has_failed}
-use Rattle.mg_http.specs.Inbox.{unanswered, turns_left}
+use Rattle.mg_http.specs.Inbox.{unanswered, steps_left}
 use Rattle.mg_http.specs.Session.{Call, Serves}
 use Rattle.mg_http.proofs.Forms.{exchange}
 use Rattle.mg_http.proofs.sessions.session.Given as goal
@@ -18,4 +18,4 @@ invariant-loop-end g l = record {
 }
 
 abbrev pub decreases-loop-end : goal.decreases-loop-end
-decreases-loop-end g l = turns_left l.inbox
+decreases-loop-end g l = steps_left l.inbox

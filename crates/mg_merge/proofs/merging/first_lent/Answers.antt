@@ -1,7 +1,7 @@
-use Rattle.std.proofs.Common.{◌≡◌, ◌∷◌, IfOk, IfSome, All, length, take, ap, refl, subst, sym, ◌∙◌, arith}
+use Rattle.std.proofs.Common.{◌≡◌, ◌∷◌, IfOk, IfSome, All, take, ap, refl, subst, sym, ◌∙◌, arith}
 use Rattle.mg_collate.specs.Sorted.{sorted}
 use Rattle.mg_merge.specs.Merged.{IsInOrderBy, contents_of, joined, order_by}
-use Rattle.mg_merge.specs.Rests.{AreInTurn, lent_of, rests_of}
+use Rattle.mg_merge.specs.Rests.{lent_of, rests_of}
 use Rattle.mg_merge.proofs.Heads.{one_list, one_more_lent}
 use Rattle.mg_merge.proofs.Rows.{by_total}
 use Rattle.mg_merge.proofs.merging.first_lent.Goals as goal
@@ -15,7 +15,7 @@ pub loop-direction-init : goal.loop-direction-init
 loop-direction-init g c = record {
   within = omega arith;
   order = subst (All (IsInOrderBy g.T.Ranked.row_of c.args.direction)) (sym c.in_ok-rests.ensures) c.requires;
-  queue = c.in_ok-queue.ensures;
+  winners = c.in_ok-winners.ensures;
   rest = rw c.new-lent.ensures.items (ap (λ lists. sorted (order_by g.T.Ranked.row_of c.args.direction) (joined lists)) (sym c.in_ok-rests.ensures));
 }
 
@@ -24,10 +24,10 @@ loop-direction-preserved g c =
     let order = order_by g.T.Ranked.row_of c.args.direction in
     let before = c.loop-direction.rests.items in
     let rests = c.take_first.new.rests.items in
-    let first = subst (λ taken. IfSome taken (λ item. sorted order (joined (rests_of before)) ≡ item.now ∷ sorted order (joined (rests_of rests)))) c.in-Some.is c.in_ok-item.ensures.first in
+    let first = subst (λ taken. IfSome taken (λ item. sorted order (joined (rests_of before)) ≡ item.now ∷ sorted order (joined (rests_of rests)))) c.in-Some.is c.take_first.ensures.first in
     record {
       within = omega arith;
-      order = c.in_ok-item.ensures.order;
-      queue = subst (λ taken. IfSome taken (λ item. AreInTurn order (rests_of rests) (length (rests_of rests)) c.take_first.new.queue.items)) c.in-Some.is c.in_ok-item.ensures.queue;
+      order = c.take_first.ensures.order;
+      winners = c.take_first.ensures.winners;
       rest = one_more_lent order (sorted order (joined (contents_of c.args.lists.now))) c.loop-direction.lent.items c.push.new.self.items c.in-Some.item before before rests c.loop-direction.invariant.rest refl first c.in_ok-push-in-Some.ensures.items;
     }

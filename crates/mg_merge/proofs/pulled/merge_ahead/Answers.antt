@@ -2,7 +2,7 @@ use Rattle.std.proofs.Common.{◌≡◌, ◌∷◌, IfSome, map, option_map, ari
 use Rattle.mg_collate.specs.Row.{directed_order}
 use Rattle.mg_collate.specs.Sorted.{sorted}
 use Rattle.mg_merge.specs.Merged.{joined}
-use Rattle.mg_merge.specs.Pulled.{IsAhead, IsGivenBy, all_remaining}
+use Rattle.mg_merge.specs.Pulled.{IsGivenBy, all_remaining}
 use Rattle.mg_merge.proofs.Pulls.{all_more, one_more}
 use Rattle.mg_merge.proofs.pulled.merge_ahead.Goals as goal
 
@@ -16,13 +16,13 @@ loop-direction-preserved g c =
     let before = sorted order (joined (all_remaining (map (option_map row) c.loop-direction.heads.items) (map rest c.loop-direction.sources))) in
     let after = sorted order (joined (all_remaining (map (option_map row) c.pull_first.new.heads.items) (map rest c.pull_first.new.sources))) in
     let all = sorted order (joined (all_remaining (map (option_map row) c.args.heads.now.items) (map rest c.args.sources.now))) in
-    let first = subst (λ taken. IfSome taken (λ item. before ≡ row item ∷ after)) c.in-Some.is c.in_ok-item.ensures.first in
+    let first = subst (λ taken. IfSome taken (λ item. before ≡ row item ∷ after)) c.in-Some.is c.pull_first.ensures.first in
     record {
       within = omega arith;
-      ahead = subst (λ taken. IfSome taken (λ item. IsAhead row c.args.direction c.pull_first.new.heads.items (map rest c.pull_first.new.sources) c.pull_first.new.queue.items)) c.in-Some.is c.in_ok-item.ensures.ahead;
-      size = c.in_ok-item.ensures.size ∙ invariant.size;
+      ahead = c.pull_first.ensures.ahead;
+      size = c.pull_first.ensures.size ∙ invariant.size;
       sources = omega arith;
       left = rw c.in_ok-push-in-Some.ensures.items (one_more row items c.in-Some.item all before after invariant.left first);
       given = λ start h. let was = invariant.given start h in
-          (c.in_ok-item.ensures.from start was.0, rw c.in_ok-push-in-Some.ensures.items (all_more (IsGivenBy g.S.RowSource.gives start) items c.in-Some.item was.1 (subst (λ taken. IfSome taken (IsGivenBy g.S.RowSource.gives start)) c.in-Some.is (c.in_ok-item.ensures.given start was.0))));
+          (c.pull_first.ensures.from start was.0, rw c.in_ok-push-in-Some.ensures.items (all_more (IsGivenBy g.S.RowSource.gives start) items c.in-Some.item was.1 (subst (λ taken. IfSome taken (IsGivenBy g.S.RowSource.gives start)) c.in-Some.is (c.pull_first.ensures.given start was.0))));
     }

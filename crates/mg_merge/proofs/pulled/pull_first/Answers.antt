@@ -1,52 +1,88 @@
-use Rattle.std.proofs.Common.{◌≡◌, ◌<◌, [], get_or, length, map, arith, ◌∙◌}
-use Rattle.std.proofs.lemmas.List.{length-map}
+use Rattle.std.proofs.Common.{◌≡◌, ◌<◌, [], get_or, length, map, set, arith, rules, ◌∙◌}
+use Rattle.std.proofs.lemmas.List.{length-map, length-set}
 use Rattle.mg_merge.specs.Merged.{order_by}
-use Rattle.mg_merge.specs.Pulled.{remaining, firsts_of}
-use Rattle.mg_merge.proofs.Pulls.{all_ended, front_at, from_pulled, one_given, pulled_climb, source_ahead, source_first, value_at, was_remaining}
-use Rattle.mg_merge.proofs.Queues.{first_out}
+use Rattle.mg_merge.specs.Pulled.{firsts_of, remaining}
+use Rattle.mg_merge.proofs.Heads.{if_none}
+use Rattle.mg_merge.proofs.Pulls.{all_ended, first_source, from_pulled, front_at, none_pulled, one_given, pulled_changed, source_ahead, source_first, value_at, was_remaining}
+use Rattle.mg_merge.proofs.Trees.{none_begin}
 use Rattle.mg_merge.proofs.pulled.pull_first.Goals as goal
 
-pub returns-in-None-clause-end : goal.returns-in-None-clause-end
-returns-in-None-clause-end g c =
+pub returns-in_err-source-clause-end : goal.returns-in_err-source-clause-end
+returns-in_err-source-clause-end g c =
     let row = g.T.Ranked.row_of in
-    let rest = g.S.RowSource.rest in
-    let direction = c.args.direction in
     let heads = c.args.heads.now.items in
-    let sources = c.args.sources.now in
-    let source = c.remove-source.result in
-    let queue = c.remove-source.new.self.items in
-    let turns = first_out (order_by row direction) (firsts_of heads) (length (firsts_of heads)) c.args.queue.now.items queue source (omega arith) c.remove-source.ensures.value c.remove-source.ensures.items c.requires.turns in
-    let fronts = length-map heads (λ head. remaining head []) in
-    let low = turns.within.0 in
-    let within : source < length heads = omega (arith, fronts, low) in
-    let front = front_at heads source c.index.result.now c.index.result.now within c.index.ensures in
-    all_ended row direction heads (map rest sources) source queue c.requires.size turns (front ∙ c.in-None.is)
+    let rests = map g.S.RowSource.rest c.args.sources.now in
+    if_none c.from_residual.result _ (none_pulled row heads rests c.requires.size (none_begin (order_by row c.args.direction) (firsts_of heads) c.args.winners.now.places.items c.requires.tree c.in_err-source.ensures.none))
 
-pub enter-requires-clause-climbs : goal.enter-requires-clause-climbs
-enter-requires-clause-climbs g c =
-    let row = g.T.Ranked.row_of in
-    let rest = g.S.RowSource.rest in
-    let direction = c.args.direction in
-    let heads = c.args.heads.now.items in
-    let sources = c.args.sources.now in
-    let source = c.remove-source.result in
-    let queue = c.remove-source.new.self.items in
-    let turns = first_out (order_by row direction) (firsts_of heads) (length (firsts_of heads)) c.args.queue.now.items queue source (omega arith) c.remove-source.ensures.value c.remove-source.ensures.items c.requires.turns in
-    pulled_climb row direction heads source queue c.next.result turns
+pub index-requires : goal.index-requires
+index-requires g c =
+    let some = c.in_ok-source.ensures.some in
+    let first = first_source g.T.Ranked.row_of c.args.direction c.args.heads.now.items c.args.winners.now.places.items c.in_ok-source.source c.requires.tree some.0 some.1 in
+    let within = first.0 in
+    omega (arith, within)
 
-pub returns-in_ok-enter-in-Some-clause-ahead : goal.returns-in_ok-enter-in-Some-clause-ahead
-returns-in_ok-enter-in-Some-clause-ahead g c =
+pub returns-in_err-item-clause-end : goal.returns-in_err-item-clause-end
+returns-in_err-item-clause-end g c =
+    let row = g.T.Ranked.row_of in
+    let heads = c.args.heads.now.items in
+    let rests = map g.S.RowSource.rest c.args.sources.now in
+    let source = c.in_ok-source.source in
+    let some = c.in_ok-source.ensures.some in
+    let first = first_source row c.args.direction heads c.args.winners.now.places.items source c.requires.tree some.0 some.1 in
+    let front = front_at heads source c.index.result.now c.index.result.now first.0 c.index.ensures in
+    if_none c.from_residual-in_err-item.result _ (all_ended row c.args.direction heads rests source c.requires.size first.0 first.1 (front ∙ c.in_err-item.was))
+
+pub offset_bounds-sources-source : goal.offset_bounds-sources-source
+offset_bounds-sources-source g c =
+    let some = c.in_ok-source.ensures.some in
+    let first = first_source g.T.Ranked.row_of c.args.direction c.args.heads.now.items c.args.winners.now.places.items c.in_ok-source.source c.requires.tree some.0 some.1 in
+    let within = first.0 in
+    let counted = length-map c.args.sources.now g.S.RowSource.rest in
+    let size = c.requires.size in
+    let inside : c.in_ok-source.source < length c.args.sources.now = omega (arith, counted, size, within) in
+    search rules
+
+pub bounds-sources-source : goal.bounds-sources-source
+bounds-sources-source g c =
+    let some = c.in_ok-source.ensures.some in
+    let first = first_source g.T.Ranked.row_of c.args.direction c.args.heads.now.items c.args.winners.now.places.items c.in_ok-source.source c.requires.tree some.0 some.1 in
+    let within = first.0 in
+    let counted = length-map c.args.sources.now g.S.RowSource.rest in
+    let size = c.requires.size in
+    omega (arith, counted, size, within)
+
+pub index_mut-requires : goal.index_mut-requires
+index_mut-requires g c =
+    let some = c.in_ok-source.ensures.some in
+    let first = first_source g.T.Ranked.row_of c.args.direction c.args.heads.now.items c.args.winners.now.places.items c.in_ok-source.source c.requires.tree some.0 some.1 in
+    let within = first.0 in
+    omega (arith, within)
+
+pub update-requires-clause-list : goal.update-requires-clause-list
+update-requires-clause-list g c =
+    let heads = c.args.heads.now.items in
+    let source = c.in_ok-source.source in
+    let some = c.in_ok-source.ensures.some in
+    let first = first_source g.T.Ranked.row_of c.args.direction heads c.args.winners.now.places.items source c.requires.tree some.0 some.1 in
+    let within = first.0 in
+    let fronts = length-map (set heads source c.next.result) (λ head. remaining head []) in
+    let same = length-set heads source c.next.result in
+    omega (arith, fronts, same, within)
+
+pub update-requires-clause-others : goal.update-requires-clause-others
+update-requires-clause-others g c = pulled_changed g.T.Ranked.row_of c.args.direction c.args.heads.now.items c.args.winners.now.places.items c.in_ok-source.source c.next.result c.requires.tree
+
+pub returns-clause-ahead : goal.returns-clause-ahead
+returns-clause-ahead g c =
     let row = g.T.Ranked.row_of in
     let rest = g.S.RowSource.rest in
     let direction = c.args.direction in
     let heads = c.args.heads.now.items in
     let sources = c.args.sources.now in
-    let source = c.remove-source.result in
-    let queue = c.remove-source.new.self.items in
-    let turns = first_out (order_by row direction) (firsts_of heads) (length (firsts_of heads)) c.args.queue.now.items queue source (omega arith) c.remove-source.ensures.value c.remove-source.ensures.items c.requires.turns in
-    let fronts = length-map heads (λ head. remaining head []) in
-    let low = turns.within.0 in
-    let within : source < length heads = omega (arith, fronts, low) in
+    let source = c.in_ok-source.source in
+    let some = c.in_ok-source.ensures.some in
+    let first = first_source row direction heads c.args.winners.now.places.items source c.requires.tree some.0 some.1 in
+    let within = first.0 in
     let front = front_at heads source c.index.result.now c.index.result.now within c.index.ensures in
     let counted = length-map sources rest in
     let size = c.requires.size in
@@ -54,21 +90,19 @@ returns-in_ok-enter-in-Some-clause-ahead g c =
     let s = get_or sources source c.index-sources-source.result in
     let at : s ≡ get_or sources source s = value_at sources source c.index-sources-source.result s inside in
     let was = was_remaining row c.next.result (rest s) (rest c.next.new.self) c.next.ensures.item c.next.ensures.end in
-    rw c.in_ok-enter-in-Some.ensures (source_ahead row rest direction heads sources source queue c.in-Some.item c.next.result s c.next.new.self c.requires.size c.requires.order turns (front ∙ c.in-Some.is) inside at was)
+    source_ahead row rest direction heads sources c.update.new.self.places.items source c.in_ok-item.item c.next.result s c.next.new.self c.requires.size c.requires.order within (front ∙ c.in_ok-item.was) inside at was c.update.ensures
 
-pub returns-in_ok-enter-in-Some-clause-first : goal.returns-in_ok-enter-in-Some-clause-first
-returns-in_ok-enter-in-Some-clause-first g c =
+pub returns-clause-first : goal.returns-clause-first
+returns-clause-first g c =
     let row = g.T.Ranked.row_of in
     let rest = g.S.RowSource.rest in
     let direction = c.args.direction in
     let heads = c.args.heads.now.items in
     let sources = c.args.sources.now in
-    let source = c.remove-source.result in
-    let queue = c.remove-source.new.self.items in
-    let turns = first_out (order_by row direction) (firsts_of heads) (length (firsts_of heads)) c.args.queue.now.items queue source (omega arith) c.remove-source.ensures.value c.remove-source.ensures.items c.requires.turns in
-    let fronts = length-map heads (λ head. remaining head []) in
-    let low = turns.within.0 in
-    let within : source < length heads = omega (arith, fronts, low) in
+    let source = c.in_ok-source.source in
+    let some = c.in_ok-source.ensures.some in
+    let first = first_source row direction heads c.args.winners.now.places.items source c.requires.tree some.0 some.1 in
+    let within = first.0 in
     let front = front_at heads source c.index.result.now c.index.result.now within c.index.ensures in
     let counted = length-map sources rest in
     let size = c.requires.size in
@@ -76,39 +110,26 @@ returns-in_ok-enter-in-Some-clause-first g c =
     let s = get_or sources source c.index-sources-source.result in
     let at : s ≡ get_or sources source s = value_at sources source c.index-sources-source.result s inside in
     let was = was_remaining row c.next.result (rest s) (rest c.next.new.self) c.next.ensures.item c.next.ensures.end in
-    source_first row rest direction heads sources source queue c.in-Some.item c.next.result s c.next.new.self c.requires.size c.requires.order turns (front ∙ c.in-Some.is) inside at was
+    source_first row rest direction heads sources source c.in_ok-item.item c.next.result s c.next.new.self c.requires.size c.requires.order within first.1 (front ∙ c.in_ok-item.was) inside at was
 
-pub returns-in_ok-enter-in-Some-clause-given : goal.returns-in_ok-enter-in-Some-clause-given
-returns-in_ok-enter-in-Some-clause-given g c = λ start from.
-    let row = g.T.Ranked.row_of in
-    let rest = g.S.RowSource.rest in
-    let direction = c.args.direction in
+pub returns-clause-given : goal.returns-clause-given
+returns-clause-given g c = λ start from.
+    let heads = c.args.heads.now.items in
+    let source = c.in_ok-source.source in
+    let some = c.in_ok-source.ensures.some in
+    let first = first_source g.T.Ranked.row_of c.args.direction heads c.args.winners.now.places.items source c.requires.tree some.0 some.1 in
+    let front = front_at heads source c.index.result.now c.index.result.now first.0 c.index.ensures in
+    one_given g.S.RowSource.gives start heads c.args.sources.now source c.in_ok-item.item from first.0 (front ∙ c.in_ok-item.was)
+
+pub returns-clause-from : goal.returns-clause-from
+returns-clause-from g c = λ start from.
     let heads = c.args.heads.now.items in
     let sources = c.args.sources.now in
-    let source = c.remove-source.result in
-    let queue = c.remove-source.new.self.items in
-    let turns = first_out (order_by row direction) (firsts_of heads) (length (firsts_of heads)) c.args.queue.now.items queue source (omega arith) c.remove-source.ensures.value c.remove-source.ensures.items c.requires.turns in
-    let fronts = length-map heads (λ head. remaining head []) in
-    let low = turns.within.0 in
-    let within : source < length heads = omega (arith, fronts, low) in
-    let front = front_at heads source c.index.result.now c.index.result.now within c.index.ensures in
-    one_given g.S.RowSource.gives start heads sources source c.in-Some.item from within (front ∙ c.in-Some.is)
-
-pub returns-in_ok-enter-in-Some-clause-from : goal.returns-in_ok-enter-in-Some-clause-from
-returns-in_ok-enter-in-Some-clause-from g c = λ start from.
-    let row = g.T.Ranked.row_of in
-    let rest = g.S.RowSource.rest in
-    let direction = c.args.direction in
-    let heads = c.args.heads.now.items in
-    let sources = c.args.sources.now in
-    let source = c.remove-source.result in
-    let queue = c.remove-source.new.self.items in
-    let turns = first_out (order_by row direction) (firsts_of heads) (length (firsts_of heads)) c.args.queue.now.items queue source (omega arith) c.remove-source.ensures.value c.remove-source.ensures.items c.requires.turns in
-    let fronts = length-map heads (λ head. remaining head []) in
-    let low = turns.within.0 in
-    let within : source < length heads = omega (arith, fronts, low) in
-    let front = front_at heads source c.index.result.now c.index.result.now within c.index.ensures in
-    let counted = length-map sources rest in
+    let source = c.in_ok-source.source in
+    let some = c.in_ok-source.ensures.some in
+    let first = first_source g.T.Ranked.row_of c.args.direction heads c.args.winners.now.places.items source c.requires.tree some.0 some.1 in
+    let within = first.0 in
+    let counted = length-map sources g.S.RowSource.rest in
     let size = c.requires.size in
     let inside : source < length sources = omega (arith, counted, size, within) in
     let s = get_or sources source c.index-sources-source.result in

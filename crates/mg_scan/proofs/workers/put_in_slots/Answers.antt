@@ -1,35 +1,45 @@
-use Rattle.std.proofs.Common.{List, [], ◌∷◌, subst}
+use Rattle.std.proofs.Common.{List, [], ◌∷◌, refl, subst}
 use Rattle.std.specs.List.{AllByRecursion}
 use Rattle.mg_pages.proofs.Sorted.{all_left, all_right}
-use Rattle.mg_shard.specs.Shard.{shards_seen}
 use Rattle.mg_scan.specs.Worked.{HitsAnswer}
 use Rattle.mg_scan.specs.declared.workers.Done.{Done}
 use Rattle.mg_scan.proofs.Maps.{slots-set}
 use Rattle.mg_scan.proofs.workers.put_in_slots.Goals as goal
 
+pub loop-shard-init : goal.loop-shard-init
+loop-shard-init c = (λ search shards done slots. (done, slots), refl)
+
 pub loop-shard-preserved-then-shard-len : goal.loop-shard-preserved-then-shard-len
-loop-shard-preserved-then-shard-len c =
-    let i = c.loop-shard.invariant in
-    let s = c.args.search in
-    let shards = shards_seen c.args.shards.now in
-    let P : Done → Type 0 = λ d. HitsAnswer s shards d.shard d.hits.items in
-    let d = c.in-Some.field-0 in
-    let whole = subst (λ (ds : List Done). AllByRecursion P ds) c.in-Some.ensures.items i.0 in
-    (all_left P c.pop.new.self.items (d ∷ []) whole, slots-set s shards c.loop-shard.slots.items d.shard d.hits i.1 (all_right P c.pop.new.self.items (d ∷ []) whole).0, i.2)
+loop-shard-preserved-then-shard-len c = (
+  λ search shards done slots.
+      let i = c.loop-shard.invariant.0 search shards done slots in
+      let P : Done → Type 0 = λ d. HitsAnswer search shards d.shard d.hits.items in
+      let d = c.in-Some.field-0 in
+      let whole = subst (λ (ds : List Done). AllByRecursion P ds) c.in-Some.ensures.items i.0 in
+      (all_left P c.pop.new.self.items (d ∷ []) whole, slots-set search shards c.loop-shard.slots.items d.shard d.hits i.1 (all_right P c.pop.new.self.items (d ∷ []) whole).0),
+  c.loop-shard.invariant.1,
+)
 
 pub loop-shard-preserved-then-shard-len-2 : goal.loop-shard-preserved-then-shard-len-2
-loop-shard-preserved-then-shard-len-2 c =
-    let i = c.loop-shard.invariant in
-    let s = c.args.search in
-    let shards = shards_seen c.args.shards.now in
-    let P : Done → Type 0 = λ d. HitsAnswer s shards d.shard d.hits.items in
-    let d = c.in-Some.field-0 in
-    let whole = subst (λ (ds : List Done). AllByRecursion P ds) c.in-Some.ensures.items i.0 in
-    (all_left P c.pop.new.self.items (d ∷ []) whole, slots-set s shards c.loop-shard.slots.items d.shard d.hits i.1 (all_right P c.pop.new.self.items (d ∷ []) whole).0, i.2)
+loop-shard-preserved-then-shard-len-2 c = (
+  λ search shards done slots.
+      let i = c.loop-shard.invariant.0 search shards done slots in
+      let P : Done → Type 0 = λ d. HitsAnswer search shards d.shard d.hits.items in
+      let d = c.in-Some.field-0 in
+      let whole = subst (λ (ds : List Done). AllByRecursion P ds) c.in-Some.ensures.items i.0 in
+      (all_left P c.pop.new.self.items (d ∷ []) whole, slots-set search shards c.loop-shard.slots.items d.shard d.hits i.1 (all_right P c.pop.new.self.items (d ∷ []) whole).0),
+  c.loop-shard.invariant.1,
+)
 
 pub loop-shard-preserved : goal.loop-shard-preserved
-loop-shard-preserved c =
-    let i = c.loop-shard.invariant in
-    let P : Done → Type 0 = λ d. HitsAnswer c.args.search (shards_seen c.args.shards.now) d.shard d.hits.items in
-    let d = c.in-Some.field-0 in
-    (all_left P c.pop.new.self.items (d ∷ []) (subst (λ (ds : List Done). AllByRecursion P ds) c.in-Some.ensures.items i.0), i.1, i.2)
+loop-shard-preserved c = (
+  λ search shards done slots.
+      let i = c.loop-shard.invariant.0 search shards done slots in
+      let P : Done → Type 0 = λ d. HitsAnswer search shards d.shard d.hits.items in
+      let d = c.in-Some.field-0 in
+      (all_left P c.pop.new.self.items (d ∷ []) (subst (λ (ds : List Done). AllByRecursion P ds) c.in-Some.ensures.items i.0), i.1),
+  c.loop-shard.invariant.1,
+)
+
+pub returns-clause-slots : goal.returns-clause-slots
+returns-clause-slots c = λ search shards done slots. (c.loop-shard.invariant.0 search shards done slots).1

@@ -10,4 +10,4 @@ pub returns : goal.returns
 returns c =
     let l = c.loop-draft in
     let none : into_iter_items l.draft-iterator ≡ [] = nothing (into_iter_items l.draft-iterator) (sym l.draft-iterator.rest.ok.0 ∙ c.in-None.ensures.steps.0) in
-    subst (λ (ss : List ShardView). AllLeave c.args.drafts.items ss) (append-nil (shards_seen l.left.items)) (l.invariant.goes_on [] (subst (λ (ds : List DraftView). AllLeave ds []) (sym none) tt))
+    subst (λ (ss : List ShardView). AllLeave c.args.drafts.items ss) (append-nil (shards_seen l.next_shards.items)) (l.invariant.goes_on [] (subst (λ (ds : List DraftView). AllLeave ds []) (sym none) tt))

@@ -9,6 +9,6 @@ abbrev pub invariant-loop-draft : goal.invariant-loop-draft
 invariant-loop-draft l = record {
   can_next : (goal.iterator-loop-draft).can_next l.draft-iterator;
   is_finite : (goal.iterator-loop-draft).is_finite l.draft-iterator;
-  shards : before (into_iter_items l.draft-iterator) ≡ shards_seen (drop (length l.left.items) l.shards);
-  goes_on : (rest : List ShardView) → AllLeave (into_iter_items l.draft-iterator) rest → AllLeave l.fn.drafts.items (shards_seen l.left.items ++ rest);
+  shards : before (into_iter_items l.draft-iterator) ≡ shards_seen (drop (length l.next_shards.items) l.shards);
+  goes_on : (rest : List ShardView) → AllLeave (into_iter_items l.draft-iterator) rest → AllLeave l.fn.drafts.items (shards_seen l.next_shards.items ++ rest);
 }

@@ -5,7 +5,7 @@ use Rattle.mg_live.proofs.commit_log.Prefix.with.Goals as goal
 
 pub compare_exchange-found-requires : goal.compare_exchange-found-requires
 compare_exchange-found-requires c =
-    let h = c.requires.head in
+    let h = c.requires.log_word in
     let s = c.args.self.now in
     let again = c.again-seen.ensures in
     let offer = c.plain-offer.ensures in

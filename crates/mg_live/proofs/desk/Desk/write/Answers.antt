@@ -18,8 +18,8 @@ invariant_of-self g c =
     let next : Nexts db cs write reply (Some (commits_of c.in-Some.next)) = rw c.in-Some.is at c.next-reply.ensures.next in
     let there : IsOf g.P.Placement.place g.D.Database.commit_log db g.D.Database.shards c.in-Some.next = rw c.in-Some.is at c.next-reply.ensures.there in
     let one = added db cs write reply (commits_of c.in-Some.next) next in
-    let before : c.self.inside.book.total ≡ length cs = c.self.invariant.0 ∙ ap (λ s. length (commits_of s)) (sym c.published-now.ensures) in
-    rw c.publish-before.ensures (omega (arith, c.add.ensures.book, before, length-append cs (write ∷ []), ap length one), there)
+    let before : c.self.inside.tally_book.total ≡ length cs = c.self.invariant.0 ∙ ap (λ s. length (commits_of s)) (sym c.published-now.ensures) in
+    rw c.publish-before.ensures (omega (arith, c.add.ensures.tally_book, before, length-append cs (write ∷ []), ap length one), there)
 
 pub returns-clause-publishes : goal.returns-clause-publishes
 returns-clause-publishes g c =

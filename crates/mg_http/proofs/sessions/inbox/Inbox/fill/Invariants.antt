@@ -1,7 +1,7 @@
 use Rattle.std.proofs.Common.{◌≡◌, ℕ, List, ◌++◌, ◌+◌, ◌≤◌, length, false}
 use Rattle.std.specs.Io.KnownBytes.{Consumes}
 use Rattle.mg_http.specs.Device.{inner_of, has_failed}
-use Rattle.mg_http.specs.Inbox.{unanswered, turns_left}
+use Rattle.mg_http.specs.Inbox.{unanswered, steps_left}
 use Rattle.mg_http.proofs.sessions.inbox.Inbox.fill.Given as goal
 
 abbrev pub invariant-loop-self : goal.invariant-loop-self
@@ -11,8 +11,8 @@ invariant-loop-self g l = record {
   requests : l.self.requests ≡ l.fn.self.requests;
   reads : l.self.reads + length (unanswered l.fn.self) ≤ l.fn.self.reads + length (unanswered l.self);
   working : has_failed l.reader ≡ false;
-  fewer : turns_left l.self ≤ turns_left l.fn.self;
+  fewer : steps_left l.self ≤ steps_left l.fn.self;
 }
 
 abbrev pub decreases-loop-self : goal.decreases-loop-self
-decreases-loop-self g l = turns_left l.self
+decreases-loop-self g l = steps_left l.self

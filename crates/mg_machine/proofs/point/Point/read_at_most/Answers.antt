@@ -2,7 +2,7 @@ use Rattle.std.proofs.lemmas.Result.{IfOk-weaker}
 use Rattle.mg_engine.specs.Commands.{reply_of}
 use Rattle.mg_engine.specs.View.{asked, said}
 use Rattle.mg_machine.proofs.Points.{said_is}
-use Rattle.mg_machine.proofs.point.Point.reply.Goals as goal
+use Rattle.mg_machine.proofs.point.Point.read_at_most.Goals as goal
 
 pub returns : goal.returns
 returns g c =

@@ -19,7 +19,7 @@ use Rattle.mg_http.specs.declared.request.target.RequestTarget.TheVariants as ta
 use Rattle.mg_http.specs.Device.{WritesPrefix}
 use Rattle.mg_http.specs.Inbox.{unanswered}
 use Rattle.mg_http.specs.Reply.{reply_text}
-use Rattle.mg_http.specs.Head.{Asks, framed, unframed, asks_of, is_silent, closes_after}
+use Rattle.mg_http.specs.Head.{Asks, framed, unframed, asks_of, omits_body_of, closes_after}
 use Rattle.mg_http.specs.Message.{Message, HasHead, IsNoHead, CanGoOn, IsPartHead, IsRefused}
 use Rattle.mg_http.specs.Session.{Call, Exchange, Serves, Converses}
 use Rattle.mg_http.specs.Target.{Request, body, asks, refuses}
@@ -32,12 +32,12 @@ request_in (target.Refuses refusal) = refuses refusal
 
 -- the message of a head and its body
 abbrev pub message_of : Framed → List ℕ → Message
-message_of f bytes = record { request = request_in f.target; body = bytes; silent = f.silent; closes = f.closes }
+message_of f bytes = record { request = request_in f.target; body = bytes; omits_body = f.omits_body; closes = f.closes }
 
 -- the code's view of the head is right
 pub record IsFramed (db : List ℕ) (h : RequestHead) (f : Framed) : Type 0 where
   pub asks : asks_of db h ≡ framed (request_in f.target) f.body
-  pub silent : f.silent ≡ is_silent h
+  pub omits_body : f.omits_body ≡ omits_body_of h
   pub closes : f.closes ≡ closes_after h
 
 -- the code's decision about the body of a request is right: its length, or a refusal before it
@@ -53,32 +53,32 @@ IsFramedBy asked (Err refusal) = (asked ≡ unframed refusal) ⊎ (refusal ≡ O
 -- what the code read is what these bytes, at most 16,384, begin with
 abbrev pub IsHeadRead : List ℕ → List ℕ → Pending → Type 0
 IsHeadRead db bytes pending.Waiting = CanGoOn bytes
-IsHeadRead db bytes (pending.Refused refusal silent) =
+IsHeadRead db bytes (pending.Refused refusal omits_body) =
     ((h : RequestHead) × (after : List ℕ) × ReadsRequest bytes h after
-    × ((asks_of db h ≡ unframed refusal) ⊎ (refusal ≡ OutOfMemory)) × (silent ≡ is_silent h))
-    ⊎ (IsNoHead bytes × (refusal ≡ BadHead) × (silent ≡ false))
+    × ((asks_of db h ≡ unframed refusal) ⊎ (refusal ≡ OutOfMemory)) × (omits_body ≡ omits_body_of h))
+    ⊎ (IsNoHead bytes × (refusal ≡ BadHead) × (omits_body ≡ false))
 IsHeadRead db bytes (pending.Message f) =
     (f.len ≤ length bytes) × (f.body ≤ 8388608)
     × (h : RequestHead) × ReadsRequest bytes h (drop f.len bytes) × IsFramed db h f
 
 -- a complete head, for whose target there was no memory
 abbrev pub LacksMemoryForHead : List ℕ → Refusal → Bool → Type 0
-LacksMemoryForHead bytes refusal silent =
-    (refusal ≡ OutOfMemory) × (h : RequestHead) × (after : List ℕ) × HasHead bytes h after × (silent ≡ is_silent h)
+LacksMemoryForHead bytes refusal omits_body =
+    (refusal ≡ OutOfMemory) × (h : RequestHead) × (after : List ℕ) × HasHead bytes h after × (omits_body ≡ omits_body_of h)
 
 -- what the code found is what the unanswered bytes begin with
 abbrev pub IsPending : List ℕ → List ℕ → Pending → Type 0
 IsPending db bytes pending.Waiting = IsPartHead bytes
-IsPending db bytes (pending.Refused refusal silent) =
-    IsRefused db bytes refusal silent ⊎ LacksMemoryForHead bytes refusal silent
+IsPending db bytes (pending.Refused refusal omits_body) =
+    IsRefused db bytes refusal omits_body ⊎ LacksMemoryForHead bytes refusal omits_body
 IsPending db bytes (pending.Message f) =
     (f.len ≤ length bytes) × (f.body ≤ 8388608)
     × (h : RequestHead) × HasHead bytes h (drop f.len bytes) × IsFramed db h f
 
 -- The session continues with the bytes `left` unanswered, or it ended.
-abbrev pub Turns : {S : Type 0} → (S → Asked → Option Answer → S → Type 0) → List ℕ → Exchange S → List ℕ → Result ⊤ SessionEnd → Type 0
-Turns answers db all left (Ok a) = (calls : List Call) × Serves answers db calls left all
-Turns answers db all left (Err end) = Converses answers db end all
+abbrev pub Steps : {S : Type 0} → (S → Asked → Option Answer → S → Type 0) → List ℕ → Exchange S → List ℕ → Result ⊤ SessionEnd → Type 0
+Steps answers db all left (Ok a) = (calls : List Call) × Serves answers db calls left all
+Steps answers db all left (Err end) = Converses answers db end all
 
 -- what a session has done so far: how many messages it answered, how often it called its reader, and how many bytes it holds unanswered
 pub record Progress : Type 0 where
@@ -90,8 +90,8 @@ pub record Progress : Type 0 where
 abbrev pub progress_of : Inbox → Progress
 progress_of inbox = record { requests = inbox.requests; reads = inbox.reads; held = length (unanswered inbox) }
 
--- How a turn that read the bytes `came` changes the progress: each answered message, and each read that continued the session, has at
--- least one byte. The turn ends the session at its limit only after that many messages or reads.
+-- How a step that read the bytes `came` changes the progress: each answered message, and each read that continued the session, has at
+-- least one byte. The step ends the session at its limit only after that many messages or reads.
 abbrev pub Counts : Progress → Progress → List ℕ → Result ⊤ SessionEnd → Type 0
 Counts old new came (Ok a) =
     (new.requests + new.held ≤ old.requests + (old.held + length came)) × (new.reads ≤ old.reads + length came)
@@ -109,7 +109,7 @@ RefusesBy old new text Limit = ⊥
 
 -- How a session ends after it stopped reading for this reason, and what was written then.
 abbrev pub StopsWith : Option (List ℕ) → Option (List ℕ) → Bool → Stop → SessionEnd → Type 0
-StopsWith old new silent stop.End end = (end ≡ Eof) × (new ≡ old)
-StopsWith old new silent stop.Failed end = (end ≡ ReadFault) × (new ≡ old)
-StopsWith old new silent stop.Limit end = (end ≡ Limit) × (new ≡ old)
-StopsWith old new silent stop.NoMemory end = RefusesBy old new (reply_text silent None) end
+StopsWith old new omits_body stop.End end = (end ≡ Eof) × (new ≡ old)
+StopsWith old new omits_body stop.Failed end = (end ≡ ReadFault) × (new ≡ old)
+StopsWith old new omits_body stop.Limit end = (end ≡ Limit) × (new ≡ old)
+StopsWith old new omits_body stop.NoMemory end = RefusesBy old new (reply_text omits_body None) end

@@ -1,7 +1,7 @@
 use Rattle.std.proofs.Common.{Err, false, ap, length, inl, inr, refl, arith, length-append}
 use Rattle.mg_http.specs.Inbox.{unanswered}
 use Rattle.mg_http.proofs.SessionLemmas.{refuses_by, refuses_now, stopped_in_head, reads_on, stops_at_limit, refused_counts}
-use Rattle.mg_http.proofs.sessions.turn.Goals as goal
+use Rattle.mg_http.proofs.sessions.step.Goals as goal
 
 pub returns-in-Ok-clause-bytes : goal.returns-in-Ok-clause-bytes
 returns-in-Ok-clause-bytes g c =
@@ -34,6 +34,6 @@ returns-in-Err-clause-bytes g c =
 
 pub returns-in-Refused-clause-bytes : goal.returns-in-Refused-clause-bytes
 returns-in-Refused-clause-bytes g c =
-    let refuses = refuses_by c.args.db.now (unanswered c.args.inbox.now) c.in-Refused.refusal c.in-Refused.silent c.in-Refused.ensures.pending in
+    let refuses = refuses_by c.args.db.now (unanswered c.args.inbox.now) c.in-Refused.refusal c.in-Refused.omits_body c.in-Refused.ensures.pending in
     let done = refuses_now g.S.Service.answers c.args.db.now _ _ _ _ (unanswered c.args.inbox.now) _ c.write_refusal.result _ refuses c.write_refusal.ensures.bytes c.end_after_refusal.ensures in
     (done.0, done.1, done.2, done.3, done.4, refused_counts c.write_refusal.result _ c.end_after_refusal.ensures)

@@ -1,0 +1,36 @@
+-- A winner tree of n lists: Knuth, The Art of Computer Programming, volume 3, section 5.4.1.
+-- The places n to 2 n - 1 hold the numbers 0 to n - 1. Each place j from 1 to n - 1 holds the winner of the places 2 j and 2 j + 1.
+use Rattle.std.specs.Prelude.{◌≡◌, ℕ, ◌+◌, ◌*◌, ◌/◌, ◌^◌, ◌<◌, ◌≤◌, List, get_or, length, false, if◌then◌else◌}
+use Rattle.std.specs.declared.cmp.Ordering.{Ordering}
+use Rattle.std.specs.Ordering.{is_gt}
+use Rattle.mg_merge.specs.Rests.{turn_order}
+
+-- which of two numbers comes first; the left one if they tie
+abbrev pub winner_of : (ℕ → ℕ → Ordering) → ℕ → ℕ → ℕ
+winner_of turns a b = if is_gt (turns a b) then b else a
+
+-- the upper place is the lower place or stands above it: it is the lower place after some halvings, rounded down
+abbrev pub IsAbove : ℕ → ℕ → Type 0
+IsAbove upper lower = (d : ℕ) × (lower / 2 ^ d ≡ upper)
+
+-- the winner at a place is one of the n numbers whose places stand below
+abbrev pub IsFromBelow : ℕ → List ℕ → ℕ → Type 0
+IsFromBelow n winners j = (get_or winners j 0 < n) × IsAbove j (n + get_or winners j 0)
+
+-- the winner at a place does not come after those of the two places right below
+abbrev pub IsWon : (ℕ → ℕ → Ordering) → List ℕ → ℕ → Type 0
+IsWon turns winners j = (is_gt (turns (get_or winners j 0) (get_or winners (2 * j) 0)) ≡ false) × (is_gt (turns (get_or winners j 0) (get_or winners (2 * j + 1) 0)) ≡ false)
+
+-- a winner tree in which only the place `changed` and those above it may hold a wrong winner; no place is 0, or above it
+pub record AreWinners (turns : ℕ → ℕ → Ordering) (n changed : ℕ) (winners : List ℕ) : Type 0 where
+  pub size : length winners ≡ 2 * n
+  pub below : (j : ℕ) → 1 ≤ j → j < 2 * n → IsFromBelow n winners j
+  pub won : (j : ℕ) → 1 ≤ j → j < n → (IsAbove j changed → ⊥) → IsWon turns winners j
+
+-- a winner tree of lists, by the order of their turns
+abbrev pub IsWinnerTree : {X : Type 0} → (X → X → Ordering) → List (List X) → List ℕ → Type 0
+IsWinnerTree order lists winners = AreWinners (turn_order order lists) (length lists) 0 winners
+
+-- a winner tree of lists of which one has changed
+abbrev pub IsWinnerTreeBut : {X : Type 0} → (X → X → Ordering) → List (List X) → ℕ → List ℕ → Type 0
+IsWinnerTreeBut order lists changed winners = AreWinners (turn_order order lists) (length lists) (length lists + changed) winners
