@@ -20,7 +20,7 @@ CROWD_SECONDS = 5
 SKIPPED = 10000
 MANY_INDEXES = (250, 500, 1000)
 MANY_SHARDS = (64, 32)
-DELETED = 50000
+DELETED = 100000
 
 
 def placed_anew(program, shards):
@@ -174,10 +174,11 @@ def deleted(args):
     """The table of the memory that a document takes which was made and then deleted."""
     count = 1000 if args.smallest else DELETED
     with contextlib.closing(Program(args.program, args.corpus(BULK))) as program:
+        empty = program.size()
         for at in range(0, count, BULK):
             made = edited(program, [{"_id": f"deleted{number:07}", "n": number} for number in range(at, at + BULK)])
             edited(program, [{"_id": one["id"], "_rev": one["rev"], "_deleted": True} for one in made])
-        return grid("a document that was made and deleted", [f"{count:,} documents"], {"bytes": [program.size() / count]})
+        return grid("a document that was made and deleted", [f"{count:,} documents"], {"bytes": [(program.size() - empty) / count]})
 
 
 def edited(program, documents):

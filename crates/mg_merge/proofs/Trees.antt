@@ -26,7 +26,7 @@ above_next j x (suc d, e) = inr (d, shr-shr x 1 d ∙ ap (λ k. x / 2 ^ k) (omeg
 none_above : (j : ℕ) → 1 ≤ j → IsAbove j 0 → ⊥
 none_above j l h = let low = shr_le 0 h.0 in let same = h.1 in omega (arith, low, same)
 
--- a place that stands above the place of a number, and holds a number itself, is that place
+-- no place from n on stands above another one
 is_bottom : (n k j : ℕ) → k < n → n ≤ j → IsAbove j (n + k) → n + k ≡ j
 is_bottom n k j l m (zero, e) = omega (arith, e)
 is_bottom n k j l m (suc d, e) =
@@ -56,9 +56,9 @@ if_first turns o x y false e = (ap is_gt (tied_itself o x), e)
 wins_first : (turns : ℕ → ℕ → Ordering) → IsTotalOrder turns → (x y : ℕ) → (is_gt (turns (winner_of turns x y) x) ≡ false) × (is_gt (turns (winner_of turns x y) y) ≡ false)
 wins_first turns o x y = if_first turns o x y (is_gt (turns x y)) refl
 
--- the winner of two places that were read in a copy of the places
-pub winner_read : (turns : ℕ → ℕ → Ordering) (i w : ℕ) (ws copy : List ℕ) → copy ≡ ws → w ≡ winner_of turns (get_or copy (2 * i) 0) (get_or copy (2 * i + 1) 0) → w ≡ winner_of turns (get_or ws (2 * i) 0) (get_or ws (2 * i + 1) 0)
-winner_read turns i w ws copy e h = h ∙ ap (λ xs. winner_of turns (get_or xs (2 * i) 0) (get_or xs (2 * i + 1) 0)) e
+-- the winner at a place, as it was found in another list that is the same
+pub winner_read : (turns : ℕ → ℕ → Ordering) (i w : ℕ) (ws same : List ℕ) → same ≡ ws → w ≡ winner_of turns (get_or same (2 * i) 0) (get_or same (2 * i + 1) 0) → w ≡ winner_of turns (get_or ws (2 * i) 0) (get_or ws (2 * i + 1) 0)
+winner_read turns i w ws same e h = h ∙ ap (λ xs. winner_of turns (get_or xs (2 * i) 0) (get_or xs (2 * i + 1) 0)) e
 
 -- ---- a place is decided
 
@@ -92,7 +92,7 @@ other_won turns i j w ws apart left right h =
     let at = get_or-set_other ws i j w 0 apart in
     (ap₂ (λ a b. is_gt (turns a b)) at (get_or-set_other ws i (2 * j) w 0 left) ∙ h.0, ap₂ (λ a b. is_gt (turns a b)) at (get_or-set_other ws i (2 * j + 1) w 0 right) ∙ h.1)
 
--- ---- a tree is made, from its last place to the first
+-- ---- a tree is made: its places are decided from the last one to the first
 
 -- the places from `place` on are decided
 pub record AreDecided (turns : ℕ → ℕ → Ordering) (n place : ℕ) (winners : List ℕ) : Type 0 where

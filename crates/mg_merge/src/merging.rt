@@ -17,9 +17,9 @@ use std::alloc::Global;
 /// Each list must be in that order, which `are_in_order` tests; it may be empty.
 ///
 /// Errors: `NoMemory` if an allocation fails.
-/// Cost: a copy of each row of the result; for each of these rows, and for each list, a number of
-/// comparisons that grows with the logarithm of the number of lists, and none with one list. Of the
-/// other rows only the first one left of each list is read, and none is copied.
+/// Cost: a copy of each row of the result; one comparison less than there are lists, and for each of these
+/// rows at most the logarithm of the number of lists to base 2, rounded up. Of the other rows only the first
+/// one left of each list is read, and none is copied.
 pub fn merge(
     alloc: Global,
     lists: &[Vec<Row>],
@@ -44,9 +44,9 @@ pub fn merge(
 /// must be in that order, which `all_are_in_order` tests; it may be empty.
 ///
 /// Errors: `NoMemory` if an allocation fails.
-/// Cost: for each item of the result, and for each list, a number of comparisons that grows with the
-/// logarithm of the number of lists, and none with one list. No row is copied. Takes memory for the
-/// result, however large `take` is, and for a slice and a number for each list.
+/// Cost: one comparison less than there are lists, and for each item of the result at most the logarithm of
+/// the number of lists to base 2, rounded up. No row is copied. Takes memory for the result, however large
+/// `take` is, and for a slice and two numbers for each list.
 pub fn merge_all<T: Ranked + Copy>(
     alloc: Global,
     lists: &[Vec<T>],

@@ -20,8 +20,8 @@ const FIRST_ROOM: usize = 64;
 /// source. Each source must be in that order, or empty.
 ///
 /// Errors: `NoMemory` if an allocation fails.
-/// Cost: what the sources need for the items that are pulled, and for each of these a number of
-/// comparisons that grows with the logarithm of the number of sources, and none with one source.
+/// Cost: what the sources need for the items that are pulled; one comparison less than there are sources, and
+/// for each item of the result at most the logarithm of the number of sources to base 2, rounded up.
 pub fn merge_pulled<T: Ranked + Copy, S: RowSource<T>>(
     alloc: Global,
     sources: &mut [S],

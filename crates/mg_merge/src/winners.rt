@@ -1,8 +1,9 @@
-//! A winner tree: it has the list that begins first, and finds it again after a list has changed.
+//! A winner tree of lists: Knuth, The Art of Computer Programming, volume 3, section 5.4.1.
 //!
-//! After Knuth, The Art of Computer Programming, volume 3, section 5.4.1. With n lists, place n + k holds
-//! the number k, and each place j from 1 to n - 1 the winner of the places 2 j and 2 j + 1; place 0 is
-//! not used. After a change of one list only the places above it are decided again, with a comparison each.
+//! Of n lists, place n + k has the number k, and each place j from 1 to n - 1 has the winner of the places 2 j
+//! and 2 j + 1: the number of the list that begins first. Place 1 has the winner of all. After one list has
+//! changed, only the places above it are decided again. A sorted queue would compare more to begin with, and
+//! move numbers.
 ghost use Rattle.std.specs.Prelude.{◌≡◌, ◌+◌, ◌*◌, ◌<◌, ◌≤◌, ℕ, get_or, length, IfOk, IfSome, IfNone};
 ghost use Rattle.mg_merge.specs.Merged.{order_by};
 ghost use Rattle.mg_merge.specs.Rests.{turn_order};
@@ -14,14 +15,15 @@ use mg_collate::Direction;
 use mg_value::NoMemory;
 use std::alloc::Global;
 
-// The winner of each place, as the head of this file says.
+// Which of several lists begins first.
 #[derive(Drop)]
 pub(crate) struct Winners {
+    // the number at each place; place 0 is not used
     places: Vec<usize>,
 }
 
 impl Winners {
-    // The winner tree of the lists. Cost: for n lists, n - 1 comparisons.
+    // The winner tree of the lists. Cost: one comparison less than there are lists.
     pub(crate) fn new<T: Ranked, B: Begins<T>>(
         alloc: Global,
         lists: &B,
@@ -39,7 +41,7 @@ impl Winners {
         Ok(Winners { places })
     }
 
-    // The number of the list that begins first, the earlier one of two that tie; `None` without lists.
+    // The number of the list that begins first, of lists that tie the least; `None` if there are no lists.
     pub(crate) fn first(&self) -> Option<usize>
         ensures some { IfSome result (λ first. (1 < length self.now.places.items)
             × (first ≡ get_or self.now.places.items 1 0)) }
@@ -48,8 +50,8 @@ impl Winners {
         self.places.get(1).copied()
     }
 
-    // Decides again the places above a list that has changed.
-    // Cost: for n lists, at most one comparison more than the logarithm of n to base 2.
+    // Decides the places above a list again, after the list has changed.
+    // Cost: a comparison for each, at most the logarithm of the number of lists to base 2, rounded up.
     pub(crate) fn update<T: Ranked, B: Begins<T>>(
         &mut self,
         lists: &B,
@@ -71,7 +73,7 @@ impl Winners {
     }
 }
 
-// The places of a tree of `count` lists, of which the upper half is yet to be decided.
+// The places of a tree of `count` lists, before any winner is known.
 fn bottom(alloc: Global, count: usize) -> Result<Vec<usize>, NoMemory>
     ensures size { IfOk result (λ places. length places.items ≡ 2 * count) }
     ensures bottom { IfOk result
@@ -85,7 +87,7 @@ fn bottom(alloc: Global, count: usize) -> Result<Vec<usize>, NoMemory>
     Ok(places)
 }
 
-// Which of the winners of the two places right below `place` comes first.
+// The winner at `place`: which of the numbers at the two places right below comes first.
 fn winner<T: Ranked, B: Begins<T>>(
     places: &[usize],
     lists: &B,

@@ -1,7 +1,7 @@
-use Rattle.std.proofs.Common.{◌≡◌, ◌<◌, [], get_or, length, map, set, arith, rules, ◌∙◌}
+use Rattle.std.proofs.Common.{◌≡◌, ◌<◌, get_or, length, map, arith, rules, ◌∙◌}
 use Rattle.std.proofs.lemmas.List.{length-map, length-set}
 use Rattle.mg_merge.specs.Merged.{order_by}
-use Rattle.mg_merge.specs.Pulled.{firsts_of, remaining}
+use Rattle.mg_merge.specs.Pulled.{firsts_of}
 use Rattle.mg_merge.proofs.Heads.{if_none}
 use Rattle.mg_merge.proofs.Pulls.{all_ended, first_source, from_pulled, front_at, none_pulled, one_given, pulled_changed, source_ahead, source_first, value_at, was_remaining}
 use Rattle.mg_merge.proofs.Trees.{none_begin}
@@ -65,9 +65,7 @@ update-requires-clause-list g c =
     let some = c.in_ok-source.ensures.some in
     let first = first_source g.T.Ranked.row_of c.args.direction heads c.args.winners.now.places.items source c.requires.tree some.0 some.1 in
     let within = first.0 in
-    let fronts = length-map (set heads source c.next.result) (λ head. remaining head []) in
-    let same = length-set heads source c.next.result in
-    omega (arith, fronts, same, within)
+    simp (length-map, length-set) (omega (arith, within))
 
 pub update-requires-clause-others : goal.update-requires-clause-others
 update-requires-clause-others g c = pulled_changed g.T.Ranked.row_of c.args.direction c.args.heads.now.items c.args.winners.now.places.items c.in_ok-source.source c.next.result c.requires.tree
