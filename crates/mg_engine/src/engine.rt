@@ -114,20 +114,12 @@ impl<P: Placement + Drop> Engine<P> {
             (λ _. shard_count self.new ≡ shards_after (shard_count self.old) (asked command)) }
         ensures placement { self.new.0 ≡ self.old.0 }
     {
-        let Ok(prepared) = Prepared::of(alloc, command) else {
-            return Reply::NoMemory;
-        };
-        let context = Context {
-            rt,
-            alloc,
-            workers: Workers::most(workers),
-            gate: &NoGate,
-        };
-        let (reply, next) = self
-            .state
-            .execute_prepared(&context, &*self.placement, prepared);
+        if !command.is_write() {
+            return self.step(rt, alloc, &command, workers);
+        }
+        let (reply, next) = self.commit(rt, alloc, command, workers);
         if let Some(next) = next {
-            self.state = next;
+            *self = next;
         }
         reply
     }

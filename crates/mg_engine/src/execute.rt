@@ -66,7 +66,6 @@ impl State {
             → Answers w prepared (said result.0)
             (StateStandsFor (P.place placement.now) (unwrap_or result.1 self.now)) }
         ensures write { is_write prepared ≡ true → IsSettled result.0 result.1 }
-        ensures read { is_write prepared ≡ false → result.1 ≡ None }
         ensures number { IfSome (said result.0) (λ _. length (unwrap_or result.1 self.now).shards
             ≡ shards_after (length self.now.shards) prepared) }
     {
