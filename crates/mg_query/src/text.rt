@@ -18,7 +18,7 @@ use mg_value::{NoMemory, write};
 use std::alloc::Global;
 
 // The bytes that are asked for at first: the text of most pages fits.
-const FIRST_ROOM: usize = 4096;
+const FIRST_ROOM: usize = 8192;
 
 // The text of the page that shows these documents and has this bookmark.
 pub(crate) fn text_with(

@@ -8,6 +8,7 @@ ghost use Rattle.mg_shard.specs.Shard.{ShardView, shards_seen};
 ghost use Rattle.std.specs.Thread.{IsSync};
 
 use crate::gate::{Gate, Place};
+use crate::threads::map_from_one_thread;
 use mg_index::IndexDef;
 use mg_pages::Pages;
 use mg_rows::RowBytes;
@@ -16,7 +17,6 @@ use mg_value::NoMemory;
 use std::alloc::{AllocError, Global};
 use std::mem::replace;
 use std::sync::Arc;
-use std::thread;
 use std::thread::Threads;
 
 // The rows that the index has in the i-th shard, extracted by this many workers between two passes of the gate.
@@ -74,7 +74,7 @@ fn extract_at_once<R: Threads + Sync, G: Gate + Sync>(
     ensures rows { IfOk result (λ v. AreRowsFrom definition.now (shards_seen shards.now) from v.items) }
     ensures len { IfOk result (λ v. vec_len v ≡ count) }
 {
-    let rows = thread::map_indices(
+    let rows = map_from_one_thread(
         rt,
         alloc,
         count,

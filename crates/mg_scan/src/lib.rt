@@ -18,6 +18,7 @@ mod search;
 mod shard;
 mod source;
 mod target;
+mod threads;
 mod worker_count;
 mod workers;
 

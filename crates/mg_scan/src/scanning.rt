@@ -11,6 +11,7 @@ use crate::gate::Gate;
 use crate::hit::Hit;
 use crate::search::{Search, bytes_of};
 use crate::target::Target;
+use crate::threads::map_from_one_thread;
 use crate::workers::{fill_slots, hits_in_order, search_claimed};
 use mg_collate::{Direction, Row};
 use mg_normal::Normal;
@@ -20,7 +21,6 @@ use mg_value::NoMemory;
 use std::alloc::Global;
 use std::sync::Arc;
 use std::sync::atomic::AtomicU64;
-use std::thread;
 use std::thread::Threads;
 
 /// Per shard, in the order of the shards, the first `take` hits in the search's direction: rows of the target after `after`, whose key is
@@ -45,7 +45,7 @@ pub fn scan_lent<'a, R: Threads + Sync, G: Gate + Sync>(
         (λ lists. AllZip (λ s hits. AreHitsOf s.documents hits.items) (shards_seen shards.now) lists.items) }
 {
     let next = AtomicU64::new(0);
-    let given = thread::map_indices(
+    let given = map_from_one_thread(
         rt,
         alloc,
         workers.min(shards.len()),

@@ -10,11 +10,11 @@ use Rattle.mg_scan.proofs.Lent.{build_sync}
 use Rattle.mg_scan.proofs.building.extract_at_once.Goals as goal
 
 -- the rows that threads hand over, and what they look at, may cross
-pub map_indices-requires-send-X : goal.map_indices-requires-send-X
-map_indices-requires-send-X g c κs within = search (sendable, crosses, maps, pages.the_send, pages.the_sync, rows.the_send, rows.the_sync) depth 40
+pub map_from_one_thread-requires-send-X : goal.map_from_one_thread-requires-send-X
+map_from_one_thread-requires-send-X g c κs within = search (sendable, crosses, maps, pages.the_send, pages.the_sync, rows.the_send, rows.the_sync) depth 40
 
-pub map_indices-requires-sync-F : goal.map_indices-requires-sync-F
-map_indices-requires-sync-F g c κs within = record { shared = (build_sync _ _ _ _ _ _ c.type_bounds.sync-R c.type_bounds.sync-G).shared }
+pub map_from_one_thread-requires-sync-F : goal.map_from_one_thread-requires-sync-F
+map_from_one_thread-requires-sync-F g c κs within = record { shared = (build_sync _ _ _ _ _ _ c.type_bounds.sync-R c.type_bounds.sync-G).shared }
 
 pub returns-clause-rows : goal.returns-clause-rows
 returns-clause-rows g c =

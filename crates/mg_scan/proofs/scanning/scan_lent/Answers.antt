@@ -10,11 +10,11 @@ use Rattle.mg_scan.proofs.Maps.{zip_documents, zip_rows}
 use Rattle.mg_scan.proofs.scanning.scan_lent.Goals as goal
 
 -- what the workers hand over, and what they look at, may cross threads
-pub map_indices-requires-send-X : goal.map_indices-requires-send-X
-map_indices-requires-send-X g c κs within = search (sendable, crosses, maps, written.the_sync, document_sync, rows.the_sync) depth 40
+pub map_from_one_thread-requires-send-X : goal.map_from_one_thread-requires-send-X
+map_from_one_thread-requires-send-X g c κs within = search (sendable, crosses, maps, written.the_sync, document_sync, rows.the_sync) depth 40
 
-pub map_indices-requires-sync-F : goal.map_indices-requires-sync-F
-map_indices-requires-sync-F g c κs within = record { shared = (scan_sync _ _ _ _ _ _ c.type_bounds.sync-G).shared }
+pub map_from_one_thread-requires-sync-F : goal.map_from_one_thread-requires-sync-F
+map_from_one_thread-requires-sync-F g c κs within = record { shared = (scan_sync _ _ _ _ _ _ c.type_bounds.sync-G).shared }
 
 pub returns-clause-rows : goal.returns-clause-rows
 returns-clause-rows g c = zip_rows _ (shards_seen c.args.shards.now) c.in_ok-lists.lists.items c.in_ok-lists.ensures
