@@ -91,7 +91,7 @@ impl Known {
 
     /// Whether all revisions of a run, given by its start and its ids, newest first, are known with the parents that
     /// the run gives them. Cost: as for `fits`.
-    pub fn holds(&self, start: u32, ids: &[String]) -> bool
+    pub fn knows_whole(&self, start: u32, ids: &[String]) -> bool
         ensures { (ls : List Link) → AreNodes self.now ls
             → result ≡ are_held ls (links (run_from start (map string_bytes ids.now))) }
     {
