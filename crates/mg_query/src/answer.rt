@@ -105,8 +105,8 @@ pub fn page_text<R: Threads + Sync, G: Gate + Sync>(
 /// is not worth a second thread runs on the caller's thread, and passes no gate.
 ///
 /// Errors: those of `page`. Cost: that of `page_text`. On the caller's thread, all shards together find at most skip + limit hits and
-/// one more for each shard, and read no further. If the range of the index decides the whole selector, a document is looked up for each hit that the page
-/// shows, and each row that it skips costs a step.
+/// one more for each shard, and read no further. If the range of the index decides the whole selector, a document is looked up for
+/// each hit that the page shows, and each row that it skips costs a step.
 pub fn page_text_by<R: Threads + Sync, G: Gate + Sync>(
     rt: &R,
     alloc: Global,
