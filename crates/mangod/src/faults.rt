@@ -41,14 +41,14 @@ pub(crate) fn after_fault(kind: ErrorKind, number: Option<i32>) -> AfterFault
     }
 }
 
-// Whether this number on Linux means that descriptors of the system, of the process, or buffers ran out.
+// Whether on Linux this number means that the system or the process ran out of descriptors, or that buffers ran out.
 fn is_want(number: i32) -> bool
     ensures { result ≡ is_want number }
 {
     number == 23 || number == 24 || number == 105
 }
 
-// Whether this number on Linux means a fault of one connection's network: no network, its protocol, its options, or its host.
+// Whether on Linux this number means a fault of one connection: of its network, its protocol, its options or its host.
 fn is_of_one_connection(number: i32) -> bool
     ensures { result ≡ is_of_one_connection number }
 {
@@ -66,7 +66,8 @@ pub(crate) enum Disposal {
     Close,
 }
 
-/// What to do with a connection after a session with this end. `has_paused`: its input was ended in a pause between messages.
+/// What to do with a connection after a session with this end. `has_paused`: the session's input was ended between two messages,
+/// though the client may still send more.
 pub(crate) fn disposal_after(end: SessionEnd, has_paused: bool) -> Disposal
     ensures { result ≡ disposal_after end has_paused }
 {

@@ -14,8 +14,8 @@ pub fn reading_gives_what_is_spelled()
     ensures { (t : List ℕ) (p : Place) → Spells t p ↔ (place_read t ≡ Some p) }
 {}
 
-/// A place is read back from its spelling if its key nests at most 125 deep and JSON text can carry its
-/// parts.
+/// A place is read back from its spelling if JSON text can carry it (`CanBeSpelled`): above all, its key
+/// nests at most 125 deep.
 pub fn what_is_spelled_is_read()
     ensures { (p : Place) → CanBeSpelled p → bookmark_read (spelled p) ≡ Some (Some p) }
 {}

@@ -1,4 +1,4 @@
-//! Bookmarks of a page.
+//! Bookmarks: the place of a page's last row in its index, as text.
 #![tactic(auto)]
 
 mod bookmark;

@@ -38,7 +38,7 @@ impl Direction {
         }
     }
 
-    /// Gives an ascending order back for `Asc`, and reversed for `Desc`. Rows are listed in the order
+    /// Returns the order itself for `Asc`, and its reverse for `Desc`. Rows are listed in the order
     /// `direction.apply(a.cmp(b))`: descending reverses keys and ids together.
     ///
     /// Cost: constant. Takes no memory.

@@ -5,8 +5,8 @@ use std::cmp::Ordering;
 
 /// A row of an index: the values of its columns, and the id of the document that has them.
 ///
-/// Rows are ordered by key, as `compare_keys` orders them, and where keys tie by the bytes of the id.
-/// Two rows are equal exactly where their keys are the same values and their ids the same text.
+/// Rows are ordered by key, with `compare_keys`; rows of equal keys by the bytes of their ids.
+/// Two rows are equal exactly if their keys are the same values and their ids the same text.
 #[derive(Debug, Drop)]
 pub struct Row {
     pub key: Vec<Json>,

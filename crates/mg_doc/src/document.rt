@@ -40,7 +40,7 @@ fn served_form(alloc: Global, id: &str, leaf: &Leaf) -> Result<Json, NoMemory>
 }
 
 /// The document that `served` gives, in one block of memory with its text. The winner's body moves into that block, as for
-/// `RevTree::share_form`. Contracts see the same tree.
+/// `RevTree::move_body_into`. Contracts see the same tree.
 ///
 /// If there is no document, no memory is needed. Cost: that of `Body::form`; if the winner's body is already in the block of this
 /// form, the block is shared and nothing is copied. Source: `GET` of a document in CouchDB's API reference.
@@ -53,7 +53,7 @@ pub fn served_packed(alloc: Global, id: &str, tree: &mut RevTree) -> Result<Opti
     let form = winner_form(alloc, id, tree)?;
     if let Some(form) = &form {
         let own = form.share()?;
-        tree.share_form(own);
+        tree.move_body_into(own);
     }
     Ok(form)
 }

@@ -7,7 +7,7 @@ use crate::error::DocError;
 use mg_value::Json;
 use std::collections::BTreeMap;
 
-// The deletion mark of a document. `BadMember` also if a reserved name is not one that a document may have.
+// The deletion mark of a document. Errors: `BadMember` if the mark is malformed, or if the document has an unknown reserved name.
 pub(crate) fn checked_mark(members: &BTreeMap<String, Json>) -> Result<bool, DocError>
     ensures { result ≡ mark_read (members_view members.now.entries) }
 {

@@ -23,11 +23,11 @@ pub(crate) fn take_change(
     ensures own { own (members_view members.new.entries) ≡ own (members_view members.old.entries) }
 {
     let rev = rev_in(alloc, members.get("_rev"))?;
-    let revisions = run_in(alloc, members.remove("_revisions"))?;
+    let revisions = revisions_in(alloc, members.remove("_revisions"))?;
     change_in(alloc, rev, revisions, new_edit)
 }
 
-// The change that a revision and a run ask for. If both are there, the run decides.
+// The change that `_rev` and `_revisions` ask for, read as a revision and a path, `run`. If both are there, the path decides.
 fn change_in(
     alloc: Global,
     rev: Option<Rev>,
@@ -47,7 +47,7 @@ fn change_in(
     })
 }
 
-// The change that a revision alone asks for.
+// The change that `_rev` asks for, without `_revisions`.
 fn change_of(alloc: Global, rev: Option<Rev>, new_edit: bool) -> Result<Change, DocError>
     requires { IfSome rev IsRevision }
     ensures { Gives (or_fault DocError.BadRev (change_by new_edit rev None)) result }
@@ -83,7 +83,7 @@ fn path_of(alloc: Global, rev: Rev) -> Result<History, DocError>
 }
 
 // The path that `_revisions` gives, `{"start":N,"ids":[..]}`, if it is there.
-fn run_in(alloc: Global, member: Option<Json>) -> Result<Option<History>, DocError>
+fn revisions_in(alloc: Global, member: Option<Json>) -> Result<Option<History>, DocError>
     ensures { Gives (or_fault DocError.BadRev (revisions_of (option_map view member))) result }
 {
     let Some(member) = member else {

@@ -21,8 +21,8 @@ use std::marker::Model;
 use std::sync::Arc;
 use std::thread::Threads;
 
-/// A database for one caller: documents placed on shards, indexes over them, and the commands. The engine that a write makes shares with
-/// this one what the write does not change.
+/// A database for one caller: documents placed on shards, indexes over them, and the commands. The engine after a write shares with the
+/// one before it what the write does not change.
 #[derive(Drop)]
 pub struct Engine<P> {
     placement: Arc<P>,
@@ -96,7 +96,7 @@ impl<P: Placement + Drop> Engine<P> {
         reply
     }
 
-    /// Executes one command, which is given away, as `step` does: the documents of a bulk are moved into their trees. Cost: as for `step`,
+    /// Does what `step` does, but takes the command by value: the documents of a bulk are moved into their trees. Cost: as for `step`,
     /// without a copy of the documents.
     pub fn execute<R: Threads + Sync>(
         &mut self,
@@ -254,7 +254,7 @@ impl<P: Placement + Drop> Engine<P> {
     }
 
     /// Executes commands in order, and returns one reply for each. A command whose reply is `NoMemory` has changed nothing; the other
-    /// replies are those to the other commands alone.
+    /// replies are the same as if only the other commands had been given.
     ///
     /// Errors: `NoMemory` if the list of replies was refused memory; then no command was executed. Cost: that of `step` for each command.
     pub fn run<R: Threads + Sync>(

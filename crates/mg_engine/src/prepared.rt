@@ -1,4 +1,4 @@
-//! Prepared commands. A bulk is read ahead; this needs no state.
+//! Prepared commands: the documents of a bulk are read before the command is executed, which needs no state.
 ghost use Rattle.std.specs.Prelude.{◌≡◌, IfOk};
 ghost use Rattle.mg_engine.specs.Ahead.{Does};
 ghost use Rattle.mg_engine.specs.View.{asked};
@@ -44,8 +44,8 @@ impl Model for Prepared {
 }
 
 impl Prepared {
-    /// Reads a bulk ahead: its documents are moved into edits. Other commands stay as they are. It needs no engine, and therefore no
-    /// lock on one.
+    /// Reads a bulk before it is executed: its documents are moved into edits. Other commands stay as they are. This needs no engine,
+    /// and therefore no lock on one.
     ///
     /// Errors: `NoMemory` if an allocation fails. Cost: for a bulk that of `Edit::read` for each document, otherwise nothing.
     pub fn of(alloc: Global, command: Command) -> Result<Prepared, NoMemory>

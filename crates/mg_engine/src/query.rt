@@ -28,8 +28,8 @@ use std::sync::Arc;
 use std::thread::Threads;
 
 impl State {
-    /// The reply to a query: its page. Cost: the choice of the index; in each shard a look-up, and what it reads until the rows of the page
-    /// are found; the page.
+    /// The reply to a query: its page. Cost: the choice of the index, a look-up in each shard, the rows or documents that are read
+    /// until the page is found, and the page.
     pub(crate) fn find<R: Threads + Sync, G: Gate + Sync>(
         &self,
         context: &Context<'_, R, G>,

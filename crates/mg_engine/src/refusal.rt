@@ -57,8 +57,8 @@ pub const BAD_HISTORY_ERROR: &str = "bad_history";
 /// The `reason` of an edit whose revision history does not fit the document.
 pub const BAD_HISTORY_REASON: &str = "Revision history does not fit the document.";
 
-/// Why a request is refused. The definitions write out the texts once more (specs/Refusals.antt), and `body`, which uses the constants
-/// above, is proved to return the same texts.
+/// Why a request is refused. The definitions spell out the texts themselves (specs/Refusals.antt); `body`, which uses the constants
+/// above, is proved to return those texts.
 #[derive(Clone, Copy, PartialEq, Eq, Debug, Drop)]
 pub enum Refusal {
     /// The body is not JSON, or has a number that is not a 64-bit integer.

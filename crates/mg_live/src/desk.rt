@@ -1,4 +1,4 @@
-//! The desk, which lies under the lock: the writer, which publishes all commits, and the book of the tallies that count them.
+//! The desk, which the writer's lock guards: the writer, which publishes all commits, and the book of the tallies that count them.
 ghost use Rattle.std.specs.Prelude.{◌≡◌, ◌≤◌, true, [], length, MatchBool};
 ghost use Rattle.mg_engine.specs.Commands.{is_write};
 ghost use Rattle.mg_engine.specs.View.{asked, said};
@@ -142,8 +142,8 @@ where
         true
     }
 
-    // The number of commits, which is what all parts of the ledger count. A list that was seen, and is not longer than this number, is a
-    // prefix of the published list.
+    // The number of commits, which all parts of the ledger count together. What a seat has seen, if it is no longer than this number,
+    // is a prefix of the published commits.
     pub(crate) fn count_commits(&mut self, all: &mut Share<D>, seen: &Prefix) -> u64
         requires parts { all.old.parts ≡ D.parts }
         requires here { seen.now.seen.book ≡ D.commit_log }

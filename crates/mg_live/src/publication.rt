@@ -13,8 +13,9 @@ use mg_shard::Placement;
 use std::alloc::AllocError;
 use std::sync::Wait;
 
-// The writer never gets an operation, since a snapshot replaces a copy as a whole. Every snapshot meets this bound. Types that hold a
-// writer repeat it, since the prover does not look for the impl of a generic type there.
+// `left_right` asks how an operation changes a copy. Its writer never gets one here: a new snapshot replaces the old copy. Every
+// snapshot meets the bound `Absorb`; types that hold a writer repeat it, since the prover does not look for the impl of a generic type
+// there.
 impl<P> Absorb<()> for Snapshot<P> {
     type State = ();
 

@@ -22,7 +22,7 @@ use std::marker::{Model, PhantomData};
 use std::sync::{Arc, Mutex, Wait};
 use std::thread::Threads;
 
-/// What all seats share: the word of the commit log, and the desk under the writer's lock.
+/// What all seats share: the word that counts the entries of the commit log, and the desk, which the writer's lock guards.
 #[derive(Drop)]
 pub(crate) struct SharedDesk<D: Database, C: Ends, P: Placement + Drop>
 where
@@ -32,7 +32,7 @@ where
     pub(crate) desk: Mutex<Desk<D, C, P>>,
 }
 
-/// The word of this database's commit log.
+/// The word that counts the entries of this database's commit log.
 #[derive(Drop)]
 pub(crate) struct Named<D: Database> {
     pub(crate) log_word: LogWord,

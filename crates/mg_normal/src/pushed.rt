@@ -65,7 +65,7 @@ fn disjunction(alloc: Global, arms: &[Sel], sense: Sense) -> Result<Condition, N
     }
 }
 
-// All arms, each in the sense.
+// The condition that each arm holds in the sense.
 #[cycle(push_inwards)]
 fn all_of(alloc: Global, arms: &[Sel], sense: Sense) -> Result<Condition, NoMemory>
     ensures { IfOk result (λ condition. Says (every_arm (arms_view arms.now) sense)
@@ -74,7 +74,7 @@ fn all_of(alloc: Global, arms: &[Sel], sense: Sense) -> Result<Condition, NoMemo
     Ok(Condition::All(push_arms(alloc, arms, sense)?))
 }
 
-// Some arm in the sense; an empty list holds.
+// The condition that some arm holds in the sense; it also holds if there are no arms.
 #[cycle(push_inwards)]
 fn any_of(alloc: Global, arms: &[Sel], sense: Sense) -> Result<Condition, NoMemory>
     ensures { IfOk result (λ condition. Says

@@ -1,4 +1,4 @@
-// An object's block once more, with a text at a name. Rows are copied as bytes, since no value depends on where it
+// Copies an object's block with a text at a name. Rows are copied as bytes, since no value depends on where it
 // stands; only the table of places is made anew.
 ghost use Rattle.std.specs.Prelude.{◌≡◌, ◌+◌, ◌*◌, ◌≤◌, ◌<◌, ◌^◌, ◌++◌, length, take, drop, IfOk, OnOk};
 ghost use Rattle.std.specs.List.{concat};

@@ -4,7 +4,7 @@ use mg_value::NoMemory;
 use std::alloc::Global;
 use std::marker::Model;
 
-/// A JSON value in one block of memory, with its compact text behind it. A clause sees the value.
+/// A JSON value in one block of memory, with its compact text behind it. Contracts see the value.
 ///
 /// The block is exactly as long as the bytes of a `Packed` and the text.
 #[derive(Drop)]

@@ -8,7 +8,7 @@ use crate::keyed::Keyed;
 use crate::pages::Pages;
 use std::marker::Model;
 
-/// Iterates over a collection from the last element to the first. A clause sees the elements that are left.
+/// Iterates over a collection from the last element to the first. Contracts see the elements that are left.
 #[derive(Drop)]
 pub struct Back<'a, T: Keyed> {
     pages: &'a Pages<T>,

@@ -1,5 +1,5 @@
-//! The parts of a level: each is shared, together with its last element, so that a copy of a level changes one reference count
-//! for each part.
+//! The children of a level. Each child shares a node: a part of the level, which is a page or a lower level, with its last element
+//! beside it. So a copy of a level changes one reference count for each child.
 ghost use Rattle.std.specs.Prelude.{◌≡◌, ◌<◌, [], true, false, is_some, length, List, IfOk, IsSome, OnOk, OnErr};
 ghost use Rattle.std.specs.Arc.{arc_value};
 ghost use Rattle.mg_pages.specs.Order.{Ascends, found, inserted, removed};
@@ -19,7 +19,7 @@ pub struct Node<T, P> {
     pub(crate) part: P,
 }
 
-/// A part of a level: shared, together with its last element, and with the hint of that element.
+/// A child of a level: a node that copies of the level share, and the hint of the node's last element.
 #[derive(Drop)]
 pub struct Child<T, P> {
     pub(crate) node: Arc<Node<T, P>>,
@@ -48,7 +48,7 @@ pub fn child_of<T: Keyed, P: Subtree<T>>(alloc: Global, part: P) -> Result<Child
     Ok(Child { node, hint })
 }
 
-// Another child that shares the part.
+// A second child that shares the node.
 fn copy<T: Drop, P: Drop>(child: &Child<T, P>) -> Result<Child<T, P>, AllocError>
     ensures { IfOk result (λ c. child_value c ≡ child_value child.now) }
 {
@@ -66,7 +66,7 @@ pub fn owners_of_nodes<T: Drop, P: Drop>(parts: &[Child<T, P>]) -> usize {
     owners
 }
 
-/// Copies the children, which share their parts, into a list with room for one more.
+/// Copies the children into a list with room for one more. The copies share the nodes.
 pub fn copy_children<T: Drop, P: Drop>(
     alloc: Global,
     parts: &[Child<T, P>],
@@ -121,7 +121,7 @@ fn last_without<T: Keyed, P: Subtree<T>, Q: Probe<T>>(
     Ok(kept)
 }
 
-// A node with a copy of the part.
+// A second node, with a copy of the part.
 fn own_node<T: Keyed, P: Subtree<T>>(
     alloc: Global,
     node: &Node<T, P>,
@@ -136,7 +136,7 @@ fn own_node<T: Keyed, P: Subtree<T>>(
     Ok(Node { last, part })
 }
 
-// Puts an element into a part, and returns whether it replaced one that ties.
+// Puts an element into the part of a node, and returns whether it replaced one that ties.
 fn put_in_node<T: Keyed, P: Subtree<T>>(
     alloc: Global,
     node: &mut Node<T, P>,
@@ -158,7 +158,7 @@ fn put_in_node<T: Keyed, P: Subtree<T>>(
     Ok(had)
 }
 
-// Removes the element that ties with a key from a part, and returns whether the part is then empty.
+// Removes the element that ties with a key from the part of a node, and returns whether the part is then empty.
 fn take_out_of_node<T: Keyed, P: Subtree<T>, Q: Probe<T>>(
     alloc: Global,
     node: &mut Node<T, P>,

@@ -103,7 +103,7 @@ pub fn owners_of<T: Element>(elements: &[T]) -> usize {
     owners
 }
 
-/// The room of a copy of a list: for one more.
+/// The capacity for a copy of a list: for one item more than the list has.
 pub fn room_for(count: usize) -> usize
     ensures { count ≤ result }
 {

@@ -18,7 +18,7 @@ use std::marker::Model;
 /// How many elements a full page has.
 pub const ELEMENTS: usize = LIMIT;
 
-/// A page that is part of no collection yet. A clause sees the list of its elements.
+/// A page that is part of no collection yet. Contracts see the list of its elements.
 #[derive(Drop)]
 pub struct NewPage<T: Keyed> {
     page: Page<T>,

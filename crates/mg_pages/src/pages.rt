@@ -107,7 +107,7 @@ fn vec_of<X: Drop>(alloc: Global, thing: X) -> Result<Vec<X>, AllocError>
     Ok(things)
 }
 
-/// An ordered collection of elements, no two of which tie. A clause sees their list.
+/// An ordered collection of elements, no two of which tie. Contracts see their list.
 ///
 /// A page has at most 64 elements, and a level below the top at most 64 parts. Collections share the pages and levels
 /// that they have in common; pages and levels that no other collection shares are changed in place.

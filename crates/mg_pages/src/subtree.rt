@@ -11,7 +11,7 @@ use std::alloc::{AllocError, Global};
 /// The most elements of a page, and the most parts of a level below the top.
 pub const LIMIT: usize = 64;
 
-/// A page or a level, with the elements in it, in order.
+/// A page or a level, with the elements in it, in order. It is a part of the level above it, if there is one.
 pub trait Subtree<T: Keyed>: Drop + Sized {
     // the elements
     ghost seen: { Self → List T };
@@ -81,7 +81,7 @@ pub trait Subtree<T: Keyed>: Drop + Sized {
         requires { is_whole self.now }
         ensures { IfOk result (IsCopy is_whole seen self.now) };
 
-    /// The two halves of the part, where it has no room for the element; `None` where it has.
+    /// Copies of the part's two halves, if the part has no room for the element; otherwise `None`.
     fn halves(&self, alloc: Global, element: &T) -> Result<Option<(Self, Self)>, AllocError>
         requires whole { is_whole self.now }
         requires sorted { Ascends T.order (seen self.now) }

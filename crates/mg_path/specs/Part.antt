@@ -1,4 +1,4 @@
--- Paths and the parts of a value, after the field syntax of CouchDB's `_find`: a clause sees a `Path` as the list of
+-- Paths and the parts of a value, after the field syntax of CouchDB's `_find`: contracts see a `Path` as the list of
 -- its steps, and a step as its bytes.
 use Rattle.std.specs.Prelude.{ℕ, Bool, true, false, ◌&&◌, ◌==◌, if◌then◌else◌, List, [], ◌∷◌, Option, Some, None, option_and_then, slice_get}
 use Rattle.std.specs.List.{list_any, fold}

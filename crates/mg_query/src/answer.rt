@@ -104,9 +104,9 @@ pub fn page_text<R: Threads + Sync, G: Gate + Sync>(
 /// The compact text of the page that answers a query, as for `page_text`. If the number of workers is only a maximum, a query that
 /// is not worth a second thread runs on the caller's thread, and passes no gate.
 ///
-/// Errors: those of `page`. Cost: that of `page_text`. On the caller's thread, the shards find skip + limit hits together, and one more
-/// each, and read no further. If the range of the index decides the whole selector, a document is looked up for each hit that the page
-/// shows, and each row that it skips costs a step.
+/// Errors: those of `page`. Cost: that of `page_text`. On the caller's thread, all shards together find at most skip + limit hits and
+/// one more for each shard, and read no further. If the range of the index decides the whole selector, a document is looked up for
+/// each hit that the page shows, and each row that it skips costs a step.
 pub fn page_text_by<R: Threads + Sync, G: Gate + Sync>(
     rt: &R,
     alloc: Global,

@@ -89,7 +89,7 @@ impl Grown {
     }
 
     /// Moves the winner's body into the block of its form, if no copy of the tree shares the winner. Takes no memory.
-    pub fn share_form(&mut self, form: Form)
+    pub fn move_body_into(&mut self, form: Form)
         requires { IfSome (first_of self.old.leaves) (λ l. IsFormOf l.body form) }
         ensures { self.new ≡ self.old }
     {

@@ -84,7 +84,7 @@ impl Growth {
 
     /// Whether all revisions of a run, given by its start and its ids, newest first, are known with the parents that the run
     /// gives them. Cost: as for `fits`.
-    pub fn holds(&self, start: u32, ids: &[String]) -> bool
+    pub fn knows_whole(&self, start: u32, ids: &[String]) -> bool
         requires { 0 < length ids.now }
         ensures { (ls : List Link) → AreNodes (tree_in self.now).links ls
             → result ≡ are_held ls (links (run_from start (map string_bytes ids.now))) }
@@ -92,23 +92,23 @@ impl Growth {
         match self {
             Growth::Empty => false,
             Growth::First(leaf) => is_run_of(&leaf.leaf().rev, start, ids),
-            Growth::Pair(pair) => pair.holds(start, ids),
-            Growth::Line(_, known) => known.holds(start, ids),
-            Growth::Grown(grown) => grown.links.holds(start, ids),
+            Growth::Pair(pair) => pair.knows_whole(start, ids),
+            Growth::Line(_, known) => known.knows_whole(start, ids),
+            Growth::Grown(grown) => grown.links.knows_whole(start, ids),
         }
     }
 
     /// Moves the winner's body into the block of its form, if no copy of the tree shares the winner. Takes no memory.
-    pub fn share_form(&mut self, form: Form)
+    pub fn move_body_into(&mut self, form: Form)
         requires { IfSome (first_of (tree_in self.old).leaves) (λ l. IsFormOf l.body form) }
         ensures { tree_in self.new ≡ tree_in self.old }
     {
         match self {
             Growth::Empty => {}
             Growth::First(leaf) => leaf.move_into(form),
-            Growth::Pair(pair) => pair.share_form(form),
+            Growth::Pair(pair) => pair.move_body_into(form),
             Growth::Line(leaf, _) => leaf.move_into(form),
-            Growth::Grown(grown) => grown.share_form(form),
+            Growth::Grown(grown) => grown.move_body_into(form),
         }
     }
 

@@ -82,7 +82,7 @@ impl Pair {
 
     /// Whether all revisions of a run, given by its start and its ids, newest first, are known with the parents that the run
     /// gives them. Takes no memory. Cost: the length of the run.
-    pub fn holds(&self, start: u32, ids: &[String]) -> bool
+    pub fn knows_whole(&self, start: u32, ids: &[String]) -> bool
         ensures { (ls : List Link) → AreNodes self.now.links ls
             → result ≡ are_held ls (links (run_from start (map string_bytes ids.now))) }
     {
@@ -90,7 +90,7 @@ impl Pair {
     }
 
     /// Moves the leaf's body into the block of its form, if no copy of the tree shares the leaf. Takes no memory.
-    pub fn share_form(&mut self, form: Form)
+    pub fn move_body_into(&mut self, form: Form)
         requires { IfSome (first_of self.old.leaves) (λ l. IsFormOf l.body form) }
         ensures { self.new ≡ self.old }
     {

@@ -98,11 +98,11 @@ impl RevTree {
     /// Moves the winner's body into the block of the form in which the document is served, so that both take one block. The body
     /// stays where it is if a copy of the tree shares the winner, if it has no block of its own, or if it has `_id` or `_rev` as a
     /// member. Contracts see the same tree. Takes no memory. Cost: two look-ups of a member in the body.
-    pub fn share_form(&mut self, form: Form)
+    pub fn move_body_into(&mut self, form: Form)
         requires { IfSome (first_of self.old.leaves) (λ l. IsFormOf l.body form) }
         ensures { self.new ≡ self.old }
     {
-        self.growth.share_form(form);
+        self.growth.move_body_into(form);
     }
 
     /// The leaves, best first. Errors: `NoMemory` if an allocation fails. Cost: their number.
@@ -158,11 +158,11 @@ impl RevTree {
 
     /// Whether a path is known whole: each of its revisions is known, with the parent that the path gives it. To merge such a
     /// path changes nothing. Takes no memory. Cost: as for `fits`, up to the first revision that is not known with its parent.
-    pub fn holds(&self, path: &History) -> bool
+    pub fn knows_whole(&self, path: &History) -> bool
         ensures { (h : Paths) → StandsFor self.now h → result ≡ is_whole h path.now }
     {
         let (start, ids) = path.run();
-        self.growth.holds(start, ids)
+        self.growth.knows_whole(start, ids)
     }
 
     /// The position of a new revision over the leaf `parent`; without a parent, 1 in a tree without leaves. Takes no memory.
@@ -206,7 +206,7 @@ impl RevTree {
         ensures err { OnErr result (self.new ≡ self.old) }
     {
         let (start, ids) = path.run();
-        if self.growth.holds(start, ids) {
+        if self.growth.knows_whole(start, ids) {
             return Ok(Merged::Known);
         }
         if !self.growth.fits(start, ids) {

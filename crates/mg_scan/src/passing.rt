@@ -164,7 +164,7 @@ fn pass_counted<'a>(shards: &[Arc<Shard>], passed: Passed<'a>, row: &'a RowBytes
         result.search result.skip }
     ensures ahead { result.ahead ≡ all_ahead (shards_seen shards.now) result.search }
 {
-    let beyond = after(passed.search, row, 0);
+    let beyond = search_after(passed.search, row, 0);
     match count_all(shards, beyond) {
         None => passed,
         Some(ahead) => {
@@ -173,7 +173,7 @@ fn pass_counted<'a>(shards: &[Arc<Shard>], passed: Passed<'a>, row: &'a RowBytes
                 return passed;
             }
             let take = passed.search.take.saturating_sub(count);
-            let search = after(passed.search, row, take);
+            let search = search_after(passed.search, row, take);
             Passed {
                 search,
                 skip: passed.skip - count,
@@ -184,7 +184,7 @@ fn pass_counted<'a>(shards: &[Arc<Shard>], passed: Passed<'a>, row: &'a RowBytes
 }
 
 // The search after a row, which takes `take` rows.
-fn after<'a>(search: Search<'a>, row: &'a RowBytes, take: usize) -> Search<'a>
+fn search_after<'a>(search: Search<'a>, row: &'a RowBytes, take: usize) -> Search<'a>
     ensures { result ≡ beyond_row search.entry row.entry take }
 {
     Search {

@@ -1,4 +1,4 @@
--- What is kept of documents, as clauses see it, and the histories that it stands for.
+-- What is kept of documents, as contracts see it, and the histories that it stands for.
 use Rattle.std.specs.Prelude.{◌≡◌, ℕ, List, map, string_bytes, Option, Some, None, option_map, option_and_then}
 use Rattle.std.specs.Cmp.Lexicographic.{slice_cmp}
 use Rattle.std.specs.FinMap.{FinMap, entries, from_entries, get}

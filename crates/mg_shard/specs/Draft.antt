@@ -1,4 +1,4 @@
--- What clauses see of a shard while a bulk is applied, and the histories that it stands for.
+-- What contracts see of a shard while a bulk is applied, and the histories that it stands for.
 use Rattle.std.specs.Prelude.{◌≡◌, ℕ, List, map, String, string_bytes, Option, Some, None, Result, Ok, Err, refl}
 use Rattle.std.specs.Cmp.Lexicographic.{slice_cmp}
 use Rattle.std.specs.Coded.{Coded, code_by, coded×, coded_ℕ, coded_list}

@@ -1,4 +1,4 @@
--- What clauses see of the indexes of a shard.
+-- What contracts see of the indexes of a shard.
 use Rattle.std.specs.Prelude.{◌≡◌, ℕ, List, map}
 use Rattle.std.proofs.lemmas.Cmp.{nat_list_cmp_total, on_total, then_total}
 use Rattle.std.specs.Cmp.{IsTotalOrder}

@@ -1,4 +1,4 @@
--- What clauses see of a shard.
+-- What contracts see of a shard.
 use Rattle.std.specs.Prelude.{ℕ, List, Option, All, Contains, map, option_map, refl}
 use Rattle.std.specs.Arc.{arc_value}
 use Rattle.std.specs.Coded.{Coded, code_by, coded×, coded_ℕ, coded_list, coded_option}

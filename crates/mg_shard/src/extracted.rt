@@ -50,7 +50,7 @@ fn add_row(rows: &mut Vec<RowBytes>, row: Option<RowBytes>) -> Result<(), NoMemo
     Ok(())
 }
 
-// The rows of the documents of a page, of those that are served and have every column, in the order of the documents.
+// The rows of those documents of a page that are served and have every column, in the order of the documents.
 fn rows_of_run(
     alloc: Global,
     scratch: &mut KeyBytes,
@@ -67,7 +67,7 @@ fn rows_of_run(
     Ok(rows)
 }
 
-// Lists of rows as one list, with room for `count` rows, one list after the other.
+// Joins lists of rows, one after the other, into a list with room for `count` rows.
 fn join_lists(
     alloc: Global,
     count: usize,
@@ -83,7 +83,7 @@ fn join_lists(
     Ok(all)
 }
 
-// The rows of the documents of these pages, a list for each page. Each piece is extracted by a thread, which has a scratch of its own.
+// The rows of the documents of these pages, a list for each page. Threads extract pieces of several pages, each with a scratch of its own.
 fn lists_by_threads<R: Threads + Sync>(
     rt: &R,
     alloc: Global,
@@ -106,8 +106,8 @@ fn lists_by_threads<R: Threads + Sync>(
     lists
 }
 
-/// Extracts, by several threads, the rows of the documents of these pages that are served and have every column, in the order of the
-/// documents. The list gets room for `count` rows.
+/// Extracts, by several threads, the rows of those documents of these pages that are served and have every column, in the order of the
+/// documents, into a list with room for `count` rows.
 ///
 /// Errors: `NoMemory` if an allocation fails. Cost: the bytes of each row, shared among as many threads as there are processors.
 pub(crate) fn rows_by_threads<R: Threads + Sync>(
@@ -125,7 +125,7 @@ pub(crate) fn rows_by_threads<R: Threads + Sync>(
     Ok(rows)
 }
 
-/// The rows sorted by key and id, by several threads. Takes no memory. Cost: as of a sort, shared among as many threads as there are
+/// The rows sorted by key and id, by several threads. Takes no memory. Cost: that of a sort, shared among as many threads as there are
 /// processors.
 pub(crate) fn sorted_by_threads<R: Threads + Sync>(rt: &R, mut rows: Vec<RowBytes>) -> Vec<RowBytes>
     ensures permutation { IsPermutation rows.items result.items }

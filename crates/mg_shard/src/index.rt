@@ -155,8 +155,8 @@ fn change_rows(
     Ok(())
 }
 
-// Takes a row out and puts one in, if they are given. If other shards share the rows, they keep them unchanged, and a copy of the
-// top is changed instead. If neither row is given, nothing is copied.
+// Takes the row `gone` out and puts the row `come` in, if they are given. Rows that other shards share do not change: the changes go
+// into a copy of the top of their pages. If neither row is given, nothing is copied.
 fn change_shared(
     alloc: Global,
     rows: &mut Arc<Pages<RowBytes>>,

@@ -133,11 +133,11 @@ fn index_documents<R: Threads + Sync>(
     ensures documents { IfOk result (λ s. s.documents ≡ shown documents) }
     ensures definitions { IfOk result (λ s. s.definitions ≡ definitions_of indexes.now) }
 {
-    let bare = Shard {
+    let unindexed = Shard {
         documents: documents.share(alloc)?,
         indexes: Pages::new(alloc),
     };
-    let own = indexes_over(rt, alloc, &bare, indexes, workers)?;
+    let own = indexes_over(rt, alloc, &unindexed, indexes, workers)?;
     let indexes = list_in_pages(alloc, &own)?;
     Ok(Shard { documents, indexes })
 }

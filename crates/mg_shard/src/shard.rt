@@ -189,7 +189,7 @@ impl Shard {
         &self.indexes
     }
 
-    // The next shard; a share of this one if there is no next one.
+    // The next shard; if there is no next one, a copy of this one, which shares its pages.
     fn or_shared(&self, alloc: Global, next: Option<Shard>) -> Result<Shard, NoMemory>
         ensures { IfOk result (λ s. s ≡ unwrap_or next self.now) }
     {

@@ -73,7 +73,7 @@ fn row_of<R: Abort>(rt: &R, alloc: Global, written: &Written) -> RowBytes {
     RowBytes::of(alloc, &key, written.1).expect(rt, "memory")
 }
 
-// Puts columns into a key that may hold those of an earlier row.
+// Puts columns into a key, in place of those that it may have of an earlier row.
 fn put_columns<R: Abort>(rt: &R, alloc: Global, key: &mut KeyBytes, columns: &str) {
     key.clear();
     for column in &values_of(rt, alloc, columns) {
@@ -102,7 +102,7 @@ fn all_rows<R: Abort>(rt: &R, alloc: Global) -> Vec<RowBytes> {
     rows
 }
 
-// Whether the row compares with each of the rows as its place says.
+// Whether the row compares with each of `rows` as a row at this place of them has to.
 fn is_in_place(rows: &[RowBytes], row: &RowBytes, place: usize) -> bool {
     for (other_place, other) in rows.iter().enumerate() {
         let wanted = place.cmp(&other_place);
@@ -231,7 +231,7 @@ const KEYS: &[&str] = &[
 ];
 
 #[test]
-fn numbers_for_searches_rise_with_the_rows(rt: HostRuntime) {
+fn hints_rise_with_the_rows(rt: HostRuntime) {
     let alloc = rt.alloc();
     let mut last = 0;
     for text in KEYS {
@@ -243,8 +243,8 @@ fn numbers_for_searches_rise_with_the_rows(rt: HostRuntime) {
     }
 }
 
-// Whether no row below the bound has a greater hint than the bound, and no other row a smaller one.
-fn parts_numbers(rows: &[RowBytes], bound: &Bound) -> bool {
+// Whether the hints of the rows below the bound are at most the bound's hint, and those of all other rows at least that.
+fn parts_hints(rows: &[RowBytes], bound: &Bound) -> bool {
     for row in rows {
         let wanted = match bound.against(row) {
             Ordering::Greater => row.hint() <= bound.hint(),
@@ -258,7 +258,7 @@ fn parts_numbers(rows: &[RowBytes], bound: &Bound) -> bool {
 }
 
 #[test]
-fn numbers_of_places_are_between_those_of_rows(rt: HostRuntime) {
+fn hints_of_bounds_are_between_those_of_rows(rt: HostRuntime) {
     let alloc = rt.alloc();
     let mut rows = all_rows(&rt, alloc);
     for text in KEYS {
@@ -270,7 +270,7 @@ fn numbers_of_places_are_between_those_of_rows(rt: HostRuntime) {
         let key = values_of(&rt, alloc, text);
         for edge in [Edge::Before, Edge::After] {
             let bound = Bound::at(alloc, &key, edge).expect(&rt, "memory");
-            check(&rt, parts_numbers(&rows, &bound), text);
+            check(&rt, parts_hints(&rows, &bound), text);
         }
     }
 }

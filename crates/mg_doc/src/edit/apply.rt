@@ -137,7 +137,7 @@ impl ReadyEdit {
 fn look_for(tree: &RevTree, path: &History) -> Result<Option<Rev>, EditError>
     ensures { (h : Paths) → StandsFor tree.now h → LooksFor h path.now result }
 {
-    if tree.holds(path) {
+    if tree.knows_whole(path) {
         return Ok(Some(path.newest()?));
     }
     if !tree.fits(path) {

@@ -34,12 +34,12 @@ fn are_few(newer: usize, older: usize) -> bool {
 
 /// The known revisions with their parents, in the order of the revisions. Contracts see the list of them.
 ///
-/// They are kept in two lists: an older one, which copies share, and a newer one, which is copied. The newer list holds at
-/// most 64 revisions, or about four times the square root of the number of older ones. Before it grows beyond that limit, it
-/// is folded into a copy of the older list, and that copy becomes the older list. So a copy of the tree never copies more
-/// revisions than the limit, and after a fold the next one comes only when the runs joined since then have more revisions than
-/// the limit, known ones included. The parent of a revision is the one in the older list; if that list has none, the one in the
-/// newer list.
+/// They are kept in two lists: an older one, which copies share, and a newer one, which is copied. A list is older or newer by when
+/// its revisions were joined, not by their positions. The newer list holds at most 64 revisions, or about four times the square root
+/// of the number of older ones. Before it grows beyond that limit, it is folded into a copy of the older list, and that copy becomes
+/// the older list. So a copy of the tree never copies more revisions than the limit, and after a fold the next one comes only when the
+/// runs joined since then have more revisions than the limit, known ones included. The parent of a revision is the one in the older
+/// list; if that list has none, the one in the newer list.
 #[derive(Drop)]
 pub struct Known {
     older: Older,
@@ -91,7 +91,7 @@ impl Known {
 
     /// Whether all revisions of a run, given by its start and its ids, newest first, are known with the parents that
     /// the run gives them. Cost: as for `fits`.
-    pub fn holds(&self, start: u32, ids: &[String]) -> bool
+    pub fn knows_whole(&self, start: u32, ids: &[String]) -> bool
         ensures { (ls : List Link) → AreNodes self.now ls
             → result ≡ are_held ls (links (run_from start (map string_bytes ids.now))) }
     {

@@ -59,7 +59,7 @@ pub fn all_agree<K: LookUp>(known: &K, start: u32, ids: &[String]) -> bool
 }
 
 // Whether a revision is known, and with the given parent, if one is given.
-fn holds<K: LookUp>(known: &K, pos: u32, id: &String, parent: Option<&String>) -> bool
+fn is_held<K: LookUp>(known: &K, pos: u32, id: &String, parent: Option<&String>) -> bool
     ensures { result
         ≡ held_found (find (pos, string_bytes id.now) (K.kept known.now)) (option_map
         (λ p. (pos - 1, string_bytes p)) (option_copied parent.entry)) }
@@ -78,7 +78,7 @@ pub fn all_held<K: LookUp>(known: &K, start: u32, ids: &[String]) -> bool
 {
     let mut pos = start;
     for (i, id) in ids.iter().enumerate() {
-        if !holds(known, pos, id, ids.get(i + 1)) {
+        if !is_held(known, pos, id, ids.get(i + 1)) {
             return false;
         }
         pos = pos.saturating_sub(1);

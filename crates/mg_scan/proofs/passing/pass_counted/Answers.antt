@@ -13,7 +13,7 @@ returns-then-count-passed-clause-page c = same_page (shards_seen c.args.shards.n
 pub returns-else-count-passed-clause-page : goal.returns-else-count-passed-clause-page
 returns-else-count-passed-clause-page c =
     counted_page (shards_seen c.args.shards.now) c.args.passed.search c.args.passed.skip c.args.passed.ahead c.in-Some.ahead c.saturating_sub-count.result c.args.row c.requires.index c.requires.ahead c.requires.within
-    c.saturating_sub-take.result _ _ c.after-beyond.ensures c.in-Some.ensures c.saturating_sub-count.ensures c.saturating_sub-take.ensures (omega arith) c.after-search.ensures
+    c.saturating_sub-take.result _ _ c.search_after-beyond.ensures c.in-Some.ensures c.saturating_sub-count.ensures c.saturating_sub-take.ensures (omega arith) c.search_after-search.ensures
 
 pub returns-else-count-passed-clause-ahead : goal.returns-else-count-passed-clause-ahead
-returns-else-count-passed-clause-ahead c = ahead_still (shards_seen c.args.shards.now) c.args.passed.search c.args.row c.in-Some.ahead c.saturating_sub-take.result _ _ c.after-beyond.ensures c.in-Some.ensures c.after-search.ensures
+returns-else-count-passed-clause-ahead c = ahead_still (shards_seen c.args.shards.now) c.args.passed.search c.args.row c.in-Some.ahead c.saturating_sub-take.result _ _ c.search_after-beyond.ensures c.in-Some.ensures c.search_after-search.ensures

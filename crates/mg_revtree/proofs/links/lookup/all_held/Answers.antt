@@ -11,18 +11,18 @@ loop-i-preserved g c = λ ls nodes.
     let n = c.loop-i.pos in
     let id = string_bytes c.index-ids-i.result in
     let o = option_map {U = Revision} (λ p. (n - 1, string_bytes p)) (option_copied c.get.result) in
-    let e : (is_known (n, id) ls && gives (parent_of (n, id) ls) o) ≡ true = sym (held_node (n, id) ls o) ∙ ap (λ v. held_found v o) (sym (nodes.same (n, id))) ∙ sym c.holds.ensures ∙ c.if-not-holds.false in
+    let e : (is_known (n, id) ls && gives (parent_of (n, id) ls) o) ≡ true = sym (held_node (n, id) ls o) ∙ ap (λ v. held_found v o) (sym (nodes.same (n, id))) ∙ sym c.is_held.ensures ∙ c.if-not-is_held.false in
     let newest = newest_got string_bytes (n - 1) c.args.ids.now (c.loop-i.i + 1) c.get.result c.get.ensures.lookup.3 in
     c.loop-i.invariant ls nodes
     ∙ all-next (λ l. is_known l.rev ls && gives (parent_of l.rev ls) l.parent) string_bytes n c.args.ids.now c.loop-i.i c.index-ids-i.result o c.loop-i-test.true c.index-ids-i.is newest true e
     ∙ ap (λ (m : ℕ). are_held ls (links (run_from m (map string_bytes (drop (c.loop-i.i + 1) c.args.ids.now))))) (sym c.saturating_sub-pos.ensures)
 
-pub returns-then-not-holds : goal.returns-then-not-holds
-returns-then-not-holds g c = λ ls nodes.
+pub returns-then-not-is_held : goal.returns-then-not-is_held
+returns-then-not-is_held g c = λ ls nodes.
     let n = c.loop-i.pos in
     let id = string_bytes c.index-ids-i.result in
     let o = option_map {U = Revision} (λ p. (n - 1, string_bytes p)) (option_copied c.get.result) in
-    let e : (is_known (n, id) ls && gives (parent_of (n, id) ls) o) ≡ false = sym (held_node (n, id) ls o) ∙ ap (λ v. held_found v o) (sym (nodes.same (n, id))) ∙ sym c.holds.ensures ∙ c.if-not-holds.true in
+    let e : (is_known (n, id) ls && gives (parent_of (n, id) ls) o) ≡ false = sym (held_node (n, id) ls o) ∙ ap (λ v. held_found v o) (sym (nodes.same (n, id))) ∙ sym c.is_held.ensures ∙ c.if-not-is_held.true in
     let newest = newest_got string_bytes (n - 1) c.args.ids.now (c.loop-i.i + 1) c.get.result c.get.ensures.lookup.3 in
     sym (c.loop-i.invariant ls nodes
     ∙ all-next (λ l. is_known l.rev ls && gives (parent_of l.rev ls) l.parent) string_bytes n c.args.ids.now c.loop-i.i c.index-ids-i.result o c.loop-i-test.true c.index-ids-i.is newest false e)

@@ -6,7 +6,7 @@ use Rattle.mg_revtree.specs.Tree.{AreNodes}
 use Rattle.mg_revtree.specs.declared.growth.Growth.{Growth}
 use Rattle.mg_revtree.proofs.Firsts.{alone_held, none_held}
 use Rattle.mg_revtree.proofs.Runs.{length-map}
-use Rattle.mg_revtree.proofs.growth.Growth.holds.Goals as goal
+use Rattle.mg_revtree.proofs.growth.Growth.knows_whole.Goals as goal
 
 pub returns-in-Empty : goal.returns-in-Empty
 returns-in-Empty c = λ ls nodes.
