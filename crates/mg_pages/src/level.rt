@@ -26,12 +26,11 @@ impl<T: Drop, P: Drop> Drop for Level<T, P> {
     }
 }
 
-// Guesses the index of the part where a key belongs: that of the first part whose hint is not below the key's.
-fn guess_among<T: Keyed, P: Subtree<T>, Q: Probe<T>>(parts: &[Child<T, P>], key: &Q) -> usize {
+// Guesses the index of the part where a key with this hint belongs: that of the first part whose hint is not below it.
+fn guess_among<T: Keyed, P: Subtree<T>>(parts: &[Child<T, P>], number: u64) -> usize {
     if parts.len() < 2 {
         return 0;
     }
-    let number = key.hint();
     let mut low = 0;
     let mut high = parts.len();
     while low < high {
@@ -43,6 +42,14 @@ fn guess_among<T: Keyed, P: Subtree<T>, Q: Probe<T>>(parts: &[Child<T, P>], key:
         }
     }
     low
+}
+
+// Guesses the index of the part where a key belongs. The key's hint is asked for only if there are several parts.
+fn guess_for<T: Keyed, P: Subtree<T>, Q: Probe<T>>(parts: &[Child<T, P>], key: &Q) -> usize {
+    if parts.len() < 2 {
+        return 0;
+    }
+    guess_among::<T, P>(parts, key.hint())
 }
 
 // The index of the part where a key belongs: the elements of earlier parts are below the key, those of later parts above it.
@@ -59,7 +66,7 @@ fn place<T: Keyed, P: Subtree<T>, Q: Probe<T>>(parts: &[Child<T, P>], key: &Q) -
 {
     let mut low = 0;
     let mut high = parts.len() - 1;
-    let guess = guess_among::<T, P, Q>(parts, key).min(high);
+    let guess = guess_for::<T, P, Q>(parts, key).min(high);
     while low < high {
         let middle = next_guess(low, high, guess);
         let child = &parts[middle];
@@ -284,12 +291,12 @@ impl<T: Keyed, P: Subtree<T>> Subtree<T> for Level<T, P> {
         node.part.get(key)
     }
 
-    fn guessed<Q: Probe<T>>(&self, key: &Q) -> Option<&T> {
-        let i = guess_among::<T, P, Q>(&self.parts, key);
+    fn guessed(&self, number: u64) -> Option<&T> {
+        let i = guess_among::<T, P>(&self.parts, number);
         if i < self.parts.len() {
             let child = &self.parts[i];
             let node: &Node<T, P> = &child.node;
-            return node.part.guessed(key);
+            return node.part.guessed(number);
         }
         None
     }

@@ -86,8 +86,8 @@ impl<T: Keyed> Subtree<T> for Page<T> {
         }
     }
 
-    fn guessed<Q: Probe<T>>(&self, key: &Q) -> Option<&T> {
-        let i = self.hints.guess(key.hint());
+    fn guessed(&self, number: u64) -> Option<&T> {
+        let i = self.hints.guess(number);
         if i < self.elements.len() {
             return Some(&self.elements[i]);
         }

@@ -91,7 +91,7 @@ fn tied<'a, T: Keyed, Q: Probe<T>>(root: &'a Root<T>, key: &Q) -> Option<&'a T>
     if root.parts.is_empty() {
         return None;
     }
-    let element = root.guessed(key)?;
+    let element = root.guessed(key.hint())?;
     if key.against(element).is_eq() {
         return Some(element);
     }

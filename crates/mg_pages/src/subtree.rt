@@ -41,8 +41,8 @@ pub trait Subtree<T: Keyed>: Drop + Sized {
         requires sorted { Ascends T.order (seen self.now) }
         ensures { option_map (λ t. t.now) result ≡ found (Q.against key.now) (seen self.now) };
 
-    /// The element to which the hints lead, which may or may not tie with the key. No element is compared.
-    fn guessed<Q: Probe<T>>(&self, key: &Q) -> Option<&T>
+    /// The element to which the hints lead from the hint of a key. It may or may not tie with the key: no element is compared.
+    fn guessed(&self, number: u64) -> Option<&T>
         requires { is_whole self.now }
         ensures { IfSome result (λ t. IsAmong (seen self.now) t.now) };
 

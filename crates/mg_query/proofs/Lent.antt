@@ -3,7 +3,6 @@ use Rattle.std.proofs.Common.{◌≡◌, ℕ, zero, suc, ◌+◌, ◌-◌, ◌<�
 use Rattle.std.specs.Prelude.{unwrap_or}
 use Rattle.std.specs.FinMap.{get}
 use Rattle.std.specs.List.{AllByRecursion, AllZip, filter}
-use Rattle.mg_value.specs.Text.{compact}
 use Rattle.mg_collate.proofs.Sorting.{all_append, all_weaker}
 use Rattle.mg_collate.specs.Sorted.{sorted}
 use Rattle.mg_collate.specs.declared.direction.Direction.{Direction}
@@ -12,7 +11,7 @@ use Rattle.mg_index.specs.Definition.{Steps}
 use Rattle.mg_merge.specs.Merged.{contents_of, joined, merged_by, order_by}
 use Rattle.mg_revtree.specs.History.{Paths}
 use Rattle.mg_revtree.specs.Tree.{StandsFor}
-use Rattle.mg_scan.specs.Hit.{AreHitsIn, AreHitsOf, IsHitIn, IsHitOf, hit_document, hit_form, hit_row, hit_text}
+use Rattle.mg_scan.specs.Hit.{AreHitsIn, AreHitsOf, IsHitIn, IsHitOf, hit_document, hit_form, hit_row}
 use Rattle.mg_scan.specs.declared.hit.Hit.{Hit}
 use Rattle.mg_shard.specs.Dealt.{Placing, ShardsStandFor, histories_on}
 use Rattle.mg_shard.specs.Documents.{KeptDocuments, StandFor, kept_of}
@@ -31,12 +30,11 @@ record IsOf (hs : Histories) (h : Hit) : Type 0 where
   known : get hs (hit_row h).1 ≡ Some history
   tree : StandsFor (kept_of (hit_document h)).0 history
   form : Some (hit_form h) ≡ served_of (hit_row h).1 history
-  text : hit_text h ≡ compact (hit_form h)
 
 of_shard : (place : Placing) (n i : ℕ) (hs : Histories) (ds : KeptDocuments) → StandFor ds (histories_on place n i hs) → (h : Hit) → IsHitOf ds h → IsOf hs h
 of_shard place n i hs ds stands h is =
     let k = kept_history place n i hs (hit_row h).1 ds (kept_of (hit_document h)) stands is.document in
-    record { history = k.0; known = k.1; tree = k.2; form = sym is.form ∙ k.3; text = is.text }
+    record { history = k.0; known = k.1; tree = k.2; form = sym is.form ∙ k.3 }
 
 of_in : (place : Placing) (hs : Histories) (shards : List ShardView) → ShardsStandFor place shards hs → (h : Hit) → IsHitIn shards h → IsOf hs h
 of_in place hs shards stands h is = of_shard place (length shards) is.place hs is.shard.documents (stands.each is.place is.shard is.there) h is.hit
@@ -81,7 +79,7 @@ lends columns hs h c row is known =
     let id : (hit_row h).1 ≡ c.id = ap (λ r. r.1) row in
     let history : is.history ≡ c.history = same is.history c.history (sym is.known ∙ ap (get hs) id ∙ known.0) in
     let form : hit_form h ≡ c.form = same (hit_form h) c.form (is.form ∙ ap₂ served_of id history ∙ known.1) in
-    record { row = row; form = form; text = is.text ∙ ap compact form; tree = subst (StandsFor (kept_of (hit_document h)).0) history is.tree }
+    record { row = row; form = form; tree = subst (StandsFor (kept_of (hit_document h)).0) history is.tree }
 
 lend_all : (columns : List Steps) (hs : Histories) (hits : List Hit) (cs : List Candidate) → map hit_row hits ≡ map (row_by columns) cs → AllByRecursion (IsOf hs) hits → AllByRecursion (IsKnown hs) cs → LendEach columns hits cs
 lend_all columns hs [] [] e p k = tt

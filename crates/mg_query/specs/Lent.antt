@@ -1,7 +1,6 @@
 -- The hits of a page, which lend documents, and the lists that shards hand over. These words serve private clauses.
 use Rattle.std.specs.Prelude.{◌≡◌, ◌+◌, ◌==◌, Bool, not, ◌&&◌, List, length, option_map}
 use Rattle.std.specs.List.{AllZip}
-use Rattle.mg_value.specs.Text.{compact}
 use Rattle.mg_collate.specs.Row.{RowValue}
 use Rattle.mg_bookmark.specs.Bookmark.{Place}
 use Rattle.mg_index.specs.Definition.{Steps}
@@ -9,7 +8,7 @@ use Rattle.mg_normal.specs.Normal.{NormalForm}
 use Rattle.mg_range.specs.Range.{range_of}
 use Rattle.mg_revtree.specs.Tree.{StandsFor}
 use Rattle.mg_scan.specs.Found.{scan_input}
-use Rattle.mg_scan.specs.Hit.{hit_document, hit_form, hit_row, hit_text}
+use Rattle.mg_scan.specs.Hit.{hit_document, hit_form, hit_row}
 use Rattle.mg_scan.specs.Scan.{scanned}
 use Rattle.mg_scan.specs.declared.hit.Hit.{Hit}
 use Rattle.mg_shard.specs.Documents.{docs_of, kept_of}
@@ -34,7 +33,6 @@ shows_whole q = not q.conflicts && (length q.fields == 0)
 pub record Lends (columns : List Steps) (h : Hit) (c : Candidate) : Type 0 where
   pub row : hit_row h ≡ row_by columns c
   pub form : hit_form h ≡ c.form
-  pub text : hit_text h ≡ compact c.form
   pub tree : StandsFor (kept_of (hit_document h)).0 c.history
 
 -- the hits lend those of candidates, one each

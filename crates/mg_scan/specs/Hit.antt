@@ -31,15 +31,14 @@ hit_document h = h.document.now
 abbrev pub hit_form : Hit → Value
 hit_form h = h.form.now
 
--- the text of that form
+-- the compact text of that form
 abbrev pub hit_text : Hit → List ℕ
-hit_text h = h.text.now
+hit_text h = compact (hit_form h)
 
--- the hit's document is the one that is kept of its id, and is served, in the form and with the text that the hit lends
+-- the hit's document is the one that is kept of its id, and is served in the form that the hit lends
 pub record IsHitOf (ds : KeptDocuments) (h : Hit) : Type 0 where
   pub document : get ds (hit_row h).1 ≡ Some (kept_of (hit_document h))
   pub form : form_of (hit_document h) ≡ Some (hit_form h)
-  pub text : hit_text h ≡ compact (hit_form h)
 
 -- each is such a hit
 abbrev pub AreHitsOf : KeptDocuments → List Hit → Type 0

@@ -19,7 +19,6 @@ pub struct Hit<'a> {
     pub(crate) row: HitRow<'a>,
     pub(crate) document: &'a Document,
     pub(crate) form: &'a Written,
-    pub(crate) text: &'a [u8],
 }
 
 impl<'a> Hit<'a> {
@@ -55,7 +54,7 @@ impl<'a> Hit<'a> {
     pub fn text(&self) -> &'a [u8]
         ensures { result.now ≡ hit_text self.now }
     {
-        self.text
+        self.form.text()
     }
 
     /// Copies the row. Errors: `NoMemory` if an allocation fails. Cost: the size of the row.

@@ -37,12 +37,10 @@ fn hit_of_lead<'a>(lead: Lead<'a>) -> Option<Hit<'a>>
 {
     let document = lead.shard.document(lead.row.id())?;
     let form = document.written()?;
-    let text = document.text()?;
     Some(Hit {
         row: lead.row,
         document,
         form,
-        text,
     })
 }
 

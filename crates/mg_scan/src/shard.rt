@@ -43,7 +43,6 @@ pub(crate) fn hit_of<'a>(
         → IfSome result (IsHitOf ds) }
 {
     let form = document.written()?;
-    let text = document.text()?;
     if !normal.holds_of(form.part()) {
         return None;
     }
@@ -51,7 +50,6 @@ pub(crate) fn hit_of<'a>(
         row,
         document,
         form,
-        text,
     })
 }
 

@@ -14,5 +14,5 @@ returns-then-is_shown_whole c =
     ok_weaker c.with_kept.result
     (λ b. b.items ≡ c.args.out.items ++ hit_text c.args.hit.now)
     (λ b. (columns : List Steps) (x : Candidate) → Lends columns c.args.hit.now x → b.items ≡ c.args.out.items ++ compact (shown_of q x))
-    (λ b e columns x l. e ∙ ap (λ t. c.args.out.items ++ t) (l.text ∙ ap compact (sym (shown_whole q x (sym c.is_shown_whole.ensures ∙ c.if-is_shown_whole.true)))))
+    (λ b e columns x l. e ∙ ap (λ t. c.args.out.items ++ t) (ap compact (l.form ∙ sym (shown_whole q x (sym c.is_shown_whole.ensures ∙ c.if-is_shown_whole.true)))))
     c.with_kept.ensures
