@@ -7,10 +7,10 @@ use crate::child::{Child, child_of, copy_children};
 use crate::keyed::Keyed;
 use crate::level::{Level, count_of};
 use crate::page::{Page, page_of};
-use crate::subtree::{LIMIT, Subtree};
+use crate::subtree::{FILL, Subtree};
 use std::alloc::{AllocError, Global};
 
-/// Groups the elements into pages. All pages but the last are full.
+/// Groups the elements into pages. All pages but the last have `FILL` elements.
 pub fn make_pages<T: Keyed>(
     alloc: Global,
     elements: &[T],
@@ -21,7 +21,7 @@ pub fn make_pages<T: Keyed>(
     let mut pages = Vec::new(alloc);
     let mut rest = elements;
     while rest.len() > 0 {
-        let (chunk, others) = rest.split_at(rest.len().min(LIMIT));
+        let (chunk, others) = rest.split_at(rest.len().min(FILL));
         let own = page_of(alloc, chunk)?;
         let page = child_of::<T, Page<T>>(alloc, own)?;
         pages.push(page)?;
@@ -30,7 +30,7 @@ pub fn make_pages<T: Keyed>(
     Ok(pages)
 }
 
-/// Groups the parts into levels. All levels but the last are full.
+/// Groups the parts into levels. All levels but the last have `FILL` parts.
 pub fn group<T: Keyed, P: Subtree<T>>(
     alloc: Global,
     parts: &[Child<T, P>],
@@ -46,7 +46,7 @@ pub fn group<T: Keyed, P: Subtree<T>>(
     let mut levels = Vec::new(alloc);
     let mut rest = parts;
     while rest.len() > 0 {
-        let (chunk, others) = rest.split_at(rest.len().min(LIMIT));
+        let (chunk, others) = rest.split_at(rest.len().min(FILL));
         let count = count_of::<T, P>(chunk);
         let parts = copy_children(alloc, chunk)?;
         let level = child_of::<T, Level<T, P>>(alloc, Level { parts, count })?;

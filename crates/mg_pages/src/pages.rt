@@ -141,7 +141,8 @@ impl<T: Keyed> Pages<T> {
         }
     }
 
-    /// Builds a collection of duplicates of the elements, which must ascend. All pages but the last are full.
+    /// Builds a collection of duplicates of the elements, which must ascend. All pages but the last are filled to three quarters, so
+    /// that the next insertions find room.
     ///
     /// Errors: `NoMemory` if an allocation fails. Cost: a step for each element, without a search.
     pub fn from_sorted(alloc: Global, elements: &[T]) -> Result<Pages<T>, NoMemory>
@@ -261,7 +262,7 @@ impl<T: Keyed> Pages<T> {
         Iter::at(self, run)
     }
 
-    /// All elements in one slice, if they are in one page; a collection that was built of at most 64 elements has one page. Takes no
+    /// All elements in one slice, if they are in one page; a collection that was built of at most 48 elements has one page. Takes no
     /// memory. Cost: constant.
     pub fn in_one_page(&self) -> Option<&[T]>
         ensures { IfSome result (λ page. page.now ≡ self.now) }

@@ -11,6 +11,10 @@ use std::alloc::{AllocError, Global};
 /// The most elements of a page, and the most parts of a level below the top.
 pub const LIMIT: usize = 64;
 
+/// How many elements a page has, and how many parts a level, if it is made of a whole list: fewer than the most, so that the next
+/// insertions find room.
+pub const FILL: usize = 48;
+
 /// A page or a level, with the elements in it, in order. It is a part of the level above it, if there is one.
 pub trait Subtree<T: Keyed>: Drop + Sized {
     // the elements

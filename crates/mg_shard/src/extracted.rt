@@ -135,7 +135,7 @@ pub(crate) fn sorted_by_threads<R: Threads + Sync>(rt: &R, mut rows: Vec<RowByte
     rows
 }
 
-// The pages of these rows, made by several threads. They are full, but for the last.
+// The pages of these rows, made by several threads. All but the last have `ELEMENTS` rows.
 fn new_pages<R: Threads + Sync>(
     rt: &R,
     alloc: Global,
@@ -155,7 +155,7 @@ fn new_pages<R: Threads + Sync>(
     pages
 }
 
-/// Pages of rows that ascend, made by several threads. They are full, but for the last.
+/// Pages of rows that ascend, made by several threads. All but the last have `ELEMENTS` rows.
 ///
 /// Errors: `NoMemory` if an allocation fails. Cost: a step a row, shared among as many threads as there are processors, and a step a page.
 pub(crate) fn pages_by_threads<R: Threads + Sync>(

@@ -209,7 +209,7 @@ pub(crate) fn mend_rows(
     Ok(())
 }
 
-/// Sorts rows by key and id into pages; no row may occur twice. All pages but the last are full.
+/// Sorts rows by key and id into pages; no row may occur twice. All pages but the last are filled to three quarters.
 ///
 /// Errors: `NoMemory` if an allocation fails. Cost: a sort of the rows, and a step for each.
 pub(crate) fn pages_of(alloc: Global, rows: Vec<RowBytes>) -> Result<Pages<RowBytes>, NoMemory>
