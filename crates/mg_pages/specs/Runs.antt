@@ -17,6 +17,12 @@ pub record IsEndRun {X : Type 0} (run xs : List X) : Type 0 where
   pub is : xs ≡ rest ++ run
   pub some : length run ≡ 0 → xs ≡ []
 
+-- a page is a piece of a list
+pub record IsPiece {X : Type 0} (page xs : List X) : Type 0 where
+  pub front : List X
+  pub rest : List X
+  pub is : xs ≡ front ++ (page ++ rest)
+
 -- a page is a piece of a list, and the element at `place` in the page is at i in the list
 pub record IsPageAt {X : Type 0} (page : List X) (place i : ℕ) (xs : List X) : Type 0 where
   pub front : List X

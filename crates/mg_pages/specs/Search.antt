@@ -27,6 +27,12 @@ pub record IsGap {T : Type 0} (against : T → Ordering) (xs : List T) (i : ℕ)
   pub before : AllBelow against (take i xs)
   pub after : AllAbove against (drop i xs)
 
+-- so does the key, and there are elements on both sides of its place
+pub record IsInnerGap {T : Type 0} (against : T → Ordering) (xs : List T) (i : ℕ) : Type 0 where
+  pub gap : IsGap against xs i
+  pub some : 0 < i
+  pub less : i < length xs
+
 -- x is one of xs
 pub record IsAmong {T : Type 0} (xs : List T) (x : T) : Type 0 where
   pub front : List T

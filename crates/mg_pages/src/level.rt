@@ -291,14 +291,12 @@ impl<T: Keyed, P: Subtree<T>> Subtree<T> for Level<T, P> {
         node.part.get(key)
     }
 
-    fn guessed(&self, number: u64) -> Option<&T> {
-        let i = guess_among::<T, P>(&self.parts, number);
-        if i < self.parts.len() {
-            let child = &self.parts[i];
-            let node: &Node<T, P> = &child.node;
-            return node.part.guessed(number);
-        }
-        None
+    fn guessed_page(&self, number: u64) -> (&[T], usize) {
+        let last = self.parts.len() - 1;
+        let i = guess_among::<T, P>(&self.parts, number).min(last);
+        let child = &self.parts[i];
+        let node: &Node<T, P> = &child.node;
+        node.part.guessed_page(number)
     }
 
     fn first_run(&self) -> &[T] {

@@ -1,7 +1,7 @@
 //! Pages of elements.
-ghost use Rattle.std.specs.Prelude.{is_some, ◌≡◌, ◌<◌, [], true, false, length, IfOk, IsSome, MatchResult, OnOk, OnErr};
+ghost use Rattle.std.specs.Prelude.{is_some, ◌≡◌, ◌<◌, [], true, false, length, IfOk, IfSome, IsSome, MatchResult, OnOk, OnErr};
 ghost use Rattle.mg_pages.specs.Order.{Ascends, found, inserted, removed};
-ghost use Rattle.mg_pages.specs.Search.{IsTie, IsGap};
+ghost use Rattle.mg_pages.specs.Search.{IsTie, IsGap, IsInnerGap};
 
 use crate::element::{Element, copy_elements, owners_of};
 use crate::hint::{Hints, next_guess, number_of};
@@ -45,6 +45,21 @@ pub fn find<T: Keyed, Q: Probe<T>>(elements: &[T], key: &Q, guess: usize) -> Res
     Err(low)
 }
 
+// The place where a key that ties with no element belongs, if there are elements on both sides of it. The search begins at `guess`.
+pub fn gap_within<T: Keyed, Q: Probe<T>>(elements: &[T], key: &Q, guess: usize) -> Option<usize>
+    requires { Ascends T.order elements.now }
+    ensures { IfSome result (IsInnerGap (Q.against key.now) elements.now) }
+{
+    let Err(i) = find::<T, Q>(elements, key, guess) else {
+        return None;
+    };
+    if 0 < i && i < elements.len() {
+        Some(i)
+    } else {
+        None
+    }
+}
+
 /// Makes a page of duplicates of the elements, with room for one more.
 pub fn page_of<T: Keyed>(alloc: Global, elements: &[T]) -> Result<Page<T>, AllocError>
     ensures { IfOk result (λ p. p.elements.items ≡ elements.now) }
@@ -86,12 +101,8 @@ impl<T: Keyed> Subtree<T> for Page<T> {
         }
     }
 
-    fn guessed(&self, number: u64) -> Option<&T> {
-        let i = self.hints.guess(number);
-        if i < self.elements.len() {
-            return Some(&self.elements[i]);
-        }
-        None
+    fn guessed_page(&self, number: u64) -> (&[T], usize) {
+        (self.elements.as_slice(), self.hints.guess(number))
     }
 
     fn first_run(&self) -> &[T] {

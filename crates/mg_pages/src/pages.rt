@@ -11,7 +11,7 @@ use crate::hint::{Hints, number_of};
 use crate::iter::Iter;
 use crate::keyed::{Keyed, Probe};
 use crate::level::{Level, page_among, take_out_of_parts};
-use crate::page::Page;
+use crate::page::{Page, gap_within};
 use crate::sides::{Over, Under};
 use crate::subtree::Subtree;
 use mg_value::NoMemory;
@@ -91,11 +91,42 @@ fn tied<'a, T: Keyed, Q: Probe<T>>(root: &'a Root<T>, key: &Q) -> Option<&'a T>
     if root.parts.is_empty() {
         return None;
     }
-    let element = root.guessed(key.hint())?;
-    if key.against(element).is_eq() {
-        return Some(element);
+    let (page, guess) = root.guessed_page(key.hint());
+    if guess < page.len() {
+        let element = &page[guess];
+        if key.against(element).is_eq() {
+            return Some(element);
+        }
     }
     None
+}
+
+// The first elements above a key, up to the end of their page, if the hints lead to a page with elements on both sides of the key.
+// Cost: a few comparisons.
+fn guessed_run_after<'a, T: Keyed, Q: Probe<T>>(root: &'a Root<T>, key: &Q) -> Option<&'a [T]>
+    requires { IsSound T.order root.now }
+    ensures { IfSome result (λ run. IsRun run.now (above (Q.against key.now) (root_seen root.now))) }
+{
+    if root.parts.is_empty() {
+        return None;
+    }
+    let (page, guess) = root.guessed_page(key.hint());
+    let i = gap_within::<T, Q>(page, key, guess)?;
+    Some(&page[i..])
+}
+
+// The last elements below a key, from the start of their page, if the hints lead to a page with elements on both sides of the key.
+// Cost: a few comparisons.
+fn guessed_run_before<'a, T: Keyed, Q: Probe<T>>(root: &'a Root<T>, key: &Q) -> Option<&'a [T]>
+    requires { IsSound T.order root.now }
+    ensures { IfSome result (λ run. IsEndRun run.now (below (Q.against key.now) (root_seen root.now))) }
+{
+    if root.parts.is_empty() {
+        return None;
+    }
+    let (page, guess) = root.guessed_page(key.hint());
+    let i = gap_within::<T, Q>(page, key, guess)?;
+    Some(&page[..i])
 }
 
 // A list of one thing.
@@ -233,6 +264,17 @@ impl<T: Keyed> Pages<T> {
         self.root.run_after(key)
     }
 
+    // What `run_after` returns. Looks first where the hints lead, and compares fewer elements if they lead to the right page.
+    fn entry_after<Q: Probe<T>>(&self, key: &Q) -> &[T]
+        ensures run { IsRun result.now (above (Q.against key.now) self.now) }
+        ensures ascends { Ascends T.order self.now }
+    {
+        match guessed_run_after::<T, Q>(&self.root, key) {
+            Some(run) => run,
+            None => self.run_after(key),
+        }
+    }
+
     // The elements above a key after the first `count` of them, up to the end of their page.
     pub(crate) fn run_after_some<Q: Probe<T>>(&self, key: &Q, count: usize) -> &[T]
         ensures run { IsRun result.now (drop count (above (Q.against key.now) self.now)) }
@@ -278,7 +320,7 @@ impl<T: Keyed> Pages<T> {
     pub fn after<Q: Probe<T>>(&self, key: &Q) -> Iter<'_, T>
         ensures { result ≡ above (Q.against key.now) self.now }
     {
-        let run = self.run_after(key);
+        let run = self.entry_after(key);
         Iter::at(self, run)
     }
 
@@ -309,6 +351,17 @@ impl<T: Keyed> Pages<T> {
             return &[];
         }
         self.root.run_before(key)
+    }
+
+    // What `run_before` returns, with the hints as in `entry_after`.
+    fn entry_before<Q: Probe<T>>(&self, key: &Q) -> &[T]
+        ensures run { IsEndRun result.now (below (Q.against key.now) self.now) }
+        ensures ascends { Ascends T.order self.now }
+    {
+        match guessed_run_before::<T, Q>(&self.root, key) {
+            Some(run) => run,
+            None => self.run_before(key),
+        }
     }
 
     // The elements below a key before the last `count` of them, from the start of their page.
@@ -346,7 +399,7 @@ impl<T: Keyed> Pages<T> {
     pub fn before<Q: Probe<T>>(&self, key: &Q) -> Back<'_, T>
         ensures { result ≡ reverse (below (Q.against key.now) self.now) }
     {
-        let run = self.run_before(key);
+        let run = self.entry_before(key);
         Back::at(self, run)
     }
 

@@ -1,8 +1,7 @@
 //! Subtrees of a collection: pages of elements, and levels above them.
 ghost use Rattle.std.specs.Prelude.{◌≡◌, ◌<◌, [], true, false, is_some, length, List, IfOk, OnOk, OnErr, IfSome, IsSome, option_map};
 ghost use Rattle.mg_pages.specs.Order.{inserted, removed, found, above, below, Ascends};
-ghost use Rattle.mg_pages.specs.Runs.{IsRun, IsEndRun, IsPageAt};
-ghost use Rattle.mg_pages.specs.Search.{IsAmong};
+ghost use Rattle.mg_pages.specs.Runs.{IsRun, IsEndRun, IsPageAt, IsPiece};
 ghost use Rattle.mg_pages.specs.Parts.{IsLast, IsCopy, AreHalves};
 
 use crate::keyed::{Keyed, Probe};
@@ -45,10 +44,10 @@ pub trait Subtree<T: Keyed>: Drop + Sized {
         requires sorted { Ascends T.order (seen self.now) }
         ensures { option_map (λ t. t.now) result ≡ found (Q.against key.now) (seen self.now) };
 
-    /// The element to which the hints lead from the hint of a key. It may or may not tie with the key: no element is compared.
-    fn guessed(&self, number: u64) -> Option<&T>
+    /// The page to which the hints lead from the hint of a key, and a guess of the key's place in it. No element is compared.
+    fn guessed_page(&self, number: u64) -> (&[T], usize)
         requires { is_whole self.now }
-        ensures { IfSome result (λ t. IsAmong (seen self.now) t.now) };
+        ensures { IsPiece result.0.now (seen self.now) };
 
     /// The first elements, up to the end of their page.
     fn first_run(&self) -> &[T]
