@@ -1,6 +1,6 @@
 -- Rows that a page skips, passed over up to one of them: what is found after that row is what was found without its first rows, as many
 -- as fewer come after the place where the search begins.
-use Rattle.std.proofs.Common.{◌≡◌, ℕ, zero, suc, ◌+◌, ◌-◌, ◌≤◌, Bool, true, false, ◌&&◌, not, cond, List, [], ◌∷◌, ◌++◌, Option, Some, None, Ordering, Less, Equal, Greater, is_gt, drop, length, map, option_map, take, refl, ap, ap₂, sym, ◌∙◌, subst, arith}
+use Rattle.std.proofs.Common.{◌≡◌, ℕ, suc, ◌+◌, ◌-◌, ◌≤◌, Bool, true, false, ◌&&◌, not, cond, List, [], ◌∷◌, ◌++◌, Option, Some, None, Ordering, Less, Equal, Greater, is_gt, drop, length, map, option_map, take, refl, ap, ap₂, sym, ◌∙◌, subst, arith}
 use Rattle.std.proofs.lemmas.List.{drop-drop, length-append}
 use Rattle.std.proofs.lemmas.List.Elements.{filter-append}
 use Rattle.std.proofs.lemmas.List.Sorted.{length_permutation}
@@ -22,12 +22,12 @@ use Rattle.mg_range.specs.RangeSide.{is_early, is_late, is_place_within}
 use Rattle.mg_range.specs.Range.{Range}
 use Rattle.mg_range.specs.declared.place.RangeSide.{RangeSide}
 use Rattle.mg_range.specs.declared.place.RangeSide.TheVariants.{Before, Within, Past}
-use Rattle.mg_scan.specs.Begins.{NotAfter, beyond_rises, place_row, reached}
+use Rattle.mg_scan.specs.Begins.{beyond_rises, place_row, reached}
 use Rattle.mg_scan.specs.Decided.{everything}
 use Rattle.mg_scan.specs.Ahead.{begins_at, count_ahead}
 use Rattle.mg_scan.specs.Found.{all_found_in, scan_input, target_columns}
 use Rattle.mg_scan.specs.Lead.{unasked}
-use Rattle.mg_scan.specs.Passed.{AreDecided, HasPageOf, IsIndex, IsWithin, all_ahead, beyond_row, page_after}
+use Rattle.mg_scan.specs.Passed.{AreDecided, HasPageOf, IsIndex, IsWithin, all_ahead, beyond_row}
 use Rattle.mg_scan.specs.Scan.{all_scanned, asked_documents, comes_after, is_wanted}
 use Rattle.mg_scan.specs.Search.{after_of, found_by}
 use Rattle.mg_scan.specs.Way.{all_found_by}
@@ -45,7 +45,6 @@ use Rattle.mg_shard.specs.Histories.{ServedDocument}
 use Rattle.mg_shard.specs.Rows.{row_of, rows_of}
 use Rattle.mg_shard.specs.Shard.{ShardView}
 use Rattle.mg_shard.specs.Walk.{beyond}
-use Rattle.mg_value.specs.Value.{item_list}
 
 -- ---- lists
 

@@ -1,5 +1,4 @@
-use Rattle.std.proofs.Common.{ap, sym, ◌∙◌, arith}
-use Rattle.mg_scan.specs.Passed.{all_ahead}
+use Rattle.std.proofs.Common.{arith}
 use Rattle.mg_scan.proofs.PassedOver.{ahead_still, counted_page, same_page}
 use Rattle.mg_scan.proofs.passing.pass_counted.Goals as goal
 use Rattle.mg_shard.specs.Shard.{shards_seen}

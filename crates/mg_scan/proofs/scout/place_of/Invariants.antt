@@ -1,4 +1,4 @@
-use Rattle.std.proofs.Common.{ℕ, ◌-◌, ◌≤◌, length}
+use Rattle.std.proofs.Common.{◌-◌, ◌≤◌, length}
 use Rattle.mg_scan.proofs.scout.place_of.Given as goal
 
 abbrev pub invariant-loop-low : goal.invariant-loop-low
