@@ -12,8 +12,8 @@ use std::thread::Threads;
 /// Calls `f(0)` to `f(n - 1)`, and returns the results in order. The caller's thread starts a thread for each call but the last, which it
 /// makes itself, as each for which no thread can be started.
 ///
-/// `thread::map_indices` returns the same, but its threads start one another. Then the system often puts two of them on one processor while
-/// another is idle, which takes as long as a scan of some ten thousand documents to be mended (docs/DECISIONS.md, "Scans and builds").
+/// `thread::map_indices` returns the same, but its threads start one another. Then Linux often puts two of them on one processor while
+/// another is idle (docs/DECISIONS.md, "Scans and builds").
 pub(crate) fn map_from_one_thread<R: Threads + Sync, X: Send + Drop, F: Fn(usize) -> X + Sync>(
     rt: &R,
     alloc: Global,
