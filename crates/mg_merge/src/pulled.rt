@@ -97,6 +97,7 @@ fn merge_ahead<T: Ranked + Copy, S: RowSource<T>>(
 
 // Takes the head of the source that begins first, and pulls that source's next item. `None` if no source
 // has anything left.
+#[inline(always)]
 fn pull_first<T: Ranked + Copy, S: RowSource<T>>(
     heads: &mut Vec<Option<T>>,
     sources: &mut [S],

@@ -110,17 +110,24 @@ fn hints_of(alloc: Global, given: &[u64]) -> Result<Hints, AllocError> {
     Ok(Hints { numbers })
 }
 
-// The place of the first hint that is not below `number`.
+// How many numbers a search passes over at a time, before it looks at each: one cache line of them.
+const STRIDE: usize = 8;
+
+// The place of the first hint that is not below `number`. For the few hints of a page, steps of a fixed length take fewer instructions
+// than halving.
 fn begin_of(numbers: &[u64], number: u64) -> usize {
-    let mut low = 0;
-    let mut high = numbers.len();
-    while low < high {
-        let middle = low + (high - low) / 2;
-        if numbers[middle] < number {
-            low = middle + 1;
-        } else {
-            high = middle;
-        }
+    let mut first = stride_of(numbers, number);
+    while first < numbers.len() && numbers[first] < number {
+        first += 1;
     }
-    low
+    first
+}
+
+// A place at most `STRIDE` before that of `begin_of`.
+fn stride_of(numbers: &[u64], number: u64) -> usize {
+    let mut first = 0;
+    while first < numbers.len().saturating_sub(STRIDE) && numbers[first + STRIDE - 1] < number {
+        first += STRIDE;
+    }
+    first
 }

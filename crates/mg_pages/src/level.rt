@@ -26,22 +26,26 @@ impl<T: Drop, P: Drop> Drop for Level<T, P> {
     }
 }
 
-// Guesses the index of the part where a key with this hint belongs: that of the first part whose hint is not below it.
+// How many parts a guess passes over at a time, before it looks at each.
+const STRIDE: usize = 8;
+
+// Guesses the index of the part where a key with this hint belongs: that of the first part whose hint is not below it. For at most 64
+// parts, steps of a fixed length take fewer instructions than halving.
 fn guess_among<T: Keyed, P: Subtree<T>>(parts: &[Child<T, P>], number: u64) -> usize {
-    if parts.len() < 2 {
-        return 0;
+    let mut first = stride_among::<T, P>(parts, number);
+    while first < parts.len() && parts[first].hint < number {
+        first += 1;
     }
-    let mut low = 0;
-    let mut high = parts.len();
-    while low < high {
-        let middle = low + (high - low) / 2;
-        if parts[middle].hint < number {
-            low = middle + 1;
-        } else {
-            high = middle;
-        }
+    first
+}
+
+// An index at most `STRIDE` before that of `guess_among`.
+fn stride_among<T: Keyed, P: Subtree<T>>(parts: &[Child<T, P>], number: u64) -> usize {
+    let mut first = 0;
+    while first < parts.len().saturating_sub(STRIDE) && parts[first + STRIDE - 1].hint < number {
+        first += STRIDE;
     }
-    low
+    first
 }
 
 // Guesses the index of the part where a key belongs. The key's hint is asked for only if there are several parts.

@@ -86,6 +86,7 @@ impl<'a> RowRange<'a> {
 
     /// Whether the row comes before the range in the direction. Every row is above an empty range: early in
     /// `Desc`, late in `Asc`. Takes no memory. Cost: a comparison of bytes.
+    #[inline(always)]
     pub fn is_early(&self, direction: Direction, row: &RowBytes) -> bool
         ensures { result ≡ stands_early direction (place_of self.now (item_list row.now.0)) }
     {
@@ -97,6 +98,7 @@ impl<'a> RowRange<'a> {
 
     /// Whether the row comes after the range in the direction. Every row is above an empty range: early in
     /// `Desc`, late in `Asc`. Takes no memory. Cost: a comparison of bytes.
+    #[inline(always)]
     pub fn is_late(&self, direction: Direction, row: &RowBytes) -> bool
         ensures { result ≡ stands_late direction (place_of self.now (item_list row.now.0)) }
     {
@@ -107,6 +109,7 @@ impl<'a> RowRange<'a> {
     }
 
     // Whether the row is below each key of the range.
+    #[inline(always)]
     fn is_below(&self, row: &RowBytes) -> bool
         ensures { result ≡ is_place_before (place_of self.now (item_list row.now.0)) }
     {
@@ -117,6 +120,7 @@ impl<'a> RowRange<'a> {
     }
 
     // Whether the row is above each key of the range, or the range is empty.
+    #[inline(always)]
     fn is_above(&self, row: &RowBytes) -> bool
         ensures { result ≡ is_place_past (place_of self.now (item_list row.now.0)) }
     {

@@ -68,6 +68,7 @@ impl Bound {
 
     /// Compares the place with a row: `Less` where the row is after the place, `Greater` where the row is before
     /// it. It compares bytes. Takes no memory.
+    #[inline(always)]
     pub fn against(&self, row: &RowBytes) -> Ordering
         ensures bytes { result
             ≡ bytes_order (columns_before self.now.1 (edge_bytes self.now.0)) (row_bytes row.now) }

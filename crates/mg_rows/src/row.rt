@@ -97,6 +97,7 @@ impl RowBytes {
     }
 
     /// The order of two rows: by key, and where keys tie by id. It compares bytes. Takes no memory.
+    #[inline(always)]
     pub fn compare(&self, other: &RowBytes) -> Ordering
         ensures bytes { result ≡ bytes_order (row_bytes self.now) (row_bytes other.now) }
         ensures rows { result ≡ row_value_order self.now other.now }
@@ -113,6 +114,7 @@ impl RowBytes {
     }
 
     /// The bytes of the row. Takes no memory.
+    #[inline(always)]
     pub fn as_bytes(&self) -> &[u8]
         ensures bytes { result.now ≡ row_bytes self.now }
         ensures stored { IsStoredRow self.now }
@@ -121,6 +123,7 @@ impl RowBytes {
     }
 
     /// The id of the row's document. Takes no memory. Cost: constant.
+    #[inline(always)]
     pub fn id(&self) -> &str
         ensures { result.now ≡ self.now.1 }
     {

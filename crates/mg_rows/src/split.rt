@@ -53,6 +53,7 @@ impl SplitBytes {
     }
 
     /// Both parts together. Takes no memory.
+    #[inline(always)]
     pub(crate) fn bytes(&self) -> &[u8]
         ensures { result.now ≡ self.now.0 ++ self.now.1 }
     {
@@ -60,6 +61,7 @@ impl SplitBytes {
     }
 
     /// The two parts. Takes no memory.
+    #[inline(always)]
     pub(crate) fn parts(&self) -> (&[u8], &[u8])
         ensures first { result.0.now ≡ self.now.0 }
         ensures second { result.1.now ≡ self.now.1 }
@@ -137,6 +139,7 @@ fn inside(front: &[u8], last: u8, back: &[u8]) -> [u8; 45]
     inside
 }
 
+#[inline(always)]
 fn lend(held: &Held) -> &[u8]
     requires { IsSound held.now }
     ensures { result.now ≡ held_bytes held.now }
@@ -147,6 +150,7 @@ fn lend(held: &Held) -> &[u8]
     }
 }
 
+#[inline(always)]
 fn end_of(held: &Held) -> usize
     requires { IsSound held.now }
     ensures end { result ≡ held_end held.now }

@@ -22,6 +22,7 @@ pub(crate) enum HitRow<'a> {
 
 impl<'a> HitRow<'a> {
     /// The id of its document. Takes no memory.
+    #[inline(always)]
     pub(crate) fn id(&self) -> &'a str
         ensures { result.now ≡ (lent_row self.now).1 }
     {
@@ -52,6 +53,7 @@ impl<'a> HitRow<'a> {
     }
 
     /// The order of two rows: by key, and at one key by the bytes of the id. Takes no memory.
+    #[inline(always)]
     pub(crate) fn compare(&self, other: &HitRow<'a>) -> Ordering
         ensures { result ≡ row_value_order (lent_row self.now) (lent_row other.now) }
     {
@@ -63,6 +65,7 @@ impl<'a> HitRow<'a> {
 }
 
 // The order of a row of an index and another.
+#[inline(always)]
 fn compare_row(row: &RowBytes, other: &HitRow<'_>) -> Ordering
     ensures { result ≡ row_value_order row.now (lent_row other.now) }
 {

@@ -35,6 +35,7 @@ impl<'a, 'b> RowSource<Lead<'a>> for LeadSource<'a, 'b> {
 }
 
 // The next row of an index that is in the range.
+#[inline(always)]
 fn lead_of_rows<'a>(shard: &'a Shard, rows: &mut Rows<'a>, search: Search<'_>) -> Option<Lead<'a>>
     ensures lead { IfSome result (λ l. rows_on_way search.entry rows.old
         ≡ lead_row l ∷ rows_on_way search.entry rows.new) }
@@ -83,6 +84,7 @@ fn lead_of_documents<'a>(
 }
 
 // The rows in a search's range in a shard, as they are asked for. Cost: one look-up of where to begin.
+#[inline(always)]
 pub(crate) fn lead_source_of<'a, 'b>(shard: &'a Shard, search: Search<'b>) -> LeadSource<'a, 'b>
     ensures { IsLeadSourceOf search.entry shard.now result }
 {

@@ -20,6 +20,7 @@ pub(crate) enum Left<'a> {
 }
 
 // All that a search has to read in a shard. Cost: one look-up of where to begin.
+#[inline(always)]
 pub(crate) fn left_of<'a>(shard: &'a Shard, search: Search<'_>) -> Left<'a>
     ensures { IsBegun search.entry shard.now result }
 {
@@ -38,6 +39,7 @@ fn documents_of<'a>(shard: &'a Shard, search: Search<'_>) -> Documents<'a>
 }
 
 // The rows of an index from where the search begins; nothing if the shard has no such index.
+#[inline(always)]
 fn left_in_index<'a>(shard: &'a Shard, ddoc: &str, name: &str, search: Search<'_>) -> Left<'a>
     ensures { IsBegunIn (option_map (λ d. d.columns) (definition_at ddoc.now name.now shard.now.definitions))
         search.entry shard.now result }

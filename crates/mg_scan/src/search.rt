@@ -68,6 +68,7 @@ fn is_late(direction: Direction, side: RangeSide) -> bool
 }
 
 // Whether this ordering puts an item past the row after which the search begins; true without such a row.
+#[inline(always)]
 fn is_beyond(direction: Direction, order: Option<Ordering>) -> bool
     ensures { result ≡ stands_beyond direction order }
 {
@@ -78,6 +79,7 @@ fn is_beyond(direction: Direction, order: Option<Ordering>) -> bool
 }
 
 // Compares the place where a search begins to an item.
+#[inline(always)]
 fn begin(direction: Direction, is_reached: bool) -> Ordering
     ensures { result ≡ directed direction (if is_reached then Less else Greater) }
 {
@@ -89,6 +91,7 @@ fn begin(direction: Direction, is_reached: bool) -> Ordering
 }
 
 // Compares a row to another, if there is one.
+#[inline(always)]
 fn row_order(row: &RowBytes, after: Option<&RowBytes>) -> Option<Ordering>
     ensures { result ≡ option_map (row_value_order row.now) (option_map (λ r. r.now) after.entry) }
 {
@@ -110,6 +113,7 @@ fn id_order(id: &str, after: Option<&RowBytes>) -> Option<Ordering>
 
 // Whether a row is one that a search looks at, or comes later. Cost: a comparison of bytes with the end of the range, and one with
 // the row after which the search begins, if there is one.
+#[inline(always)]
 pub(crate) fn is_reached(search: Search<'_>, row: &RowBytes) -> bool
     ensures { result ≡ reached search.entry.direction search.entry.range.now (after_of search.entry) row.now }
 {
@@ -119,6 +123,7 @@ pub(crate) fn is_reached(search: Search<'_>, row: &RowBytes) -> bool
 
 // Compares the place where the search begins to a row. Cost: a comparison of bytes with the end of the range, and one with the row
 // after which it begins, if there is one.
+#[inline(always)]
 pub(crate) fn begin_at_row(search: Search<'_>, row: &RowBytes) -> Ordering
     ensures { result ≡ begin_at search.entry row.now }
 {
@@ -135,6 +140,7 @@ pub(crate) fn begin_at_id(search: Search<'_>, id: &str) -> Ordering
 }
 
 // Whether a search ends before a row. Cost: one comparison of bytes.
+#[inline(always)]
 pub(crate) fn is_past_row(search: Search<'_>, row: &RowBytes) -> bool
     ensures { result ≡ is_late_row search.entry.direction search.entry.range.now row.now }
 {

@@ -45,6 +45,7 @@ pub(crate) fn list_in_pages(
 }
 
 // The index of this design document and name, if there is one. In one page names are compared in turn, since a look-up takes longer.
+#[inline(always)]
 fn index_there<'a>(indexes: &'a Pages<IndexEntry>, ddoc: &str, name: &str) -> Option<&'a IndexEntry>
     ensures { option_map (λ x. x.now) result ≡ find (λ x. is_at ddoc.now name.now x.0) indexes.now }
 {
@@ -56,6 +57,7 @@ fn index_there<'a>(indexes: &'a Pages<IndexEntry>, ddoc: &str, name: &str) -> Op
 
 /// The rows of the index of this design document and name, if there is one. Takes no memory. Cost: a comparison of names with each index,
 /// or one look-up if they are in several pages.
+#[inline(always)]
 pub(crate) fn rows_there<'a>(
     indexes: &'a Pages<IndexEntry>,
     ddoc: &str,

@@ -1,5 +1,5 @@
 -- Parts weigh less than the value.
-use Rattle.std.proofs.Common.{◌≡◌, ℕ, zero, suc, ◌+◌, ◌<◌, Some, ap, arith}
+use Rattle.std.proofs.Common.{◌≡◌, ℕ, zero, suc, ◌<◌, Some, ap, arith}
 use Rattle.std.specs.List.{slice_get}
 use Rattle.mg_value.specs.Value.{Value, null, flag, whole, text, list, object, Items, no_items, item, Members, no_members, member, item_list}
 use Rattle.mg_value.specs.Weight.{weight, items_weight, members_weight}

@@ -44,7 +44,7 @@ pub fn read_in(alloc: Global, bytes: &[u8], buffer: &mut ReadBuffer) -> Result<J
     ensures no_memory { result ≡ Err ReadError.NoMemory
         → IsUtf8 bytes.now × (0 < length bytes.now) }
 {
-    match simdutf8::compat::from_utf8(bytes) {
+    match str::from_utf8(bytes) {
         Ok(text) => read_text(alloc, text, buffer),
         Err(_) => Err(ReadError::NotJson),
     }
