@@ -51,7 +51,7 @@ pub(crate) fn copy_bytes(alloc: Global, bytes: &[u8]) -> Result<Vec<u8>, NoMemor
     Ok(copy)
 }
 
-// Where a row begins, counted from the end of the table; where `place` is the count, the place at which the rows end.
+// Where the row at `place` begins, counted from the end of the table; if `place` is the count of rows, where the rows end.
 fn row_begin(bytes: &[u8], count: usize, place: usize) -> usize
     requires block { IsObjectBlock bytes.now }
     requires counted { count ≡ length (rows_in bytes.now) }

@@ -14,7 +14,7 @@ pub(crate) struct Scout<'a> {
     pub(crate) rows: Rows<'a>,
 }
 
-// The scout after `stride` rows; `None` if the search's range ends before.
+// The scout at the row that is `stride` rows further; `None` if the search's range ends before that row.
 pub(crate) fn scout_of<'a>(
     mut rows: Rows<'a>,
     search: Search<'_>,

@@ -89,7 +89,7 @@ pub(crate) fn push_if<'a>(hits: &mut Vec<Hit<'a>>, hit: Option<Hit<'a>>) -> Resu
     Ok(())
 }
 
-// The hits among rows of an index that begin where the search does.
+// The hits among these rows of an index, which begin where the search begins.
 fn hits_of_rows<'a>(
     alloc: Global,
     shard: &'a Shard,
@@ -110,7 +110,7 @@ fn hits_of_rows<'a>(
     Ok(hits)
 }
 
-// The hits among documents that begin where the search does.
+// The hits among these documents, which begin where the search begins.
 fn hits_of_documents<'a>(
     alloc: Global,
     shard: &'a Shard,
