@@ -31,6 +31,6 @@ pub record AreWinners (turns : ℕ → ℕ → Ordering) (n changed : ℕ) (winn
 abbrev pub IsWinnerTree : {X : Type 0} → (X → X → Ordering) → List (List X) → List ℕ → Type 0
 IsWinnerTree order lists winners = AreWinners (turn_order order lists) (length lists) 0 winners
 
--- a winner tree of lists, but for a change of one list: only the winners above it may be wrong
+-- a winner tree of lists, of which one has changed since: only the winners above that list may be wrong
 abbrev pub IsWinnerTreeBut : {X : Type 0} → (X → X → Ordering) → List (List X) → ℕ → List ℕ → Type 0
 IsWinnerTreeBut order lists changed winners = AreWinners (turn_order order lists) (length lists) (length lists + changed) winners

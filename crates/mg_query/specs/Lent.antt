@@ -35,6 +35,6 @@ pub record Lends (columns : List Steps) (h : Hit) (c : Candidate) : Type 0 where
   pub form : hit_form h ≡ c.form
   pub tree : StandsFor (kept_of (hit_document h)).0 c.history
 
--- the hits lend those of candidates, one each
+-- the hits lend the documents of these candidates, one hit for each candidate
 abbrev pub LendEach : List Steps → List Hit → List Candidate → Type 0
 LendEach columns hits cs = AllZip (Lends columns) hits cs

@@ -1,4 +1,4 @@
--- For private clauses: what is left on a way.
+-- For private clauses: the elements that are left on a `Way`, in the order in which they are read.
 use Rattle.std.specs.Prelude.{List}
 use Rattle.mg_shard.specs.declared.walk.Way.{Way}
 use Rattle.mg_shard.specs.declared.walk.Way.TheVariants.{Up, Down}
