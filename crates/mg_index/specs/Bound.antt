@@ -23,7 +23,7 @@ pub record Bound : Type 0 where
 abbrev pub bound_by : Comparison → Value → Bound
 bound_by comparison value = record { comparison = comparison; value = value }
 
--- whether the comparison allows a value that stands in this order to the bound's value
+-- whether the comparison allows a value that has this order to the bound's value
 abbrev pub allows : Comparison → Ordering → Bool
 allows Below o = is_lt o
 allows AtMost o = is_le o

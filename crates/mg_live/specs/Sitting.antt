@@ -26,7 +26,7 @@ abbrev pub new_seats : ℕ → List Sitting
 new_seats zero = []
 new_seats (suc n) = new_seats n ++ at_first n ∷ []
 
--- the same seat with the same tally, which has seen what it had seen, or more
+-- a seat later: its number and its tally are unchanged, and it has seen what it had seen, or more
 pub record IsLater (old new : Sitting) : Type 0 where
   pub number : new.number ≡ old.number
   pub seen : IsPrefix old.seen new.seen

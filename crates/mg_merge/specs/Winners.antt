@@ -1,5 +1,5 @@
 -- A winner tree of n numbers: Knuth, The Art of Computer Programming, volume 3, section 5.4.1.
--- Place n + k has the number k. Each place j from 1 to n - 1 has the winner of the places 2 j and 2 j + 1, which stand right below it.
+-- Place n + k has the number k. Each place j from 1 to n - 1 has the winner of the places 2 j and 2 j + 1, which are right below it.
 use Rattle.std.specs.Prelude.{◌≡◌, ℕ, ◌+◌, ◌*◌, ◌/◌, ◌^◌, ◌<◌, ◌≤◌, List, get_or, length, false, if◌then◌else◌}
 use Rattle.std.specs.declared.cmp.Ordering.{Ordering}
 use Rattle.std.specs.Ordering.{is_gt}
@@ -9,11 +9,11 @@ use Rattle.mg_merge.specs.Rests.{turn_order}
 abbrev pub winner_of : (ℕ → ℕ → Ordering) → ℕ → ℕ → ℕ
 winner_of turns a b = if is_gt (turns a b) then b else a
 
--- the upper place is the lower one, or stands above it: halving the lower one some times, and rounding down, gives the upper one
+-- the upper place is the lower one, or is above it: halving the lower one some times, and rounding down, gives the upper one
 abbrev pub IsAbove : ℕ → ℕ → Type 0
 IsAbove upper lower = (d : ℕ) × (lower / 2 ^ d ≡ upper)
 
--- the winner at a place is one of the n numbers, and this place stands above that number's own
+-- the winner at a place is one of the n numbers, and this place is above that number's own
 abbrev pub IsFromBelow : ℕ → List ℕ → ℕ → Type 0
 IsFromBelow n winners j = (get_or winners j 0 < n) × IsAbove j (n + get_or winners j 0)
 

@@ -14,7 +14,7 @@ use mg_value::{Json, LentValue, NoMemory};
 use std::alloc::Global;
 use std::marker::Model;
 
-/// A selector in its normal form: its negations are pushed inwards until each stands on an operator,
+/// A selector in its normal form: its negations are pushed inwards until each negates an operator,
 /// and the conditions that every match has to meet, the atoms, are kept apart from the rest.
 ///
 /// A negated operator is not the complement: on a missing part neither holds, except for `$exists`.

@@ -79,7 +79,7 @@ fn is_over_at_id(search: Search<'_>, found: usize, id: &str) -> bool
     found >= search.take || is_past_id(search, id)
 }
 
-// Puts a hit behind the others, if there is one.
+// Appends a hit to the others, if there is one.
 pub(crate) fn push_if<'a>(hits: &mut Vec<Hit<'a>>, hit: Option<Hit<'a>>) -> Result<(), NoMemory>
     ensures { OnOk result (hits.new.items ≡ hits.old.items ++ list_of_option hit.entry) }
 {

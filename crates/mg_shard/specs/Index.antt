@@ -31,7 +31,7 @@ definitions_of xs = map (λ x. x.0) xs
 abbrev pub HasRows : KeptDocuments → Index → Type 0
 HasRows ds x = x.1 ≡ rows_of x.0.columns (docs_of ds)
 
--- each index has its rows, and each design document and name stands once, in the order of a catalog
+-- each index has its rows, and each design document and name occurs once, in the order of a catalog
 pub record AreIndexes (ds : KeptDocuments) (xs : List Index) : Type 0 where
   pub catalog : IsCatalog (definitions_of xs)
   pub rows : AllByRecursion (HasRows ds) xs
