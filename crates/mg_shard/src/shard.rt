@@ -73,7 +73,7 @@ impl Shard {
 
     /// A second shard of these documents and indexes, all of which both share.
     ///
-    /// Errors: `NoMemory` if an allocation fails. Cost: the top levels of the documents and of the list of indexes, at most 65 parts each.
+    /// Errors: `NoMemory` if an allocation fails. Cost: the top levels of the documents and of the list of indexes, as for `Pages::share`.
     pub fn share(&self, alloc: Global) -> Result<Shard, NoMemory>
         ensures { IfOk result (λ s. s ≡ self.now) }
     {
