@@ -76,6 +76,7 @@ abbrev pub accepted_of : Paths → Bool → Value → Change → Result Accepted
 accepted_of h deleted body (New named) = extended h deleted body named
 accepted_of h deleted body (Replica run) = replicated h run
 
+-- the path that an edit adds, or why the edit is refused
 abbrev pub accepted_by : Paths → Edit → Result Accepted Refused
 accepted_by h e = accepted_of h e.deleted e.body e.change
 

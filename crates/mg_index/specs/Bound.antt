@@ -20,6 +20,7 @@ pub record Bound : Type 0 where
   pub comparison : Comparison
   pub value : Value
 
+-- the bound by this comparison with this value
 abbrev pub bound_by : Comparison → Value → Bound
 bound_by comparison value = record { comparison = comparison; value = value }
 

@@ -14,6 +14,7 @@ pub record Sitting : Type 0 where
   pub seen : List Commit
   pub tally : ℕ
 
+-- how the logic stores a seat
 abbrev pub sitting_code : Coded Sitting
 sitting_code = code_by (ℕ × (List Commit × ℕ)) (coded× coded_ℕ (coded× commits_code coded_ℕ)) (λ s. (s.number, (s.seen, s.tally))) (λ p. record { number = p.0; seen = p.1.0; tally = p.1.1 }) (λ _. refl)
 

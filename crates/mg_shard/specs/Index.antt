@@ -38,6 +38,7 @@ pub record AreIndexes (ds : KeptDocuments) (xs : List Index) : Type 0 where
 
 -- ---- the order of indexes: by design document, then name
 
+-- the order of indexes is that of their definitions
 abbrev pub index_order : Index → Index → Ordering
 index_order x y = definition_order x.0 y.0
 

@@ -3,6 +3,7 @@ use Rattle.std.specs.Prelude.{List}
 use Rattle.mg_shard.specs.declared.walk.Way.{Way}
 use Rattle.mg_shard.specs.declared.walk.Way.TheVariants.{Up, Down}
 
+-- the elements that are left
 abbrev pub left_on : {T : Type 0} → Way T → List T
 left_on (Up things) = things
 left_on (Down things) = things
