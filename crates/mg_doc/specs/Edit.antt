@@ -26,7 +26,7 @@ abbrev pub is_alive : Option Leaf → Bool
 is_alive None = false
 is_alive (Some l) = not l.deleted
 
--- whether it names no revision, though its document exists and is not deleted
+-- whether it names no revision, though the winner is not deleted
 abbrev pub is_unnamed : Paths → Option Revision → Bool
 is_unnamed h named = is_none named && is_alive (winner_of h)
 
@@ -41,7 +41,7 @@ refused_by NotLeaf = Conflict
 refused_by Full = BadHistory
 refused_by Known = Conflict
 
--- why it is refused, if it is: it names no revision, though its document exists and is not deleted; or a revision of this id cannot be
+-- why it is refused, if it is: it names no revision, though the winner is not deleted; or a revision of this id cannot be
 -- made over its base
 abbrev pub refusal_over : Paths → Option Revision → List ℕ → Option Refused
 refusal_over h named id = if is_unnamed h named then Some Conflict else option_map refused_by (refusal_of h (base_of h named) id)

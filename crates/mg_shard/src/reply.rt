@@ -8,7 +8,7 @@ use mg_revtree::Rev;
 pub enum EditReply {
     /// The revision that the edit brought.
     Done(Rev),
-    /// The named revision is not a leaf; or none is named, but the document is not deleted; or the revision that the edit makes is
+    /// The named revision is not a leaf; or none is named, but the winner is not deleted; or the revision that the edit makes is
     /// already known.
     Conflict,
     /// The path gives a known revision another parent, or the extended leaf has the last position.
