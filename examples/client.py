@@ -1,7 +1,7 @@
 #!/usr/bin/env python3
 """A client of one database: writes documents by a bulk, defines an index, and reads pages by their bookmarks.
 
-usage: client.py URL        the URL of an empty database, as http://127.0.0.1:5984/db
+usage: client.py URL        the URL of an empty database, such as http://127.0.0.1:5984/db
 """
 import http.client
 import json

@@ -61,7 +61,7 @@ class Away(Exception):
 
 
 class Unfit(str):
-    """The text of a number that is not a whole one of 64 bits."""
+    """The text of a number that is not a whole number of 64 bits."""
 
 
 @dataclass(frozen=True)
@@ -111,7 +111,7 @@ class Server:
             connection.close()
 
     def read(self, method: str, target: str, body: bytes | None = None) -> Any:
-        """The value of a reply of CouchDB. Numbers that are not whole ones of 64 bits are `Unfit`."""
+        """The value of a reply of CouchDB. Numbers that are not whole numbers of 64 bits are `Unfit`."""
         status, text = self.ask(method, target, body)
         if status >= 500 or status == 429:
             raise Away(f"{self.name}/{target}: status {status}")

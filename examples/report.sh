@@ -1,7 +1,7 @@
 #!/usr/bin/env bash
 # A report of all sales by region and amount, page by page, with curl and sed alone.
 #
-# usage: report.sh URL        the URL of an empty database, as http://127.0.0.1:5984/db
+# usage: report.sh URL        the URL of an empty database, such as http://127.0.0.1:5984/db
 set -euo pipefail
 url=$1
 size=3

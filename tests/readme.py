@@ -6,7 +6,7 @@ usage: readme.py --program PATH [--part conversation|command]
 `conversation` is the first conversation. The commands of the `sh` blocks of its section run in one shell, with the path and the port of
 the program put in; their output must be the `text` blocks, joined. Needs `curl`.
 `command` is the first `sh` block, unchanged, which builds and runs the program without proving it: its output must end in the
-bytes of crates/mangod/stdout. Needs `rt`, and takes two and a half minutes of processor time. The last line is 'N passed, M failed'.
+bytes of crates/mangod/stdout. Needs `rt`; README.md says how long it takes. The last line is 'N passed, M failed'.
 """
 import re
 import subprocess

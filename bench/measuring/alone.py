@@ -171,7 +171,7 @@ def defined(args, count):
 
 
 def deleted(args):
-    """The table of the memory that a document takes which was made and then deleted."""
+    """The table of the memory that a document takes after it was made and deleted."""
     count = 1000 if args.smallest else DELETED
     with contextlib.closing(Program(args.program, args.corpus(BULK))) as program:
         empty = program.size()

@@ -114,7 +114,7 @@ def cells_at_most(part, most):
 
 
 def many_indexes(most):
-    """The time of the most indexes, divided by that of the fewest, for each of the former."""
+    """The ratio of the time that an index takes among the most indexes to the time that it takes among the fewest."""
     def figures(measured):
         found = measured.grid("catalogs")
         for cells in found["rows"].values():

@@ -25,7 +25,7 @@ class Tally:
             self.passed += 1
 
     def needs(self, command):
-        """Whether a command is installed that the next checks need. If not, that counts as a failed check, since they are left out."""
+        """Whether a command that the next checks need is installed. If not, they are left out, and that counts as a failed check."""
         is_installed = shutil.which(command) is not None
         if not is_installed:
             self.failed += 1

@@ -15,17 +15,17 @@ def array(n):
 
 
 def in_arguments(n):
-    """`$in` with n arguments on an array of 100 elements, none of which it has."""
+    """`$in` with n arguments, none of which an array of 100 elements has."""
     return array(100) + find(b'{"v":{"$in":[%s]}}' % arguments(n)), NOTHING
 
 
 def nin_arguments(n):
-    """`$nin` with n arguments on an array of 100 elements, none of which it has."""
+    """`$nin` with n arguments, none of which an array of 100 elements has."""
     return array(100) + find(b'{"v":{"$nin":[%s]}}' % arguments(n), b'"fields":["_id"]'), page(["a"])
 
 
 def all_arguments(n):
-    """`$all` with n arguments that are all the last of 100 elements."""
+    """`$all` with n arguments, each equal to the last of 100 elements."""
     return array(100) + find(b'{"v":{"$all":[%s]}}' % b",".join([b"99"] * n), b'"fields":["_id"]'), page(["a"])
 
 
@@ -36,7 +36,7 @@ def or_arms(n):
 
 
 def nor_arms(n):
-    """n arms of `$nor` below a negation and another one."""
+    """n arms of `$nor` below two negations."""
     arms = b",".join(b'{"v":{"$elemMatch":{"$eq":%d}}}' % (1000 + i) for i in range(n))
     return array(100) + find(b'{"$not":{"$not":{"$nor":[%s]}}}' % arms, b'"fields":["_id"]'), page(["a"])
 
@@ -48,25 +48,25 @@ def arguments_by_elements(n):
 
 
 def choices(n):
-    """n choices of two, all of them asked: they are not multiplied out."""
+    """An `$and` of n `$or`s of two arms: they are not multiplied out."""
     arms = b",".join(b'{"$or":[{"a%d":1},{"b%d":1}]}' % (i, i) for i in range(n))
     return find(b'{"$and":[%s]}' % arms) * 2, NOTHING
 
 
 def negated_choices(n):
-    """n conjunctions of two, none of which may hold."""
+    """The negation of an `$or` of n `$and`s of two arms: they are not multiplied out."""
     arms = b",".join(b'{"$and":[{"a%d":1},{"b%d":1}]}' % (i, i) for i in range(n))
     return find(b'{"$not":{"$or":[%s]}}' % arms) * 2, NOTHING
 
 
 def deep_negations(n):
-    """n arms of 50 negations and elements, one in the other."""
+    """n arms, each of 25 negations and 25 `$elemMatch`es, one inside the other."""
     arm = b'{"$not":{"$elemMatch":' * 25 + b'{"a":1}' + b"}}" * 25
     return array(10) + find(b'{"$and":[{"a":5},%s]}' % b",".join([arm] * n)), NOTHING
 
 
 def steps_of_a_selector(n):
-    """A path of n steps in a selector, over a document that goes along for 100 of them."""
+    """A path of n steps in a selector, and a document that has the first 101 of them."""
     deep = b'"s":' + b'{"s":' * 100 + b"1" + b"}" * 100
     return replicas([document(b"a", deep)]) + find(b'{"%s":1}' % b".".join([b"s"] * n)) * 4, NOTHING
 
@@ -111,8 +111,8 @@ def many_fields(n):
 
 
 def columns(n):
-    """An index of n columns, an edit of each of which its row has one, and a query that bounds them all: a product of columns
-    and atoms."""
+    """An index of n columns, a document that has all of them, and a query that bounds all of them: a product of columns and
+    atoms."""
     names = [b"c%d" % i for i in range(n)]
     index = post("_index", b'{"index":{"fields":[%s]},"ddoc":"x","name":"i"}' % b",".join(b'"%s"' % name for name in names))
     edit = replicas([document(b"a", *(b'"%s":1' % name for name in names))])

@@ -23,12 +23,12 @@ def forked_paths(n):
 
 
 def known_path(n):
-    """A path of n revisions, and the same again."""
+    """A path of n revisions, sent twice."""
     return replicas([of_path([b"%x" % i for i in range(n, 0, -1)])]) * 2, ADDED
 
 
 def combed_paths(n):
-    """A path of n revisions, and then thirty of the same length that each leave it at another place."""
+    """A path of n revisions, and then thirty paths of the same length, each of which branches off it at another revision."""
     one = [b"%x" % i for i in range(n, 0, -1)]
     others = [[b"%d-%x" % (turn, i) for i in range(n, n - turn, -1)] + one[turn:] for turn in range(1, 31)]
     return b"".join(replicas([of_path(ids)]) for ids in [one, *others]), ADDED
@@ -87,7 +87,7 @@ def line_one_by_one(n):
 
 
 def refused_edits(n):
-    """n edits of one document with 2,000 revisions, in one bulk, that are refused."""
+    """n refused edits, in one bulk, of a document with 2,000 revisions."""
     first = replicas([of_path([b"%x" % i for i in range(2000, 0, -1)])])
     bulk = post("_bulk_docs", b'{"docs":[%s]}' % b",".join([b'{"_id":"d","_rev":"7-x"}'] * n))
     return first + bulk, b"[%s]\n" % b",".join([CONFLICT] * n)

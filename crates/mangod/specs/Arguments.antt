@@ -45,16 +45,17 @@ settings_of (db ∷ shards ∷ workers ∷ sessions ∷ addr ∷ []) =
     settings_with db addr (number_of shards 64) (number_of workers 32) (number_of sessions 16)
 settings_of args = None
 
--- the name of the database, the number of its shards and the number of sessions; an empty name, one shard and one session if the
--- arguments are wrong
+-- the name of the database; empty if the arguments are wrong
 abbrev pub name_in : Option Settings → List ℕ
 name_in None = []
 name_in (Some s) = s.db
 
+-- the number of its shards; one if the arguments are wrong
 abbrev pub shards_in : Option Settings → ℕ
 shards_in None = 1
 shards_in (Some s) = s.shards
 
+-- the number of sessions; one if the arguments are wrong
 abbrev pub sessions_in : Option Settings → ℕ
 sessions_in None = 1
 sessions_in (Some s) = s.sessions

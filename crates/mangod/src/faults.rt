@@ -8,7 +8,7 @@ use std::io::ErrorKind;
 /// What to do after a failed accept.
 #[derive(Clone, Copy, PartialEq, Debug)]
 pub(crate) enum AfterFault {
-    /// Accept again: the fault is of one connection only.
+    /// Accept again: the fault concerns one connection only.
     Again,
     /// Accept at the next event: no connection is waiting.
     AtAnEvent,
@@ -48,7 +48,7 @@ fn is_want(number: i32) -> bool
     number == 23 || number == 24 || number == 105
 }
 
-// Whether on Linux this number means a fault of one connection: of its network, its protocol, its options or its host.
+// Whether on Linux this number means a fault that concerns one connection: its network, its protocol, its options or its host.
 fn is_of_one_connection(number: i32) -> bool
     ensures { result ≡ is_of_one_connection number }
 {

@@ -6,12 +6,12 @@ use Rattle.std.specs.declared.cmp.Ordering.{Ordering}
 use Rattle.mg_collate.specs.declared.direction.Direction.{Direction}
 use Rattle.mg_collate.specs.declared.direction.Direction.TheVariants.{Asc, Desc}
 
--- the word for a direction
+-- the text that names a direction
 abbrev pub direction_word : Direction → List ℕ
 direction_word Asc = codes "asc"
 direction_word Desc = codes "desc"
 
--- the direction that a word names
+-- the direction that a text names
 abbrev pub direction_named : List ℕ → Option Direction
 direction_named word = if bytes_eq word (codes "asc") then Some Asc else if bytes_eq word (codes "desc") then Some Desc else None
 

@@ -1,6 +1,6 @@
 -- The order of values, after the order of JSON types in CouchDB's view collation: null, false, true, numbers, strings,
 -- arrays, objects. Unlike in CouchDB, strings are ordered by their bytes, and members by name.
--- Each value is written out as a list of whole numbers, and these lists are ordered as words are in a dictionary.
+-- Each value is written out as a list of whole numbers, and these lists are ordered as in a dictionary, by the first number that differs.
 use Rattle.std.specs.Prelude.{ℕ, suc, ℤ, pos, List, [], ◌∷◌, ◌++◌, true, false}
 use Rattle.std.specs.Ordering.{int_cmp}
 use Rattle.std.specs.declared.cmp.Ordering.{Ordering}

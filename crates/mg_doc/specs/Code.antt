@@ -14,13 +14,16 @@ abbrev pub change_parts : Change → Option (List Revision) × Option Revision
 change_parts (New named) = (None, named)
 change_parts (Replica run) = (Some run, None)
 
+-- the change that has these two parts
 abbrev pub change_from : Option (List Revision) → Option Revision → Change
 change_from None named = New named
 change_from (Some run) named = Replica run
 
+-- the change of a pair of parts
 abbrev pub change_made : Option (List Revision) × Option Revision → Change
 change_made p = change_from p.0 p.1
 
+-- the parts of a change give the change back
 pub change_back : (c : Change) → change_made (change_parts c) ≡ c
 change_back (New named) = refl
 change_back (Replica run) = refl

@@ -26,7 +26,7 @@ abbrev pub is_alive : Option Leaf → Bool
 is_alive None = false
 is_alive (Some l) = not l.deleted
 
--- whether it names no revision, though its document is there
+-- whether it names no revision, though the winner is not deleted
 abbrev pub is_unnamed : Paths → Option Revision → Bool
 is_unnamed h named = is_none named && is_alive (winner_of h)
 
@@ -41,7 +41,8 @@ refused_by NotLeaf = Conflict
 refused_by Full = BadHistory
 refused_by Known = Conflict
 
--- why it is refused, if it is: it names no revision, though its document is there; or its base refuses a revision of this id
+-- why it is refused, if it is: it names no revision, though the winner is not deleted; or a revision of this id cannot be
+-- made over its base
 abbrev pub refusal_over : Paths → Option Revision → List ℕ → Option Refused
 refusal_over h named id = if is_unnamed h named then Some Conflict else option_map refused_by (refusal_of h (base_of h named) id)
 
@@ -75,6 +76,7 @@ abbrev pub accepted_of : Paths → Bool → Value → Change → Result Accepted
 accepted_of h deleted body (New named) = extended h deleted body named
 accepted_of h deleted body (Replica run) = replicated h run
 
+-- the path that an edit adds, or why the edit is refused
 abbrev pub accepted_by : Paths → Edit → Result Accepted Refused
 accepted_by h e = accepted_of h e.deleted e.body e.change
 

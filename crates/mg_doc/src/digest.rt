@@ -34,8 +34,8 @@ pub fn rev_id(
     Ok(hex::encode(alloc, hasher.finalize())?)
 }
 
-// The id of the revision that a new edit makes if it extends the revision that it names, or nothing. `None` for a replica's
-// change.
+// The id of a new edit's revision, made before the tree is known: right if the edit extends the revision that it names, or makes the
+// first revision of its document. `None` for a replica's change.
 pub(crate) fn id_ahead(
     alloc: Global,
     change: &Change,

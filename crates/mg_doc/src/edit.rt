@@ -16,14 +16,15 @@ use std::alloc::Global;
 use std::collections::BTreeMap;
 use std::marker::Model;
 
-/// What a document of a bulk asks for: a new edit, or one that a replica made.
+/// What a document of a bulk asks for: a new revision (a new edit), or the acceptance of a path of revisions from a replica.
 #[derive(Debug, Drop)]
 pub struct Edit {
     id: Option<String>,
     change: Change,
     deleted: bool,
     body: Json,
-    // the id of the revision that a new edit makes if it extends the revision that it names, or nothing
+    // the id of a new edit's revision, made before the tree is known: right if the edit extends the revision that it names, or makes the
+    // first revision of its document
     ahead: Option<String>,
 }
 

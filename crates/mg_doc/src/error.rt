@@ -23,7 +23,7 @@ pub enum DocError {
 /// Why an edit is refused.
 #[derive(Clone, Copy, PartialEq, Eq, Debug, Drop, Error)]
 pub enum Refused {
-    /// The named revision is not a leaf; or none is named, but the document is there; or the revision that the edit makes is
+    /// The named revision is not a leaf; or none is named, but the winner is not deleted; or the revision that the edit makes is
     /// already known.
     #[error("Document update conflict.")]
     Conflict,
@@ -35,7 +35,7 @@ pub enum Refused {
 /// Why an edit was not applied.
 #[derive(Clone, Copy, PartialEq, Eq, Debug, Drop, Error)]
 pub enum EditError {
-    /// The named revision is not a leaf; or none is named, but the document is there; or the revision that the edit makes is
+    /// The named revision is not a leaf; or none is named, but the winner is not deleted; or the revision that the edit makes is
     /// already known.
     #[error("Document update conflict.")]
     Conflict,

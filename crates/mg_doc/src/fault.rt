@@ -44,7 +44,7 @@ fn names_revision(alloc: Global, member: Option<&Json>) -> Option<bool>
     }
 }
 
-// Whether a text is a revision. `Rev::parse` checks the form before it allocates, so `NoMemory` means a good form.
+// Whether a text is a revision. `Rev::parse` checks the text before it allocates, so `NoMemory` means that the text is a revision.
 #[tactic(auto, using(crate::proofs::Forms::there_unless_none))]
 fn is_revision(alloc: Global, text: &str) -> bool
     ensures { result ≡ is_some (revision_of text.now) }

@@ -14,6 +14,7 @@ Bodies = (Value ⊎ Value) ⊎ (Value ⊎ (Value ⊎ Value))
 abbrev pub Names : Type 0
 Names = (List ℕ × List ℕ) ⊎ ((List ℕ × Bool) ⊎ ℕ)
 
+-- what a command carries: its body, or names
 abbrev pub parts_of : Asked → Bodies ⊎ Names
 parts_of (bulk v) = inl (inl (inl v))
 parts_of (create_index v) = inl (inl (inr v))
@@ -24,6 +25,7 @@ parts_of (drop_index ddoc name) = inr (inl (ddoc, name))
 parts_of (get id conflicts) = inr (inr (inl (id, conflicts)))
 parts_of list_indexes = inr (inr (inr 0))
 
+-- the command that carries this
 abbrev pub asked_from : Bodies ⊎ Names → Asked
 asked_from (inl (inl (inl v))) = bulk v
 asked_from (inl (inl (inr v))) = create_index v
@@ -34,6 +36,7 @@ asked_from (inr (inl p)) = drop_index p.0 p.1
 asked_from (inr (inr (inl p))) = get p.0 p.1
 asked_from (inr (inr (inr n))) = list_indexes
 
+-- what a command carries gives the command back
 pub again : (c : Asked) → asked_from (parts_of c) ≡ c
 again (bulk v) = refl
 again (create_index v) = refl
@@ -44,6 +47,7 @@ again (drop_index ddoc name) = refl
 again (get id conflicts) = refl
 again list_indexes = refl
 
+-- how the logic stores a command
 abbrev pub asked_code : Coded Asked
 asked_code =
     code_by (Bodies ⊎ Names) (coded⊎ (coded⊎ (coded⊎ value_code value_code) (coded⊎ value_code (coded⊎ value_code value_code))) (coded⊎ (coded× (coded_list coded_ℕ) (coded_list coded_ℕ)) (coded⊎ (coded× (coded_list coded_ℕ) coded_bool) coded_ℕ)))

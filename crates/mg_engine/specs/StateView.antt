@@ -32,7 +32,7 @@ fresh s = record { shard = s; touched = finite.empty }
 abbrev pub before : List DraftView → List ShardView
 before drafts = map (λ d. d.shard) drafts
 
--- a draft leaves a shard that stands for what the draft stands for, with the same indexes
+-- the shard that a draft leaves: it stands for what the draft stands for, and has the same indexes
 pub record Leaves (d : DraftView) (s : ShardView) : Type 0 where
   pub stands : (hs : Histories) → DraftStandsFor d hs → StandFor s.documents hs
   pub definitions : s.definitions ≡ d.shard.definitions

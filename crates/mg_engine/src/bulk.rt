@@ -26,7 +26,7 @@ use reply::entries_line;
 use std::alloc::Global;
 
 impl State {
-    /// Executes a bulk. Returns the reply, and the next state, or `None` if the bulk is refused. Cost: its documents, which are copied.
+    /// Executes a bulk. Returns the reply, and the next state (`None` if the bulk is refused). Cost: its documents, which are copied.
     pub(crate) fn bulk<P: Placement>(
         &self,
         alloc: Global,

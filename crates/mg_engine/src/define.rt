@@ -29,7 +29,7 @@ use std::sync::Arc;
 use std::thread::Threads;
 
 impl State {
-    /// Creates an index. Returns the reply, and the next state, or `None` if the body defines no index.
+    /// Creates an index. Returns the reply, and the next state (`None` if the body defines no index).
     /// Cost: the number of shards and of indexes if the catalog has the same definition already; otherwise a step for each document,
     /// and a sort of the rows.
     pub(crate) fn create_index<R: Threads + Sync, G>(
@@ -73,7 +73,7 @@ impl State {
         Ok((Reply::Full { status: 200, body }, next))
     }
 
-    // The state with a definition. If the catalog has it already (`there`), the state is shared as it is.
+    // The state with a definition. If the catalog has it already (`there`), this is a second state that shares all parts of this one.
     fn with_definition<R: Threads + Sync, G>(
         &self,
         context: &Context<'_, R, G>,
@@ -95,7 +95,7 @@ impl State {
         }
     }
 
-    // The state with an index, which is built on all shards.
+    // The state with an index. The index is built on all shards.
     fn with_index<R: Threads + Sync, G>(
         &self,
         context: &Context<'_, R, G>,
@@ -109,7 +109,7 @@ impl State {
         self.with_catalog(context.alloc, catalog, shards)
     }
 
-    /// Drops an index. Returns the reply, and the next state, or `None` if there is no such index. Cost: the number of shards and of
+    /// Drops an index. Returns the reply, and the next state (`None` if there is no such index). Cost: the number of shards and of
     /// indexes.
     pub(crate) fn drop_index(
         &self,
@@ -132,7 +132,7 @@ impl State {
         Ok((Reply::Full { status: 200, body }, Some(next)))
     }
 
-    // The state without an index, which is dropped from all shards.
+    // The state without an index. The index is dropped from all shards.
     fn without_index(&self, alloc: Global, ddoc: &str, name: &str) -> Result<State, NoMemory>
         ensures { IfOk result (λ s. s ≡ state_without ddoc.now name.now self.now) }
     {

@@ -1,4 +1,4 @@
-//! Prepared commands: the documents of a bulk are read before the command is executed, which needs no state.
+//! Prepared commands: the documents of a bulk are read before the command is executed. To read them, no state is needed.
 ghost use Rattle.std.specs.Prelude.{◌≡◌, IfOk};
 ghost use Rattle.mg_engine.specs.Ahead.{Does};
 ghost use Rattle.mg_engine.specs.View.{asked};

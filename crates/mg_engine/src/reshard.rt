@@ -25,9 +25,9 @@ use std::sync::Arc;
 use std::thread::Threads;
 
 impl State {
-    /// Deals the documents to the number of shards that the body asks for. Returns the reply, and the next state, or `None` if the body
-    /// does not ask for a whole number from 1 to 64: it is then refused as `WrongShape`. The documents, the indexes and the counter stay
-    /// as they are. Cost: the number of shards, if it does not change; otherwise each document, and its row in each index.
+    /// Deals the documents to the number of shards that the body asks for. Returns the reply, and the next state. If the body does not ask
+    /// for a whole number from 1 to 64, the command is refused as `WrongShape` and there is no next state. The documents, the indexes and
+    /// the counter stay as they are. Cost: the number of shards, if it does not change; otherwise each document, and its row in each index.
     pub(crate) fn reshard<P: Placement, R: Threads + Sync, G>(
         &self,
         context: &Context<'_, R, G>,
@@ -50,7 +50,7 @@ impl State {
         Ok((Reply::Full { status: 200, body }, Some(next)))
     }
 
-    // The state over `count` shards. If it has that many already, it is shared as it is.
+    // The state over `count` shards. If this state has that many already, the result shares all its parts.
     fn over_shards<P: Placement, R: Threads + Sync, G>(
         &self,
         context: &Context<'_, R, G>,

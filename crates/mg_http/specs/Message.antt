@@ -32,7 +32,7 @@ pub record Begins (db bytes : List ℕ) (m : Message) (rest : List ℕ) : Type 0
   pub framed : IsHeadOf db head m
   pub joined : after ≡ m.body ++ rest
 
--- bytes that can never become a head, unless they end within a target, which may go on whatever its bytes are
+-- bytes that can never become a head; not those that end within a target, since a target may go on whatever its bytes are
 abbrev pub IsNoHead : List ℕ → Type 0
 IsNoHead bytes = NeverHasRequest bytes × (¬ (EndsInTarget bytes))
 

@@ -1,4 +1,4 @@
--- For private clauses: the loop of a session and the functions that it calls. To know what a session promises, nothing here is needed.
+-- For private clauses: the loop of a session and the functions that it calls. What a session promises does not depend on this file.
 use Rattle.std.specs.Prelude.{◌≡◌, ◌⊎◌, ℕ, ◌+◌, ◌≤◌, List, length, drop, Bool, false, Option, None, Result, Ok, Err, ⊤}
 use Rattle.std.specs.Io.KnownBytes.{Appends}
 use Rattle.httparse.specs.Grammar.{RequestHead, ReadsRequest}

@@ -10,7 +10,7 @@ skip_blank (a ∷ []) = if a == 10 then [] else a ∷ []
 skip_blank (a ∷ b ∷ rest) =
     if a == 10 then skip_blank (b ∷ rest) else (if a == 13 && b == 10 then skip_blank rest else a ∷ b ∷ rest)
 
--- a method, a space, and the beginning of a target; seen: a part of the method stands before these bytes
+-- a method, a space, and the beginning of a target; `true`: a part of the method comes before these bytes
 abbrev pub is_method_and_target : Bool → List ℕ → Bool
 is_method_and_target seen [] = false
 is_method_and_target seen (b ∷ rest) =

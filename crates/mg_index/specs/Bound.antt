@@ -20,10 +20,11 @@ pub record Bound : Type 0 where
   pub comparison : Comparison
   pub value : Value
 
+-- the bound by this comparison with this value
 abbrev pub bound_by : Comparison → Value → Bound
 bound_by comparison value = record { comparison = comparison; value = value }
 
--- whether the comparison allows this order of a value to the bound's value
+-- whether the comparison allows a value that has this order to the bound's value
 abbrev pub allows : Comparison → Ordering → Bool
 allows Below o = is_lt o
 allows AtMost o = is_le o

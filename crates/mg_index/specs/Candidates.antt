@@ -26,7 +26,7 @@ abbrev pub DescribesBest : List Atom → Hint → List IndexDefinition → Optio
 DescribesBest atoms hint ds None = Unit {0}
 DescribesBest atoms hint ds (Some c) = Describes atoms hint ds c
 
--- the lesser of the best so far and the least of others
+-- the lesser of two: the best candidate so far, and the least of other definitions; either may be absent
 abbrev pub least_with : List Atom → Hint → Option Candidate → Option IndexDefinition → Option IndexDefinition
 least_with atoms hint None others = others
 least_with atoms hint (Some c) others = Some (lesser (preference atoms hint) c.definition.now others)

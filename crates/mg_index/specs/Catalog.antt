@@ -30,7 +30,7 @@ abbrev pub without_definition : List ℕ → List ℕ → List IndexDefinition �
 without_definition ddoc name [] = []
 without_definition ddoc name (d ∷ ds) = if is_at ddoc name d then ds else d ∷ without_definition ddoc name ds
 
--- the definitions stand by design document, then name, each pair once: each is below all after it
+-- the definitions are in the order of design document, then name, each pair once: each is below all after it
 abbrev pub IsCatalog : List IndexDefinition → Type 0
 IsCatalog [] = ⊤
 IsCatalog (d ∷ ds) = AllByRecursion (λ e. definition_order d e ≡ Less) ds × IsCatalog ds

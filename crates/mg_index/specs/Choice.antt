@@ -19,7 +19,7 @@ pub data Hint : Type 0 where
   in_document : List ℕ → Hint
   exactly : List ℕ → List ℕ → Hint
 
--- the paths of `_id` and `_rev`, which each served document has
+-- the path of `_id`, and below that of `_rev`: each served document has both
 abbrev pub id_path : Steps
 id_path = codes "_id" ∷ []
 

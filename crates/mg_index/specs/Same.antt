@@ -7,6 +7,7 @@ use Rattle.mg_index.specs.Catalog.{definition_at, is_at}
 use Rattle.mg_index.specs.Definition.{IndexDefinition}
 use Rattle.mg_index.specs.Reading.{is_same}
 
+-- whether two definitions are the same
 abbrev pub is_same_definition : IndexDefinition → IndexDefinition → Bool
 is_same_definition a b = is_at b.ddoc b.name a && (is_same a.direction b.direction && (path_eq a.texts b.texts && pointwise path_eq a.columns b.columns))
 

@@ -24,7 +24,7 @@ pub enum Comparison {
 }
 
 impl Comparison {
-    /// Whether the comparison allows this order of a value to the bound's value. Takes no memory.
+    /// Whether the comparison allows a value that has this order to the bound's value. Takes no memory.
     pub fn allows(self, order: Ordering) -> bool
         ensures { result ≡ allows self order }
     {

@@ -88,7 +88,7 @@ fn best_place(definitions: &[IndexDef], atoms: &[Atom], sort: &[Path], hint: &Hi
     }
 }
 
-// The preferred one of the best so far, if there is one, and the other.
+// The preferred of two candidates: the best so far, if there is one, and the other.
 fn better<'a>(best: Option<Candidate<'a>>, other: Candidate<'a>) -> Candidate<'a>
     ensures described { (atoms : List AtomValue) (hint : HintValue) (ds : List IndexDefinition)
         → DescribesBest atoms hint ds best.entry → Describes atoms hint ds other.entry

@@ -21,6 +21,7 @@ pub record Standing : Type 0 where
   pub seen : List Commit
   pub tally : ℕ
 
+-- the standing of a seat that has seen this prefix and has this tally
 abbrev pub standing : List Commit → Prefix → ℕ → Standing
 standing cs prefix tally = record { published = cs; seen = commits_seen prefix.seen.log; tally = tally }
 

@@ -14,6 +14,7 @@ pub record Sitting : Type 0 where
   pub seen : List Commit
   pub tally : ℕ
 
+-- how the logic stores a seat
 abbrev pub sitting_code : Coded Sitting
 sitting_code = code_by (ℕ × (List Commit × ℕ)) (coded× coded_ℕ (coded× commits_code coded_ℕ)) (λ s. (s.number, (s.seen, s.tally))) (λ p. record { number = p.0; seen = p.1.0; tally = p.1.1 }) (λ _. refl)
 
@@ -26,7 +27,7 @@ abbrev pub new_seats : ℕ → List Sitting
 new_seats zero = []
 new_seats (suc n) = new_seats n ++ at_first n ∷ []
 
--- the same seat with the same tally, which has seen what it had seen, or more
+-- a seat later: its number and its tally are unchanged, and it has seen what it had seen, or more
 pub record IsLater (old new : Sitting) : Type 0 where
   pub number : new.number ≡ old.number
   pub seen : IsPrefix old.seen new.seen

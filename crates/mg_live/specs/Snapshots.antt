@@ -1,4 +1,4 @@
--- For public clauses: what a snapshot shows, which is a database as it stands after some of its commits.
+-- For public clauses: what a snapshot shows, which is a database as it is after some of its commits.
 use Rattle.std.specs.Prelude.{◌≡◌, ℕ, List, length}
 use Rattle.std.specs.Arc.{arc_value}
 use Rattle.logbook.specs.Pages.{Book}
@@ -8,7 +8,7 @@ use Rattle.mg_machine.specs.Points.{IsAfter, IsDealt}
 use Rattle.mg_live.specs.View.{commits_seen}
 use Rattle.mg_live.specs.declared.snapshot.Snapshot.{Snapshot}
 
--- the commits that a snapshot stands after
+-- the commits after which a snapshot was taken
 abbrev pub commits_of : {P : Type 0} → Snapshot P → List Commit
 commits_of s = commits_seen s.prefix.seen.log
 
@@ -17,7 +17,7 @@ abbrev pub state_of : {P : Type 0} → Snapshot P → Shown
 state_of s = (arc_value s.point.engine).1
 
 -- a snapshot of the database with this commit log and name, whose documents are placed by `place` and which was opened with `opened`
--- shards: its point stands after its commits
+-- shards: its point is the one after its commits
 pub record IsOf {P : Type 0} (place : P → List ℕ → ℕ → ℕ) (log : Book) (name : List ℕ) (opened : ℕ) (s : Snapshot P) : Type 0 where
   pub book : s.prefix.seen.book ≡ log
   pub after : IsAfter place name s.point (commits_of s)

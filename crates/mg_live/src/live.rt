@@ -74,7 +74,7 @@ pub enum CloseError {
     Ahead,
 }
 
-// The beginnings of a database: what its seats share, what makes their readers, the empty prefix, and all parts of the ledger.
+// What an empty database begins with: what its seats share, what makes their readers, the empty prefix, and all parts of the ledger.
 struct Start<D: Database, C: Ends, P: Placement + Drop>
 where
     Snapshot<P>: Absorb<(), State = ()>,
@@ -94,7 +94,7 @@ impl Closed {
     }
 }
 
-// Makes the beginnings of an empty database with this name.
+// Makes what an empty database with this name begins with.
 fn begin<D: Database, C: Ends, P: Placement + Drop>(
     ends: C,
     alloc: Global,

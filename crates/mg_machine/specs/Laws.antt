@@ -46,6 +46,7 @@ pub record IsLaterMachine (m n : Machine) : Type 0 where
   pub commits : IsPrefix m.commits n.commits
   pub seen : (seat : ℕ) → IsPrefix (seen_by m seat) (seen_by n seat)
 
+-- more events take no commit away, and nothing that a seat has seen
 abbrev pub NothingIsLost : Type 0
 NothingIsLost = (name : List ℕ) (seats : ℕ) (es more : List Event) → AreAt seats (es ++ more) → IsLaterMachine (after name seats es) (after name seats (es ++ more))
 
@@ -83,6 +84,7 @@ pub record AreAnswered (name : List ℕ) (cs : List Commit) (accepted : List (Co
   pub commits : map (λ p. p.0) accepted ≡ cs
   pub replies : map (λ p. p.1) accepted ≡ replies_of (empty_world name) (commands_of cs)
 
+-- after every list of events, the commits are the accepted writes, with the replies that a single caller gets
 abbrev pub CommitsAreAnswered : Type 0
 CommitsAreAnswered = (name : List ℕ) (seats : ℕ) (es : List Event) → AreAt seats es → AreAnswered name (after name seats es).commits (all_accepted name (opened seats) es)
 

@@ -1,6 +1,6 @@
--- The live machine: one database and several seats, at each of which a session reads and writes while the others do.
--- There is one commit log, which holds the accepted writes in order, and each seat has seen a prefix of it.
--- A write is answered at the end of the log, a read by what its seat has seen.
+-- The machine of events, which is this project's own: one database and several seats, at each of which a session reads and writes while
+-- the others do. There is one commit log, which holds the accepted writes in order, and each seat has seen a prefix of it. A write is
+-- answered at the end of the log, a read by what its seat has seen.
 use Rattle.std.specs.Prelude.{ℕ, ◌==◌, List, [], ◌∷◌, ◌++◌, Bool, Option, Some, None, if◌then◌else◌, length, map, nat_lt, replicate, slice_get, slice_set, unwrap_or}
 use Rattle.mg_engine.specs.declared.refusal.Refusal.TheVariants.{TooLarge}
 use Rattle.mg_engine.specs.World.{World, empty_world}

@@ -1,11 +1,11 @@
--- For public clauses: the commits that a point of a database's commit log stands after.
+-- For public clauses: the commits after which a point of a database's commit log comes.
 use Rattle.std.specs.Prelude.{◌≡◌, ℕ, List, length}
 use Rattle.std.specs.Arc.{arc_value}
 use Rattle.mg_engine.specs.Stands.{Stands, shard_count}
 use Rattle.mg_machine.specs.Machine.{Commit, shards_of, world_of}
 use Rattle.mg_machine.specs.declared.point.Point.{Point}
 
--- a point, whose documents are placed by `place`, stands after commits if its engine stands for the world that they leave and it has
+-- a point, whose documents are placed by `place`, comes after these commits: its engine stands for the world that they leave, and it has
 -- their number
 pub record IsAfter {P : Type 0} (place : P → List ℕ → ℕ → ℕ) (name : List ℕ) (p : Point P) (cs : List Commit) : Type 0 where
   pub engine : Stands place (arc_value p.engine) (world_of name cs)

@@ -16,7 +16,7 @@ use std::alloc::Global;
 use std::sync::Arc;
 use std::thread::Threads;
 
-/// A point of a database's commit log: the engine as it stands there, and the number of commits before it.
+/// A point of a database's commit log: the engine as it is there, and the number of commits before it.
 #[derive(Drop)]
 pub struct Point<P> {
     pub engine: Arc<Engine<P>>,

@@ -1,5 +1,5 @@
 -- A winner tree of n numbers: Knuth, The Art of Computer Programming, volume 3, section 5.4.1.
--- Place n + k has the number k. Each place j from 1 to n - 1 has the winner of the places 2 j and 2 j + 1, which stand right below it.
+-- Place n + k has the number k. Each place j from 1 to n - 1 has the winner of the places 2 j and 2 j + 1, which are right below it.
 use Rattle.std.specs.Prelude.{◌≡◌, ℕ, ◌+◌, ◌*◌, ◌/◌, ◌^◌, ◌<◌, ◌≤◌, List, get_or, length, false, if◌then◌else◌}
 use Rattle.std.specs.declared.cmp.Ordering.{Ordering}
 use Rattle.std.specs.Ordering.{is_gt}
@@ -9,11 +9,11 @@ use Rattle.mg_merge.specs.Rests.{turn_order}
 abbrev pub winner_of : (ℕ → ℕ → Ordering) → ℕ → ℕ → ℕ
 winner_of turns a b = if is_gt (turns a b) then b else a
 
--- the upper place is the lower one, or stands above it: halving the lower one some times, and rounding down, gives the upper one
+-- the upper place is the lower one, or is above it: halving the lower one some times, and rounding down, gives the upper one
 abbrev pub IsAbove : ℕ → ℕ → Type 0
 IsAbove upper lower = (d : ℕ) × (lower / 2 ^ d ≡ upper)
 
--- the winner at a place is one of the n numbers, and this place stands above that number's own
+-- the winner at a place is one of the n numbers, and this place is above that number's own
 abbrev pub IsFromBelow : ℕ → List ℕ → ℕ → Type 0
 IsFromBelow n winners j = (get_or winners j 0 < n) × IsAbove j (n + get_or winners j 0)
 
@@ -31,6 +31,6 @@ pub record AreWinners (turns : ℕ → ℕ → Ordering) (n changed : ℕ) (winn
 abbrev pub IsWinnerTree : {X : Type 0} → (X → X → Ordering) → List (List X) → List ℕ → Type 0
 IsWinnerTree order lists winners = AreWinners (turn_order order lists) (length lists) 0 winners
 
--- a winner tree of lists, but for a change of one list: only the winners above it may be wrong
+-- a winner tree of lists, of which one has changed since: only the winners above that list may be wrong
 abbrev pub IsWinnerTreeBut : {X : Type 0} → (X → X → Ordering) → List (List X) → ℕ → List ℕ → Type 0
 IsWinnerTreeBut order lists changed winners = AreWinners (turn_order order lists) (length lists) (length lists + changed) winners

@@ -37,7 +37,7 @@ pub fn cut_lists()
         → merged direction count (map (take count) lists) ≡ merged direction count lists }
 {}
 
-/// The rows of what `merge_all` gives are the merge of the rows of its lists.
+/// The rows of the items that `merge_all` returns are the merge of the rows of its lists.
 pub fn rows_of_a_merge<T: Ranked>()
     ensures { (direction : Direction) (count : ℕ) (lists : List (List T))
         → map T.row_of (merged_by T.row_of direction count lists)

@@ -2,8 +2,8 @@
 //!
 //! Of n lists, place n + k has the number k, and each place j from 1 to n - 1 has the winner of the places 2 j
 //! and 2 j + 1: the number of the list that begins first. Place 1 has the winner of all. After one list has
-//! changed, only the places above it are decided again. A sorted queue would compare more to begin with, and
-//! move numbers.
+//! changed, only the places above it are decided again. A sorted queue would need more comparisons at the
+//! beginning, and would move numbers.
 ghost use Rattle.std.specs.Prelude.{◌≡◌, ◌+◌, ◌*◌, ◌<◌, ◌≤◌, ℕ, get_or, length, IfOk, IfSome, IfNone};
 ghost use Rattle.mg_merge.specs.Merged.{order_by};
 ghost use Rattle.mg_merge.specs.Rests.{turn_order};
@@ -41,7 +41,7 @@ impl Winners {
         Ok(Winners { places })
     }
 
-    // The number of the list that begins first, of lists that tie the least; `None` if there are no lists.
+    // The number of the list that begins first; if several tie, the least of their numbers. `None` if there are no lists.
     pub(crate) fn first(&self) -> Option<usize>
         ensures some { IfSome result (λ first. (1 < length self.now.places.items)
             × (first ≡ get_or self.now.places.items 1 0)) }

@@ -32,7 +32,7 @@ abbrev mutual
   atoms_in (some ss) Negated steps = arms_atoms ss Negated steps
   atoms_in (none ss) Plain steps = arms_atoms ss Negated steps
   atoms_in (none ss) Negated steps = []
-  -- below `$not` and a path
+  -- `$not` and a path: the atoms of the selector inside
   atoms_in (opposite s) sense steps = atoms_in s (flip sense) steps
   atoms_in (at more s) sense steps = atoms_in s sense (steps ++ more)
   -- the operator itself

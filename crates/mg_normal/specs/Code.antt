@@ -86,6 +86,7 @@ mutual
       ap (λ ys. run_all ys s) (append_assoc (condition_instructions f) (conditions_instructions fs ++ inr (inr 3) ∷ []) xs ∙ ap (λ ys. condition_instructions f ++ ys) (append_assoc (conditions_instructions fs) (inr (inr 3) ∷ []) xs))
       ∙ run_condition f (conditions_instructions fs ++ inr (inr 3) ∷ xs) s ∙ run_conditions fs (inr (inr 3) ∷ xs) (f ∷ s.0, s.1)
 
+-- the instructions of a condition give the condition back
 pub condition_from-instructions : (f : Condition) → condition_from (condition_instructions f) ≡ f
 condition_from-instructions f = ap (λ xs. top (run_all xs ([], [])).0) (sym (append-nil (condition_instructions f))) ∙ ap (λ s. top s.0) (run_condition f [] ([], []))
 

@@ -14,8 +14,8 @@ use mg_value::{Json, LentValue, NoMemory};
 use std::alloc::Global;
 use std::marker::Model;
 
-/// A selector in its normal form: its negations are pushed inwards until each stands on an operator,
-/// and the conditions that every match has to meet stand apart, as atoms, from the rest.
+/// A selector in its normal form: its negations are pushed inwards until each negates an operator,
+/// and the conditions that every match has to meet, the atoms, are kept apart from the rest.
 ///
 /// A negated operator is not the complement: on a missing part neither holds, except for `$exists`.
 /// An empty list of arms holds in both senses.

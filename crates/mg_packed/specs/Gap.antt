@@ -17,11 +17,11 @@ abbrev pub names_up_to : List ℕ → Members → ℕ
 names_up_to k no_members = 0
 names_up_to k (member l v ms) = match_ordering (slice_cmp nat_cmp k l) 0 1 (suc (names_up_to k ms))
 
--- where the i-th row begins, counted from the end of the table; where i is the count, the place at which the rows end
+-- where the i-th row begins, counted from the end of the table; if i is the count of rows, where the rows end
 abbrev pub begin_of : List (List ℕ) → ℕ → ℕ
 begin_of rows i = length (concat (take i rows))
 
--- the rows with this one in the place of those from the n-th up to the m-th
+-- the rows with this one instead of those from the n-th up to the m-th, which is kept
 abbrev pub with_row : ℕ → ℕ → List ℕ → List (List ℕ) → List (List ℕ)
 with_row n m row rows = take n rows ++ row ∷ drop m rows
 

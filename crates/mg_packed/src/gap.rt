@@ -1,7 +1,7 @@
 // Where a row goes among the rows of a table.
 ghost use Rattle.std.specs.Prelude.{◌≡◌, ◌+◌, ◌<◌, ◌^◌};
 
-// The row goes behind the first `before` rows, in the place of those up to `after`.
+// The row goes after the first `before` rows, and replaces the rows from there up to `after`.
 #[derive(Clone, Copy)]
 pub(crate) struct Gap {
     pub(crate) before: usize,
@@ -9,7 +9,7 @@ pub(crate) struct Gap {
 }
 
 impl Gap {
-    // In front of the row at this place.
+    // The row goes before the row at this place, and replaces none.
     pub(crate) fn at(place: usize) -> Gap
         ensures before { result.before ≡ place }
         ensures after { result.after ≡ place }
@@ -20,7 +20,7 @@ impl Gap {
         }
     }
 
-    // In the place of the row at this place.
+    // The row replaces the row at this place.
     pub(crate) fn over(place: usize) -> Gap
         requires { place + 1 < 2 ^ 64 }
         ensures before { result.before ≡ place }

@@ -1,5 +1,5 @@
-// Copies an object's block with a text at a name. Rows are copied as bytes, since no value depends on where it
-// stands; only the table of places is made anew.
+// Copies an object's block with a text at a name. Rows are copied as bytes, since the bytes of a value do not
+// depend on where they are; only the table of places is made anew.
 ghost use Rattle.std.specs.Prelude.{◌≡◌, ◌+◌, ◌*◌, ◌≤◌, ◌<◌, ◌^◌, ◌++◌, length, take, drop, IfOk, OnOk};
 ghost use Rattle.std.specs.List.{concat};
 ghost use Rattle.mg_value.specs.Value.{text as string, object, put};
@@ -51,7 +51,7 @@ pub(crate) fn copy_bytes(alloc: Global, bytes: &[u8]) -> Result<Vec<u8>, NoMemor
     Ok(copy)
 }
 
-// Where a row begins, counted from the end of the table; where `place` is the count, the place at which the rows end.
+// Where the row at `place` begins, counted from the end of the table; if `place` is the count of rows, where the rows end.
 fn row_begin(bytes: &[u8], count: usize, place: usize) -> usize
     requires block { IsObjectBlock bytes.now }
     requires counted { count ≡ length (rows_in bytes.now) }
@@ -65,7 +65,7 @@ fn row_begin(bytes: &[u8], count: usize, place: usize) -> usize
     }
 }
 
-// How long the bytes are once a row of this length stands in the gap.
+// How long the bytes are once a row of this length is in the gap.
 fn len_with(bytes: &[u8], count: usize, gap: Gap, row_len: u32) -> Result<u32, NoMemory>
     requires block { IsObjectBlock bytes.now }
     requires counted { count ≡ length (rows_in bytes.now) }
@@ -80,7 +80,7 @@ fn len_with(bytes: &[u8], count: usize, gap: Gap, row_len: u32) -> Result<u32, N
     Ok(len)
 }
 
-// Adds the places of all rows, once a row of this length stands in the gap.
+// Adds the places of all rows, once a row of this length is in the gap.
 fn push_places(
     out: &mut Vec<u8>,
     bytes: &[u8],
@@ -131,7 +131,7 @@ fn push_moved(
     Ok(())
 }
 
-// Adds the rows before the gap, the row of the text, and the rows behind the gap.
+// Adds the rows before the gap, the row of the text, and the rows after the gap.
 fn push_rows(
     out: &mut Vec<u8>,
     bytes: &[u8],

@@ -4,7 +4,7 @@ use mg_value::NoMemory;
 use std::alloc::Global;
 use std::marker::Model;
 
-/// A JSON value in one block of memory, with its compact text behind it. Contracts see the value.
+/// A JSON value in one block of memory, followed by its compact text. Contracts see the value.
 ///
 /// The block is exactly as long as the bytes of a `Packed` and the text.
 #[derive(Drop)]
@@ -32,7 +32,7 @@ impl Written {
     ghost use Rattle.std.specs.Prelude.{◌≡◌, IfOk};
     ghost use Rattle.mg_value.specs.Text.{compact};
 
-    /// Copies the value of a block into a block of its own, with its text behind it.
+    /// Copies the value of a block into a block of its own, followed by its text.
     ///
     /// Errors: `NoMemory` if an allocation fails. Cost: one walk over the value that writes its text, and a copy of the bytes and of the
     /// text.

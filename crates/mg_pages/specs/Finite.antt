@@ -1,4 +1,4 @@
--- Elements in order as a finite map, each under its key: for the reader who thinks of maps and not of lists.
+-- Elements in order as a finite map, each under its key.
 use Rattle.std.specs.Prelude.{List, map}
 use Rattle.std.specs.FinMap.{FinMap, from_sorted}
 use Rattle.std.specs.declared.cmp.Ordering.{Ordering}

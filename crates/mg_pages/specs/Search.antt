@@ -27,7 +27,7 @@ pub record IsGap {T : Type 0} (against : T → Ordering) (xs : List T) (i : ℕ)
   pub before : AllBelow against (take i xs)
   pub after : AllAbove against (drop i xs)
 
--- so does the key, and there are elements on both sides of its place
+-- the key ties with no element, and belongs between the element before i and the one at i
 pub record IsInnerGap {T : Type 0} (against : T → Ordering) (xs : List T) (i : ℕ) : Type 0 where
   pub gap : IsGap against xs i
   pub some : 0 < i

@@ -70,6 +70,7 @@ impl Hints {
         Ok((front, back))
     }
 
+    /// Appends the hint of an element that comes after all others.
     pub fn push(&mut self, number: u64) -> Result<(), AllocError> {
         self.numbers.push(number)?;
         Ok(())

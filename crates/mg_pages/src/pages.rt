@@ -129,7 +129,7 @@ fn guessed_run_before<'a, T: Keyed, Q: Probe<T>>(root: &'a Root<T>, key: &Q) -> 
     Some(&page[..i])
 }
 
-// A list of one thing.
+// A list of one item.
 fn vec_of<X: Drop>(alloc: Global, thing: X) -> Result<Vec<X>, AllocError>
     ensures { IfOk result (λ v. v.items ≡ thing ∷ []) }
 {

@@ -1,4 +1,4 @@
--- The hits of a page, which lend documents, and the lists that shards hand over. These words serve private clauses.
+-- For private clauses: the hits of a page, which lend documents, and the lists that shards hand over.
 use Rattle.std.specs.Prelude.{◌≡◌, ◌+◌, ◌==◌, Bool, not, ◌&&◌, List, length, option_map}
 use Rattle.std.specs.List.{AllZip}
 use Rattle.mg_collate.specs.Row.{RowValue}
@@ -35,6 +35,6 @@ pub record Lends (columns : List Steps) (h : Hit) (c : Candidate) : Type 0 where
   pub form : hit_form h ≡ c.form
   pub tree : StandsFor (kept_of (hit_document h)).0 c.history
 
--- the hits lend those of candidates, one each
+-- the hits lend the documents of these candidates, one hit for each candidate
 abbrev pub LendEach : List Steps → List Hit → List Candidate → Type 0
 LendEach columns hits cs = AllZip (Lends columns) hits cs

@@ -58,7 +58,7 @@ abbrev pub fault_of_path : PathError → QueryError
 fault_of_path path_fault.Empty = Shape
 fault_of_path path_fault.NoMemory = NoMemory
 
--- ---- members. None is a wrong shape
+-- ---- members; `None` stands for a wrong shape
 
 -- `selector`, an object
 abbrev pub selector_given : Option Value → Option Value

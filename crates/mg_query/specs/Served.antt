@@ -40,10 +40,10 @@ Chooses (Err NoMemory) r = ⊥
 
 -- ---- documents that are objects
 
--- a document that is served has its id and its revision among its members, as every one has whose body is an object
+-- a served document has its id and its revision among its members; every document whose body is an object does
 abbrev pub HasIdAndRev : Candidate → Type 0
 HasIdAndRev c = Has c.form id_path × Has c.form rev_path
 
--- so has each of them
+-- each of these documents has its id and its revision among its members
 abbrev pub HaveIdsAndRevs : List Candidate → Type 0
 HaveIdsAndRevs cs = AllByRecursion HasIdAndRev cs

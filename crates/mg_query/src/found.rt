@@ -95,8 +95,8 @@ pub(crate) fn find<'a, R: Threads + Sync, G: Gate + Sync>(
     })
 }
 
-// Finds the hits of the query's page as `find` does, without the counts of rows. If the number of workers is a maximum, and the
-// query is small or there is one worker or one shard, the caller's thread pulls the hits one by one, as the merge asks for them.
+// Finds the hits of the query's page as `find` does, without the counts of rows. If the number of workers is a maximum, and either the
+// query is small or there is only one worker or one shard, the caller's thread pulls the hits one by one, as the merge asks for them.
 pub(crate) fn find_page<'a, R: Threads + Sync, G: Gate + Sync>(
     rt: &R,
     alloc: Global,

@@ -6,6 +6,7 @@ use Rattle.mg_collate.specs.declared.direction.Direction.{Direction}
 use Rattle.mg_range.specs.Range.{Limit, limit_at, order_from}
 use Rattle.mg_range.specs.declared.lent_limit.LentLimit.{LentLimit}
 
+-- the limit that a `LentLimit` of the code stands for
 abbrev pub lent_limit_seen : LentLimit → Limit
 lent_limit_seen e = limit_at (view e.value.now) e.inclusive
 

@@ -5,10 +5,12 @@ use Rattle.mg_value.specs.Value.{Value, null, flag, list, object, no_members, me
 use Rattle.mg_value.specs.View.{items_of}
 use Rattle.mg_range.specs.Range.{Limit, Range}
 
+-- a limit in JSON, null if there is none
 abbrev pub limit_value : Option Limit → Value
 limit_value None = null
 limit_value (Some l) = object (member (codes "inclusive") (flag l.inclusive) (member (codes "value") l.value no_members))
 
+-- a range in JSON
 abbrev pub range_value : Range → Value
 range_value None = object (member (codes "empty") (flag true) no_members)
 range_value (Some s) =

@@ -33,6 +33,7 @@ pub record Limit : Type 0 where
   pub value : Value
   pub inclusive : Bool
 
+-- the limit at this value
 abbrev pub limit_at : Value → Bool → Limit
 limit_at value inclusive = record { value = value; inclusive = inclusive }
 
@@ -42,6 +43,7 @@ pub record Span : Type 0 where
   pub lower : Option Limit
   pub upper : Option Limit
 
+-- the span of these fixed values and limits
 abbrev pub span_of : List Value → Option Limit → Option Limit → Span
 span_of equal lower upper = record { equal = equal; lower = lower; upper = upper }
 
@@ -112,13 +114,16 @@ range_of atoms (c ∷ cs) = range_from (bounds_on atoms c) (find is_exact (bound
 
 -- ---- how the logic stores a range
 
+-- how the logic stores a limit
 abbrev pub limit_code : Coded Limit
 limit_code = code_by (Value × Bool) (coded× value_code coded_bool) (λ l. (l.value, l.inclusive)) (λ p. limit_at p.0 p.1) (λ _. refl)
 
+-- how it stores a span
 abbrev pub span_code : Coded Span
 span_code =
     code_by (List Value × (Option Limit × Option Limit)) (coded× (coded_list value_code) (coded× (coded_option limit_code) (coded_option limit_code)))
     (λ s. (s.equal, (s.lower, s.upper))) (λ p. span_of p.0 p.1.0 p.1.1) (λ _. refl)
 
+-- how it stores a range
 abbrev pub range_code : Coded Range
 range_code = coded_option span_code

@@ -1,4 +1,4 @@
--- Whether a key is before, within or past a range, in the order of keys.
+-- Whether a key is before, within or past a range, in the order of keys: on which side of the range it is.
 use Rattle.std.specs.Prelude.{ℕ, List, [], ◌∷◌, Bool, true, false, not, Option, Some, None, if◌then◌else◌}
 use Rattle.std.specs.Ordering.{is_ge, is_gt, match_ordering}
 use Rattle.std.specs.declared.cmp.Ordering.{Ordering}

@@ -6,9 +6,11 @@ use Rattle.mg_range.specs.Range.{Limit, Span, Range, limit_at, span_of}
 use Rattle.mg_range.specs.declared.span.Limit as limit
 use Rattle.mg_range.specs.declared.span.Span as span
 
+-- the limit that a `Limit` of the code stands for
 abbrev pub limit_seen : limit.Limit → Limit
 limit_seen l = limit_at (view l.value) l.inclusive
 
+-- the span that a `Span` of the code stands for
 abbrev pub span_seen : span.Span → Span
 span_seen s = span_of (map view s.equal.items) (option_map limit_seen s.lower) (option_map limit_seen s.upper)
 

@@ -131,8 +131,8 @@ impl<'a> RowRange<'a> {
     }
 }
 
-// The hint of where the range is entered. If it is entered at a value, the hint is just before the rows with that value, in the direction,
-// if they may be in the range, and just past them otherwise. If not, it is the first hint in the direction.
+// The hint of where the range is entered, in the direction. If it is entered at a value, the hint is just before the rows with that value
+// if they may be in the range, and just past them otherwise. If there is no such value, it is the first hint in the direction.
 fn entry_hint(keys: &KeyRange, direction: Direction) -> u64 {
     let is_up = direction == Direction::Asc;
     match keys.entered_at(direction) {
@@ -178,8 +178,8 @@ fn ends_of(alloc: Global, span: &Span) -> Result<SpanEnds, NoMemory>
     Ok(SpanEnds { low, high })
 }
 
-// The end at this edge of all rows whose key begins with these values and, if there is a limit, with its value
-// after them.
+// The end before or after (`edge`) all rows whose key begins with these values and then, if there is a limit,
+// the limit's value.
 fn end_at(
     alloc: Global,
     equal: &[Json],
@@ -219,7 +219,7 @@ fn push_limit(key: &mut KeyBytes, limit: Option<&Limit>) -> Result<(), NoMemory>
     }
 }
 
-// On which edge of the rows with its values the low end is: before them if they are in the range.
+// Whether the low end is before or after the rows with its values: before them if they are in the range.
 fn low_edge(limit: Option<&Limit>) -> Edge
     ensures { result ≡ low_side (option_map (λ l. limit_seen l.now) limit.entry) }
 {
@@ -233,7 +233,7 @@ fn low_edge(limit: Option<&Limit>) -> Edge
     }
 }
 
-// On which edge of the rows with its values the high end is: after them if they are in the range.
+// Whether the high end is before or after the rows with its values: after them if they are in the range.
 fn high_edge(limit: Option<&Limit>) -> Edge
     ensures { result ≡ high_side (option_map (λ l. limit_seen l.now) limit.entry) }
 {

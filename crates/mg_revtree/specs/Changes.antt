@@ -45,7 +45,7 @@ position_below (Some r) = r.0
 abbrev pub next_revision : Option Revision → List ℕ → Revision
 next_revision base id = (position_below base + 1, id)
 
--- a new revision, and behind it the leaf over which it is made
+-- a new revision, and after it the leaf over which it is made
 abbrev pub run_over : Revision → Option Revision → List Revision
 run_over r None = r ∷ []
 run_over r (Some q) = r ∷ q ∷ []

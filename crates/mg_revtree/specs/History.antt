@@ -38,7 +38,7 @@ links (r ∷ rs) = record { rev = r; parent = newest_of rs } ∷ links rs
 abbrev pub all_links : Paths → List Link
 all_links = flat_map (λ p. links p.revs)
 
--- whether a revision stands in some path
+-- whether a revision is in some path
 abbrev pub is_known : Revision → List Link → Bool
 is_known r = list_any (λ l. same_revision r l.rev)
 

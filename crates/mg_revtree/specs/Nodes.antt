@@ -39,7 +39,7 @@ abbrev pub PartsWithin : ℕ → List IdPart → Type 0
 PartsWithin n [] = Unit {0}
 PartsWithin n (p ∷ ps) = LiesWithin n p × PartsWithin n ps
 
--- a text with more behind it
+-- ys is the text xs with more after it
 pub record Grows (xs ys : List ℕ) : Type 0 where
   pub more : List ℕ
   pub is : ys ≡ xs ++ more

@@ -1,4 +1,4 @@
-//! The bodies of revisions. A body stands in a block of its own, or in the block of the form in which its document is served. The
+//! The bodies of revisions. A body is kept in a block of its own, or in the block of the form in which its document is served. The
 //! object without members, which is the usual body of a deleted revision, takes no block.
 ghost use Rattle.std.specs.Prelude.{◌≡◌, IfOk, None, Some, true};
 ghost use Rattle.mg_value.specs.Value.{member_of, no_members, object, text as string};

@@ -32,8 +32,7 @@ pub fn deleted_do_not_win()
     ensures { DeletedDoNotWin }
 {}
 
-/// The lists of the leaves and of the losers of a history have each of them once, best first. There are no other such
-/// lists.
+/// The definition lists the leaves and the losers of a history, each once and best first. No other list does so.
 pub fn leaves_are_listed()
     ensures { LeavesAreListed }
 {}

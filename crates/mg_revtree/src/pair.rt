@@ -20,9 +20,9 @@ use std::slice;
 // The ids of edits that are made here have this many bytes.
 const ID_BYTES: usize = 32;
 
-/// A leaf, and the id of its parent, which stands at the position below and has no known parent: the tree of a document that was
-/// edited or deleted once. The id has 32 bytes, so that it is one block of memory without its length; a tree with another id of the
-/// parent is kept as a line. Contracts see the tree.
+/// A leaf, and the id of its parent, which is at the position below and has no known parent: the tree of a document that was
+/// edited or deleted once. The id has exactly 32 bytes, so its block needs no length beside it; a tree whose parent has an id of
+/// another length is kept as a line. Contracts see the tree.
 #[derive(Drop)]
 pub(crate) struct Pair {
     leaf: SharedLeaf,

@@ -1,5 +1,5 @@
 -- Rows of an index as bytes whose order is the order of rows: an order-preserving encoding of tuples, as FoundationDB's
--- tuple layer or SQLite's `memcmp` keys. Each function gives the bytes of a thing with the bytes that come after it.
+-- tuple layer or SQLite's `memcmp` keys. Each function puts the bytes of a value before the bytes that follow it.
 use Rattle.std.specs.Prelude.{ℕ, zero, suc, ◌+◌, ◌-◌, ◌/◌, ◌%◌, ℤ, pos, negsuc, List, [], ◌∷◌, true, false}
 use Rattle.std.specs.declared.cmp.Ordering.{Ordering}
 use Rattle.std.specs.Cmp.Lexicographic.{slice_cmp}

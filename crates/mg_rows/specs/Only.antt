@@ -140,12 +140,15 @@ one_key bytes a b f g = (one_end Before Before a b f.0 g.0 (sym f.1 ∙ g.1)).1
 
 -- ---- one row, one key, one place
 
+-- two parts of bytes are those of at most one row
 pub RowOf-prop : (parts : List ℕ × List ℕ) → IsProp (RowOf parts)
 RowOf-prop parts = λ x y. Σ_prop_path (IsRow-prop parts) (one_row_of_parts parts x.0 y.0 x.1 y.1)
 
+-- bytes are those of at most one key
 pub KeyOf-prop : (bytes : List ℕ) → IsProp (KeyOf bytes)
 KeyOf-prop bytes = λ x y. Σ_prop_path (IsKey-prop bytes) (one_key bytes x.0 y.0 x.1 y.1)
 
+-- bytes are those of at most one place
 pub PlaceOf-prop : (bytes : List ℕ) → IsProp (PlaceOf bytes)
 PlaceOf-prop bytes = λ x y. Σ_prop_path (IsBound-prop bytes) (one_place bytes x.0 y.0 x.1 y.1)
 

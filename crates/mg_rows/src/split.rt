@@ -37,7 +37,7 @@ impl Model for SplitBytes {
 }
 
 impl SplitBytes {
-    /// Copies bytes: the first part is `front` with the byte `last` behind it, the second part is `back`.
+    /// Copies bytes: the first part is `front` and then the byte `last`, the second part is `back`.
     ///
     /// Errors: `NoMemory` if an allocation fails; up to 45 bytes take no memory. Cost: the number of bytes.
     pub(crate) fn of(

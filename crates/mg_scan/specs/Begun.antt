@@ -31,7 +31,7 @@ IsBegunIn at s shard left.Nothing = at ≡ None
 abbrev pub IsBegun : Search → ShardView → Left → Type 0
 IsBegun s shard = IsBegunIn (target_columns s.target shard.definitions) s shard
 
--- it is what is left after the first n rows of an index; documents stay as they are
+-- the second is what is left of the first after n rows of an index; of documents none is passed over, so n is 0
 abbrev pub IsBehind : ℕ → Left → Left → Type 0
 IsBehind n (left.Rows rows) l = l ≡ left.Rows (drop n rows)
 IsBehind n (left.Documents documents) l = (n ≡ 0) × (l ≡ left.Documents documents)

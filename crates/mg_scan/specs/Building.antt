@@ -11,10 +11,10 @@ use Rattle.mg_value.specs.declared.error.NoMemory.{NoMemory}
 abbrev pub HasRowsAt : IndexDefinition → List ShardView → ℕ → Result (List RowValue) NoMemory → Type 0
 HasRowsAt d shards i r = IfOk r (λ v. (s : ShardView) → slice_get shards i ≡ Some s → v ≡ rows_of d.columns (docs_of s.documents))
 
--- each is what the index has in the shard of its place
+-- each has the rows of the index in the shard of the same number
 abbrev pub AreRowsAt : IndexDefinition → List ShardView → List (Result (List RowValue) NoMemory) → Type 0
 AreRowsAt d shards rs = (i : ℕ) (r : Result (List RowValue) NoMemory) → slice_get rs i ≡ Some r → HasRowsAt d shards i r
 
--- the i-th is what the index has in the shard at place from + i
+-- the i-th has the rows of the index in the shard with the number from + i
 abbrev pub AreRowsFrom : IndexDefinition → List ShardView → ℕ → List (Result (List RowValue) NoMemory) → Type 0
 AreRowsFrom d shards from rs = (i : ℕ) (r : Result (List RowValue) NoMemory) → slice_get rs i ≡ Some r → HasRowsAt d shards (from + i) r

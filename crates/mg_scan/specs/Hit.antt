@@ -44,7 +44,7 @@ pub record IsHitOf (ds : KeptDocuments) (h : Hit) : Type 0 where
 abbrev pub AreHitsOf : KeptDocuments → List Hit → Type 0
 AreHitsOf ds hits = AllByRecursion (IsHitOf ds) hits
 
--- the hit is one of a document of one of the shards
+-- the hit is of a document of one of the shards
 pub record IsHitIn (shards : List ShardView) (h : Hit) : Type 0 where
   pub place : ℕ
   pub shard : ShardView

@@ -31,7 +31,7 @@ pub record IsLeadIn (shards : List ShardView) (l : Lead) : Type 0 where
   pub there : slice_get shards place ≡ Some shard
   pub lead : IsLeadOf shard l
 
--- each is such a lead
+-- each lead is a row of one of the shards
 abbrev pub AreLeadsIn : List ShardView → List Lead → Type 0
 AreLeadsIn shards leads = AllByRecursion (IsLeadIn shards) leads
 
@@ -64,7 +64,7 @@ pub record IsLeadSourceOf (search : Search) (s : ShardView) (source : LeadSource
   pub rows : lead_rows source.search source.left ≡ all_found_by (unasked search) s
   pub leads : (l : Lead) → IsLeadLeft source.shard.now source.left l → IsLeadOf s l
 
--- a source of these rows without the first n
+-- a source of all rows in the search's range but the first n, whatever their documents
 pub record IsLeadSourceBehind (n : ℕ) (search : Search) (s : ShardView) (source : LeadSource) : Type 0 where
   pub rows : lead_rows source.search source.left ≡ drop n (all_found_by (unasked search) s)
   pub leads : (l : Lead) → IsLeadLeft source.shard.now source.left l → IsLeadOf s l

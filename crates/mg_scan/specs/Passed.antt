@@ -23,7 +23,7 @@ IsIndex (Index ddoc name) = Unit {0}
 abbrev pub rows_ahead : Search → ShardView → ℕ
 rows_ahead s = count_ahead s.target s.range.now (after_of s) s.direction
 
--- how many rows of all shards do
+-- how many rows of all shards come after that place
 abbrev pub all_ahead : List ShardView → Search → ℕ
 all_ahead shards s = sum_by (rows_ahead s) shards
 

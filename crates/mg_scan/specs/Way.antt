@@ -27,10 +27,10 @@ begin_at s r = begin_order s.direction (place_of s.range.now (item_list r.0)) (o
 abbrev pub walked_by : Search → KeptDocuments → ℕ → List RowValue → List RowValue
 walked_by s ds = walked (is_late_row s.direction s.range.now) (λ r. holds_at s.normal.now ds r.1)
 
--- all that it finds on the way
+-- all that a search finds on the way through such rows
 abbrev pub walked_all_by : Search → KeptDocuments → List RowValue → List RowValue
 walked_all_by s ds = walked_all (is_late_row s.direction s.range.now) (λ r. holds_at s.normal.now ds r.1)
 
--- the rows of documents among all, by their ids
+-- the rows that documents have among all documents, where an id is the key
 abbrev pub entry_rows : List (List ℕ × Kept) → List RowValue
 entry_rows es = filter_map (λ e. option_and_then (row_of all_columns) (doc_entry e)) es

@@ -15,11 +15,11 @@ pub record Gives (search : Search) (s : ShardView) (hits : List Hit) : Type 0 wh
   pub rows : hit_rows hits ≡ found_by search s
   pub documents : AreHitsOf s.documents hits
 
--- they are what it finds in the i-th shard
+-- the hits are what the search finds in the i-th shard
 pub record HitsAnswer (search : Search) (shards : List ShardView) (i : ℕ) (hits : List Hit) : Type 0 where
   pub gives : (s : ShardView) → slice_get shards i ≡ Some s → Gives search s hits
 
--- each piece of work has the hits of its shard
+-- each of these has the hits of the shard that it names
 abbrev pub AllDone : Search → List ShardView → List Done → Type 0
 AllDone search shards ds = AllByRecursion (λ d. HitsAnswer search shards d.shard d.hits.items) ds
 

@@ -59,7 +59,8 @@ fn extract_in_turn<R: Threads + Sync, G: Gate>(
     Ok(all)
 }
 
-// The rows that the index has in some shards from the given one on, each extracted by a thread of its own with this many workers.
+// The rows that the index has in `count` shards, from the shard `from` on. A thread of its own, with this many workers, extracts those
+// of each shard.
 fn extract_at_once<R: Threads + Sync, G: Gate + Sync>(
     rt: &R,
     alloc: Global,

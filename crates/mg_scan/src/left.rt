@@ -50,8 +50,8 @@ fn left_in_index<'a>(shard: &'a Shard, ddoc: &str, name: &str, search: Search<'_
     }
 }
 
-// Passes over the first `count` rows of an index. Returns what is left, and how many rows were passed over: 0 for documents, since some
-// of them may be deleted.
+// Passes over the first `count` rows of an index. Returns what is left, and how many rows were passed over. Documents are not passed
+// over (0), since some of them may be deleted.
 pub(crate) fn left_behind<'a>(left: Left<'a>, count: usize) -> (Left<'a>, usize)
     ensures behind { IsBehind result.1 left.entry result.0 }
     ensures within { result.1 ≤ count }

@@ -195,7 +195,7 @@ fn search_after<'a>(search: Search<'a>, row: &'a RowBytes, take: usize) -> Searc
 }
 
 // A row near the last one that the page skips. In each shard a scout goes ahead by `stride` rows at a time. Of the rows that the scouts
-// reach, this is the last one, in the order of the search, that the page skips for certain, wherever the rows between them stand.
+// reach, this is the last one, in the order of the search, that the page skips for certain, wherever the rows between them are.
 fn row_near<'a>(
     alloc: Global,
     shards: &'a [Arc<Shard>],
@@ -222,7 +222,7 @@ fn row_near<'a>(
     Ok(last)
 }
 
-// The first scout of each shard; the scout whose row comes first stands at the end of the list.
+// The first scout of each shard; the scout whose row comes first is at the end of the list.
 fn scouts_of<'a>(
     alloc: Global,
     shards: &'a [Arc<Shard>],

@@ -14,7 +14,7 @@ pub(crate) struct Scout<'a> {
     pub(crate) rows: Rows<'a>,
 }
 
-// The scout after `stride` rows; `None` if the search's range ends before.
+// The scout at the row that is `stride` rows further; `None` if the search's range ends before that row.
 pub(crate) fn scout_of<'a>(
     mut rows: Rows<'a>,
     search: Search<'_>,
@@ -30,7 +30,7 @@ pub(crate) fn scout_of<'a>(
     Some(Scout { row, rows })
 }
 
-// Puts a scout among others, of which the one whose row comes first stands at the end.
+// Puts a scout among others, of which the one whose row comes first is at the end.
 pub(crate) fn enter<'a>(
     scouts: &mut Vec<Scout<'a>>,
     scout: Scout<'a>,
@@ -41,7 +41,7 @@ pub(crate) fn enter<'a>(
     Ok(())
 }
 
-// Where the scout of a row stands among others, by binary search.
+// Where the scout of a row belongs among others, by binary search.
 fn place_of(scouts: &[Scout<'_>], row: &RowBytes, direction: Direction) -> usize
     ensures { result ≤ length scouts.now }
 {

@@ -79,7 +79,7 @@ fn is_over_at_id(search: Search<'_>, found: usize, id: &str) -> bool
     found >= search.take || is_past_id(search, id)
 }
 
-// Puts a hit behind the others, if there is one.
+// Appends a hit to the others, if there is one.
 pub(crate) fn push_if<'a>(hits: &mut Vec<Hit<'a>>, hit: Option<Hit<'a>>) -> Result<(), NoMemory>
     ensures { OnOk result (hits.new.items ≡ hits.old.items ++ list_of_option hit.entry) }
 {
@@ -89,7 +89,7 @@ pub(crate) fn push_if<'a>(hits: &mut Vec<Hit<'a>>, hit: Option<Hit<'a>>) -> Resu
     Ok(())
 }
 
-// The hits among rows of an index that begin where the search does.
+// The hits among these rows of an index, which begin where the search begins.
 fn hits_of_rows<'a>(
     alloc: Global,
     shard: &'a Shard,
@@ -110,7 +110,7 @@ fn hits_of_rows<'a>(
     Ok(hits)
 }
 
-// The hits among documents that begin where the search does.
+// The hits among these documents, which begin where the search begins.
 fn hits_of_documents<'a>(
     alloc: Global,
     shard: &'a Shard,

@@ -9,8 +9,8 @@ use std::marker::{Send, Sync};
 use std::thread;
 use std::thread::Threads;
 
-/// Calls `f(0)` to `f(n - 1)`, and returns the results in order. The caller's thread starts a thread for each call but the last, which it
-/// makes itself, as each for which no thread can be started.
+/// Calls `f(0)` to `f(n - 1)`, and returns the results in order. The caller's thread starts a thread for each call but the last. It makes
+/// the last call itself, and each call for which no thread can be started.
 ///
 /// `thread::map_indices` returns the same, but its threads start one another. Then Linux often puts two of them on one processor while
 /// another is idle (docs/DECISIONS.md, "Scans and builds").

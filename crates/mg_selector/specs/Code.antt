@@ -165,6 +165,7 @@ mutual
   run_operator (some_element x) xs s = then_one (selector_instructions x) (inr (inr 7)) xs s (x ∷ s.0, s.1) (run_selector x (inr (inr 7) ∷ xs) s)
   run_operator (each_element x) xs s = then_one (selector_instructions x) (inr (inr 8)) xs s (x ∷ s.0, s.1) (run_selector x (inr (inr 8) ∷ xs) s)
 
+-- the instructions of an operator give the operator back
 pub operator_from-instructions : (o : Operator) → operator_from (operator_instructions o) ≡ o
 operator_from-instructions o = ap (λ xs. top (run_all xs ([], [])).0) (sym (append-nil (operator_instructions o))) ∙ ap (λ s. top s.0) (run_operator o [] ([], []))
 

@@ -4,6 +4,7 @@ use Rattle.mg_value.specs.Value.{Value, Items}
 use Rattle.mg_selector.specs.declared.json_type.JsonType.{JsonType}
 
 mutual
+  -- a selector, by what it says
   pub data Selector : Type 0 where
     -- the members of an object, in the order of their names
     members : Arms → Selector
@@ -17,6 +18,7 @@ mutual
     -- an operator on the current part
     asks : Operator → Selector
 
+  -- selectors, one after another
   pub data Arms : Type 0 where
     no_arms : Arms
     arm : Selector → Arms → Arms

@@ -1,7 +1,7 @@
 ghost use Rattle.std.specs.Prelude.{◌≡◌};
 ghost use Rattle.mg_selector.specs.Meaning.{flip, in_sense};
 
-/// Whether a selector is asked, or its negation.
+/// Whether a selector has to hold (plain), or its negation (negated).
 #[derive(Clone, Copy, PartialEq, Eq, Debug, Drop)]
 pub enum Sense {
     Plain,

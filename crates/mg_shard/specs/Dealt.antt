@@ -15,8 +15,8 @@ Placing = List ℕ → ℕ → ℕ
 abbrev pub histories_on : Placing → ℕ → ℕ → Histories → Histories
 histories_on place n i hs = retain_keys hs (λ id. place id n == i)
 
--- Things, one for each shard, together stand for histories if each id that has a history is placed on one of them, and each
--- of them stands for the histories that are placed there. Then a document is in its own shard, and nowhere else.
+-- Values, one for each shard, together stand for histories if each id that has a history is placed on one of the shards, and each value
+-- stands for the histories that are placed on its shard. Then a document is in its own shard, and nowhere else.
 pub record AreDealt {X : Type 0} (Stands : X → Histories → Type 0) (place : Placing) (xs : List X) (hs : Histories) : Type 0 where
   pub placed : (id : List ℕ) (h : Paths) → get hs id ≡ Some h → place id (length xs) < length xs
   pub each : (i : ℕ) (x : X) → slice_get xs i ≡ Some x → Stands x (histories_on place (length xs) i hs)

@@ -20,14 +20,14 @@ Kept = Tree × Option Value
 abbrev pub KeptDocuments : Type 0
 KeptDocuments = FinMap (slice_cmp nat_cmp) Kept
 
--- a document stands for a history where its tree does, and is kept in the form in which that history is served
+-- a document stands for a history if its tree does and it is kept in the form in which that history is served
 abbrev pub StandsAt : List ℕ → Option Kept → Option Paths → Type 0
 StandsAt id None None = Unit {0}
 StandsAt id None (Some h) = ⊥
 StandsAt id (Some d) None = ⊥
 StandsAt id (Some d) (Some h) = StandsFor d.0 h × (d.1 ≡ served_of id h)
 
--- documents stand for histories where each id has a document exactly where it has a history, and the one stands for the other
+-- documents stand for histories if each id has a document exactly if it has a history, and the document stands for the history
 abbrev pub StandFor : KeptDocuments → Histories → Type 0
 StandFor ds hs = (id : List ℕ) → StandsAt id (get ds id) (get hs id)
 

@@ -42,11 +42,11 @@ DraftAt id (Some t) kept None = ⊥
 DraftAt id (Some t) kept (Some h) = StandsFor t h
 DraftAt id None kept o = StandsAt id kept o
 
--- documents and touched trees stand for histories where they do so at each id
+-- documents and touched trees stand for histories if they do so at each id
 abbrev pub TouchedStandFor : KeptDocuments → Trees → Histories → Type 0
 TouchedStandFor ds ts hs = (id : List ℕ) → DraftAt id (get ts id) (get ds id) (get hs id)
 
--- a draft stands for histories where its documents and trees do
+-- a draft stands for histories if its documents and trees do
 abbrev pub DraftStandsFor : DraftView → Histories → Type 0
 DraftStandsFor d hs = TouchedStandFor d.shard.documents d.touched hs
 

@@ -1,4 +1,4 @@
--- What the edits of a bulk do to documents' histories, in order, and what becomes of each.
+-- What the edits of a bulk do to documents' histories, in order, and what becomes of each, after CouchDB's `_bulk_docs`.
 use Rattle.std.specs.Prelude.{ℕ, List, [], ◌∷◌, unwrap_or, Result, Ok, Err}
 use Rattle.std.specs.FinMap.{insert}
 use Rattle.mg_revtree.specs.Revision.{Revision}

@@ -31,13 +31,14 @@ definitions_of xs = map (λ x. x.0) xs
 abbrev pub HasRows : KeptDocuments → Index → Type 0
 HasRows ds x = x.1 ≡ rows_of x.0.columns (docs_of ds)
 
--- each index has its rows, and each design document and name stands once, in the order of a catalog
+-- each index has its rows, and each design document and name occurs once, in the order of a catalog
 pub record AreIndexes (ds : KeptDocuments) (xs : List Index) : Type 0 where
   pub catalog : IsCatalog (definitions_of xs)
   pub rows : AllByRecursion (HasRows ds) xs
 
 -- ---- the order of indexes: by design document, then name
 
+-- the order of indexes is that of their definitions
 abbrev pub index_order : Index → Index → Ordering
 index_order x y = definition_order x.0 y.0
 

@@ -1,8 +1,9 @@
--- For private clauses: what is left on a way.
+-- For private clauses: the elements that are left on a `Way`, in the order in which they are read.
 use Rattle.std.specs.Prelude.{List}
 use Rattle.mg_shard.specs.declared.walk.Way.{Way}
 use Rattle.mg_shard.specs.declared.walk.Way.TheVariants.{Up, Down}
 
+-- the elements that are left
 abbrev pub left_on : {T : Type 0} → Way T → List T
 left_on (Up things) = things
 left_on (Down things) = things

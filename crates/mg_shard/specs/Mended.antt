@@ -14,12 +14,12 @@ own_row columns id form = option_and_then (row_of columns) (option_map (λ v. (i
 abbrev pub HaveSameRow : List Steps → Option Value → Option Value → Type 0
 HaveSameRow columns form other = (id : List ℕ) → own_row columns id form ≡ own_row columns id other
 
--- rows without one of them, if one is to be taken
+-- the rows without this one, if one is given
 abbrev pub without_row : Option RowValue → List RowValue → List RowValue
 without_row None rows = rows
 without_row (Some r) rows = removed (row_value_order r) rows
 
--- rows with one more, if one is to be put
+-- the rows with this one, if one is given
 abbrev pub with_row : Option RowValue → List RowValue → List RowValue
 with_row None rows = rows
 with_row (Some r) rows = inserted row_value_order r rows

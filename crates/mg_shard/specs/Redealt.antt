@@ -43,7 +43,7 @@ last_kept (d ∷ ds) id = option_or (last_kept ds id) (cond (eq_by_cmp (slice_cm
 abbrev pub IsPlace : Placing → ℕ → Document → ℕ → Type 0
 IsPlace place n d i = (i ≡ place (id_bytes d) n) × (i < n)
 
--- and these are those of so many documents
+-- these are the shards of the documents, of n
 abbrev pub ArePlaces : Placing → ℕ → List Document → List ℕ → Type 0
 ArePlaces place n ds places = AllZip (IsPlace place n) ds places
 
@@ -57,6 +57,6 @@ pub record IsMade (ds : List Document) (places : List ℕ) (definitions : List I
   pub keeps : KeepsThose ds places i s.documents
   pub indexes : s.definitions ≡ definitions
 
--- and so is each of these
+-- the i-th of these shards is made of the documents that are placed on the i-th
 abbrev pub AreMade : List Document → List ℕ → List IndexDefinition → List ShardView → Type 0
 AreMade ds places definitions shards = (i : ℕ) (s : ShardView) → slice_get shards i ≡ Some s → IsMade ds places definitions i s

@@ -45,7 +45,7 @@ impl Shard {
         Ok(pages)
     }
 
-    // The same rows, extracted, sorted and put into pages by several threads.
+    // What `rows_alone` returns, extracted, sorted and put into pages by several threads.
     fn rows_together<R: Threads + Sync>(
         &self,
         rt: &R,

@@ -8,10 +8,10 @@ use mg_revtree::Rev;
 pub enum EditReply {
     /// The revision that the edit brought.
     Done(Rev),
-    /// The edited revision is not a leaf, or the document is there and none was named, or the revision that the edit makes
-    /// is known.
+    /// The named revision is not a leaf; or none is named, but the winner is not deleted; or the revision that the edit makes is
+    /// already known.
     Conflict,
-    /// The path gives a known revision another parent, or no position is left.
+    /// The path gives a known revision another parent, or the extended leaf has the last position.
     BadHistory,
 }
 

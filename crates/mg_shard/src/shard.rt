@@ -71,9 +71,9 @@ impl Shard {
         }
     }
 
-    /// The same documents and indexes, all of them shared.
+    /// A second shard of these documents and indexes, all of which both share.
     ///
-    /// Errors: `NoMemory` if an allocation fails. Cost: the top levels of the documents and of the list of indexes, at most 65 parts each.
+    /// Errors: `NoMemory` if an allocation fails. Cost: the top levels of the documents and of the list of indexes, as for `Pages::share`.
     pub fn share(&self, alloc: Global) -> Result<Shard, NoMemory>
         ensures { IfOk result (λ s. s ≡ self.now) }
     {
@@ -173,7 +173,7 @@ impl Shard {
         count_beyond(&self.documents, place, direction)
     }
 
-    /// A document that is served with an `_id` is served with its own: for proofs of callers. Does nothing.
+    /// Does nothing: its contract tells proofs of callers that a document that is served with an `_id` is served with its own.
     pub fn ids_are_own(&self)
         ensures { (id : List ℕ) (form : Value) → form_at self.now.documents id ≡ Some form
             → HasOwnId id form }

@@ -1,4 +1,4 @@
-//! Things in order that are read in either direction.
+//! Elements in order, read in either direction.
 ghost use Rattle.std.specs.Prelude.{◌≡◌, drop, length};
 ghost use Rattle.std.specs.Iterator.{at_most};
 ghost use Rattle.std.specs.Map.Iter.{TakesFirst, deref};
@@ -11,14 +11,14 @@ use mg_pages::{Back, Iter, Keyed, Pages, Probe, Shared};
 use mg_rows::RowBytes;
 use std::marker::Model;
 
-// A way through things in order: up from the first that is left, or down from the last.
+// A way through elements in order: up from the first that is left, or down from the last.
 #[derive(Drop)]
 pub(crate) enum Way<'a, T: Keyed> {
     Up(Iter<'a, T>),
     Down(Back<'a, T>),
 }
 
-/// The things that are left of a collection, in the direction in which they are read.
+/// The elements of a collection that are left, in the direction in which they are read.
 #[derive(Drop)]
 pub struct Walk<'a, T: Keyed> {
     way: Way<'a, T>,
@@ -38,7 +38,7 @@ impl<'a, T: Keyed> Model for Walk<'a, T> {
 }
 
 impl<'a, T: Keyed> Walk<'a, T> {
-    // All things of a collection.
+    // All elements of a collection.
     pub(crate) fn over(pages: &'a Pages<T>, direction: Direction) -> Walk<'a, T>
         ensures { result ≡ in_direction direction pages.now }
     {

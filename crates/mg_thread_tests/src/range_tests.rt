@@ -1,5 +1,5 @@
 //! Calls that the program does not make: the direction of an index definition, and whether a key range has a key. They need no
-//! threads, and stand here beside the other tests that use mg_index and mg_range.
+//! threads; they are here beside the other tests that use mg_index and mg_range.
 use crate::given::{check, json};
 use mg_collate::Direction;
 use mg_index::IndexDef;

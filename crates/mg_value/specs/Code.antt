@@ -103,6 +103,7 @@ mutual
       ap (λ ys. built ys s) (append_assoc (steps v) (members_steps ms ++ inr (inl (inr k)) ∷ []) xs ∙ ap (λ ys. steps v ++ ys) (append_assoc (members_steps ms) (inr (inl (inr k)) ∷ []) xs))
       ∙ run_value v (members_steps ms ++ inr (inl (inr k)) ∷ xs) s ∙ run_members ms (inr (inl (inr k)) ∷ xs) (push v s)
 
+-- the steps of a value build the value
 pub from_steps-steps : (v : Value) → from_steps (steps v) ≡ v
 from_steps-steps v = ap (λ xs. top (built xs ([], [], [])).0) (sym (append-nil (steps v))) ∙ ap (λ s. top s.0) (run_value v [] ([], [], []))
 

@@ -47,5 +47,6 @@ tokens_of v = json_tokens (outline (data_of v))
 abbrev pub items_tokens_of : Items → List Token
 items_tokens_of vs = tree.items_tokens (items_outline (data_items vs))
 
+-- the tokens of an object's members, and of its closing brace
 abbrev pub members_tokens_of : Members → List Token
 members_tokens_of ms = tree.members_tokens (members_outline (data_members ms))

@@ -10,7 +10,7 @@ abbrev pub items_of : List Value → Items
 items_of [] = no_items
 items_of (d ∷ ds) = item d (items_of ds)
 
--- the members of a map, whose entries stand in the order of their names
+-- the members of a map, whose entries are in the order of their names
 abbrev pub members_of : List (String Global × Value) → Members
 members_of [] = no_members
 members_of (m ∷ ms) = member (string_bytes m.0) m.1 (members_of ms)

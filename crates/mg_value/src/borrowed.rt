@@ -21,7 +21,7 @@ const MAX_DEPTH: usize = 127;
 const LONGEST_KEPT: usize = 65_536;
 
 /// Memory that reading needs besides the value, kept from one text to the next: a table of 16 KiB, which is
-/// cleared once, and as many bytes as the longest text had that was read with it, up to 64 KiB.
+/// cleared once, and as many bytes as the longest text that was read with it, up to 64 KiB.
 #[derive(Drop)]
 pub struct ReadBuffer {
     scratch: Scratch,

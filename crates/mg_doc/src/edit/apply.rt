@@ -111,8 +111,8 @@ impl ReadyEdit {
     /// look again.
     ///
     /// Errors: `Conflict` if the made revision is already known; else `NoMemory` if an allocation fails. An error leaves the tree as
-    /// it was. Cost: that of `RevTree::extend` or `RevTree::merge`, and the length of the body's text if the id of the revision was
-    /// not made ahead, or was made ahead over nothing and a deleted winner is extended.
+    /// it was. Cost: that of `RevTree::extend` or `RevTree::merge`, and the length of the body's text if the revision's id has to be
+    /// made here: it was not made ahead, or it was made for a first revision and a deleted winner is extended.
     pub fn bring(self, alloc: Global, tree: &mut RevTree) -> Result<Rev, EditError>
         requires { (h : Paths) → StandsFor tree.old h → IsReady h self }
         ensures applied { (h : Paths) → StandsFor tree.old h → Applied h self result tree.new }
@@ -171,7 +171,7 @@ fn check_base(tree: &RevTree, named: Option<&Rev>) -> Result<(), Refused>
     Ok(())
 }
 
-// The base that is extended: the named revision; if none is named, a deleted winner, or nothing in an empty tree.
+// The base that is extended: the named revision; if none is named, a deleted winner, or `None` in an empty tree.
 fn base_over<'a>(tree: &'a RevTree, named: Option<&'a Rev>) -> Result<Option<&'a Rev>, Refused>
     ensures { (h : Paths) → StandsFor tree.now h
         → base_found h (option_copied named.entry) ≡ result_map_both option_copied (λ e. e) result }
@@ -207,8 +207,8 @@ fn copied_base(alloc: Global, tree: &RevTree) -> Result<Option<Rev>, EditError>
     }
 }
 
-// Makes a revision over the named one, or over the base that is found without a name. Its id may have been made ahead, over the
-// named revision or over nothing.
+// Makes a revision over the named one; if none is named, over a deleted winner, or the first revision of the document. Its id may
+// have been made ahead, for the named revision as its parent or, if none is named, for a first revision.
 fn extend(
     alloc: Global,
     tree: &mut RevTree,
@@ -232,7 +232,7 @@ fn extend(
     }
 }
 
-// The id that was made ahead for a first revision; `None` if a base is extended, since the id over it is another.
+// The id that was made ahead for a first revision; `None` if a base is extended, since the digest of a revision over it is another.
 fn over_nothing(ahead: Option<String>, base: Option<&Rev>) -> Option<String>
     ensures { IfSome result (λ id. (ahead ≡ Some id) × (option_copied base.entry ≡ None)) }
 {

@@ -25,7 +25,8 @@ pub(crate) struct EditEntry {
     pub(crate) reply: EditReply,
 }
 
-/// Applies edits that have ids, in order. Returns what became of each, and the shards after them, into which the bodies are moved.
+/// Applies edits that have ids, in order, and moves their bodies into the shards. Returns what became of each edit, and the shards
+/// after all of them.
 ///
 /// Errors: `NoMemory` if an allocation fails. Cost: that of `Draft::edit` for each edit, and of `Draft::finish` for each shard.
 pub(crate) fn apply_edits<P: Placement>(
@@ -111,7 +112,7 @@ fn edit_one<P: Placement>(
     Ok(EditEntry { id, reply })
 }
 
-// Finishes the drafts of all shards. A shard whose draft touched no document is kept, and shared.
+// Finishes the drafts of all shards. A shard whose draft touched no document is shared as it is.
 fn finish_drafts(
     alloc: Global,
     drafts: Vec<Draft<'_>>,
@@ -128,7 +129,7 @@ fn finish_drafts(
     Ok(next_shards)
 }
 
-// Finishes the draft of a shard. If it touched no document, the shard is kept, and shared.
+// Finishes the draft of a shard. If it touched no document, the shard is shared as it is.
 fn finish_draft(alloc: Global, draft: Draft<'_>, shard: &Arc<Shard>) -> Result<Arc<Shard>, NoMemory>
     requires { draft.shard ≡ arc_value shard.now }
     ensures { IfOk result (λ s. Leaves draft.entry (arc_value s)) }

@@ -1,4 +1,4 @@
-//! Reads the body of a bulk, for which it needs no state.
+//! Reads the body of a bulk. No state is needed for this.
 ghost use Rattle.std.specs.Prelude.{◌≡◌, codes, IfOk, option_map, true};
 ghost use Rattle.mg_value.specs.View.{view, items_view};
 ghost use Rattle.mg_doc.specs.Document.{is_object};

@@ -90,7 +90,7 @@ fn same_number(a: &[u8], b: &[u8]) -> bool
     first == second
 }
 
-/// Whether a field is no Content-Length, or gives the same number as the text.
+/// Whether a field is not a Content-Length, or gives the same number as the text.
 fn agrees_on_length(name: &[u8], value: &[u8], text: &[u8]) -> bool
     requires { list_all is_ascii_digit text.now ≡ true }
     ensures { result ≡ agrees_on_length text.now (name.now, value.now) }

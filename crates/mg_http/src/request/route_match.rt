@@ -127,7 +127,7 @@ fn begins_with(route: &Route, segment: &[u8]) -> bool
     }
 }
 
-/// Whether some of the routes begins with the segment as a literal.
+/// Whether one of the routes begins with the segment as a literal.
 fn goes_on(routes: &[Route], segment: &[u8]) -> bool
     ensures { result ≡ goes_on (literal segment.now) (map route_of routes.now) }
 {

@@ -17,10 +17,10 @@ use mg_value::NoMemory;
 use std::alloc::Global;
 use std::marker::Model;
 
-// The spare capacity of a copy for the texts of ids: for the id of one edit, which has 32 bytes, so that it does not reallocate them.
+// The spare capacity of a copy for the texts of ids: the 32 bytes of one edit's id, so that this edit does not reallocate them.
 const SPARE_BYTES: usize = 32;
 
-/// The spare capacity of a copy for nodes, for the same reason.
+/// The spare capacity of a copy for nodes, so that one edit does not reallocate them.
 pub const SPARE_NODES: usize = 2;
 
 // A copy of the items, with capacity for `more` items.

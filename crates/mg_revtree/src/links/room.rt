@@ -9,7 +9,7 @@ ghost use Rattle.mg_revtree.specs.Room.{AreFrom, Joins, used};
 use crate::links::lookup::place;
 use crate::links::node::{IdPart, Node};
 
-/// A gap of unused places among the nodes: nodes stand before place `till`, and from place `from` on.
+/// A gap of unused places among the nodes: there are nodes before place `till`, and from place `from` on.
 #[derive(Clone, Copy, Debug)]
 pub struct Room {
     pub till: usize,
