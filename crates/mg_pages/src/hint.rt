@@ -1,5 +1,5 @@
 //! Hints: numbers that say where a search begins. A wrong hint makes a search longer, but does not change its result.
-ghost use Rattle.std.specs.Prelude.{◌<◌, ◌≤◌};
+ghost use Rattle.std.specs.Prelude.{◌<◌, ◌≤◌, length};
 
 use crate::keyed::Keyed;
 use std::alloc::{AllocError, Global};
@@ -125,7 +125,9 @@ fn begin_of(numbers: &[u64], number: u64) -> usize {
 }
 
 // A place at most `STRIDE` before that of `begin_of`.
-fn stride_of(numbers: &[u64], number: u64) -> usize {
+fn stride_of(numbers: &[u64], number: u64) -> usize
+    ensures { result ≤ length numbers.now }
+{
     let mut first = 0;
     while first < numbers.len().saturating_sub(STRIDE) && numbers[first + STRIDE - 1] < number {
         first += STRIDE;

@@ -46,4 +46,8 @@ impl<'a, X: Identified> Probe<Shared<X>> for &'a str {
     fn against(&self, element: &Shared<X>) -> Ordering {
         (*self).cmp(element.get().id())
     }
+
+    fn ties(&self, element: &Shared<X>) -> bool {
+        *self == element.get().id()
+    }
 }

@@ -1,6 +1,7 @@
 //! The order of elements, and the keys by which they are found.
 ghost use Rattle.std.specs.Prelude.{◌≡◌};
 ghost use Rattle.std.specs.Cmp.{IsTotalOrder};
+ghost use Rattle.std.specs.Ordering.{is_eq};
 ghost use Rattle.std.specs.declared.cmp.Ordering.{Ordering};
 ghost use Rattle.mg_pages.specs.Order.{IsProbe};
 
@@ -40,6 +41,13 @@ pub trait Probe<T: Keyed> {
     /// The order of the key against an element: `Less` where the key is below it. Takes no memory.
     fn against(&self, element: &T) -> Ordering
         ensures { result ≡ against self.now element.now };
+
+    /// Whether the key ties with an element. Takes no memory. Keys that test this faster than they compare have a test of their own.
+    fn ties(&self, element: &T) -> bool
+        ensures { result ≡ is_eq (against self.now element.now) }
+    {
+        self.against(element).is_eq()
+    }
 
     ghost probes: { (key : Self) → IsProbe T.order (against key) };
 }

@@ -40,7 +40,9 @@ fn guess_among<T: Keyed, P: Subtree<T>>(parts: &[Child<T, P>], number: u64) -> u
 }
 
 // An index at most `STRIDE` before that of `guess_among`.
-fn stride_among<T: Keyed, P: Subtree<T>>(parts: &[Child<T, P>], number: u64) -> usize {
+fn stride_among<T: Keyed, P: Subtree<T>>(parts: &[Child<T, P>], number: u64) -> usize
+    ensures { result ≤ length parts.now }
+{
     let mut first = 0;
     while first < parts.len().saturating_sub(STRIDE) && parts[first + STRIDE - 1].hint < number {
         first += STRIDE;

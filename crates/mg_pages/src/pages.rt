@@ -94,7 +94,7 @@ fn tied<'a, T: Keyed, Q: Probe<T>>(root: &'a Root<T>, key: &Q) -> Option<&'a T>
     let (page, guess) = root.guessed_page(key.hint());
     if guess < page.len() {
         let element = &page[guess];
-        if key.against(element).is_eq() {
+        if key.ties(element) {
             return Some(element);
         }
     }

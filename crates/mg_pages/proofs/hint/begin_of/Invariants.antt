@@ -1,11 +1,8 @@
 use Rattle.std.proofs.Common.{◌-◌, ◌≤◌, length}
 use Rattle.mg_pages.proofs.hint.begin_of.Given as goal
 
-abbrev pub invariant-loop-low : goal.invariant-loop-low
-invariant-loop-low l = record {
-  in_order : l.low ≤ l.high;
-  within : l.high ≤ length l.numbers;
-}
+abbrev pub invariant-loop-first : goal.invariant-loop-first
+invariant-loop-first l = l.first ≤ length l.numbers
 
-abbrev pub decreases-loop-low : goal.decreases-loop-low
-decreases-loop-low l = l.high - l.low
+abbrev pub decreases-loop-first : goal.decreases-loop-first
+decreases-loop-first l = length l.numbers - l.first

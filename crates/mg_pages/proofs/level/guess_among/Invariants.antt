@@ -1,11 +1,8 @@
 use Rattle.std.proofs.Common.{◌-◌, ◌≤◌, length}
 use Rattle.mg_pages.proofs.level.guess_among.Given as goal
 
-abbrev pub invariant-loop-low : goal.invariant-loop-low
-invariant-loop-low g l = record {
-  in_order : l.low ≤ l.high;
-  within : l.high ≤ length l.parts;
-}
+abbrev pub invariant-loop-first : goal.invariant-loop-first
+invariant-loop-first g l = l.first ≤ length l.parts
 
-abbrev pub decreases-loop-low : goal.decreases-loop-low
-decreases-loop-low g l = l.high - l.low
+abbrev pub decreases-loop-first : goal.decreases-loop-first
+decreases-loop-first g l = length l.parts - l.first

@@ -1,15 +1,15 @@
-use Rattle.std.proofs.Common.{◌≡◌, Equal, is_eq, ap, sym, ◌∙◌}
+use Rattle.std.proofs.Common.{◌≡◌, Equal, sym, ◌∙◌}
 use Rattle.mg_pages.specs.Parts.{root_seen}
 use Rattle.mg_pages.proofs.Sorted.{equal_from_test}
 use Rattle.mg_pages.proofs.Children.{found_among}
 use Rattle.mg_pages.proofs.Pieces.{piece_among}
 use Rattle.mg_pages.proofs.pages.tied.Goals as goal
 
-pub returns-then-is_eq : goal.returns-then-is_eq
-returns-then-is_eq g c =
+pub returns-then-ties : goal.returns-then-ties
+returns-then-ties g c =
     let key = g.Q.Probe.against c.args.key.now in
     let page = c.guessed_page-guess.result.0.now in
     let element = c.index-page-guess.result in
-    let ties : key element ≡ Equal = equal_from_test (key element) (ap is_eq (sym c.against.ensures) ∙ sym c.is_eq.ensures ∙ c.if-is_eq.true) in
+    let ties : key element ≡ Equal = equal_from_test (key element) (sym c.ties.ensures ∙ c.if-ties.true) in
     let among = piece_among page (root_seen c.args.root.now) c.guessed_page-guess.ensures c.guessed_page-guess.result.1 element c.if-guess-page.true c.index-page-guess.is in
     found_among g.T.Keyed.order key (g.met.Q.Probe.probes c.args.key.now) (root_seen c.args.root.now) element c.requires.sorted among ties
