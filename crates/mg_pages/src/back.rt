@@ -1,5 +1,5 @@
 //! Iteration over a collection from the last element to the first.
-ghost use Rattle.std.specs.Prelude.{◌≡◌, ◌<◌, ◌∷◌, ◌++◌, [], drop, length, reverse};
+ghost use Rattle.std.specs.Prelude.{◌≡◌, ◌<◌, ◌∷◌, ◌++◌, [], Some, drop, length, reverse, slice_get, IfSome};
 ghost use Rattle.std.specs.Iterator.{at_most};
 ghost use Rattle.std.specs.Map.Iter.{TakesFirst, deref};
 ghost use Rattle.mg_pages.specs.Runs.{ended};
@@ -65,6 +65,18 @@ impl<'a, T: Keyed> Back<'a, T> {
     {
         let run = self.run;
         self.run = run_ahead(self.pages, run, count);
+    }
+
+    /// The last element of the run that is being read, which is the rest of one page, and its place among the elements that are left;
+    /// `None` if nothing is left. Cost: constant.
+    pub fn run_end(&self) -> Option<(usize, &'a T)>
+        ensures { IfSome result (λ end. slice_get self.now end.0 ≡ Some end.1.now) }
+    {
+        let run = self.run;
+        if run.len() == 0 {
+            return None;
+        }
+        Some((run.len() - 1, &run[0]))
     }
 }
 

@@ -1,5 +1,5 @@
 //! Iteration over a collection in ascending order.
-ghost use Rattle.std.specs.Prelude.{◌≡◌, ◌<◌, ◌∷◌, List, drop, length};
+ghost use Rattle.std.specs.Prelude.{◌≡◌, ◌<◌, ◌∷◌, List, Some, drop, length, slice_get, IfSome};
 ghost use Rattle.std.specs.Iterator.{at_most};
 ghost use Rattle.std.specs.Map.Iter.{TakesFirst, deref};
 ghost use Rattle.mg_pages.specs.Runs.{continued, continued_after};
@@ -68,6 +68,19 @@ impl<'a, T: Keyed> Iter<'a, T> {
     {
         let run = self.run;
         self.run = run_behind(self.pages, run, count);
+    }
+
+    /// The last element of the run that is being read, which is the rest of one page, and its place among the elements that are left;
+    /// `None` if nothing is left. Cost: constant.
+    pub fn run_end(&self) -> Option<(usize, &'a T)>
+        ensures { IfSome result (λ end. slice_get self.now end.0 ≡ Some end.1.now) }
+    {
+        let run = self.run;
+        if run.len() == 0 {
+            return None;
+        }
+        let place = run.len() - 1;
+        Some((place, &run[place]))
     }
 }
 
