@@ -34,7 +34,7 @@ pub(crate) fn take_atoms(
             Ok(Some(Condition::All(rest)))
         }
         Condition::Any(conditions) => Ok(Some(Condition::Any(conditions))),
-        Condition::At(path, inner) => take_below(alloc, path, Box::into_inner(inner), steps, atoms),
+        Condition::At(path, inner) => take_at(alloc, path, Box::into_inner(inner), steps, atoms),
         Condition::Ask(op, sense) => {
             atoms.push(Atom {
                 steps: copy_texts(alloc, steps)?,
@@ -70,6 +70,36 @@ fn take_all(
     Ok(rest)
 }
 
+// Does what `take_atoms` does, for a condition on the part at the path. An operator right below the path takes the
+// path's steps for its own.
+#[cycle(take_atoms)]
+fn take_at(
+    alloc: Global,
+    path: Path,
+    inner: Condition,
+    steps: &mut Vec<String>,
+    atoms: &mut Vec<Atom>,
+) -> Result<Option<Condition>, NoMemory>
+    ensures atoms { OnOk result (atoms_view atoms.new.items ≡ atoms_view atoms.old.items
+        ++ condition_atoms (condition_of inner) (map string_bytes steps.old.items ++ path)) }
+    ensures steps { OnOk result
+        (map string_bytes steps.new.items ≡ map string_bytes steps.old.items) }
+    ensures rest { IfOk result (λ rest. option_map condition_of rest
+        ≡ option_map (within path) (rest_of (condition_of inner))) }
+{
+    match inner {
+        Condition::Ask(op, sense) => {
+            atoms.push(Atom {
+                steps: whole_steps(alloc, steps, path)?,
+                op,
+                negated: is_negated(sense),
+            })?;
+            Ok(None)
+        }
+        inner => take_below(alloc, path, inner, steps, atoms),
+    }
+}
+
 // Does what `take_atoms` does, for a condition on the part at the path.
 #[cycle(take_atoms)]
 fn take_below(
@@ -94,6 +124,19 @@ fn take_below(
         return Ok(None);
     };
     Ok(Some(Condition::At(path, Box::new(alloc, rest)?)))
+}
+
+// The steps above and then those of the path. The path's own steps are moved, so that at the top of a selector no
+// step is copied.
+fn whole_steps(alloc: Global, above: &[String], path: Path) -> Result<Vec<String>, NoMemory>
+    ensures { IfOk result (λ steps. map string_bytes steps.items ≡ map string_bytes above.now ++ path) }
+{
+    if above.is_empty() {
+        return Ok(path.into_steps());
+    }
+    let mut steps = copy_texts(alloc, above)?;
+    steps.append(&mut path.into_steps())?;
+    Ok(steps)
 }
 
 // Appends copies of more steps. On an error, some of them may have been appended.

@@ -104,6 +104,18 @@ mutual
 pub continued-start : (t : List ℕ) → continued [] t ≡ pieces_of t
 continued-start t = continued_plain t [] refl ∙ onto-nil t
 
+-- without a dot, what is yet to be read joins the step
+continued-no_dot : (t step : List ℕ) → list_any (λ c. eqb c 46) t ≡ false → continued step t ≡ (step ++ t) ∷ []
+continued-no_dot [] step h = ap (λ s. s ∷ []) (sym (append-nil step))
+continued-no_dot (c ∷ cs) step h = elim (same_or c 46) as (λ _. continued step (c ∷ cs) ≡ (step ++ c ∷ cs) ∷ []) [
+  | inl dot ↦ let contradiction = rw dot at h in cc
+  | inr no_dot ↦ rw no_dot (continued-no_dot cs (step ++ c ∷ []) (rw no_dot at h) ∙ ap (λ s. s ∷ []) (append_assoc step (c ∷ []) cs))
+]
+
+-- a text without a dot is its only piece
+pub pieces_of-no_dot : (t : List ℕ) → list_any (λ c. eqb c 46) t ≡ false → pieces_of t ≡ t ∷ []
+pieces_of-no_dot t h = sym (continued-start t) ∙ continued-no_dot t [] h
+
 -- whether any piece is empty, given whether the piece begun is empty and whether it ends in a backslash, and what is left of the text
 abbrev pub empty_from : Bool → Bool → List ℕ → Bool
 empty_from empty escaped [] = empty

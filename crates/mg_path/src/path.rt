@@ -68,6 +68,13 @@ impl Path {
         &self.steps
     }
 
+    /// The steps, in order, taken out of the path. Takes no memory.
+    pub fn into_steps(self) -> Vec<String>
+        ensures { map string_bytes result.items ≡ self }
+    {
+        self.steps
+    }
+
     /// Finds the part of the value at this path. A step is the name of a member, or in an array the number of
     /// an item, from 0. `None` if the part is missing. The part is borrowed; no memory is taken.
     ///

@@ -26,8 +26,21 @@ pub(crate) fn has_empty_piece(text: &str) -> bool
     is_empty
 }
 
-// The pieces of the text, including the empty ones.
+// The pieces of the text, including the empty ones. A text without a dot, the most common path, is copied whole, into
+// memory of just its size.
 pub(crate) fn pieces(alloc: Global, text: &str) -> Result<Vec<String>, NoMemory>
+    ensures { IfOk result (λ pieces. map string_bytes pieces.items ≡ pieces_of text.now) }
+{
+    if text.as_bytes().contains(&b'.') {
+        return cut_at_dots(alloc, text);
+    }
+    let mut pieces = Vec::with_capacity(alloc, 1)?;
+    pieces.push(String::from_str(alloc, text)?)?;
+    Ok(pieces)
+}
+
+// Does what `pieces` does, letter by letter.
+fn cut_at_dots(alloc: Global, text: &str) -> Result<Vec<String>, NoMemory>
     ensures { IfOk result (λ pieces. map string_bytes pieces.items ≡ pieces_of text.now) }
 {
     let mut pieces = Vec::new(alloc);

@@ -192,7 +192,7 @@ fn end_at(
     let mut key = KeyBytes::new(alloc);
     push_all(&mut key, equal)?;
     push_limit(&mut key, limit)?;
-    Ok(key.bound(alloc, edge)?)
+    Ok(key.into_bound(edge)?)
 }
 
 // Appends the values to a key.

@@ -66,6 +66,17 @@ impl Bound {
         Ok(Bound { bytes })
     }
 
+    // Makes a place of the bytes of its values themselves.
+    pub(crate) fn of_bytes(columns: Vec<u8>, edge: Edge) -> Result<Bound, NoMemory>
+        requires { (values : Items) × IsKey columns.items values }
+        ensures { (values : Items) → IsKey columns.items values
+            → IfOk result (λ bound. bound ≡ (edge, values)) }
+    {
+        let mut bytes = columns;
+        write_edge(edge, &mut bytes)?;
+        Ok(Bound { bytes })
+    }
+
     /// Compares the place with a row: `Less` where the row is after the place, `Greater` where the row is before
     /// it. It compares bytes. Takes no memory.
     #[inline(always)]

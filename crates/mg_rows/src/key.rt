@@ -78,4 +78,13 @@ impl KeyBytes {
     {
         Bound::of_columns(alloc, self.bytes.as_slice(), edge)
     }
+
+    /// The place before or after all rows whose key begins with these columns, made of the key's own bytes.
+    ///
+    /// Errors: `NoMemory` if an allocation fails. Cost: constant, unless the bytes have to move to gain one more.
+    pub fn into_bound(self, edge: Edge) -> Result<Bound, NoMemory>
+        ensures { IfOk result (λ bound. bound ≡ (edge, self)) }
+    {
+        Bound::of_bytes(self.bytes, edge)
+    }
 }

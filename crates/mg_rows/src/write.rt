@@ -98,13 +98,13 @@ fn write_members<L: LentValue>(members: L::Object, out: &mut Vec<u8>) -> Result<
     Ok(())
 }
 
-// Appends a string with its type. The name of a member is written in the same way.
+// Appends a string with its type, and makes room for a byte that may follow. The name of a member is written in the same way.
 fn write_text(text: &str, out: &mut Vec<u8>) -> Result<(), NoMemory>
     ensures bytes { OnOk result (out.new.items ≡ out.old.items ++ 5 ∷ text_before text.now []) }
     ensures utf8 { IsUtf8 text.now }
 {
     let bytes = text.as_bytes();
-    out.reserve(bytes.len().saturating_add(2))?;
+    out.reserve(bytes.len().saturating_add(3))?;
     out.push(5)?;
     let start = out.len();
     out.extend_from_slice(bytes)?;
@@ -123,12 +123,13 @@ fn raise(bytes: &mut [u8])
     }
 }
 
-// Appends a whole number with its type.
+// Appends a whole number with its type, and makes room for a byte that may follow.
 fn write_whole(number: i64, out: &mut Vec<u8>) -> Result<(), NoMemory>
     ensures { OnOk result
         (out.new.items ≡ out.old.items ++ 4 ∷ big_endian 8 (sign_turned number) []) }
 {
     let turned = number.cast_unsigned().wrapping_add(1 << 63);
+    out.reserve(10)?;
     out.push(4)?;
     out.extend_from_slice(&turned.to_be_bytes())?;
     Ok(())

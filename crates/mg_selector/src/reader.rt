@@ -49,7 +49,7 @@ fn read_arms(alloc: Global, value: &Json) -> Result<Vec<Sel>, SelError>
 fn read_items(alloc: Global, items: &[Json]) -> Result<Vec<Sel>, SelError>
     ensures { Gives (λ v. arms_view v.items) result (of_items (items_view items.now)) }
 {
-    let mut found = Vec::new(alloc);
+    let mut found = Vec::with_capacity(alloc, items.len())?;
     for item in items {
         let arm = read_object(alloc, item)?;
         found.push(arm)?;
@@ -61,7 +61,7 @@ fn read_items(alloc: Global, items: &[Json]) -> Result<Vec<Sel>, SelError>
 fn read_members(alloc: Global, members: &BTreeMap<String, Json>) -> Result<Vec<Sel>, SelError>
     ensures { Gives (λ v. arms_view v.items) result (of_members (members_view members.now.entries)) }
 {
-    let mut found = Vec::new(alloc);
+    let mut found = Vec::with_capacity(alloc, members.len())?;
     for (name, value) in members.iter() {
         let arm = read_member(alloc, name.as_str(), value)?;
         found.push(arm)?;

@@ -12,5 +12,5 @@ returns c =
     let equal = map view c.args.equal.now in
     let limit = option_map (λ l. limit_seen l.now) c.args.limit in
     let fixed : c.push_all.new.key ≡ items_view c.args.equal.now = c.in_ok-push_all.ensures ∙ ap (λ (k : Items). joined_items k (items_view c.args.equal.now)) c.new-key.ensures in
-    c.in_ok-bound.ensures
+    c.in_ok-into_bound.ensures
     ∙ ap (λ (k : Items). (c.args.edge, k)) (c.in_ok-push_limit.ensures ∙ ap (λ (k : Items). joined_items k (end_values [] limit)) fixed ∙ end_joined equal limit)

@@ -2,7 +2,7 @@ use Rattle.std.proofs.Common.{◌≡◌, ◌++◌, map, string_bytes}
 use Rattle.std.specs.Str.Iter.{chars_rest}
 use Rattle.mg_path.specs.Part.{pieces_of}
 use Rattle.mg_path.proofs.Cutting.{continued}
-use Rattle.mg_path.proofs.pieces.pieces.Given as goal
+use Rattle.mg_path.proofs.pieces.cut_at_dots.Given as goal
 
 -- the pieces of the text are those that are finished, and those from the piece begun on
 abbrev pub invariant-loop-letter : goal.invariant-loop-letter
