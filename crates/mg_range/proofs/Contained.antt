@@ -14,9 +14,9 @@ use Rattle.mg_index.specs.declared.bound.Comparison.{Comparison}
 use Rattle.mg_index.specs.declared.bound.Comparison.TheVariants.{Below, AtMost, Exactly, AtLeast, Above}
 use Rattle.mg_index.proofs.Bounds.{some_found}
 use Rattle.mg_range.proofs.Limits.{and_false, and_true, above, is_within_some, meets_tightest}
-use Rattle.mg_range.specs.RangeSide.{admits, is_within, is_before, is_past, place_from, is_place_within, has_key}
+use Rattle.mg_range.specs.RangeSide.{admits, is_within, is_before, is_past, side_from, is_side_within, has_key}
 use Rattle.mg_range.specs.Range.{Limit, Range, span_of, is_crossed, between, with_equal, range_from, range_of, in_range, tightest}
-use Rattle.mg_range.specs.declared.place.RangeSide.TheVariants.{Before, Within, Past}
+use Rattle.mg_range.specs.declared.side.RangeSide.TheVariants.{Before, Within, Past}
 
 same_tests : (s t : Bool) → (s ≡ true → t ≡ true) → (t ≡ true → s ≡ true) → s ≡ t
 same_tests true t f g = sym (f refl)
@@ -29,12 +29,12 @@ not_true false f = refl
 
 -- ---- between limits
 
-placed : (a b : Bool) → is_place_within (cond (not a) Before (cond (not b) Past Within)) ≡ (a && b)
+placed : (a b : Bool) → is_side_within (cond (not a) Before (cond (not b) Past Within)) ≡ (a && b)
 placed true true = refl
 placed true false = refl
 placed false b = refl
 
-within_both : (lower upper : Option Limit) (v : Value) (vs : List Value) → is_place_within (place_from [] lower upper (v ∷ vs)) ≡ (is_within_some Asc lower v && is_within_some Desc upper v)
+within_both : (lower upper : Option Limit) (v : Value) (vs : List Value) → is_side_within (side_from [] lower upper (v ∷ vs)) ≡ (is_within_some Asc lower v && is_within_some Desc upper v)
 within_both None None v vs = refl
 within_both None (Some u) v vs = placed true (is_within Desc u v)
 within_both (Some l) None v vs = placed (is_within Asc l v) true
@@ -86,7 +86,7 @@ has_between lower upper v vs = between_at lower upper v vs (is_crossed lower upp
 -- ---- a value that is fixed
 
 behind_at : (o : Ordering) (b p : Bool)
-    → is_place_within (cond (match_ordering o true b false) Before (cond (match_ordering o false p true) Past Within)) ≡ (is_eq o && is_place_within (cond b Before (cond p Past Within)))
+    → is_side_within (cond (match_ordering o true b false) Before (cond (match_ordering o false p true) Past Within)) ≡ (is_eq o && is_side_within (cond b Before (cond p Past Within)))
 behind_at Less b p = refl
 behind_at Equal b p = refl
 behind_at Greater b p = refl

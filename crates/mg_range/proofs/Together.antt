@@ -14,9 +14,9 @@ use Rattle.mg_collate.specs.declared.direction.Direction.TheVariants.{Asc, Desc}
 use Rattle.mg_collate.proofs.Flat.{items_order-item, items_order-above}
 use Rattle.mg_collate.proofs.Ties.{value_order_total}
 use Rattle.mg_range.proofs.Limits.{order_from_total}
-use Rattle.mg_range.specs.RangeSide.{admits, is_within, is_before, is_past, place_of, place_rank}
+use Rattle.mg_range.specs.RangeSide.{admits, is_within, is_before, is_past, side_of, side_rank}
 use Rattle.mg_range.specs.Range.{Limit, Range, order_from}
-use Rattle.mg_range.specs.declared.place.RangeSide.TheVariants.{Before, Within, Past}
+use Rattle.mg_range.specs.declared.side.RangeSide.TheVariants.{Before, Within, Past}
 
 not_gt : (o : Ordering) → is_le o ≡ true → is_gt o ≡ false
 not_gt Less h = refl
@@ -144,7 +144,7 @@ past_rises (e ∷ es) upper (v ∷ vs) (w ∷ ws) h k =
 
 -- ---- places
 
-ranks : (a p b q : Bool) → (b ≡ true → a ≡ true) → (p ≡ true → q ≡ true) → place_rank (cond a Before (cond p Past Within)) ≤ place_rank (cond b Before (cond q Past Within))
+ranks : (a p b q : Bool) → (b ≡ true → a ≡ true) → (p ≡ true → q ≡ true) → side_rank (cond a Before (cond p Past Within)) ≤ side_rank (cond b Before (cond q Past Within))
 ranks true p b q f g = omega arith
 ranks false p true q f g = absurd (false≢true (f refl))
 ranks false true false true f g = omega arith
@@ -152,7 +152,7 @@ ranks false true false false f g = absurd (false≢true (g refl))
 ranks false false false true f g = omega arith
 ranks false false false false f g = omega arith
 
-pub together : (range : Range) (a b : List Value) → NotAfter a b → place_rank (place_of range a) ≤ place_rank (place_of range b)
+pub together : (range : Range) (a b : List Value) → NotAfter a b → side_rank (side_of range a) ≤ side_rank (side_of range b)
 together None a b h = omega arith
 together (Some s) a b h =
     ranks (is_before s.equal s.lower a) (is_past s.equal s.upper a) (is_before s.equal s.lower b) (is_past s.equal s.upper b) (before_falls s.equal s.lower a b h) (past_rises s.equal s.upper a b h)
@@ -163,5 +163,5 @@ first_not_after Equal p h = refl
 first_not_after Greater p h = h
 
 pub rows_together : (range : Range) (a b : List Value) (i j : List ℕ) → is_le (row_value_order (items_of a, i) (items_of b, j)) ≡ true
-    → place_rank (place_of range a) ≤ place_rank (place_of range b)
+    → side_rank (side_of range a) ≤ side_rank (side_of range b)
 rows_together range a b i j h = together range a b (first_not_after (items_order (items_of a) (items_of b)) (slice_cmp nat_cmp i j) h)

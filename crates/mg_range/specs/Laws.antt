@@ -16,7 +16,7 @@ use Rattle.mg_index.specs.Choice.{is_usable, id_path, rev_path}
 use Rattle.mg_index.specs.Definition.{Steps}
 use Rattle.mg_index.specs.Key.{key_of}
 use Rattle.mg_range.specs.Decided.{decides_of, undecided}
-use Rattle.mg_range.specs.RangeSide.{has_key, place_of, place_rank}
+use Rattle.mg_range.specs.RangeSide.{has_key, side_of, side_rank}
 use Rattle.mg_range.specs.Range.{Range, in_range, range_of}
 
 -- the document has the part at the path
@@ -38,13 +38,13 @@ RangesAreComplete =
 -- among keys in order, those before a range come first, then those in it, then those past it
 abbrev pub RangesStandTogether : Type 0
 RangesStandTogether =
-    (range : Range) (a b : List Value) → is_le (items_order (items_of a) (items_of b)) ≡ true → place_rank (place_of range a) ≤ place_rank (place_of range b)
+    (range : Range) (a b : List Value) → is_le (items_order (items_of a) (items_of b)) ≡ true → side_rank (side_of range a) ≤ side_rank (side_of range b)
 
 -- among rows in order, which is by key and then by id, those before a range come first, then those in it, then those past it
 abbrev pub RowsStandTogether : Type 0
 RowsStandTogether =
     (range : Range) (a b : List Value) (i j : List ℕ) → is_le (row_value_order (items_of a, i) (items_of b, j)) ≡ true
-    → place_rank (place_of range a) ≤ place_rank (place_of range b)
+    → side_rank (side_of range a) ≤ side_rank (side_of range b)
 
 -- if a document has a key at the columns, the atoms hold exactly if their range has the key and the undecided atoms hold
 abbrev pub RangeDecidesAtoms : Type 0

@@ -7,8 +7,8 @@ use Rattle.mg_collate.specs.Order.{value_order}
 use Rattle.mg_collate.specs.declared.direction.Direction.{Direction}
 use Rattle.mg_collate.specs.declared.direction.Direction.TheVariants.{Asc, Desc}
 use Rattle.mg_range.specs.Range.{Limit, Range, order_from}
-use Rattle.mg_range.specs.declared.place.RangeSide.{RangeSide}
-use Rattle.mg_range.specs.declared.place.RangeSide.TheVariants.{Before, Within, Past}
+use Rattle.mg_range.specs.declared.side.RangeSide.{RangeSide}
+use Rattle.mg_range.specs.declared.side.RangeSide.TheVariants.{Before, Within, Past}
 
 -- a value with this order to a limit, which is inclusive or not, is within the limit
 abbrev pub admits : Bool → Ordering → Bool
@@ -37,45 +37,45 @@ is_past [] (Some u) [] = false
 is_past [] None key = false
 
 -- whether a key is before, within or past the span of these fixed values and limits
-abbrev pub place_from : List Value → Option Limit → Option Limit → List Value → RangeSide
-place_from equal lower upper key = if is_before equal lower key then Before else if is_past equal upper key then Past else Within
+abbrev pub side_from : List Value → Option Limit → Option Limit → List Value → RangeSide
+side_from equal lower upper key = if is_before equal lower key then Before else if is_past equal upper key then Past else Within
 
 -- whether a key is before, within or past a range; all keys are past an empty range
-abbrev pub place_of : Range → List Value → RangeSide
-place_of None key = Past
-place_of (Some s) key = place_from s.equal s.lower s.upper key
+abbrev pub side_of : Range → List Value → RangeSide
+side_of None key = Past
+side_of (Some s) key = side_from s.equal s.lower s.upper key
 
 -- the side is within
-abbrev pub is_place_within : RangeSide → Bool
-is_place_within Within = true
-is_place_within side = false
+abbrev pub is_side_within : RangeSide → Bool
+is_side_within Within = true
+is_side_within side = false
 
 -- the range has the key
 abbrev pub has_key : Range → List Value → Bool
-has_key range key = is_place_within (place_of range key)
+has_key range key = is_side_within (side_of range key)
 
 -- the side is before
-abbrev pub is_place_before : RangeSide → Bool
-is_place_before Before = true
-is_place_before side = false
+abbrev pub is_side_before : RangeSide → Bool
+is_side_before Before = true
+is_side_before side = false
 
 -- the side is past
-abbrev pub is_place_past : RangeSide → Bool
-is_place_past Past = true
-is_place_past side = false
+abbrev pub is_side_past : RangeSide → Bool
+is_side_past Past = true
+is_side_past side = false
 
 -- a key on this side comes before the range in a direction
 abbrev pub is_early : Direction → RangeSide → Bool
-is_early Asc side = is_place_before side
-is_early Desc side = is_place_past side
+is_early Asc side = is_side_before side
+is_early Desc side = is_side_past side
 
 -- a key on this side comes after the range in a direction
 abbrev pub is_late : Direction → RangeSide → Bool
-is_late Asc side = is_place_past side
-is_late Desc side = is_place_before side
+is_late Asc side = is_side_past side
+is_late Desc side = is_side_before side
 
 -- the sides in their order
-abbrev pub place_rank : RangeSide → ℕ
-place_rank Before = 0
-place_rank Within = 1
-place_rank Past = 2
+abbrev pub side_rank : RangeSide → ℕ
+side_rank Before = 0
+side_rank Within = 1
+side_rank Past = 2

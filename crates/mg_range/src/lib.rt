@@ -5,13 +5,13 @@ mod decided;
 pub mod laws;
 mod lent_limit;
 mod listed;
-mod place;
 mod range;
 mod row_range;
+mod side;
 mod span;
 mod text;
 
 pub use decided::decides;
-pub use place::RangeSide;
 pub use range::KeyRange;
 pub use row_range::RowRange;
+pub use side::RangeSide;

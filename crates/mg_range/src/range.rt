@@ -2,12 +2,12 @@ ghost use Rattle.std.specs.Prelude.{◌≡◌, ℕ, List, [], ◌∷◌, IfOk, i
 ghost use Rattle.mg_value.specs.Value.{Value, text as string};
 ghost use Rattle.mg_value.specs.View.{view as json_view};
 ghost use Rattle.mg_range.specs.Listed.{range_value};
-ghost use Rattle.mg_range.specs.RangeSide.{has_key, is_place_within, place_of};
+ghost use Rattle.mg_range.specs.RangeSide.{has_key, is_side_within, side_of};
 ghost use Rattle.mg_range.specs.Enter.{limit_entered};
 ghost use Rattle.mg_range.specs.Range.{in_range, limit_at, range_of};
 
 use crate::listed::{empty_json, span_json};
-use crate::place::RangeSide;
+use crate::side::RangeSide;
 use crate::span::{Span, side_in, span_of};
 use crate::text;
 use mg_collate::Direction;
@@ -73,8 +73,8 @@ impl KeyRange {
     ///
     /// Among rows in order, all before the range come first, then all in it, then all past it. So a binary
     /// search finds the ends of the range.
-    pub fn place_of_text(&self, text: &str) -> RangeSide
-        ensures { result ≡ place_of self.now (string text.now ∷ []) }
+    pub fn side_at_text(&self, text: &str) -> RangeSide
+        ensures { result ≡ side_of self.now (string text.now ∷ []) }
     {
         match &self.span {
             Some(span) => text::side_in(span, text),
@@ -126,7 +126,7 @@ impl KeyRange {
 }
 
 fn is_within(side: RangeSide) -> bool
-    ensures { result ≡ is_place_within side }
+    ensures { result ≡ is_side_within side }
 {
     match side {
         RangeSide::Before => false,

@@ -7,7 +7,7 @@ ghost use Rattle.mg_rows.specs.Bound.{bound_order};
 ghost use Rattle.mg_rows.specs.Laws.{joined_items};
 ghost use Rattle.mg_range.specs.SpanEnds.{end_values, high_edge as high_side, low_edge as low_side};
 ghost use Rattle.mg_range.specs.InRows.{ends_at, ends_of as both_ends};
-ghost use Rattle.mg_range.specs.RangeSide.{is_early as stands_early, is_late as stands_late, is_place_before, is_place_past, place_of};
+ghost use Rattle.mg_range.specs.RangeSide.{is_early as stands_early, is_late as stands_late, is_side_before, is_side_past, side_of};
 ghost use Rattle.mg_range.specs.View.{limit_seen, span_seen};
 
 use crate::range::KeyRange;
@@ -88,7 +88,7 @@ impl<'a> RowRange<'a> {
     /// `Desc`, late in `Asc`. Takes no memory. Cost: a comparison of bytes.
     #[inline(always)]
     pub fn is_early(&self, direction: Direction, row: &RowBytes) -> bool
-        ensures { result ≡ stands_early direction (place_of self.now (item_list row.now.0)) }
+        ensures { result ≡ stands_early direction (side_of self.now (item_list row.now.0)) }
     {
         match direction {
             Direction::Asc => self.is_below(row),
@@ -100,7 +100,7 @@ impl<'a> RowRange<'a> {
     /// `Desc`, late in `Asc`. Takes no memory. Cost: a comparison of bytes.
     #[inline(always)]
     pub fn is_late(&self, direction: Direction, row: &RowBytes) -> bool
-        ensures { result ≡ stands_late direction (place_of self.now (item_list row.now.0)) }
+        ensures { result ≡ stands_late direction (side_of self.now (item_list row.now.0)) }
     {
         match direction {
             Direction::Asc => self.is_above(row),
@@ -111,7 +111,7 @@ impl<'a> RowRange<'a> {
     // Whether the row is below each key of the range.
     #[inline(always)]
     fn is_below(&self, row: &RowBytes) -> bool
-        ensures { result ≡ is_place_before (place_of self.now (item_list row.now.0)) }
+        ensures { result ≡ is_side_before (side_of self.now (item_list row.now.0)) }
     {
         match &self.ends {
             Some(ends) => is_before(ends, row),
@@ -122,7 +122,7 @@ impl<'a> RowRange<'a> {
     // Whether the row is above each key of the range, or the range is empty.
     #[inline(always)]
     fn is_above(&self, row: &RowBytes) -> bool
-        ensures { result ≡ is_place_past (place_of self.now (item_list row.now.0)) }
+        ensures { result ≡ is_side_past (side_of self.now (item_list row.now.0)) }
     {
         match &self.ends {
             Some(ends) => is_past(ends, row),

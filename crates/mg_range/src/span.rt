@@ -5,11 +5,11 @@ ghost use Rattle.mg_normal.specs.View.{atoms_view};
 ghost use Rattle.mg_collate.specs.declared.direction.Direction.TheVariants.{Asc, Desc};
 ghost use Rattle.mg_range.specs.LentLimit.{lent_limit_seen};
 ghost use Rattle.mg_range.specs.Range.{range_of, between, are_crossed as cross, is_crossed as is_cross};
-ghost use Rattle.mg_range.specs.RangeSide.{admits as admits_by, place_from, is_before as stands_before, is_past as stands_past, is_within as stands_within};
+ghost use Rattle.mg_range.specs.RangeSide.{admits as admits_by, side_from, is_before as stands_before, is_past as stands_past, is_within as stands_within};
 ghost use Rattle.mg_range.specs.View.{limit_seen, span_seen, with_equals};
 
 use crate::lent_limit::{LentLimit, meets_all, tightest};
-use crate::place::RangeSide;
+use crate::side::RangeSide;
 use mg_collate::{Direction, compare};
 use mg_index::fixed_value;
 use mg_normal::Atom;
@@ -118,7 +118,7 @@ fn keep_limit(alloc: Global, limit: Option<LentLimit<'_>>) -> Result<Option<Limi
 
 // Whether the key is before, within or past the span.
 pub(crate) fn side_in(span: &Span, key: &[Json]) -> RangeSide
-    ensures { result ≡ place_from (map view span.now.equal.items) (option_map limit_seen span.now.lower)
+    ensures { result ≡ side_from (map view span.now.equal.items) (option_map limit_seen span.now.lower)
         (option_map limit_seen span.now.upper) (map view key.now) }
 {
     for (place, fixed) in span.equal.iter().enumerate() {
@@ -140,7 +140,7 @@ pub(crate) fn side_at_limits(
     upper: &Option<Limit>,
     rest: &[Json],
 ) -> RangeSide
-    ensures { result ≡ place_from [] (option_map limit_seen lower.now) (option_map limit_seen upper.now)
+    ensures { result ≡ side_from [] (option_map limit_seen lower.now) (option_map limit_seen upper.now)
         (map view rest.now) }
 {
     if is_before(lower, rest) {

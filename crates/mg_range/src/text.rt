@@ -2,10 +2,10 @@
 ghost use Rattle.std.specs.Prelude.{◌≡◌, [], ◌∷◌, map, option_map};
 ghost use Rattle.mg_value.specs.Value.{text as string};
 ghost use Rattle.mg_value.specs.View.{view};
-ghost use Rattle.mg_range.specs.RangeSide.{place_from, is_before as stands_before, is_past as stands_past, is_within as stands_within};
+ghost use Rattle.mg_range.specs.RangeSide.{side_from, is_before as stands_before, is_past as stands_past, is_within as stands_within};
 ghost use Rattle.mg_range.specs.View.{limit_seen};
 
-use crate::place::RangeSide;
+use crate::side::RangeSide;
 use crate::span::{Limit, Span, admits, side_at_limits};
 use mg_collate::{Direction, compare_text};
 use mg_value::Json;
@@ -13,7 +13,7 @@ use std::cmp::Ordering;
 
 // Whether the key of one text is before, within or past the span.
 pub(crate) fn side_in(span: &Span, text: &str) -> RangeSide
-    ensures { result ≡ place_from (map view span.now.equal.items) (option_map limit_seen span.now.lower)
+    ensures { result ≡ side_from (map view span.now.equal.items) (option_map limit_seen span.now.lower)
         (option_map limit_seen span.now.upper) (string text.now ∷ []) }
 {
     let Some((fixed, others)) = span.equal.split_first() else {
@@ -29,7 +29,7 @@ pub(crate) fn side_in(span: &Span, text: &str) -> RangeSide
 // Whether a key that has no more values is before, within or past the fixed values that are left and the
 // limits.
 fn side_of_ended(equal: &[Json], lower: &Option<Limit>, upper: &Option<Limit>) -> RangeSide
-    ensures { result ≡ place_from (map view equal.now) (option_map limit_seen lower.now)
+    ensures { result ≡ side_from (map view equal.now) (option_map limit_seen lower.now)
         (option_map limit_seen upper.now) [] }
 {
     match equal.split_first() {
@@ -40,7 +40,7 @@ fn side_of_ended(equal: &[Json], lower: &Option<Limit>, upper: &Option<Limit>) -
 
 // Whether the key of one text is before, within or past the limits.
 fn side_of_text(lower: &Option<Limit>, upper: &Option<Limit>, text: &str) -> RangeSide
-    ensures { result ≡ place_from [] (option_map limit_seen lower.now) (option_map limit_seen upper.now)
+    ensures { result ≡ side_from [] (option_map limit_seen lower.now) (option_map limit_seen upper.now)
         (string text.now ∷ []) }
 {
     if is_before(lower, text) {

@@ -4,8 +4,8 @@ use Rattle.mg_collate.specs.Row.{RowValue}
 use Rattle.mg_collate.specs.declared.direction.Direction.{Direction}
 use Rattle.mg_collate.specs.declared.direction.Direction.TheVariants.{Asc, Desc}
 use Rattle.mg_range.specs.Range.{Range}
-use Rattle.mg_range.specs.declared.place.RangeSide.{RangeSide}
-use Rattle.mg_range.specs.declared.place.RangeSide.TheVariants.{Before, Within, Past}
+use Rattle.mg_range.specs.declared.side.RangeSide.{RangeSide}
+use Rattle.mg_range.specs.declared.side.RangeSide.TheVariants.{Before, Within, Past}
 use Rattle.mg_scan.specs.Begins.{Follows, NotAfter, follows, place_row}
 use Rattle.mg_range.specs.RangeSide.{is_late}
 use Rattle.mg_scan.specs.Walked.{is_late_row}

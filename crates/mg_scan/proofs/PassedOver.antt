@@ -20,8 +20,8 @@ use Rattle.mg_index.specs.Definition.{IndexDefinition, Steps}
 use Rattle.mg_merge.specs.Merged.{joined, merged}
 use Rattle.mg_range.specs.RangeSide.{is_early, is_late, is_place_within}
 use Rattle.mg_range.specs.Range.{Range}
-use Rattle.mg_range.specs.declared.place.RangeSide.{RangeSide}
-use Rattle.mg_range.specs.declared.place.RangeSide.TheVariants.{Before, Within, Past}
+use Rattle.mg_range.specs.declared.side.RangeSide.{RangeSide}
+use Rattle.mg_range.specs.declared.side.RangeSide.TheVariants.{Before, Within, Past}
 use Rattle.mg_scan.specs.Begins.{beyond_rises, place_row, reached}
 use Rattle.mg_scan.specs.Decided.{everything}
 use Rattle.mg_scan.specs.Ahead.{begins_at, count_ahead}

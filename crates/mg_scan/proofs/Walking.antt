@@ -16,8 +16,8 @@ use Rattle.mg_index.specs.Definition.{Steps}
 use Rattle.mg_normal.specs.Normal.{NormalForm, normal_holds}
 use Rattle.mg_range.specs.RangeSide.{is_early, is_late, is_place_within}
 use Rattle.mg_range.specs.Range.{Range}
-use Rattle.mg_range.specs.declared.place.RangeSide.{RangeSide}
-use Rattle.mg_range.specs.declared.place.RangeSide.TheVariants.{Before, Within, Past}
+use Rattle.mg_range.specs.declared.side.RangeSide.{RangeSide}
+use Rattle.mg_range.specs.declared.side.RangeSide.TheVariants.{Before, Within, Past}
 use Rattle.mg_scan.specs.Scan.{ScanInput, all_scanned, comes_after, is_wanted, scanned}
 use Rattle.mg_scan.specs.Walked.{begin_order, holds_at, is_beyond, is_late_row, walked, walked_all}
 use Rattle.mg_scan.specs.Begins.{place_row, reached}

@@ -17,8 +17,8 @@ use Rattle.mg_pages.specs.Identified.{id_order}
 use Rattle.mg_pages.specs.Order.{IsProbe}
 use Rattle.mg_range.specs.RangeSide.{is_early, place_of, place_rank}
 use Rattle.mg_range.specs.Range.{Range}
-use Rattle.mg_range.specs.declared.place.RangeSide.{RangeSide}
-use Rattle.mg_range.specs.declared.place.RangeSide.TheVariants.{Before, Within, Past}
+use Rattle.mg_range.specs.declared.side.RangeSide.{RangeSide}
+use Rattle.mg_range.specs.declared.side.RangeSide.TheVariants.{Before, Within, Past}
 use Rattle.mg_range.proofs.Together.{rows_together}
 use Rattle.mg_scan.specs.Search.{after_of}
 use Rattle.mg_scan.specs.Way.{begin_at}

@@ -10,7 +10,7 @@ use Rattle.mg_collate.specs.Row.{RowValue}
 use Rattle.mg_normal.specs.Normal.{NormalForm, normal_holds}
 use Rattle.mg_range.specs.RangeSide.{is_early, is_late, place_of}
 use Rattle.mg_range.specs.Range.{Range}
-use Rattle.mg_range.specs.declared.place.RangeSide.{RangeSide}
+use Rattle.mg_range.specs.declared.side.RangeSide.{RangeSide}
 use Rattle.mg_shard.specs.Documents.{KeptDocuments, form_at}
 use Rattle.mg_value.specs.Value.{item, item_list, no_items, text}
 
