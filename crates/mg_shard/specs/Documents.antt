@@ -1,5 +1,5 @@
 -- What is kept of documents, as contracts see it, and the histories that it stands for.
-use Rattle.std.specs.Prelude.{◌≡◌, ℕ, List, map, string_bytes, Option, Some, None, option_map, option_and_then}
+use Rattle.std.specs.Prelude.{◌≡◌, ℕ, List, map, Option, Some, None, option_map, option_and_then}
 use Rattle.std.specs.Cmp.Lexicographic.{slice_cmp}
 use Rattle.std.specs.FinMap.{FinMap, entries, from_entries, get}
 use Rattle.std.specs.List.{filter_map}
@@ -51,7 +51,7 @@ docs_of ds = filter_map doc_entry (entries ds)
 
 -- the id of a document
 abbrev pub id_bytes : Document → List ℕ
-id_bytes d = string_bytes d.id
+id_bytes d = d.id
 
 -- the form in which a document is served
 abbrev pub form_of : Document → Option Value
@@ -63,7 +63,7 @@ kept_of d = (d.tree, form_of d)
 
 -- an id with its document
 abbrev pub kept_entry : Document → List ℕ × Kept
-kept_entry d = (string_bytes d.id, kept_of d)
+kept_entry d = (d.id, kept_of d)
 
 -- documents by their ids
 abbrev pub shown : List Document → KeptDocuments

@@ -2,6 +2,7 @@ pub mod Placement
 pub mod Histories
 pub mod Edits
 pub mod Documents
+pub mod Id
 pub mod Shard
 pub mod Draft
 pub mod Dealt

@@ -49,7 +49,7 @@ impl<'a> Iterator for Docs<'a> {
     fn next(&mut self) -> Option<(&'a str, Part<'a>)> {
         while let Some(document) = self.documents.next() {
             if let Some(form) = document.form() {
-                return Some((&document.id, form));
+                return Some((document.id(), form));
             }
         }
         None

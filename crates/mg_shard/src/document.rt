@@ -1,10 +1,11 @@
 //! Documents as they are kept.
-ghost use Rattle.std.specs.Prelude.{◌≡◌, string_bytes, option_map, IfOk};
+ghost use Rattle.std.specs.Prelude.{◌≡◌, option_map, IfOk};
 ghost use Rattle.mg_revtree.specs.History.{Paths};
 ghost use Rattle.mg_revtree.specs.Tree.{StandsFor};
 ghost use Rattle.mg_doc.specs.Served.{served_of};
 ghost use Rattle.mg_shard.specs.Own.{IsServedOwn, IsServedOwn-prop};
 
+use crate::document_id::DocumentId;
 use crate::served::Served;
 use mg_doc::served_packed;
 use mg_packed::{Part, Written};
@@ -16,10 +17,10 @@ use std::alloc::Global;
 /// A document: its id, its revision tree, and the form in which it is served, if it is not deleted.
 #[derive(Drop)]
 pub struct Document {
-    pub(crate) id: String,
+    pub(crate) id: DocumentId,
     pub(crate) tree: RevTree,
     pub(crate) served: Option<Served>,
-    ghost own_id: { IsServedOwn (string_bytes id) served } by { IsServedOwn-prop (string_bytes id) served },
+    ghost own_id: { IsServedOwn id served } by { IsServedOwn-prop id served },
 }
 
 impl Identified for Document {
@@ -28,7 +29,7 @@ impl Identified for Document {
     ghost id = { id_bytes };
 
     fn id(&self) -> &str {
-        &self.id
+        self.id.as_str()
     }
 }
 
@@ -63,12 +64,13 @@ impl Document {
     ///
     /// Errors: `NoMemory` if an allocation fails. Cost: that of `served_packed`, and the length of the form's text.
     pub(crate) fn of(alloc: Global, id: String, mut tree: RevTree) -> Result<Document, NoMemory>
-        ensures id { IfOk result (λ d. string_bytes d.id ≡ string_bytes id) }
+        ensures id { IfOk result (λ d. d.id ≡ string_bytes id) }
         ensures tree { IfOk result (λ d. d.tree ≡ tree) }
         ensures served { IfOk result
             (λ d. (h : Paths) → StandsFor tree h → form_of d ≡ served_of (string_bytes id) h) }
     {
         let served = served_in(alloc, &id, &mut tree)?;
+        let id = DocumentId::of(id);
         Ok(Document { id, tree, served })
     }
 
@@ -76,7 +78,7 @@ impl Document {
     pub fn id(&self) -> &str
         ensures { result.now ≡ id_bytes self.now }
     {
-        &self.id
+        self.id.as_str()
     }
 
     /// Its revision tree. Takes no memory.
@@ -134,6 +136,6 @@ impl Document {
             ≡ option_and_then (row_key all_columns) (form_of self.now) }
         ensures own { IfSome result (λ id. id.now ≡ id_bytes self.now) }
     {
-        if self.has_id() { Some(&self.id) } else { None }
+        if self.has_id() { Some(self.id()) } else { None }
     }
 }

@@ -1,9 +1,9 @@
 //! The list of the indexes of a shard, in the order of design document and name.
-ghost use Rattle.std.specs.Prelude.{◌≡◌, not, IfOk, OnOk, option_map, string_bytes};
+ghost use Rattle.std.specs.Prelude.{◌≡◌, not, IfOk, OnOk, option_map};
 ghost use Rattle.std.specs.FinMap.{insert};
 ghost use Rattle.std.specs.List.{filter, find, AllByRecursion};
 ghost use Rattle.mg_index.specs.Catalog.{IsCatalog, is_at};
-ghost use Rattle.mg_shard.specs.Documents.{form_at, kept_of, shown};
+ghost use Rattle.mg_shard.specs.Documents.{form_at, id_bytes, kept_of, shown};
 ghost use Rattle.mg_shard.specs.Index.{HasRows, definitions_of, index_order};
 ghost use Rattle.mg_pages.specs.Order.{inserted};
 
@@ -129,14 +129,14 @@ pub(crate) fn mend_all(
     ensures definitions { OnOk result (definitions_of indexes.new ≡ definitions_of indexes.old) }
     ensures rows { OnOk result (AllByRecursion (HasRows (shown documents.now)) indexes.old
         → AllByRecursion
-        (HasRows (insert (shown documents.now) (string_bytes document.now.id)
+        (HasRows (insert (shown documents.now) (id_bytes document.now)
         (kept_of document.now))) indexes.new) }
 {
-    let before = form_in(documents, &document.id);
+    let before = form_in(documents, document.id());
     let after = document.written();
     for i in 0..indexes.len() {
         let index = &mut indexes[i];
-        index.mend(alloc, scratch, &document.id, before, after)?;
+        index.mend(alloc, scratch, document.id(), before, after)?;
     }
     Ok(())
 }

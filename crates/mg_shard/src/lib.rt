@@ -3,6 +3,7 @@
 
 mod docs;
 mod document;
+mod document_id;
 mod draft;
 mod entry;
 mod extracted;

@@ -1,6 +1,7 @@
-use Rattle.std.proofs.Common.{◌≡◌, ◌+◌, List, [], ◌∷◌, ◌++◌, arith, length, take, sym, ap, ◌∙◌, subst, add-one, string_bytes}
+use Rattle.std.proofs.Common.{◌≡◌, ◌+◌, List, [], ◌∷◌, ◌++◌, arith, length, take, sym, ap, ◌∙◌, subst, add-one}
 use Rattle.std.proofs.Math.Seq.{take-length}
 use Rattle.std.proofs.lemmas.List.{map-append}
+use Rattle.mg_shard.specs.Documents.{id_bytes}
 use Rattle.mg_shard.specs.Redealt.{ArePlaces, documents_seen}
 use Rattle.mg_shard.specs.declared.document.Document.{Document}
 use Rattle.mg_shard.proofs.Redealing.{place_more, take_one}
@@ -17,7 +18,7 @@ loop-document-preserved g c =
     let more : documents_seen (take (l.document-index + 1) xs) ≡ documents_seen (take l.document-index xs) ++ d ∷ [] =
     ap (λ k. documents_seen (take k xs)) (add-one l.document-index) ∙ ap documents_seen (take_one xs l.document-index x c.loop-document-test.true c.document-item.is)
     ∙ map-append _ (take l.document-index xs) (x ∷ []) in
-    let is : c.shard_of.result ≡ place (string_bytes d.id) n = cc in
+    let is : c.shard_of.result ≡ place (id_bytes d) n = cc in
     subst (λ ps. ArePlaces place n (documents_seen (take (l.document-index + 1) xs)) ps) (sym c.in_ok-push.ensures.items)
     (subst (λ (ds : List Document). ArePlaces place n ds (l.places.items ++ c.shard_of.result ∷ [])) (sym more)
     (place_more place n (documents_seen (take l.document-index xs)) l.places.items d c.shard_of.result l.invariant (is, c.shard_of.ensures.below)))

@@ -1,0 +1,14 @@
+-- For private clauses: the id of a document, in the value itself or in a block.
+use Rattle.std.specs.Prelude.{◌≤◌, ℕ, List, take, string_bytes, IsUtf8}
+use Rattle.mg_shard.specs.declared.document_id.HeldId.{HeldId}
+use Rattle.mg_shard.specs.declared.document_id.HeldId.TheVariants.{Inline, Block}
+
+-- the bytes of the id
+abbrev pub held_id : HeldId → List ℕ
+held_id (Inline count bytes) = take count bytes
+held_id (Block id) = string_bytes id
+
+-- an id in the value itself is text, of as many bytes as fit
+abbrev pub IsText : HeldId → Type 0
+IsText (Inline count bytes) = (count ≤ 38) × IsUtf8 (take count bytes)
+IsText (Block id) = Unit {0}
