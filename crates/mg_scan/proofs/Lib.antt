@@ -15,5 +15,6 @@ pub mod Begun
 pub mod Decided
 pub mod Leads
 pub mod Behind
+pub mod Ends
 pub mod AddedUp
 pub mod PassedOver

@@ -13,5 +13,6 @@ pub mod Sourced
 pub mod Begun
 pub mod Decided
 pub mod Lead
+pub mod RangeEnd
 pub mod Ahead
 pub mod Passed

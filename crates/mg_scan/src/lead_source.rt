@@ -1,16 +1,10 @@
-//! Rows of a shard that are found as they are asked for, whatever their documents.
-ghost use Rattle.std.specs.Prelude.{◌≡◌, ◌≤◌, ◌∷◌, [], IfNone, IfSome};
-ghost use Rattle.mg_shard.specs.Documents.{KeptDocuments};
-ghost use Rattle.mg_shard.specs.Shard.{ShardView};
-ghost use Rattle.mg_scan.specs.Lead.{AreServed, IsLeadLeft, IsLeadOf, IsLeadSourceBehind, IsLeadSourceOf, lead_row, lead_rows, rows_on_way, unasked};
-ghost use Rattle.mg_scan.specs.Sourced.{AreKept, walked_documents};
+//! What a search has still to find in a shard, whatever the documents.
+ghost use Rattle.mg_scan.specs.RangeEnd.{AreBeforeEnd, EndsOnce, index_rows};
 
-use crate::hit_row::HitRow;
-use crate::lead::Lead;
-use crate::left::{Left, left_behind, left_of};
-use crate::search::{Search, is_past_id, is_past_row};
-use mg_merge::RowSource;
-use mg_shard::{Documents, Rows, Shard};
+use crate::left::Left;
+use crate::range_end::RangeEnd;
+use crate::search::Search;
+use mg_shard::Shard;
 
 /// The rows in a search's range in one shard that are still to come.
 #[derive(Drop)]
@@ -18,98 +12,8 @@ pub(crate) struct LeadSource<'a, 'b> {
     pub(crate) shard: &'a Shard,
     pub(crate) left: Left<'a>,
     pub(crate) search: Search<'b>,
-}
-
-impl<'a, 'b> RowSource<Lead<'a>> for LeadSource<'a, 'b> {
-    ghost rest = { λ s. lead_rows s.search s.left };
-
-    ghost gives = { λ s. IsLeadLeft s.shard.now s.left };
-
-    fn next(&mut self) -> Option<Lead<'a>> {
-        match &mut self.left {
-            Left::Rows(rows) => lead_of_rows(self.shard, rows, self.search),
-            Left::Documents(documents) => lead_of_documents(self.shard, documents, self.search),
-            Left::Nothing => None,
-        }
-    }
-}
-
-// The next row of an index that is in the range.
-#[inline(always)]
-fn lead_of_rows<'a>(shard: &'a Shard, rows: &mut Rows<'a>, search: Search<'_>) -> Option<Lead<'a>>
-    ensures lead { IfSome result (λ l. rows_on_way search.entry rows.old
-        ≡ lead_row l ∷ rows_on_way search.entry rows.new) }
-    ensures end { IfNone result (rows_on_way search.entry rows.old ≡ []) }
-    ensures lent { AreServed shard.now.documents rows.old → IfSome result (IsLeadOf shard.now) }
-    ensures left { AreServed shard.now.documents rows.old
-        → AreServed shard.now.documents rows.new }
-{
-    let Some(row) = rows.next() else {
-        return None;
-    };
-    if is_past_row(search, row) {
-        return None;
-    }
-    Some(Lead {
-        shard,
-        row: HitRow::Bytes(row),
-    })
-}
-
-// The row of the next document that is in the range and served.
-fn lead_of_documents<'a>(
-    shard: &'a Shard,
-    documents: &mut Documents<'a>,
-    search: Search<'_>,
-) -> Option<Lead<'a>>
-    ensures lead { IfSome result (λ l. walked_documents (unasked search.entry) documents.old
-        ≡ lead_row l ∷ walked_documents (unasked search.entry) documents.new) }
-    ensures end { IfNone result (walked_documents (unasked search.entry) documents.old ≡ []) }
-    ensures lent { AreKept shard.now.documents documents.old → IfSome result (IsLeadOf shard.now) }
-    ensures left { AreKept shard.now.documents documents.old → AreKept shard.now.documents documents.new }
-{
-    while let Some(document) = documents.next() {
-        let Some(id) = document.id_key() else {
-            continue;
-        };
-        if is_past_id(search, id) {
-            return None;
-        }
-        return Some(Lead {
-            shard,
-            row: HitRow::Id(id),
-        });
-    }
-    None
-}
-
-// The rows in a search's range in a shard, as they are asked for. Cost: one look-up of where to begin.
-#[inline(always)]
-pub(crate) fn lead_source_of<'a, 'b>(shard: &'a Shard, search: Search<'b>) -> LeadSource<'a, 'b>
-    ensures { IsLeadSourceOf search.entry shard.now result }
-{
-    LeadSource {
-        shard,
-        left: left_of(shard, search),
-        search,
-    }
-}
-
-// What `lead_source_of` gives, after the first rows, and how many were passed over: `count` of an index, 0 of documents.
-// Cost: two look-ups.
-pub(crate) fn lead_source_behind<'a, 'b>(
-    shard: &'a Shard,
-    search: Search<'b>,
-    count: usize,
-) -> (LeadSource<'a, 'b>, usize)
-    ensures source { IsLeadSourceBehind result.1 search.entry shard.now result.0 }
-    ensures within { result.1 ≤ count }
-{
-    let (left, passed) = left_behind(left_of(shard, search), count);
-    let source = LeadSource {
-        shard,
-        left,
-        search,
-    };
-    (source, passed)
+    pub(crate) range_end: RangeEnd,
+    // Rows of an index are in order.
+    ghost ordered: { EndsOnce search (index_rows left) },
+    ghost sure: { AreBeforeEnd search (index_rows left) range_end.sure },
 }

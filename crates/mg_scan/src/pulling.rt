@@ -11,7 +11,8 @@ ghost use Rattle.mg_scan.specs.Sourced.{IsSourceOf};
 
 use crate::hit::Hit;
 use crate::lead::hits_after;
-use crate::lead_source::{LeadSource, lead_source_behind, lead_source_of};
+use crate::lead_source::LeadSource;
+use crate::leading::{lead_source_behind, lead_source_of};
 use crate::passing::pass_over;
 use crate::search::Search;
 use crate::source::{HitSource, source_of};

@@ -6,7 +6,7 @@ use Rattle.mg_scan.specs.Decided.{everything}
 use Rattle.mg_scan.proofs.Leads.{keyed_holds, on_lead}
 use Rattle.mg_scan.proofs.Own.{among_own}
 use Rattle.mg_scan.proofs.Sources.{on_late}
-use Rattle.mg_scan.proofs.lead_source.lead_of_documents.Goals as goal
+use Rattle.mg_scan.proofs.leading.lead_of_documents.Goals as goal
 use Rattle.mg_shard.specs.Documents.{form_of}
 use Rattle.mg_value.specs.Value.{item, no_items, text}
 

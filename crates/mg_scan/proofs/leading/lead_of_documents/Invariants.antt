@@ -1,7 +1,7 @@
 use Rattle.std.proofs.Common.{◌≡◌, length}
 use Rattle.mg_scan.specs.Lead.{unasked}
 use Rattle.mg_scan.specs.Sourced.{AreKept, walked_documents}
-use Rattle.mg_scan.proofs.lead_source.lead_of_documents.Given as goal
+use Rattle.mg_scan.proofs.leading.lead_of_documents.Given as goal
 
 -- nothing was found so far
 abbrev pub invariant-loop-document : goal.invariant-loop-document

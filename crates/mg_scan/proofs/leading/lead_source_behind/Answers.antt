@@ -1,8 +1,23 @@
 use Rattle.std.proofs.Common.{drop, ap, ◌∙◌}
 use Rattle.mg_scan.specs.Found.{target_columns}
+use Rattle.mg_scan.specs.RangeEnd.{index_rows}
 use Rattle.mg_scan.proofs.Begun.{begun_leads}
 use Rattle.mg_scan.proofs.Behind.{behind_led, behind_rows}
-use Rattle.mg_scan.proofs.lead_source.lead_source_behind.Goals as goal
+use Rattle.mg_scan.proofs.Ends.{before_none, begun_ends, behind_ends}
+use Rattle.mg_scan.proofs.leading.lead_source_behind.Goals as goal
+
+pub invariant_of-source : goal.invariant_of-source
+invariant_of-source c =
+    let s = c.args.search in
+    let shard = c.args.shard.now in
+    let at = target_columns s.target shard.definitions in
+    let all = c.left_of.result in
+    let left = c.left_behind-left.result.0 in
+    let n = c.left_behind-left.result.1 in
+    record {
+      ordered = behind_ends s n all left c.left_behind-left.ensures.behind (begun_ends at s shard all c.left_of.ensures);
+      sure = before_none s (index_rows left) c.unknown.result.sure c.unknown.ensures;
+    }
 
 pub returns-clause-source : goal.returns-clause-source
 returns-clause-source c =

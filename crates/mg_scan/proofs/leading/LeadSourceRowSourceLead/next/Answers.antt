@@ -1,8 +1,19 @@
 use Rattle.std.proofs.Common.{IfSome, sym, subst}
+use Rattle.mg_scan.specs.RangeEnd.{AreBeforeEnd, EndsOnce, index_rows}
 use Rattle.mg_scan.specs.Lead.{IsLeadLeft, IsLeadOf}
 use Rattle.mg_scan.specs.declared.left.Left.{Left}
 use Rattle.mg_scan.proofs.Leads.{lead_where}
-use Rattle.mg_scan.proofs.lead_source.LeadSourceRowSourceLead.next.Goals as goal
+use Rattle.mg_scan.proofs.leading.LeadSourceRowSourceLead.next.Goals as goal
+
+pub lead_of_rows-requires-clause-ordered : goal.lead_of_rows-requires-clause-ordered
+lead_of_rows-requires-clause-ordered c =
+    let self = c.args.self.now in
+    subst (λ (left : Left). EndsOnce self.search (index_rows left)) c.in-Rows.is self.ordered
+
+pub lead_of_rows-requires-clause-sure : goal.lead_of_rows-requires-clause-sure
+lead_of_rows-requires-clause-sure c =
+    let self = c.args.self.now in
+    subst (λ (left : Left). AreBeforeEnd self.search (index_rows left) self.range_end.sure) c.in-Rows.is self.sure
 
 pub returns-in-Rows-clause-given : goal.returns-in-Rows-clause-given
 returns-in-Rows-clause-given c =

@@ -1,0 +1,22 @@
+use Rattle.mg_scan.specs.Found.{target_columns}
+use Rattle.mg_scan.specs.RangeEnd.{index_rows}
+use Rattle.mg_scan.proofs.Begun.{begun_leads, begun_led}
+use Rattle.mg_scan.proofs.Ends.{before_none, begun_ends}
+use Rattle.mg_scan.proofs.leading.lead_source_of.Goals as goal
+
+pub invariant_of-result : goal.invariant_of-result
+invariant_of-result c =
+    let s = c.args.search in
+    let shard = c.args.shard.now in
+    let at = target_columns s.target shard.definitions in
+    record {
+      ordered = begun_ends at s shard c.left_of.result c.left_of.ensures;
+      sure = before_none s (index_rows c.left_of.result) c.unknown.result.sure c.unknown.ensures;
+    }
+
+pub returns : goal.returns
+returns c =
+    let s = c.args.search in
+    let shard = c.args.shard.now in
+    let at = target_columns s.target shard.definitions in
+    record { rows = begun_leads at s shard c.left_of.result c.left_of.ensures; leads = begun_led at s shard c.left_of.result c.left_of.ensures }

@@ -1,0 +1,80 @@
+//! Where the range of a search ends among rows of an index, as far as it is known before they are read.
+ghost use Rattle.std.specs.Prelude.{◌≡◌, ◌∷◌};
+ghost use Rattle.mg_scan.specs.RangeEnd.{AreBeforeEnd, EndsOnce};
+ghost use Rattle.mg_scan.specs.Walked.{is_late_row};
+
+use crate::search::{Search, is_past_row};
+use mg_rows::RowBytes;
+use mg_shard::Rows;
+
+// If fewer rows than these come before the last row of a run, that row is not compared ahead of them, since it saves too little.
+const FEW: usize = 3;
+
+/// What is known of where a range ends among rows that are read in order.
+#[derive(Clone, Copy)]
+pub(crate) struct RangeEnd {
+    /// How many of the next rows are known to come before it.
+    pub(crate) sure: usize,
+    /// Whether it is known to come within the run that is being read.
+    pub(crate) in_run: bool,
+}
+
+impl RangeEnd {
+    // Nothing is known.
+    pub(crate) fn unknown() -> RangeEnd
+        ensures { result.sure ≡ 0 }
+    {
+        RangeEnd {
+            sure: 0,
+            in_run: false,
+        }
+    }
+
+    // Whether the range ends before a row that was just read; `rows` are those after it. Cost: nothing is compared if the row is known to
+    // come before the end; else one comparison of bytes, and a second one at the beginning of a run.
+    #[inline(always)]
+    pub(crate) fn comes_before(
+        &mut self,
+        search: Search<'_>,
+        row: &RowBytes,
+        rows: &Rows<'_>,
+    ) -> bool
+        requires ordered { EndsOnce search (row.now ∷ rows.now) }
+        requires sure { AreBeforeEnd search (row.now ∷ rows.now) self.old.sure }
+        ensures late { result ≡ is_late_row search.entry.direction search.entry.range.now row.now }
+        ensures sure { AreBeforeEnd search.entry rows.now self.new.sure }
+    {
+        if self.sure > 0 {
+            self.sure -= 1;
+            return false;
+        }
+        if is_past_row(search, row) {
+            return true;
+        }
+        self.look_ahead(search, rows);
+        false
+    }
+
+    // Compares the end of the range with the last row of the run that is being read. If that row is not past it, no row of the run is,
+    // since rows are in order.
+    fn look_ahead(&mut self, search: Search<'_>, rows: &Rows<'_>)
+        requires ordered { EndsOnce search rows.now }
+        requires none { self.old.sure ≡ 0 }
+        ensures { AreBeforeEnd search.entry rows.now self.new.sure }
+    {
+        if self.in_run {
+            return;
+        }
+        let Some((place, last)) = rows.run_end() else {
+            return;
+        };
+        if place < FEW {
+            return;
+        }
+        if is_past_row(search, last) {
+            self.in_run = true;
+            return;
+        }
+        self.sure = place;
+    }
+}
