@@ -18,11 +18,11 @@ use Rattle.mg_collate.specs.declared.direction.Direction.TheVariants.{Asc, Desc}
 use Rattle.mg_index.specs.Catalog.{definition_at}
 use Rattle.mg_index.specs.Definition.{IndexDefinition, Steps}
 use Rattle.mg_merge.specs.Merged.{joined, merged}
-use Rattle.mg_range.specs.RangeSide.{is_early, is_late, is_place_within}
+use Rattle.mg_range.specs.RangeSide.{is_early, is_late, is_side_within}
 use Rattle.mg_range.specs.Range.{Range}
 use Rattle.mg_range.specs.declared.side.RangeSide.{RangeSide}
 use Rattle.mg_range.specs.declared.side.RangeSide.TheVariants.{Before, Within, Past}
-use Rattle.mg_scan.specs.Begins.{beyond_rises, place_row, reached}
+use Rattle.mg_scan.specs.Begins.{beyond_rises, row_side, reached}
 use Rattle.mg_scan.specs.Decided.{everything}
 use Rattle.mg_scan.specs.Ahead.{begins_at, count_ahead}
 use Rattle.mg_scan.specs.Found.{all_found_in, scan_input, target_columns}
@@ -115,7 +115,7 @@ summed a b f g here (shard ∷ shards) =
 
 -- ---- one row
 
-timely : (direction : Direction) (place : RangeSide) → is_late direction place ≡ false → not (is_early direction place) ≡ is_place_within place
+timely : (direction : Direction) (place : RangeSide) → is_late direction place ≡ false → not (is_early direction place) ≡ is_side_within place
 timely Asc Before e = refl
 timely Asc Within e = refl
 timely Asc Past e = absurd cc
@@ -169,15 +169,15 @@ module _ (direction : Direction) (range : Range) (after : Option RowValue) (p : 
 
   -- what is asked after it is asked
   wanted_after : (r : RowValue) → is_wanted (scan_input everything range (Some p) 0 direction []) r ≡ (is_wanted (scan_input everything range after 0 direction []) r && later r)
-  wanted_after r = further (is_place_within (place_row range r)) (comes_after direction after r) (later r) (beyond_both r)
+  wanted_after r = further (is_side_within (row_side range r)) (comes_after direction after r) (later r) (beyond_both r)
 
   counted : (r : RowValue)
       → one (reached direction range after r) + one (is_wanted (scan_input everything range (Some p) 0 direction []) r)
       ≡ one (reached direction range (Some p) r) + one (is_wanted (scan_input everything range after 0 direction []) r)
   counted r =
-      ap (λ b. one (not (is_early direction (place_row range r)) && b) + one (is_place_within (place_row range r) && later r)) (beyond_is direction after r)
-      ∙ one_count (not (is_early direction (place_row range r))) (is_place_within (place_row range r)) (comes_after direction after r) (later r) (beyond_both r)
-      (λ e. timely direction (place_row range r) (still_timed r e))
+      ap (λ b. one (not (is_early direction (row_side range r)) && b) + one (is_side_within (row_side range r) && later r)) (beyond_is direction after r)
+      ∙ one_count (not (is_early direction (row_side range r))) (is_side_within (row_side range r)) (comes_after direction after r) (later r) (beyond_both r)
+      (λ e. timely direction (row_side range r) (still_timed r e))
 
   -- the later rows are the last
   later_last : (xs : List RowValue) → Rises order xs → LateLast later xs
@@ -277,7 +277,7 @@ second false b e = absurd cc
 
 -- a row that a search reaches comes after the row after which it begins
 pub reached_beyond : (s : Search) (r : RowValue) → reached s.direction s.range.now (after_of s) r ≡ true → is_beyond s.direction (option_map (row_value_order r) (after_of s)) ≡ true
-reached_beyond s r e = second (not (is_early s.direction (place_row s.range.now r))) (is_beyond s.direction (option_map (row_value_order r) (after_of s))) e
+reached_beyond s r e = second (not (is_early s.direction (row_side s.range.now r))) (is_beyond s.direction (option_map (row_value_order r) (after_of s))) e
 
 -- the first rows that are found in all shards where the range decides are those of all rows in the range
 first_rows : (s : Search) (shards : List ShardView) → AreDecided shards s → merged s.direction s.take (map (found_by s) shards) ≡ take s.take (sorted_rows s.direction (joined (map (all_found_by (unasked s)) shards)))

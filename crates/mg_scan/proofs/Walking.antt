@@ -14,13 +14,13 @@ use Rattle.mg_collate.proofs.Directed.{directed_total, sorted_descending}
 use Rattle.mg_collate.proofs.Sorting.{NoneBelow, Rises, rises_sorted}
 use Rattle.mg_index.specs.Definition.{Steps}
 use Rattle.mg_normal.specs.Normal.{NormalForm, normal_holds}
-use Rattle.mg_range.specs.RangeSide.{is_early, is_late, is_place_within}
+use Rattle.mg_range.specs.RangeSide.{is_early, is_late, is_side_within}
 use Rattle.mg_range.specs.Range.{Range}
 use Rattle.mg_range.specs.declared.side.RangeSide.{RangeSide}
 use Rattle.mg_range.specs.declared.side.RangeSide.TheVariants.{Before, Within, Past}
 use Rattle.mg_scan.specs.Scan.{ScanInput, all_scanned, comes_after, is_wanted, scanned}
 use Rattle.mg_scan.specs.Walked.{begin_order, holds_at, is_beyond, is_late_row, walked, walked_all}
-use Rattle.mg_scan.specs.Begins.{place_row, reached}
+use Rattle.mg_scan.specs.Begins.{row_side, reached}
 use Rattle.mg_scan.proofs.Late.{late_rises}
 use Rattle.mg_shard.specs.Documents.{KeptDocuments, docs_of, form_at}
 use Rattle.mg_shard.specs.Histories.{ServedDocument}
@@ -80,7 +80,7 @@ gt_down false = refl
 
 -- where a search begins, what comes after is what it reaches
 pub begun : (direction : Direction) (range : Range) (after : Option RowValue) (xs : List RowValue)
-    → beyond direction (λ r. begin_order direction (place_row range r) (option_map (row_value_order r) after)) xs ≡ filter (reached direction range after) (in_direction direction xs)
+    → beyond direction (λ r. begin_order direction (row_side range r) (option_map (row_value_order r) after)) xs ≡ filter (reached direction range after) (in_direction direction xs)
 begun Asc range after xs = filter-same _ (reached Asc range after) (λ r. lt_up (reached Asc range after r)) xs
 begun Desc range after xs =
     ap reverse (filter-same _ (reached Desc range after) (λ r. gt_down (reached Desc range after r)) xs) ∙ sym (filter-reverse (reached Desc range after) xs)
@@ -137,7 +137,7 @@ walked_all_is late holds (r ∷ rows) h = all_step late holds r rows (late r) (h
 
 -- ---- which rows are wanted
 
-chosen : (direction : Direction) (place : RangeSide) (b h : Bool) → ((not (is_early direction place) && b) && (not (is_late direction place) && h)) ≡ (h && (is_place_within place && b))
+chosen : (direction : Direction) (place : RangeSide) (b h : Bool) → ((not (is_early direction place) && b) && (not (is_late direction place) && h)) ≡ (h && (is_side_within place && b))
 chosen Asc Before b true = refl
 chosen Asc Before b false = refl
 chosen Asc Within true true = refl
@@ -193,7 +193,7 @@ asked_is columns normal ds (d ∷ docs) h =
 
 -- the rows are those of the columns, from where the search begins
 abbrev pub AreBegun : ScanInput → KeptDocuments → List RowValue → Type 0
-AreBegun q ds rows = rows ≡ beyond q.direction (λ r. begin_order q.direction (place_row q.range r) (option_map (row_value_order r) q.after)) (rows_of q.columns (docs_of ds))
+AreBegun q ds rows = rows ≡ beyond q.direction (λ r. begin_order q.direction (row_side q.range r) (option_map (row_value_order r) q.after)) (rows_of q.columns (docs_of ds))
 
 module _ (q : ScanInput) (ds : KeptDocuments) (rows : List RowValue) (own : AllByRecursion (λ d. form_at ds d.0 ≡ Some d.1) (docs_of ds)) (is : AreBegun q ds rows) where
   abbrev direction : Direction
@@ -230,8 +230,8 @@ module _ (q : ScanInput) (ds : KeptDocuments) (rows : List RowValue) (own : AllB
   wanted_ones =
       filter-both holds on_time (filter reach all) ∙ filter-both (λ r. on_time r && holds r) reach all
       ∙ filter-same (λ r. reach r && (on_time r && holds r)) (λ r. holds r && is_wanted q r)
-      (λ r. chosen direction (place_row q.range r) (is_beyond direction (option_map (row_value_order r) q.after)) (holds r)
-      ∙ ap (λ b. holds r && (is_place_within (place_row q.range r) && b)) (beyond_is direction q.after r)) all
+      (λ r. chosen direction (row_side q.range r) (is_beyond direction (option_map (row_value_order r) q.after)) (holds r)
+      ∙ ap (λ b. holds r && (is_side_within (row_side q.range r) && b)) (beyond_is direction q.after r)) all
       ∙ sym (filter-both (is_wanted q) holds all)
       ∙ ap (filter (is_wanted q)) (sym (sorted_rows-where holds direction unsorted) ∙ ap (sorted_rows direction) (sym (asked_is q.columns q.normal ds (docs_of ds) own)))
 

@@ -4,7 +4,7 @@ use Rattle.std.specs.FinMap.{entries}
 use Rattle.std.specs.Option.{option_map_or}
 use Rattle.mg_collate.specs.Row.{RowValue, row_value_order}
 use Rattle.mg_collate.specs.declared.direction.Direction.{Direction}
-use Rattle.mg_range.specs.RangeSide.{place_of}
+use Rattle.mg_range.specs.RangeSide.{side_of}
 use Rattle.mg_range.specs.Range.{Range}
 use Rattle.mg_scan.specs.Walked.{begin_order, id_row}
 use Rattle.mg_scan.specs.declared.target.Target.{Target}
@@ -16,7 +16,7 @@ use Rattle.std.specs.declared.cmp.Ordering.{Ordering}
 
 -- where a scan begins, against a row
 abbrev pub begins_at : Range → Option RowValue → Direction → RowValue → Ordering
-begins_at range after direction r = begin_order direction (place_of range (item_list r.0)) (option_map (row_value_order r) after)
+begins_at range after direction r = begin_order direction (side_of range (item_list r.0)) (option_map (row_value_order r) after)
 
 -- how many documents, deleted ones too, or rows of the index come after where a scan begins; none where there is no such index
 abbrev pub count_ahead : Target → Range → Option RowValue → Direction → ShardView → ℕ

@@ -15,7 +15,7 @@ use Rattle.mg_collate.proofs.Directed.{directed_total}
 use Rattle.mg_collate.proofs.Flat.{items_order-item, text_order, then_equal}
 use Rattle.mg_pages.specs.Identified.{id_order}
 use Rattle.mg_pages.specs.Order.{IsProbe}
-use Rattle.mg_range.specs.RangeSide.{is_early, place_of, place_rank}
+use Rattle.mg_range.specs.RangeSide.{is_early, side_of, side_rank}
 use Rattle.mg_range.specs.Range.{Range}
 use Rattle.mg_range.specs.declared.side.RangeSide.{RangeSide}
 use Rattle.mg_range.specs.declared.side.RangeSide.TheVariants.{Before, Within, Past}
@@ -31,7 +31,7 @@ use Rattle.mg_value.specs.View.{items_of}
 abbrev pub NotAfter : Direction → RowValue → RowValue → Type 0
 NotAfter direction x y = is_gt (directed_order direction x y) ≡ false
 
--- ---- places
+-- ---- sides
 
 items-list : (vs : Items) → items_of (item_list vs) ≡ vs
 items-list no_items = refl
@@ -46,39 +46,39 @@ not_gt-le Equal e = refl
 not_gt-le Greater e = absurd cc
 
 -- the side of the range on which the key of a row is
-abbrev pub place_row : Range → RowValue → RangeSide
-place_row range r = place_of range (item_list r.0)
+abbrev pub row_side : Range → RowValue → RangeSide
+row_side range r = side_of range (item_list r.0)
 
 -- if rows are in order, their sides of the range are in order
-places_rise : (range : Range) (x y : RowValue) → is_gt (row_value_order x y) ≡ false → place_rank (place_row range x) ≤ place_rank (place_row range y)
-places_rise range x y e =
+sides_rise : (range : Range) (x y : RowValue) → is_gt (row_value_order x y) ≡ false → side_rank (row_side range x) ≤ side_rank (row_side range y)
+sides_rise range x y e =
     rows_together range (item_list x.0) (item_list y.0) x.1 y.1 (ap₂ (λ a b. is_le (row_value_order a b)) (same_row x) (same_row y) ∙ not_gt-le (row_value_order x y) e)
 
--- the second place does not come before the first in a direction
+-- the second side does not come before the first in a direction
 abbrev pub Follows : Direction → RangeSide → RangeSide → Type 0
-Follows Asc p q = place_rank p ≤ place_rank q
-Follows Desc p q = place_rank q ≤ place_rank p
+Follows Asc p q = side_rank p ≤ side_rank q
+Follows Desc p q = side_rank q ≤ side_rank p
 
 -- the side of a row does not come before that of an earlier row in a direction
-pub follows : (direction : Direction) (range : Range) (x y : RowValue) → NotAfter direction x y → Follows direction (place_row range x) (place_row range y)
-follows Asc range x y e = places_rise range x y e
-follows Desc range x y e = places_rise range y x (ap is_gt (row_value_order_total.antisymm y x) ∙ e)
+pub follows : (direction : Direction) (range : Range) (x y : RowValue) → NotAfter direction x y → Follows direction (row_side range x) (row_side range y)
+follows Asc range x y e = sides_rise range x y e
+follows Desc range x y e = sides_rise range y x (ap is_gt (row_value_order_total.antisymm y x) ∙ e)
 
-early_place : (direction : Direction) (p q : RangeSide) → Follows direction p q → is_early direction q ≡ true → is_early direction p ≡ true
-early_place Asc Before q h e = refl
-early_place Asc Within Before h e = absurd (omega (arith, h))
-early_place Asc Past Before h e = absurd (omega (arith, h))
-early_place Asc Within Within h e = absurd cc
-early_place Asc Within Past h e = absurd cc
-early_place Asc Past Within h e = absurd cc
-early_place Asc Past Past h e = absurd cc
-early_place Desc Past q h e = refl
-early_place Desc Before Past h e = absurd (omega (arith, h))
-early_place Desc Within Past h e = absurd (omega (arith, h))
-early_place Desc Before Before h e = absurd cc
-early_place Desc Before Within h e = absurd cc
-early_place Desc Within Before h e = absurd cc
-early_place Desc Within Within h e = absurd cc
+early_side : (direction : Direction) (p q : RangeSide) → Follows direction p q → is_early direction q ≡ true → is_early direction p ≡ true
+early_side Asc Before q h e = refl
+early_side Asc Within Before h e = absurd (omega (arith, h))
+early_side Asc Past Before h e = absurd (omega (arith, h))
+early_side Asc Within Within h e = absurd cc
+early_side Asc Within Past h e = absurd cc
+early_side Asc Past Within h e = absurd cc
+early_side Asc Past Past h e = absurd cc
+early_side Desc Past q h e = refl
+early_side Desc Before Past h e = absurd (omega (arith, h))
+early_side Desc Within Past h e = absurd (omega (arith, h))
+early_side Desc Before Before h e = absurd cc
+early_side Desc Before Within h e = absurd cc
+early_side Desc Within Before h e = absurd cc
+early_side Desc Within Within h e = absurd cc
 
 -- ---- what a search reaches
 
@@ -98,15 +98,15 @@ not_up false true f e = absurd (let wrong = f refl in cc)
 
 -- a row that a search looks at, or that comes later
 abbrev pub reached : Direction → Range → Option RowValue → RowValue → Bool
-reached direction range after r = reaches direction (place_row range r) (option_map (row_value_order r) after)
+reached direction range after r = reaches direction (row_side range r) (option_map (row_value_order r) after)
 
 -- what comes after a row that is reached is reached
 reached_rises : (direction : Direction) (range : Range) (after : Option RowValue) (x y : RowValue) → NotAfter direction x y → reached direction range after x ≡ true → reached direction range after y ≡ true
 reached_rises direction range after x y h e =
-    let place = place_row range in
+    let place = row_side range in
     let was = and_parts (not (is_early direction (place x))) (is_beyond direction (option_map (row_value_order x) after)) e in
     and_from (not (is_early direction (place y))) (is_beyond direction (option_map (row_value_order y) after))
-    (not_up (is_early direction (place x)) (is_early direction (place y)) (early_place direction (place x) (place y) (follows direction range x y h)) was.0)
+    (not_up (is_early direction (place x)) (is_early direction (place y)) (early_side direction (place x) (place y) (follows direction range x y h)) was.0)
     (beyond_rises direction after x y h was.1)
 
 up_step : (b c : Bool) → (b ≡ true → c ≡ true) → is_gt (directed Asc (if b then Less else Greater)) ≡ false → directed Asc (if c then Less else Greater) ≡ Less
@@ -118,7 +118,7 @@ down_step true c f e = absurd cc
 down_step false true f e = absurd (let wrong = f refl in cc)
 down_step false false f e = refl
 
-begin_probes : (direction : Direction) (range : Range) (after : Option RowValue) → IsProbe row_value_order (λ r. begin_order direction (place_row range r) (option_map (row_value_order r) after))
+begin_probes : (direction : Direction) (range : Range) (after : Option RowValue) → IsProbe row_value_order (λ r. begin_order direction (row_side range r) (option_map (row_value_order r) after))
 begin_probes Asc range after = λ x y l n. up_step (reached Asc range after x) (reached Asc range after y) (reached_rises Asc range after x y (ap is_gt l)) n
 begin_probes Desc range after =
     λ x y l n. down_step (reached Desc range after x) (reached Desc range after y) (reached_rises Desc range after y x (ap (λ o. is_gt (ordering_reverse o)) (row_value_order_total.antisymm y x ∙ ap ordering_reverse l))) n

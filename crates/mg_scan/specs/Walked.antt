@@ -8,7 +8,7 @@ use Rattle.mg_collate.specs.Direction.{directed}
 use Rattle.mg_collate.specs.declared.direction.Direction.{Direction}
 use Rattle.mg_collate.specs.Row.{RowValue}
 use Rattle.mg_normal.specs.Normal.{NormalForm, normal_holds}
-use Rattle.mg_range.specs.RangeSide.{is_early, is_late, place_of}
+use Rattle.mg_range.specs.RangeSide.{is_early, is_late, side_of}
 use Rattle.mg_range.specs.Range.{Range}
 use Rattle.mg_range.specs.declared.side.RangeSide.{RangeSide}
 use Rattle.mg_shard.specs.Documents.{KeptDocuments, form_at}
@@ -29,7 +29,7 @@ begin_order direction side order = directed direction (if reaches direction side
 
 -- the row comes after the range in a direction
 abbrev pub is_late_row : Direction → Range → RowValue → Bool
-is_late_row direction range r = is_late direction (place_of range (item_list r.0))
+is_late_row direction range r = is_late direction (side_of range (item_list r.0))
 
 -- the selector holds of the document of an id, which is there and served
 abbrev pub holds_at : NormalForm → KeptDocuments → List ℕ → Bool

@@ -4,7 +4,7 @@ use Rattle.std.specs.Option.{option_and_then}
 use Rattle.std.specs.List.{filter_map}
 use Rattle.std.specs.declared.cmp.Ordering.{Ordering}
 use Rattle.mg_collate.specs.Row.{RowValue, row_value_order}
-use Rattle.mg_range.specs.RangeSide.{place_of}
+use Rattle.mg_range.specs.RangeSide.{side_of}
 use Rattle.mg_scan.specs.Found.{all_found_in}
 use Rattle.mg_scan.specs.Search.{after_of, search_input}
 use Rattle.mg_scan.specs.Walked.{begin_order, holds_at, is_late_row, walked, walked_all}
@@ -21,7 +21,7 @@ all_found_by s = all_found_in s.target (search_input s)
 
 -- where a search begins, against a row
 abbrev pub begin_at : Search → RowValue → Ordering
-begin_at s r = begin_order s.direction (place_of s.range.now (item_list r.0)) (option_map (row_value_order r) (after_of s))
+begin_at s r = begin_order s.direction (side_of s.range.now (item_list r.0)) (option_map (row_value_order r) (after_of s))
 
 -- what a search finds on the way through rows of a shard with these documents, at most this many
 abbrev pub walked_by : Search → KeptDocuments → ℕ → List RowValue → List RowValue

@@ -134,7 +134,7 @@ pub(crate) fn begin_at_row(search: Search<'_>, row: &RowBytes) -> Ordering
 pub(crate) fn begin_at_id(search: Search<'_>, id: &str) -> Ordering
     ensures { result ≡ begin_at search.entry (id_row id.now) }
 {
-    let is_early = is_early(search.direction, search.range.keys().place_of_text(id));
+    let is_early = is_early(search.direction, search.range.keys().side_at_text(id));
     let is_reached = !is_early && is_beyond(search.direction, id_order(id, search.after));
     begin(search.direction, is_reached)
 }
@@ -151,5 +151,5 @@ pub(crate) fn is_past_row(search: Search<'_>, row: &RowBytes) -> bool
 pub(crate) fn is_past_id(search: Search<'_>, id: &str) -> bool
     ensures { result ≡ is_late_row search.entry.direction search.entry.range.now (id_row id.now) }
 {
-    is_late(search.direction, search.range.keys().place_of_text(id))
+    is_late(search.direction, search.range.keys().side_at_text(id))
 }
