@@ -51,22 +51,10 @@ impl Bound {
     {
         let mut columns = Vec::new(alloc);
         write_columns(values, &mut columns)?;
-        Bound::of_columns(alloc, &columns, edge)
+        Bound::of_bytes(columns, edge)
     }
 
-    // Makes a place from the bytes of its values.
-    pub(crate) fn of_columns(alloc: Global, columns: &[u8], edge: Edge) -> Result<Bound, NoMemory>
-        requires { (values : Items) × IsKey columns.now values }
-        ensures { (values : Items) → IsKey columns.now values
-            → IfOk result (λ bound. bound ≡ (edge, values)) }
-    {
-        let mut bytes = Vec::with_capacity(alloc, columns.len() + 1)?;
-        bytes.extend_from_slice(columns)?;
-        write_edge(edge, &mut bytes)?;
-        Ok(Bound { bytes })
-    }
-
-    // Makes a place of the bytes of its values themselves.
+    // Makes a place of the bytes of its values.
     pub(crate) fn of_bytes(columns: Vec<u8>, edge: Edge) -> Result<Bound, NoMemory>
         requires { (values : Items) × IsKey columns.items values }
         ensures { (values : Items) → IsKey columns.items values

@@ -70,15 +70,6 @@ impl KeyBytes {
         RowBytes::of_columns(alloc, self.bytes.as_slice(), id)
     }
 
-    /// The place before or after all rows whose key begins with these columns.
-    ///
-    /// Errors: `NoMemory` if an allocation fails. Cost: the size of the key.
-    pub fn bound(&self, alloc: Global, edge: Edge) -> Result<Bound, NoMemory>
-        ensures { IfOk result (λ bound. bound ≡ (edge, self.now)) }
-    {
-        Bound::of_columns(alloc, self.bytes.as_slice(), edge)
-    }
-
     /// The place before or after all rows whose key begins with these columns, made of the key's own bytes.
     ///
     /// Errors: `NoMemory` if an allocation fails. Cost: constant, unless the bytes have to move to gain one more.

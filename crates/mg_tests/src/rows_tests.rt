@@ -158,7 +158,7 @@ fn a_place_is_between_rows_and_never_on_one(rt: HostRuntime) {
         check(&rt, parts_rows(&rows, &bound, *below), values);
         let mut columns = KeyBytes::new(alloc);
         put_columns(&rt, alloc, &mut columns, values);
-        let bound = columns.bound(alloc, *edge).expect(&rt, "memory");
+        let bound = columns.into_bound(*edge).expect(&rt, "memory");
         check(&rt, parts_rows(&rows, &bound, *below), values);
     }
 }
