@@ -1,5 +1,5 @@
 -- The range by its tightest bounds has the keys that meet every bound.
-use Rattle.std.proofs.Common.{◌≡◌, Bool, true, false, cond, not, ◌&&◌, ◌||◌, List, [], ◌∷◌, length, Option, Some, None, is_some, Ordering, Less, Equal, Greater, refl, sym, ap, ap₂, ◌∙◌, arith}
+use Rattle.std.proofs.Common.{◌≡◌, Bool, true, false, cond, not, ◌&&◌, List, [], ◌∷◌, length, Option, Some, None, is_some, Ordering, Less, Equal, Greater, refl, sym, ap, ap₂, ◌∙◌, arith}
 use Rattle.std.proofs.lemmas.Bool.{false≢true, and_parts}
 use Rattle.std.specs.List.{list_all, find}
 use Rattle.std.specs.Ordering.{is_eq, ordering_reverse, match_ordering}

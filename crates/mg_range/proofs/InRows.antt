@@ -1,5 +1,5 @@
 -- A row is before, within or past a range exactly as it is before, between or past the ends of the range.
-use Rattle.std.proofs.Common.{◌≡◌, Bool, true, false, Option, Some, None, refl, sym, ap, ap₂, ◌∙◌, if◌then◌else◌}
+use Rattle.std.proofs.Common.{◌≡◌, Bool, true, false, Option, Some, None, refl, sym, ap, ◌∙◌, if◌then◌else◌}
 use Rattle.std.specs.Ordering.{is_gt, is_lt}
 use Rattle.mg_collate.specs.Row.{RowValue}
 use Rattle.mg_range.proofs.SpanEnds.{before_low, past_apart, past_high}

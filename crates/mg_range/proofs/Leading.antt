@@ -1,5 +1,5 @@
 -- The atoms are decided if each bounds one of the bounded columns.
-use Rattle.std.proofs.Common.{◌≡◌, ℕ, suc, Bool, true, false, ◌&&◌, ◌||◌, List, [], ◌∷◌, Option, Some, None, is_some, take, if◌then◌else◌, refl, sym, ap, ap₂, ◌∙◌}
+use Rattle.std.proofs.Common.{◌≡◌, ℕ, suc, Bool, true, false, ◌&&◌, ◌||◌, List, [], ◌∷◌, Option, Some, None, is_some, take, if◌then◌else◌, refl, sym, ap, ap₂}
 use Rattle.std.specs.List.{AllByRecursion, cons_option, list_all, list_any}
 use Rattle.mg_normal.specs.Atoms.{Atom}
 use Rattle.mg_index.specs.Bound.{Bound, bound_on, bounds_on, bounded_count, is_bounded, is_fixed}
