@@ -1,5 +1,5 @@
 //! Iteration over a collection from the last element to the first.
-ghost use Rattle.std.specs.Prelude.{◌≡◌, ◌<◌, ◌∷◌, ◌++◌, [], Some, drop, length, reverse, slice_get, IfSome};
+ghost use Rattle.std.specs.Prelude.{◌≡◌, ◌<◌, ◌∷◌, ◌++◌, [], Some, drop, length, reverse, slice_get, MatchOption};
 ghost use Rattle.std.specs.Iterator.{at_most};
 ghost use Rattle.std.specs.Map.Iter.{TakesFirst, deref};
 ghost use Rattle.mg_pages.specs.Runs.{ended};
@@ -70,7 +70,7 @@ impl<'a, T: Keyed> Back<'a, T> {
     /// The last element of the run that is being read, which is the rest of one page, and its place among the elements that are left;
     /// `None` if nothing is left. Cost: constant.
     pub fn run_end(&self) -> Option<(usize, &'a T)>
-        ensures { IfSome result (λ end. slice_get self.now end.0 ≡ Some end.1.now) }
+        ensures { MatchOption result (self.now ≡ []) (λ end. slice_get self.now end.0 ≡ Some end.1.now) }
     {
         let run = self.run;
         if run.len() == 0 {

@@ -1,5 +1,5 @@
 //! Elements in order, read in either direction.
-ghost use Rattle.std.specs.Prelude.{◌≡◌, Some, drop, length, slice_get, IfSome};
+ghost use Rattle.std.specs.Prelude.{◌≡◌, [], Some, drop, length, slice_get, MatchOption};
 ghost use Rattle.std.specs.Iterator.{at_most};
 ghost use Rattle.std.specs.Map.Iter.{TakesFirst, deref};
 ghost use Rattle.mg_shard.specs.Left.{left_on};
@@ -78,7 +78,7 @@ impl<'a, T: Keyed> Walk<'a, T> {
     /// The last element of the run that is being read, which is the rest of one page, and its place among the elements that are left;
     /// `None` if nothing is left. Cost: constant.
     pub fn run_end(&self) -> Option<(usize, &'a T)>
-        ensures { IfSome result (λ end. slice_get self.now end.0 ≡ Some end.1.now) }
+        ensures { MatchOption result (self.now ≡ []) (λ end. slice_get self.now end.0 ≡ Some end.1.now) }
     {
         match &self.way {
             Way::Up(things) => things.run_end(),
