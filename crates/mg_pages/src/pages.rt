@@ -84,6 +84,7 @@ fn take_out<T: Keyed, Q: Probe<T>>(
 }
 
 // The element that ties with a key, if the hints lead to it. Cost: one comparison.
+#[inline(always)]
 fn tied<'a, T: Keyed, Q: Probe<T>>(root: &'a Root<T>, key: &Q) -> Option<&'a T>
     requires { IsSound T.order root.now }
     ensures { IfSome result (λ t. found (Q.against key.now) (root_seen root.now) ≡ Some t.now) }
@@ -212,6 +213,7 @@ impl<T: Keyed> Pages<T> {
 
     /// The element that ties with the key. Cost: one comparison where the hints lead to it, otherwise the logarithm of the number
     /// of elements. Takes no memory.
+    #[inline(always)]
     pub fn get<Q: Probe<T>>(&self, key: &Q) -> Option<&T>
         ensures { option_map (λ t. t.now) result ≡ found (Q.against key.now) self.now }
     {

@@ -83,6 +83,7 @@ impl Shard {
     }
 
     /// The document of an id, if there is one, deleted or not. Takes no memory. Cost: one look-up.
+    #[inline(always)]
     pub fn document(&self, id: &str) -> Option<&Document>
         ensures kept { option_map (λ d. kept_of d.now) result ≡ get self.now.documents id.now }
         ensures id { IfSome result (λ d. id_bytes d.now ≡ id.now) }
