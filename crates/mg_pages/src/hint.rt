@@ -111,8 +111,8 @@ fn hints_of(alloc: Global, given: &[u64]) -> Result<Hints, AllocError> {
     Ok(Hints { numbers })
 }
 
-// How many numbers a search passes over at a time, before it looks at each: one cache line of them.
-const STRIDE: usize = 8;
+/// How many hints a search passes over at a time, before it looks at each.
+pub const STRIDE: usize = 8;
 
 // The place of the first hint that is not below `number`. For the few hints of a page, steps of a fixed length take fewer instructions
 // than halving.

@@ -7,7 +7,7 @@ ghost use Rattle.mg_pages.specs.Runs.{IsRun, IsEndRun, IsPageAt};
 ghost use Rattle.mg_pages.specs.Parts.{children, child_seen, child_value, child_whole, level_whole, AreWhole};
 
 use crate::child::{Child, Node, child_of, copy_children, owners_of_nodes, put_into, take_out_of};
-use crate::hint::next_guess;
+use crate::hint::{STRIDE, next_guess};
 use crate::keyed::{Keyed, Probe};
 use crate::subtree::{LIMIT, Subtree};
 use std::alloc::{AllocError, Global};
@@ -25,9 +25,6 @@ impl<T: Drop, P: Drop> Drop for Level<T, P> {
         drop(parts);
     }
 }
-
-// How many parts a guess passes over at a time, before it looks at each.
-const STRIDE: usize = 8;
 
 // Guesses the index of the part where a key with this hint belongs: that of the first part whose hint is not below it. For at most 64
 // parts, steps of a fixed length take fewer instructions than halving.
