@@ -3,7 +3,7 @@ use Rattle.std.proofs.Common.{◌≡◌, ◌∙◌, ◌<◌, ℕ, List, [], ◌�
 use Rattle.std.proofs.lemmas.List.{get_or-map}
 use Rattle.mg_engine.specs.Commands.{Asked, Answer}
 use Rattle.mg_http.proofs.StandingLemmas.{converses}
-use Rattle.mg_live.specs.Sitting.{Answered, Sitting}
+use Rattle.mg_live.specs.SeatView.{Answered, SeatView}
 use Rattle.mangod.specs.Conversations.{Conversation, InTurn}
 
 -- some sessions, and then others
@@ -23,15 +23,15 @@ module _ {S T : Type 0} (answers : S → Asked → Option Answer → S → Type 
       (others.0, (one.0, one.1, others.1), others.2)
 
 -- the sessions of a service with a seat are sessions of the seat
-pub seats_served : {S : Type 0} (a b : S) (seat_of : S → Sitting) (name db : List ℕ) (xs : List Conversation)
+pub seats_served : {S : Type 0} (a b : S) (seat_of : S → SeatView) (name db : List ℕ) (xs : List Conversation)
     → InTurn (λ old command reply new. Answered name (seat_of old) command reply (seat_of new)) db a xs b
     → InTurn (Answered name) db (seat_of a) xs (seat_of b)
 seats_served {S} a b seat_of name db xs h =
     let done = seen_by (λ (old : S) (command : Asked) (reply : Option Answer) (new : S). Answered name (seat_of old) command reply (seat_of new))
-    (Answered name) (λ (s : S) (v : Sitting). v ≡ seat_of s) db
-    (λ old command reply new v held is. (seat_of new, subst (λ (x : Sitting). Answered name x command reply (seat_of new)) (sym is) held, refl))
+    (Answered name) (λ (s : S) (v : SeatView). v ≡ seat_of s) db
+    (λ old command reply new v held is. (seat_of new, subst (λ (x : SeatView). Answered name x command reply (seat_of new)) (sym is) held, refl))
     a b (seat_of a) xs h refl in
-    subst (λ (x : Sitting). InTurn (Answered name) db (seat_of a) xs x) done.2 done.1
+    subst (λ (x : SeatView). InTurn (Answered name) db (seat_of a) xs x) done.2 done.1
 
 -- the image of an element of a list
 pub shown_at : {X Y : Type 0} (xs : List X) (i : ℕ) (x : X) (e : Y) (f : X → Y) → i < length xs → ((d : X) → get_or xs i d ≡ x) → get_or (map f xs) i e ≡ f x

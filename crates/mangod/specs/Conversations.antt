@@ -3,7 +3,7 @@ use Rattle.std.specs.Prelude.{◌≡◌, ℕ, List, [], ◌∷◌, Option}
 use Rattle.mg_engine.specs.Commands.{Asked, Answer}
 use Rattle.mg_http.specs.Session.{Converses}
 use Rattle.mg_http.specs.declared.sessions.SessionEnd.{SessionEnd}
-use Rattle.mg_live.specs.Sitting.{Answered, Sitting}
+use Rattle.mg_live.specs.SeatView.{Answered, SeatView}
 
 -- a session with a client: the bytes that it sent, the bytes written to it, and how its session ended
 pub record Conversation : Type 0 where
@@ -19,5 +19,5 @@ InTurn {S} answers db old (c ∷ cs) new =
     × InTurn answers db mid cs new
 
 -- sessions of the database of this name took a seat from the first state to the last, one after another
-abbrev pub IsServed : List ℕ → Sitting → Sitting → Type 0
+abbrev pub IsServed : List ℕ → SeatView → SeatView → Type 0
 IsServed db old new = (conversations : List Conversation) × InTurn (Answered db) db old conversations new

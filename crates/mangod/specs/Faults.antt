@@ -9,8 +9,8 @@ use Rattle.mangod.specs.declared.faults.Disposal.{Disposal}
 use Rattle.mangod.specs.declared.faults.Disposal.TheVariants.{Close, CloseGently, Keep}
 
 -- descriptors or buffers ran out: ENFILE, EMFILE or ENOBUFS
-abbrev pub is_want : ℤ → Bool
-is_want number = int_eq number (pos 23) || (int_eq number (pos 24) || int_eq number (pos 105))
+abbrev pub is_shortage : ℤ → Bool
+is_shortage number = int_eq number (pos 23) || (int_eq number (pos 24) || int_eq number (pos 105))
 
 -- the fault is of one connection only: ENONET, EPROTO, ENOPROTOOPT or EHOSTDOWN
 abbrev pub is_of_one_connection : ℤ → Bool
@@ -20,7 +20,7 @@ is_of_one_connection number =
 -- what to do after a failed accept, by the number of the error, if its kind does not say
 abbrev pub after_number : Option ℤ → AfterFault
 after_number None = Never
-after_number (Some number) = if is_want number then WithMore else if is_of_one_connection number then Again else Never
+after_number (Some number) = if is_shortage number then WithMore else if is_of_one_connection number then Again else Never
 
 -- what to do with a connection, by its session's end and whether its input was ended in a pause between messages
 abbrev pub disposal_after : SessionEnd → Bool → Disposal

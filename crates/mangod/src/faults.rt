@@ -1,6 +1,6 @@
 //! Decides what to do after a failed accept, and with a connection after its session.
 ghost use Rattle.std.specs.Prelude.{◌≡◌};
-ghost use Rattle.mangod.specs.Faults.{after_number, disposal_after, is_of_one_connection, is_want};
+ghost use Rattle.mangod.specs.Faults.{after_number, disposal_after, is_of_one_connection, is_shortage};
 
 use mg_http::SessionEnd;
 use std::io::ErrorKind;
@@ -34,7 +34,7 @@ pub(crate) fn after_fault(kind: ErrorKind, number: Option<i32>) -> AfterFault
         ErrorKind::WouldBlock => AfterFault::AtAnEvent,
         ErrorKind::OutOfMemory => AfterFault::WithMore,
         _ => match number {
-            Some(number) if is_want(number) => AfterFault::WithMore,
+            Some(number) if is_shortage(number) => AfterFault::WithMore,
             Some(number) if is_of_one_connection(number) => AfterFault::Again,
             _ => AfterFault::Never,
         },
@@ -42,8 +42,8 @@ pub(crate) fn after_fault(kind: ErrorKind, number: Option<i32>) -> AfterFault
 }
 
 // Whether on Linux this number means that the system or the process ran out of descriptors, or that buffers ran out.
-fn is_want(number: i32) -> bool
-    ensures { result ≡ is_want number }
+fn is_shortage(number: i32) -> bool
+    ensures { result ≡ is_shortage number }
 {
     number == 23 || number == 24 || number == 105
 }

@@ -18,7 +18,7 @@ const LISTENER: Token = Token(usize::MAX);
 /// The time in milliseconds between two searches for silent connections.
 const LOOK_MILLIS: u64 = 500;
 /// The time in milliseconds until the next accept after descriptors or memory ran out.
-const WANT_MILLIS: u64 = 20;
+const SHORTAGE_MILLIS: u64 = 20;
 /// The most bytes dropped from a connection that is being closed.
 const MOST_DROPPED: u64 = 16_777_216;
 /// The number of connections for which room is reserved at the start.
@@ -48,7 +48,7 @@ struct Watch {
     /// Whether a connection may be waiting to be accepted.
     is_accepting: bool,
     /// Whether descriptors or memory ran out at the last accept.
-    is_wanting: bool,
+    has_shortage: bool,
     /// When silent connections were last searched for.
     last_search: Instant,
 }
@@ -77,7 +77,7 @@ impl Lobby {
             events: Events::with_capacity(alloc, 1)?,
             spill: vec![in alloc; 0; SPILL]?,
             is_accepting: true,
-            is_wanting: false,
+            has_shortage: false,
             last_search: Instant::now(rt)?,
         };
         let guests = Slab::with_capacity(alloc, GUESTS)?;
@@ -120,7 +120,7 @@ impl Lobby {
                         return Some(stream);
                     }
                 }
-                None if watch.is_wanting => self.close_oldest(rt),
+                None if watch.has_shortage => self.close_oldest(rt),
                 None => {}
             }
             self.close_silent(rt, watch);
@@ -133,7 +133,7 @@ impl Lobby {
         if !watch.is_accepting {
             return Some(Duration::from_millis(LOOK_MILLIS));
         }
-        watch.is_wanting = false;
+        watch.has_shortage = false;
         let millis = match self.listener.accept() {
             Ok((stream, _)) => {
                 if stream.set_nodelay(true).is_ok() {
@@ -148,8 +148,8 @@ impl Lobby {
                     LOOK_MILLIS
                 }
                 AfterFault::WithMore => {
-                    watch.is_wanting = true;
-                    WANT_MILLIS
+                    watch.has_shortage = true;
+                    SHORTAGE_MILLIS
                 }
                 AfterFault::Never => return None,
             },

@@ -1,7 +1,7 @@
 //! Serves clients at the seats of a database, each seat on a thread of its own.
 ghost use Rattle.std.specs.Prelude.{◌≡◌, ◌<◌, ℕ, IfOk, map, slice_index_or, vec_len};
 ghost use Rattle.mangod.specs.Conversations.{IsServed};
-ghost use Rattle.mg_live.specs.Sitting.{Sitting};
+ghost use Rattle.mg_live.specs.SeatView.{SeatView};
 
 use crate::config::Settings;
 use crate::connections::serve_connections;
@@ -51,7 +51,7 @@ pub(crate) fn serve<
 ) -> Result<Vec<Seat<D, Waiting<H>>>, NoMemory>
     requires { settings.now.db.now ≡ D.db }
     ensures count { IfOk result (λ after. vec_len after ≡ vec_len seats) }
-    ensures each { IfOk result (λ after. (i : ℕ) (d : Sitting) → i < vec_len seats
+    ensures each { IfOk result (λ after. (i : ℕ) (d : SeatView) → i < vec_len seats
         → IsServed D.db (slice_index_or seats.items i d) (slice_index_or after.items i d)) }
 {
     let services = services(alloc, seats, settings)?;
@@ -69,7 +69,7 @@ fn attend_all<D: Database + Send + Sync, H: Wait + Threads + Clock + Send + Sync
 ) -> Result<Vec<Seat<D, Waiting<H>>>, NoMemory>
     requires { db.now ≡ D.db }
     ensures count { IfOk result (λ after. vec_len after ≡ vec_len services) }
-    ensures each { IfOk result (λ after. (i : ℕ) (d : Sitting) → i < vec_len services
+    ensures each { IfOk result (λ after. (i : ℕ) (d : SeatView) → i < vec_len services
         → IsServed D.db (slice_index_or (map (λ service. service.seat) services.items) i d)
         (slice_index_or after.items i d)) }
 {

@@ -15,7 +15,7 @@ use Rattle.mg_revtree.specs.declared.error.TreeError.{TreeError}
 use Rattle.mg_revtree.specs.declared.error.TreeError.TheVariants.{NotLeaf as not_leaf, Full as full, Known as known, NoMemory as tree_refused}
 use Rattle.mg_revtree.proofs.Extend.{refused_position}
 use Rattle.mg_revtree.proofs.Replicas.{whole_fits, whole_stands}
-use Rattle.mg_doc.specs.Applied.{Applied, Foreseen, Refuses, error_of, refusal_told}
+use Rattle.mg_doc.specs.Applied.{Applied, Foreseen, Refuses, error_of, refusal_in}
 use Rattle.mg_doc.specs.Brought.{Brings, Missing}
 use Rattle.mg_doc.specs.Base.{LooksFor, Misfits, base_found, extended_by, look_of, made_found, made_on, unplaced}
 use Rattle.mg_doc.specs.Digest.{digest_of}
@@ -31,7 +31,7 @@ use Rattle.mg_doc.proofs.Entries.{two}
 
 -- ---- errors
 
-pub told_error : (refused : Refused) → refusal_told (error_of refused) ≡ Some refused
+pub told_error : (refused : Refused) → refusal_in (error_of refused) ≡ Some refused
 told_error Conflict = refl
 told_error BadHistory = refl
 
@@ -54,7 +54,7 @@ misfits : (h : Paths) (run : List Revision) → fits h run ≡ false → replica
 misfits h [] f = refl
 misfits h (q ∷ qs) f = rw f refl
 
-pub not_merged : (h : Paths) (run : List Revision) (x : MergeError) → (fits h run ≡ true → x ≡ merge_refused) → Missing (replicated h run) (refusal_told (error_of_merge x))
+pub not_merged : (h : Paths) (run : List Revision) (x : MergeError) → (fits h run ≡ true → x ≡ merge_refused) → Missing (replicated h run) (refusal_in (error_of_merge x))
 not_merged h run misfit f = elim (two (fits h run)) [
   | inl t ↦ absurd (let e : misfit ≡ merge_refused = f t in cc)
   | inr n ↦ misfits h run n
@@ -63,7 +63,7 @@ not_merged h run merge_refused f = tt
 
 -- ---- a new edit
 
-pub not_made : (o : Option TreeRefusal) (x : TreeError) (a : Accepted) → Decides o (Err x) → Missing (unless (option_map refused_by o) a) (refusal_told (error_of_tree x))
+pub not_made : (o : Option TreeRefusal) (x : TreeError) (a : Accepted) → Decides o (Err x) → Missing (unless (option_map refused_by o) a) (refusal_in (error_of_tree x))
 not_made None not_leaf a d = absurd (let e : not_leaf ≡ tree_refused = d in cc)
 not_made None full a d = absurd (let e : full ≡ tree_refused = d in cc)
 not_made None known a d = absurd (let e : known ≡ tree_refused = d in cc)
@@ -157,13 +157,13 @@ unplaced_found : (h : Paths) (d : Bool) (b : Value) (base : Result (Option Revis
 unplaced_found h d b (Err x) refused k = let e : x ≡ refused = cc in ap Err e
 unplaced_found h d b (Ok base) refused k = unplaced_over h d b base (next_position h base) refused refl k
 
-pub refuses_new : (h : Paths) (e : Edit) (named : Option Revision) (x : EditError) (refused : Refused) → e.change ≡ New named → first_refusal h (New named) ≡ Some refused → x ≡ error_of refused → Refuses h e (refusal_told x)
+pub refuses_new : (h : Paths) (e : Edit) (named : Option Revision) (x : EditError) (refused : Refused) → e.change ≡ New named → first_refusal h (New named) ≡ Some refused → x ≡ error_of refused → Refuses h e (refusal_in x)
 refuses_new h e named x refused is k to =
     let P : Option Refused → Type 0 = Refuses h e in
     let made : extended h e.deleted e.body named ≡ Err refused =
     sym (extended_is h e.deleted e.body named) ∙ unplaced_found h e.deleted e.body (base_found h named) refused (first_is h named ∙ k) in
     let said : accepted_by h e ≡ Err refused = rw is made in
-    subst P (sym (ap refusal_told to ∙ told_error refused)) (ap newest_accepted said)
+    subst P (sym (ap refusal_in to ∙ told_error refused)) (ap newest_accepted said)
 
 -- ---- the look-up of a replica's path
 
@@ -177,7 +177,7 @@ module _ (h : Paths) (e : Edit) (run : List Revision) (is : e.change ≡ Replica
 
   pub looks_for : (r : Result (Option Revision) EditError) → StandsFor t h → LooksFor h run r → Foreseen h e (result_map_both (look_of e) (λ x. x) r) t
   looks_for (Ok None) s k = (rw is (rw k.0 refl), rw is k.1)
-  looks_for (Err x) s k = refuses_run (refusal_told x) k
+  looks_for (Err x) s k = refuses_run (refusal_in x) k
   looks_for (Ok (Some r)) s k =
       let f : fits h run ≡ true = whole_fits (all_links h) _ k.1 in
       let d = replicated_ok h run r k.0 f in
@@ -189,7 +189,7 @@ module _ (h : Paths) (e : Edit) (run : List Revision) (is : e.change ≡ Replica
 -- memory runs out for a path that fits
 pub looks_want : (h : Paths) (run : List Revision) (r : Result (Option Revision) EditError) → fits h run ≡ true → IsErrAnd r (λ x. x ≡ no_memory) → LooksFor h run r
 looks_want h run (Ok o) f k = absurd k
-looks_want h run (Err x) f k = let P : EditError → Type 0 = λ y. Misfits h run (refusal_told y) in subst P (sym k) f
+looks_want h run (Err x) f k = let P : EditError → Type 0 = λ y. Misfits h run (refusal_in y) in subst P (sym k) f
 
 -- ---- either
 

@@ -1,11 +1,11 @@
 -- What the parts of a reading give together.
 use Rattle.std.proofs.Common.{◌≡◌, List, Bool, Option, Some, None, Result, Ok, Err, option_and_then, ok_or, refl, ap}
 use Rattle.mg_revtree.specs.Revision.{Revision}
-use Rattle.mg_doc.specs.Document.{Gives, change_by, or_fault}
+use Rattle.mg_doc.specs.Document.{ReadsAs, change_by, or_fault}
 use Rattle.mg_doc.specs.declared.error.DocError.{DocError}
 use Rattle.mg_doc.specs.declared.error.DocError.TheVariants.{BadMember, BadId, BadRev, NoMemory}
 
-pub gives_err : {A : Type 0} (said : Result A DocError) (e : DocError) → said ≡ Err e → Gives said (Err e)
+pub gives_err : {A : Type 0} (said : Result A DocError) (e : DocError) → said ≡ Err e → ReadsAs said (Err e)
 gives_err said BadMember h = h
 gives_err said BadId h = h
 gives_err said BadRev h = h
@@ -21,7 +21,7 @@ fault_of_none fault None p e none h = let same : fault ≡ e = cc in rw (none re
 fault_of_none fault (Some a) p e none h = absurd cc
 
 -- the fault of a part is that of the whole
-pub gives_fault : {A B : Type 0} (fault : DocError) (o : Option A) (p : Option B) (e : DocError) → (o ≡ None → p ≡ None) → Gives (or_fault fault o) (Err e) → Gives (or_fault fault p) (Err e)
+pub gives_fault : {A B : Type 0} (fault : DocError) (o : Option A) (p : Option B) (e : DocError) → (o ≡ None → p ≡ None) → ReadsAs (or_fault fault o) (Err e) → ReadsAs (or_fault fault p) (Err e)
 gives_fault fault o p BadMember none h = fault_of_none fault o p BadMember none h
 gives_fault fault o p BadId none h = fault_of_none fault o p BadId none h
 gives_fault fault o p BadRev none h = fault_of_none fault o p BadRev none h

@@ -15,10 +15,10 @@ use Rattle.mg_doc.specs.declared.error.Refused.{Refused}
 use Rattle.mg_doc.specs.declared.error.Refused.TheVariants.{Conflict, BadHistory}
 
 -- the refusal that an error reports; `NoMemory` reports no refusal
-abbrev pub refusal_told : EditError → Option Refused
-refusal_told conflict = Some Conflict
-refusal_told bad_history = Some BadHistory
-refusal_told no_memory = None
+abbrev pub refusal_in : EditError → Option Refused
+refusal_in conflict = Some Conflict
+refusal_in bad_history = Some BadHistory
+refusal_in no_memory = None
 
 -- the error that reports a refusal
 abbrev pub error_of : Refused → EditError
@@ -33,7 +33,7 @@ Refuses h e None = first_refusal h e.change ≡ None
 -- the outcome of the edit, after which the tree stands for the edited history, or its error
 abbrev pub Applied : Paths → Edit → Result Revision EditError → Tree → Type 0
 Applied h e (Ok r) t = (outcome_of h e ≡ Ok r) × StandsFor t (edited h e)
-Applied h e (Err x) t = Refuses h e (refusal_told x)
+Applied h e (Err x) t = Refuses h e (refusal_in x)
 
 -- whether a change is a replica's path that is known whole, which changes nothing
 abbrev pub changes_nothing : Paths → Change → Bool
@@ -49,7 +49,7 @@ IsReady h e = (first_refusal h e.change ≡ None) × (changes_nothing h e.change
 abbrev pub Foreseen : Paths → Edit → Result Look EditError → Tree → Type 0
 Foreseen h e (Ok (Known r)) t = (changes_nothing h e.change ≡ true) × (outcome_of h e ≡ Ok r) × StandsFor t (edited h e)
 Foreseen h e (Ok (Ready ready)) t = IsReady h ready
-Foreseen h e (Err x) t = Refuses h e (refusal_told x)
+Foreseen h e (Err x) t = Refuses h e (refusal_in x)
 
 -- a look that finds an edit ready gives it back
 abbrev pub GivesBack : Edit → Look → Type 0

@@ -5,7 +5,7 @@ use Rattle.mg_value.specs.Value.{Value}
 use Rattle.mg_revtree.specs.Revision.{Revision}
 use Rattle.mg_revtree.specs.History.{Paths, fits, is_whole, newest_of}
 use Rattle.mg_revtree.specs.Changes.{next_position, refusal_of}
-use Rattle.mg_doc.specs.Applied.{refusal_told}
+use Rattle.mg_doc.specs.Applied.{refusal_in}
 use Rattle.mg_doc.specs.Brought.{Missing}
 use Rattle.mg_doc.specs.Digest.{digest_of}
 use Rattle.mg_doc.specs.Document.{Edit}
@@ -42,7 +42,7 @@ unplaced h (Err refused) = Some refused
 -- a copied base, or why there is none
 abbrev pub CopyIs : Result (Option Revision) Refused → Result (Option Revision) EditError → Type 0
 CopyIs said (Ok base) = said ≡ Ok base
-CopyIs said (Err x) = Missing said (refusal_told x)
+CopyIs said (Err x) = Missing said (refusal_in x)
 
 -- a reported refusal of a path is that it does not fit; without a refusal the path fits
 abbrev pub Misfits : Paths → List Revision → Option Refused → Type 0
@@ -53,7 +53,7 @@ Misfits h run None = fits h run ≡ true
 abbrev pub LooksFor : Paths → List Revision → Result (Option Revision) EditError → Type 0
 LooksFor h run (Ok (Some r)) = (newest_of run ≡ Some r) × (is_whole h run ≡ true)
 LooksFor h run (Ok None) = (fits h run ≡ true) × (is_whole h run ≡ false)
-LooksFor h run (Err x) = Misfits h run (refusal_told x)
+LooksFor h run (Err x) = Misfits h run (refusal_in x)
 
 -- what a look at an edit gives for what it found: the newest revision of a path that is known whole, or nothing
 abbrev pub look_of : Edit → Option Revision → Look

@@ -5,7 +5,7 @@ use Rattle.mg_revtree.specs.Revision.{Revision}
 use Rattle.mg_revtree.specs.History.{Paths}
 use Rattle.mg_revtree.specs.Changes.{path_of, with_path}
 use Rattle.mg_revtree.specs.Tree.{Tree, StandsFor}
-use Rattle.mg_doc.specs.Applied.{refusal_told}
+use Rattle.mg_doc.specs.Applied.{refusal_in}
 use Rattle.mg_doc.specs.Edit.{Accepted}
 use Rattle.mg_doc.specs.declared.error.EditError.{EditError}
 use Rattle.mg_doc.specs.declared.error.Refused.{Refused}
@@ -18,4 +18,4 @@ Missing said None = Unit {0}
 -- a path is accepted, and the tree then stands for the history with it; or an error says why it is not
 abbrev pub Brings : Paths → Bool → Value → Result Accepted Refused → Result Revision EditError → Tree → Type 0
 Brings h deleted body said (Ok r) t = (rs : List Revision) × (said ≡ Ok (r, rs)) × StandsFor t (with_path h (path_of (r ∷ rs) deleted body))
-Brings h deleted body said (Err x) t = Missing said (refusal_told x)
+Brings h deleted body said (Err x) t = Missing said (refusal_in x)

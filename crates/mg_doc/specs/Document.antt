@@ -140,12 +140,12 @@ edit_of new_edit v = Err BadMember
 -- ---- where memory may be refused
 
 -- a reading gives what the definition says, unless an allocation failed
-abbrev pub Gives : {A : Type 0} → Result A DocError → Result A DocError → Type 0
-Gives said (Ok a) = said ≡ Ok a
-Gives said (Err NoMemory) = Unit {0}
-Gives said (Err BadMember) = said ≡ Err BadMember
-Gives said (Err BadId) = said ≡ Err BadId
-Gives said (Err BadRev) = said ≡ Err BadRev
+abbrev pub ReadsAs : {A : Type 0} → Result A DocError → Result A DocError → Type 0
+ReadsAs said (Ok a) = said ≡ Ok a
+ReadsAs said (Err NoMemory) = Unit {0}
+ReadsAs said (Err BadMember) = said ≡ Err BadMember
+ReadsAs said (Err BadId) = said ≡ Err BadId
+ReadsAs said (Err BadRev) = said ≡ Err BadRev
 
 -- the fault of a document for an error of its revision
 abbrev pub fault_of_rev : RevError → DocError

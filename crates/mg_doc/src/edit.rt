@@ -1,6 +1,6 @@
 ghost use Rattle.std.specs.Prelude.{◌≡◌, Err, IfOk, None, Some, option_map, string_bytes, true};
 ghost use Rattle.mg_value.specs.View.{view, members_view};
-ghost use Rattle.mg_doc.specs.Document.{Gives, edit_of, is_object, members_read};
+ghost use Rattle.mg_doc.specs.Document.{ReadsAs, edit_of, is_object, members_read};
 
 mod apply;
 
@@ -68,7 +68,7 @@ impl Edit {
     /// the id of its revision is made here. Source: CouchDB's `_bulk_docs`.
     pub fn read(alloc: Global, document: Json, new_edit: bool) -> Result<Edit, DocError>
         requires { is_object (view document) ≡ true }
-        ensures edit { Gives (edit_of new_edit (view document)) result }
+        ensures edit { ReadsAs (edit_of new_edit (view document)) result }
         ensures refused { (e : DocError) → edit_of new_edit (view document) ≡ Err e → result ≡ Err e }
     {
         match document {
@@ -136,7 +136,7 @@ fn edit_in(
     mut members: BTreeMap<String, Json>,
     new_edit: bool,
 ) -> Result<Edit, DocError>
-    ensures edit { Gives (members_read new_edit (members_view members.entries)) result }
+    ensures edit { ReadsAs (members_read new_edit (members_view members.entries)) result }
     ensures refused { (e : DocError) → members_read new_edit (members_view members.entries) ≡ Err e
         → result ≡ Err e }
 {

@@ -2,7 +2,7 @@ ghost use Rattle.std.specs.Prelude.{◌≡◌, [], ◌∷◌, codes, map, option
 ghost use Rattle.std.specs.Result.{result_map_both};
 ghost use Rattle.mg_value.specs.Value.{Value, get_member, whole};
 ghost use Rattle.mg_value.specs.View.{view, items_view, members_view};
-ghost use Rattle.mg_doc.specs.Document.{Gives, IsRevision, change_by, change_given, or_fault, own_members as own, path_ids as ids_of_path, rev_of, revisions_of, run_at};
+ghost use Rattle.mg_doc.specs.Document.{ReadsAs, IsRevision, change_by, change_given, or_fault, own_members as own, path_ids as ids_of_path, rev_of, revisions_of, run_at};
 
 use crate::change::Change;
 use crate::error::DocError;
@@ -18,7 +18,7 @@ pub(crate) fn take_change(
     members: &mut BTreeMap<String, Json>,
     new_edit: bool,
 ) -> Result<Change, DocError>
-    ensures change { Gives (or_fault DocError.BadRev
+    ensures change { ReadsAs (or_fault DocError.BadRev
         (change_given new_edit (members_view members.old.entries))) result }
     ensures own { own (members_view members.new.entries) ≡ own (members_view members.old.entries) }
 {
@@ -35,7 +35,7 @@ fn change_in(
     new_edit: bool,
 ) -> Result<Change, DocError>
     requires { IfSome rev IsRevision }
-    ensures { Gives (or_fault DocError.BadRev (change_by new_edit rev run)) result }
+    ensures { ReadsAs (or_fault DocError.BadRev (change_by new_edit rev run)) result }
 {
     let Some(run) = run else {
         return change_of(alloc, rev, new_edit);
@@ -50,7 +50,7 @@ fn change_in(
 // The change that `_rev` asks for, without `_revisions`.
 fn change_of(alloc: Global, rev: Option<Rev>, new_edit: bool) -> Result<Change, DocError>
     requires { IfSome rev IsRevision }
-    ensures { Gives (or_fault DocError.BadRev (change_by new_edit rev None)) result }
+    ensures { ReadsAs (or_fault DocError.BadRev (change_by new_edit rev None)) result }
 {
     if new_edit {
         return Ok(Change::New(rev));
@@ -63,7 +63,7 @@ fn change_of(alloc: Global, rev: Option<Rev>, new_edit: bool) -> Result<Change, 
 
 // The revision that `_rev` gives, if it is there.
 fn rev_in(alloc: Global, member: Option<&Json>) -> Result<Option<Rev>, DocError>
-    ensures rev { Gives
+    ensures rev { ReadsAs
         (or_fault DocError.BadRev (rev_of (option_map (λ v. view v.now) member.entry))) result }
     ensures revision { IfOk result (λ o. IfSome o IsRevision) }
 {
@@ -77,14 +77,14 @@ fn rev_in(alloc: Global, member: Option<&Json>) -> Result<Option<Rev>, DocError>
 // The path that has this revision alone.
 fn path_of(alloc: Global, rev: Rev) -> Result<History, DocError>
     requires { IsRevision rev }
-    ensures { Gives (Ok (rev ∷ [])) result }
+    ensures { ReadsAs (Ok (rev ∷ [])) result }
 {
     History::new(rev.pos, vec![in alloc; rev.id]?).ok_or(DocError::BadRev)
 }
 
 // The path that `_revisions` gives, `{"start":N,"ids":[..]}`, if it is there.
 fn revisions_in(alloc: Global, member: Option<Json>) -> Result<Option<History>, DocError>
-    ensures { Gives (or_fault DocError.BadRev (revisions_of (option_map view member))) result }
+    ensures { ReadsAs (or_fault DocError.BadRev (revisions_of (option_map view member))) result }
 {
     let Some(member) = member else {
         return Ok(None);
@@ -97,7 +97,7 @@ fn revisions_in(alloc: Global, member: Option<Json>) -> Result<Option<History>, 
 
 // The path of the members `start` and `ids`.
 fn path_in(alloc: Global, mut members: BTreeMap<String, Json>) -> Result<History, DocError>
-    ensures { Gives (or_fault DocError.BadRev (run_at
+    ensures { ReadsAs (or_fault DocError.BadRev (run_at
         (get_member (codes "start") (members_view members.entries))
         (get_member (codes "ids") (members_view members.entries)))) result }
 {
@@ -121,7 +121,7 @@ pub(crate) fn position(member: Option<&Json>) -> Option<u32>
 
 // The path whose newest revision is at position `start`.
 fn path_at(alloc: Global, start: u32, member: Option<Json>) -> Result<History, DocError>
-    ensures { Gives
+    ensures { ReadsAs
         (or_fault DocError.BadRev (run_at (Some (whole (pos start))) (option_map view member)))
         result }
 {
@@ -136,7 +136,7 @@ fn path_at(alloc: Global, start: u32, member: Option<Json>) -> Result<History, D
 
 // The ids of a path, each a text.
 fn path_ids(alloc: Global, items: Vec<Json>) -> Result<Vec<String>, DocError>
-    ensures { Gives (or_fault DocError.BadRev (ids_of_path (items_view items.items)))
+    ensures { ReadsAs (or_fault DocError.BadRev (ids_of_path (items_view items.items)))
         (result_map_both (λ ids. map string_bytes ids.items) (λ e. e) result) }
 {
     let mut ids = Vec::with_capacity(alloc, items.len())?;

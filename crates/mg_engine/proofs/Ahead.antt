@@ -7,7 +7,7 @@ use Rattle.mg_engine.specs.Commands.{Asked, bulk, bulk_effect, next, reply_of, s
 use Rattle.mg_engine.specs.Ahead.{Determines, Makes}
 use Rattle.mg_engine.specs.Execution.{Answers}
 use Rattle.mg_engine.specs.Settled.{IsSettled, settled_of}
-use Rattle.mg_engine.specs.Stands.{StateStandsFor, Shown}
+use Rattle.mg_engine.specs.Stands.{StateStandsFor, StateView}
 use Rattle.mg_engine.specs.View.{said}
 use Rattle.mg_engine.specs.World.{World}
 use Rattle.mg_engine.specs.declared.bulk.read.ReadBulk.{ReadBulk}
@@ -41,17 +41,17 @@ if_some None y = tt
 if_some (Some x) y = y
 
 -- the reply and the state made from what was read are right for each command that it determines
-pub answers : {E : Type 0} (place : Placing) (s : Shown) (read : ReadBulk) (c : Asked) (made : Result (Reply × Option Shown) E) (w : World)
+pub answers : {E : Type 0} (place : Placing) (s : StateView) (read : ReadBulk) (c : Asked) (made : Result (Reply × Option StateView) E) (w : World)
     → IfOk made (λ r. (c : Asked) → Determines read c → (w : World) → StateStandsFor place s w → (said r.0 ≡ Some (reply_of w c)) × StateStandsFor place (unwrap_or r.1 s) (next w c))
     → Determines read c → StateStandsFor place s w → Answers w c (said (settled_of made).0) (StateStandsFor place (unwrap_or (settled_of made).1 s))
 answers place s read c (Ok r) w does d h = answered w c (said r.0) (λ u. StateStandsFor place (unwrap_or r.1 s) u) (does c d w h).0 (does c d w h).1
 answers place s read c (Err e) w does d h = h
 
-pub settles : {E : Type 0} (made : Result (Reply × Option Shown) E) → IfOk made (λ r. IsSettled r.0 r.1) → IsSettled (settled_of made).0 (settled_of made).1
+pub settles : {E : Type 0} (made : Result (Reply × Option StateView) E) → IfOk made (λ r. IsSettled r.0 r.1) → IsSettled (settled_of made).0 (settled_of made).1
 settles (Ok r) h = h
 settles (Err e) h = refl
 
-pub numbers : {E : Type 0} (s : Shown) (read : ReadBulk) (c : Asked) (made : Result (Reply × Option Shown) E) → IfOk made (λ r. length (unwrap_or r.1 s).shards ≡ length s.shards)
+pub numbers : {E : Type 0} (s : StateView) (read : ReadBulk) (c : Asked) (made : Result (Reply × Option StateView) E) → IfOk made (λ r. length (unwrap_or r.1 s).shards ≡ length s.shards)
     → Determines read c → IfSome (said (settled_of made).0) (λ _. length (unwrap_or (settled_of made).1 s).shards ≡ shards_after (length s.shards) c)
 numbers s read c (Ok r) h d = if_some (said r.0) (h ∙ sym (keeps_number read c d (length s.shards)))
 numbers s read c (Err e) h d = tt

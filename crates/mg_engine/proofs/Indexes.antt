@@ -5,7 +5,7 @@ use Rattle.std.proofs.lemmas.Option.{slice_get-map}
 use Rattle.std.specs.FinMap as finite
 use Rattle.mg_index.specs.Catalog.{definition_at, is_at, with_definition, without_definition}
 use Rattle.mg_index.specs.Definition.{IndexDefinition}
-use Rattle.mg_index.specs.Reading.{Gives}
+use Rattle.mg_index.specs.Reading.{ReadsAs}
 use Rattle.mg_index.specs.declared.error.IndexError.{IndexError}
 use Rattle.mg_index.specs.declared.error.IndexError.TheVariants.{Shape, Mixed, NoMemory}
 use Rattle.mg_shard.specs.Dealt.{Placing, ShardsStandFor, histories_on}
@@ -21,7 +21,7 @@ use Rattle.mg_engine.specs.declared.refusal.Refusal.{Refusal}
 use Rattle.mg_engine.specs.declared.refusal.Refusal.TheVariants.{WrongShape, MixedSort}
 use Rattle.mg_engine.specs.Settled.{shard_without, state_with, state_without}
 use Rattle.mg_scan.specs.Built.{with_index}
-use Rattle.mg_engine.specs.Stands.{HaveRows, StateStandsFor, Shown, definitions_of}
+use Rattle.mg_engine.specs.Stands.{HaveRows, StateStandsFor, StateView, definitions_of}
 use Rattle.mg_engine.specs.StateView.{empty_shard}
 
 -- the refusal in a fault, or this one for `NoMemory`
@@ -98,7 +98,7 @@ still_dealt place f ss hs same st =
           (changed_at f same (histories_on place (length ss) i hs) (slice_get ss i) x (sym (slice_get-map f ss i) ∙ at) (st.each i));
     }
 
-pub holds_with : (place : Placing) (d : IndexDefinition) (s : Shown) (w : World) → StateStandsFor place s w → StateStandsFor place (state_with d s) (record w { indexes = with_definition d w.indexes })
+pub holds_with : (place : Placing) (d : IndexDefinition) (s : StateView) (w : World) → StateStandsFor place s w → StateStandsFor place (state_with d s) (record w { indexes = with_definition d w.indexes })
 holds_with place d s w h = record {
   name = h.name;
   documents = still_dealt place (with_index d) s.shards w.docs (λ _. refl) h.documents;
@@ -108,7 +108,7 @@ holds_with place d s w h = record {
   objects = h.objects;
 }
 
-pub holds_without : (place : Placing) (ddoc name : List ℕ) (s : Shown) (w : World) → StateStandsFor place s w
+pub holds_without : (place : Placing) (ddoc name : List ℕ) (s : StateView) (w : World) → StateStandsFor place s w
     → StateStandsFor place (state_without ddoc name s) (record w { indexes = without_definition ddoc name w.indexes })
 holds_without place ddoc name s w h = record {
   name = h.name;
@@ -120,7 +120,7 @@ holds_without place ddoc name s w h = record {
 }
 
 -- a state stands also for the world with an equal list of indexes
-pub holds_same : (place : Placing) (ds : List IndexDefinition) (s : Shown) (w : World) → ds ≡ w.indexes → StateStandsFor place s w → StateStandsFor place s (record w { indexes = ds })
+pub holds_same : (place : Placing) (ds : List IndexDefinition) (s : StateView) (w : World) → ds ≡ w.indexes → StateStandsFor place s w → StateStandsFor place s (record w { indexes = ds })
 holds_same place ds s w e h = record {
   name = h.name;
   documents = h.documents;
@@ -143,7 +143,7 @@ none_dropped ddoc name (d ∷ ds) h = kept_if ddoc name d ds (none_dropped ddoc 
 
 -- ---- a definition that was not read
 
-pub not_read : (w : World) (e : IndexError) (r : Result IndexDefinition IndexError) (x : Refusal) → Gives (λ d. d) (Err e) r → fault_of (refusal_of_index e) ≡ Refused x
+pub not_read : (w : World) (e : IndexError) (r : Result IndexDefinition IndexError) (x : Refusal) → ReadsAs (λ d. d) (Err e) r → fault_of (refusal_of_index e) ≡ Refused x
     → (created w r ≡ refused x) × (world_defined w r ≡ w)
 not_read w Shape r x g is = (ap (created w) g ∙ ap refused (refusal_is x is), ap (world_defined w) g)
   where

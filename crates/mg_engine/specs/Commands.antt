@@ -138,16 +138,16 @@ answer_of_query w (Ok q) = shown_or_refused page_value (answer_of w.indexes q (c
 answer_of_query w (Err e) = refused (refusal_of_query e)
 
 -- the explanation of a query, or its refusal
-abbrev pub explained : World → Result Query QueryError → Answer
-explained w (Ok q) = shown_or_refused (λ v. v) (explanation_of w.name w.indexes q)
-explained w (Err e) = refused (refusal_of_query e)
+abbrev pub explain_answer : World → Result Query QueryError → Answer
+explain_answer w (Ok q) = shown_or_refused (λ v. v) (explanation_of w.name w.indexes q)
+explain_answer w (Err e) = refused (refusal_of_query e)
 
 -- ---- `GET` of a document
 
 -- a document of this history, with its conflicts where they are asked for
-abbrev pub with_asked : Bool → Paths → Value → Value
-with_asked true h v = with_conflicts_of h v
-with_asked false h v = v
+abbrev pub with_conflicts_if : Bool → Paths → Value → Value
+with_conflicts_if true h v = with_conflicts_of h v
+with_conflicts_if false h v = v
 
 -- the answer where there is a history: the served document, or `deleted` if none is served
 abbrev pub shown_or_deleted : Option Value → Answer
@@ -156,7 +156,7 @@ shown_or_deleted None = refused Deleted
 
 -- the served document; `deleted` where there is a history and none is served, `missing` where there is no history
 abbrev pub got : List ℕ → Bool → Option Paths → Answer
-got id conflicts (Some h) = shown_or_deleted (option_map (with_asked conflicts h) (served_of id h))
+got id conflicts (Some h) = shown_or_deleted (option_map (with_conflicts_if conflicts h) (served_of id h))
 got id conflicts None = refused Missing
 
 -- ---- `_placement`
@@ -180,7 +180,7 @@ reply_of w (create_index v) = created w (definition_of v)
 reply_of w (drop_index ddoc name) = dropped (is_some (definition_at (design_document ddoc) name w.indexes))
 reply_of w list_indexes = done (indexes_value w.indexes)
 reply_of w (find v) = answer_of_query w (query_of v)
-reply_of w (explain v) = explained w (query_of v)
+reply_of w (explain v) = explain_answer w (query_of v)
 reply_of w (get id conflicts) = got id conflicts (finite.get w.docs id)
 reply_of w (reshard v) = resharded (shards_asked v)
 

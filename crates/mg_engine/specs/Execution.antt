@@ -9,11 +9,11 @@ Answers w c None ends = ends w
 Answers w c (Some a) ends = (a ≡ reply_of w c) × ends (next w c)
 
 -- the commands that were answered, without those that were refused memory
-abbrev pub kept : List Asked → List (Option Answer) → List Asked
-kept [] rs = []
-kept (c ∷ cs) [] = c ∷ cs
-kept (c ∷ cs) (None ∷ rs) = kept cs rs
-kept (c ∷ cs) (Some a ∷ rs) = c ∷ kept cs rs
+abbrev pub answered_commands : List Asked → List (Option Answer) → List Asked
+answered_commands [] rs = []
+answered_commands (c ∷ cs) [] = c ∷ cs
+answered_commands (c ∷ cs) (None ∷ rs) = answered_commands cs rs
+answered_commands (c ∷ cs) (Some a ∷ rs) = c ∷ answered_commands cs rs
 
 -- the answers to the commands that were answered
 abbrev pub answers_of : List (Option Answer) → List Answer
@@ -24,5 +24,5 @@ answers_of (Some a ∷ rs) = a ∷ answers_of rs
 -- from w the commands get these replies. A command that was refused memory counts as not given; the others get the definition's answers
 pub record IsExecution (w : World) (cs : List Asked) (rs : List (Option Answer)) (ends : World → Type 0) : Type 0 where
   pub one_each : length rs ≡ length cs
-  pub replies : answers_of rs ≡ replies_of w (kept cs rs)
-  pub world : ends (world_after w (kept cs rs))
+  pub replies : answers_of rs ≡ replies_of w (answered_commands cs rs)
+  pub world : ends (world_after w (answered_commands cs rs))

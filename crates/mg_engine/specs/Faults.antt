@@ -10,10 +10,10 @@ use Rattle.mg_engine.specs.declared.refusal.Refusal.{Refusal}
 use Rattle.mg_engine.specs.declared.refusal.Refusal.TheVariants.{OutOfMemory}
 
 -- the call read what the definition reads, or refused as the definition does, or memory was refused
-abbrev pub Gives : {A B : Type 0} → (A → B) → Result A Fault → Result B Refusal → Type 0
-Gives seen (Ok a) r = r ≡ Ok (seen a)
-Gives seen (Err (Refused f)) r = r ≡ Err f
-Gives seen (Err NoMemory) r = Unit {0}
+abbrev pub ReadsAs : {A B : Type 0} → (A → B) → Result A Fault → Result B Refusal → Type 0
+ReadsAs seen (Ok a) r = r ≡ Ok (seen a)
+ReadsAs seen (Err (Refused f)) r = r ≡ Err f
+ReadsAs seen (Err NoMemory) r = Unit {0}
 
 -- the fault that stands for a refusal: `NoMemory` for `OutOfMemory`, otherwise the refusal itself
 abbrev pub fault_of : Refusal → Fault

@@ -6,7 +6,7 @@ use Rattle.mg_index.specs.Definition.{IndexDefinition}
 use Rattle.mg_shard.specs.Shard.{ShardView}
 use Rattle.mg_scan.specs.Built.{with_index}
 use Rattle.mg_engine.specs.Commands.{Answer}
-use Rattle.mg_engine.specs.Stands.{Shown}
+use Rattle.mg_engine.specs.Stands.{StateView}
 use Rattle.mg_engine.specs.View.{said}
 use Rattle.mg_engine.specs.declared.reply.Reply.{Reply}
 use Rattle.mg_engine.specs.declared.reply.Reply.TheVariants.{NoMemory}
@@ -28,11 +28,11 @@ abbrev pub shard_without : List ℕ → List ℕ → ShardView → ShardView
 shard_without ddoc name s = record s { definitions = without_definition ddoc name s.definitions }
 
 -- a state with an index on all its shards
-abbrev pub state_with : IndexDefinition → Shown → Shown
+abbrev pub state_with : IndexDefinition → StateView → StateView
 state_with d s = record s { catalog = with_definition d s.catalog; shards = map (with_index d) s.shards }
 
 -- a state without an index on any of its shards
-abbrev pub state_without : List ℕ → List ℕ → Shown → Shown
+abbrev pub state_without : List ℕ → List ℕ → StateView → StateView
 state_without ddoc name s = record s { catalog = without_definition ddoc name s.catalog; shards = map (shard_without ddoc name) s.shards }
 
 -- the reply that was made, or `NoMemory`

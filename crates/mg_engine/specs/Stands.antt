@@ -8,15 +8,15 @@ use Rattle.mg_engine.specs.Objects.{HaveObjects}
 use Rattle.mg_engine.specs.World.{World}
 
 -- what a state holds: the database's name, the catalog of its indexes, its shards, and the number last given to a document without an id
-pub record Shown : Type 0 where
+pub record StateView : Type 0 where
   pub name : List ℕ
   pub catalog : List IndexDefinition
   pub shards : List ShardView
   pub counter : ℕ
 
 -- how the logic stores it
-abbrev pub shown_code : Coded Shown
-shown_code =
+abbrev pub state_view_code : Coded StateView
+state_view_code =
     code_by (List ℕ × (List IndexDefinition × (List ShardView × ℕ)))
     (coded× (coded_list coded_ℕ) (coded× (coded_list definition_code) (coded× (coded_list shard_code) coded_ℕ)))
     (λ s. (s.name, (s.catalog, (s.shards, s.counter)))) (λ p. record { name = p.0; catalog = p.1.0; shards = p.1.1.0; counter = p.1.1.1 }) (λ _. refl)
@@ -32,7 +32,7 @@ HaveRows ds shards = All (λ given. given ≡ ds) (definitions_of shards)
 -- a state whose documents are placed by `place` stands for a world if its shards stand for the histories, its catalog is the list of
 -- indexes, each shard has the rows of exactly these indexes, and the names and the counters are the same. The documents of such a world
 -- have objects as bodies: commands bring no others
-pub record StateStandsFor (place : Placing) (s : Shown) (w : World) : Type 0 where
+pub record StateStandsFor (place : Placing) (s : StateView) (w : World) : Type 0 where
   pub name : s.name ≡ w.name
   pub documents : ShardsStandFor place s.shards w.docs
   pub indexes : s.catalog ≡ w.indexes
@@ -41,9 +41,9 @@ pub record StateStandsFor (place : Placing) (s : Shown) (w : World) : Type 0 whe
   pub objects : HaveObjects w.docs
 
 -- an engine, whose documents are placed by `place`, stands for the world of its state
-abbrev pub Stands : {P : Type 0} → (P → List ℕ → ℕ → ℕ) → P × Shown → World → Type 0
+abbrev pub Stands : {P : Type 0} → (P → List ℕ → ℕ → ℕ) → P × StateView → World → Type 0
 Stands place e w = StateStandsFor (place e.0) e.1 w
 
 -- how many shards an engine has
-abbrev pub shard_count : {P : Type 0} → P × Shown → ℕ
+abbrev pub shard_count : {P : Type 0} → P × StateView → ℕ
 shard_count e = length e.1.shards

@@ -6,11 +6,11 @@ use Rattle.mg_shard.specs.Documents.{StandFor}
 use Rattle.mg_shard.specs.Draft.{DraftStandsFor, DraftView}
 use Rattle.mg_shard.specs.Histories.{Histories}
 use Rattle.mg_shard.specs.Shard.{ShardView, shards_seen}
-use Rattle.mg_engine.specs.Stands.{HaveRows, Shown}
+use Rattle.mg_engine.specs.Stands.{HaveRows, StateView}
 use Rattle.mg_engine.specs.declared.state.State.TheInside.{Inside}
 
 -- the name, the catalog, the shards and the number that a state holds
-abbrev pub state_shown : Inside → Shown
+abbrev pub state_shown : Inside → StateView
 state_shown s = record { name = string_bytes (arc_value s.name); catalog = arc_value s.catalog; shards = shards_seen s.shards.items; counter = s.counter }
 
 -- there is a shard, and each has the rows of exactly the catalog's indexes

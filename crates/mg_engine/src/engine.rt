@@ -32,11 +32,11 @@ pub struct Engine<P> {
 impl<P> Model for Engine<P> {
     ghost use Rattle.std.specs.Arc.{arc_value};
     ghost use Rattle.std.specs.Coded.{coded×};
-    ghost use Rattle.mg_engine.specs.Stands.{Shown, shown_code};
+    ghost use Rattle.mg_engine.specs.Stands.{StateView, state_view_code};
 
-    ghost Value = { P × Shown };
+    ghost Value = { P × StateView };
 
-    ghost coded = { coded× P.code shown_code };
+    ghost coded = { coded× P.code state_view_code };
 
     ghost view = { λ e. (arc_value e.placement, e.state) };
 }

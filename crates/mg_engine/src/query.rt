@@ -6,7 +6,7 @@ ghost use Rattle.mg_query.specs.Page.{candidates_of};
 ghost use Rattle.mg_query.specs.Query.{query_of};
 ghost use Rattle.mg_query.specs.Seen.{query_seen};
 ghost use Rattle.mg_query.specs.Served.{HaveIdsAndRevs};
-ghost use Rattle.mg_engine.specs.Commands.{Answer, explain as explain_command, explained as explained_of, find, answer_of_query, reply_of};
+ghost use Rattle.mg_engine.specs.Commands.{Answer, explain as explain_command, explain_answer as explained_of, find, answer_of_query, reply_of};
 ghost use Rattle.mg_engine.specs.Stands.{StateStandsFor};
 ghost use Rattle.mg_shard.specs.Shard.{HaveIndexes, shards_seen};
 ghost use Rattle.mg_engine.specs.Answering.{MakesAnswer};

@@ -25,11 +25,11 @@ pub(crate) struct State {
 }
 
 impl Model for State {
-    ghost use Rattle.mg_engine.specs.Stands.{Shown, shown_code};
+    ghost use Rattle.mg_engine.specs.Stands.{StateView, state_view_code};
 
-    ghost Value = { Shown };
+    ghost Value = { StateView };
 
-    ghost coded = { shown_code };
+    ghost coded = { state_view_code };
 
     ghost use Rattle.mg_engine.specs.StateView.{IsIndexed, state_shown};
 

@@ -2,10 +2,10 @@
 use Rattle.std.specs.Prelude.{ℕ, List, Option}
 use Rattle.mg_engine.specs.Commands.{Asked, Answer}
 use Rattle.mg_engine.specs.Execution.{Answers}
-use Rattle.mg_engine.specs.Stands.{Shown, Stands}
+use Rattle.mg_engine.specs.Stands.{StateView, Stands}
 use Rattle.mg_engine.specs.World.{World}
 
 -- at each world that the old engine stands for, this is a right answer to the command, and the new engine stands for the world after it
 abbrev pub EngineAnswers
-    : {P : Type 0} → (P → List ℕ → ℕ → ℕ) → P × Shown → Asked → Option Answer → P × Shown → Type 0
+    : {P : Type 0} → (P → List ℕ → ℕ → ℕ) → P × StateView → Asked → Option Answer → P × StateView → Type 0
 EngineAnswers place old command answer new = (w : World) → Stands place old w → Answers w command answer (Stands place new)

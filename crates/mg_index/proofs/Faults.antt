@@ -9,7 +9,7 @@ use Rattle.mg_collate.specs.declared.direction.Direction.{Direction}
 use Rattle.mg_index.specs.Definition.{Steps}
 use Rattle.mg_index.specs.Fault.{is_column, is_directed, fault_of_directions}
 use Rattle.mg_selector.specs.Fault.{◌>>=◌, or_fault}
-use Rattle.mg_index.specs.Reading.{each_of, field_path, field_direction, is_same, one_direction, Columns, columns_of, Gives}
+use Rattle.mg_index.specs.Reading.{each_of, field_path, field_direction, is_same, one_direction, Columns, columns_of, ReadsAs}
 use Rattle.mg_index.specs.declared.error.IndexError.{IndexError}
 use Rattle.mg_index.specs.declared.error.IndexError.TheVariants.{Shape, Mixed, NoMemory}
 
@@ -118,7 +118,7 @@ directions_fault v vs d there is =
     ∙ ap (λ b. cond b None (Some Mixed)) (all_same d vs)
 
 -- a fault of what was read, or a refusal, is what a reading may return
-pub fault_or_no_memory : {A B : Type 0} (seen : A → B) (r : Result B IndexError) → Gives seen (Err (unwrap_or (result_err r) NoMemory)) r
+pub fault_or_no_memory : {A B : Type 0} (seen : A → B) (r : Result B IndexError) → ReadsAs seen (Err (unwrap_or (result_err r) NoMemory)) r
 fault_or_no_memory seen (Ok x) = tt
 fault_or_no_memory seen (Err Shape) = refl
 fault_or_no_memory seen (Err Mixed) = refl

@@ -138,8 +138,8 @@ fault_of_path path_fault.Empty = Shape
 fault_of_path path_fault.NoMemory = NoMemory
 
 -- a call returned what the definition gives, unless an allocation failed
-abbrev pub Gives : {X Y : Type 0} → (X → Y) → Result X IndexError → Result Y IndexError → Type 0
-Gives seen (Ok x) r = r ≡ Ok (seen x)
-Gives seen (Err NoMemory) r = Unit {0}
-Gives seen (Err Shape) r = r ≡ Err Shape
-Gives seen (Err Mixed) r = r ≡ Err Mixed
+abbrev pub ReadsAs : {X Y : Type 0} → (X → Y) → Result X IndexError → Result Y IndexError → Type 0
+ReadsAs seen (Ok x) r = r ≡ Ok (seen x)
+ReadsAs seen (Err NoMemory) r = Unit {0}
+ReadsAs seen (Err Shape) r = r ≡ Err Shape
+ReadsAs seen (Err Mixed) r = r ≡ Err Mixed

@@ -4,7 +4,7 @@ ghost use Rattle.mg_value.specs.View.{view, items_view};
 ghost use Rattle.mg_value.specs.Value.{list};
 ghost use Rattle.mg_path.specs.Part.{steps_of};
 ghost use Rattle.mg_selector.specs.Fault.{or_fault};
-ghost use Rattle.mg_index.specs.Reading.{Gives, each_of, field_path as path_text, field_direction as direction_given, one_direction as shared_direction, columns_of, columns_read};
+ghost use Rattle.mg_index.specs.Reading.{ReadsAs, each_of, field_path as path_text, field_direction as direction_given, one_direction as shared_direction, columns_of, columns_read};
 ghost use Rattle.mg_index.specs.View.{columns_seen};
 
 use crate::error::IndexError;
@@ -24,13 +24,13 @@ pub(crate) struct Columns {
 
 // The columns of `fields`, an array that is not empty.
 pub(crate) fn read_columns(alloc: Global, fields: &[Json]) -> Result<Columns, IndexError>
-    ensures { Gives columns_seen result (columns_read (Some (list (items_view fields.now)))) }
+    ensures { ReadsAs columns_seen result (columns_read (Some (list (items_view fields.now)))) }
 {
     columns_in(alloc, fields)
 }
 
 fn columns_in(alloc: Global, fields: &[Json]) -> Result<Columns, IndexError>
-    ensures { Gives columns_seen result (columns_of (map view fields.now)) }
+    ensures { ReadsAs columns_seen result (columns_of (map view fields.now)) }
 {
     let texts = read_texts(alloc, fields)?;
     let paths = read_paths(alloc, &texts)?;
@@ -44,7 +44,7 @@ fn columns_in(alloc: Global, fields: &[Json]) -> Result<Columns, IndexError>
 }
 
 fn read_texts(alloc: Global, fields: &[Json]) -> Result<Vec<String>, IndexError>
-    ensures { Gives (λ v. map string_bytes v.items) result
+    ensures { ReadsAs (λ v. map string_bytes v.items) result
         (or_fault IndexError.Shape (each_of path_text (map view fields.now))) }
 {
     let mut texts = Vec::with_capacity(alloc, fields.len())?;
@@ -58,7 +58,7 @@ fn read_texts(alloc: Global, fields: &[Json]) -> Result<Vec<String>, IndexError>
 }
 
 fn read_paths(alloc: Global, texts: &[String]) -> Result<Vec<Path>, IndexError>
-    ensures { Gives (λ v. v.items) result
+    ensures { ReadsAs (λ v. v.items) result
         (or_fault IndexError.Shape (each_of steps_of (map string_bytes texts.now))) }
 {
     let mut paths = Vec::with_capacity(alloc, texts.len())?;
@@ -70,7 +70,7 @@ fn read_paths(alloc: Global, texts: &[String]) -> Result<Vec<Path>, IndexError>
 }
 
 fn read_directions(alloc: Global, fields: &[Json]) -> Result<Vec<Direction>, IndexError>
-    ensures { Gives (λ v. v.items) result
+    ensures { ReadsAs (λ v. v.items) result
         (or_fault IndexError.Shape (each_of direction_given (map view fields.now))) }
 {
     let mut directions = Vec::with_capacity(alloc, fields.len())?;
@@ -85,7 +85,7 @@ fn read_directions(alloc: Global, fields: &[Json]) -> Result<Vec<Direction>, Ind
 
 // The direction that all columns have. `Shape` without columns, `Mixed` if the directions differ.
 fn one_direction(directions: &[Direction]) -> Result<Direction, IndexError>
-    ensures { Gives (λ d. d) result (shared_direction directions.now) }
+    ensures { ReadsAs (λ d. d) result (shared_direction directions.now) }
 {
     let Some((first, others)) = directions.split_first() else {
         return Err(IndexError::Shape);

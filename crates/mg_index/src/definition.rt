@@ -5,7 +5,7 @@ ghost use Rattle.mg_path.specs.Equal.{path_eq};
 ghost use Rattle.mg_index.specs.Catalog.{is_at as is_the_one, definition_order};
 ghost use Rattle.mg_index.specs.Definition.{listed_of};
 ghost use Rattle.mg_index.specs.Same.{is_same_definition};
-ghost use Rattle.mg_index.specs.Reading.{Gives, definition_of};
+ghost use Rattle.mg_index.specs.Reading.{ReadsAs, definition_of};
 
 use crate::error::IndexError;
 use crate::fault::fault_of;
@@ -61,7 +61,7 @@ impl IndexDef {
     /// directions; `NoMemory` if an allocation fails and the body has no fault. Cost: the size of the body.
     /// Source: `_index` of CouchDB's API reference.
     pub fn read(alloc: Global, body: &Json) -> Result<IndexDef, IndexError>
-        ensures reading { Gives (λ d. d) result (definition_of (json_view body.now)) }
+        ensures reading { ReadsAs (λ d. d) result (definition_of (json_view body.now)) }
         ensures refused { (e : IndexError) → definition_of (json_view body.now) ≡ Err e → result ≡ Err e }
     {
         match reader::read_definition(alloc, body) {

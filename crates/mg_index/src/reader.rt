@@ -3,7 +3,7 @@ ghost use Rattle.std.specs.Prelude.{◌≡◌, IfOk, Some, is_err, is_none, opti
 ghost use Rattle.mg_value.specs.Value.{object};
 ghost use Rattle.mg_value.specs.View.{view, members_view};
 ghost use Rattle.mg_selector.specs.Fault.{or_fault};
-ghost use Rattle.mg_index.specs.Reading.{Gives, definition_of, columns_read, is_plain as asks_plainly, is_json_type as names_json, is_no_filter as keeps_all, is_not_partitioned as has_one_part, member_of_index as member_in_index, definition_named as named_by, text_given as given_text};
+ghost use Rattle.mg_index.specs.Reading.{ReadsAs, definition_of, columns_read, is_plain as asks_plainly, is_json_type as names_json, is_no_filter as keeps_all, is_not_partitioned as has_one_part, member_of_index as member_in_index, definition_named as named_by, text_given as given_text};
 ghost use Rattle.mg_index.specs.View.{columns_seen};
 
 use crate::column::{Columns, read_columns};
@@ -16,7 +16,7 @@ use std::collections::BTreeMap;
 
 // The definition that a body gives.
 pub(crate) fn read_definition(alloc: Global, body: &Json) -> Result<IndexDef, IndexError>
-    ensures { Gives (λ d. d) result (definition_of (view body.now)) }
+    ensures { ReadsAs (λ d. d) result (definition_of (view body.now)) }
 {
     if !is_plain(body) {
         return Err(IndexError::Shape);
@@ -29,7 +29,7 @@ pub(crate) fn read_definition(alloc: Global, body: &Json) -> Result<IndexDef, In
 
 // The columns of `fields`.
 fn read_fields(alloc: Global, fields: Option<&Json>) -> Result<Columns, IndexError>
-    ensures { Gives columns_seen result (columns_read (option_map (λ j. view j.now) fields.entry)) }
+    ensures { ReadsAs columns_seen result (columns_read (option_map (λ j. view j.now) fields.entry)) }
 {
     match fields {
         Some(Json::List(fields)) => read_columns(alloc, fields),
@@ -39,7 +39,7 @@ fn read_fields(alloc: Global, fields: Option<&Json>) -> Result<Columns, IndexErr
 
 // A text that is not empty, if it is there.
 pub(crate) fn text_given(value: Option<&Json>) -> Result<Option<&str>, IndexError>
-    ensures text { Gives (option_map (λ t. t.now)) result
+    ensures text { ReadsAs (option_map (λ t. t.now)) result
         (or_fault IndexError.Shape (given_text (option_map (λ j. view j.now) value.entry))) }
     ensures fault { is_err result ≡ is_none (given_text (option_map (λ j. view j.now) value.entry)) }
 {

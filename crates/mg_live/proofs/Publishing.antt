@@ -15,7 +15,7 @@ use Rattle.mg_machine.specs.Machine.{Commit, after_write, are_full, write_reply}
 use Rattle.mg_machine.specs.Points.{IsAfter, IsDealt}
 use Rattle.mg_live.specs.Published.{Nexts, Publishes, Standing}
 use Rattle.mg_live.specs.Snapshots.{StandsAfter, IsOf, commits_of}
-use Rattle.mg_live.specs.Sitting.{IsLater, Learned, Sitting, SeatWrites}
+use Rattle.mg_live.specs.SeatView.{IsLater, Learned, SeatView, SeatWrites}
 use Rattle.mg_live.specs.Rules.{log_entry}
 use Rattle.mg_live.specs.View.{commit_seen, commits_seen}
 use Rattle.mg_live.specs.declared.markers.Entry.{Entry}
@@ -115,17 +115,17 @@ published name write old new (Some a) later h seen tally =
     record { later = later; answer = h.0; published = rw yes h.2; seen = seen; tally = rw h.1 tally }
 
 -- what a seat sees of a write
-pub wrote : (name : List ℕ) (old : Sitting) (cs : List Commit) (c : Asked) (o : Option Answer) (new : Standing) → Publishes name (old.number, c) (record { published = cs; seen = old.seen; tally = old.tally }) o new
+pub wrote : (name : List ℕ) (old : SeatView) (cs : List Commit) (c : Asked) (o : Option Answer) (new : Standing) → Publishes name (old.number, c) (record { published = cs; seen = old.seen; tally = old.tally }) o new
     → SeatWrites name old c o (record { number = old.number; seen = new.seen; tally = new.tally })
 wrote name old cs c None new p = ap (λ (s : Standing). record { number = old.number; seen = s.seen; tally = s.tally }) p
 wrote name old cs c (Some a) new p = record { commits = cs; later = p.later; answer = p.answer; seen = p.seen ∙ p.published; tally = p.tally; number = refl }
 
 -- a seat that has seen nothing more
-pub later_same : (s : Sitting) → IsLater s s
+pub later_same : (s : SeatView) → IsLater s s
 later_same s = record { number = refl; seen = itself s.seen; tally = refl }
 
 -- ---- learning
 
 -- a seat that learns a list, of which it has seen a prefix, has then seen that list
-pub learned : (old : Sitting) (heard : List Commit) → IsPrefix old.seen heard → Learned old heard (record old { seen = heard })
+pub learned : (old : SeatView) (heard : List Commit) → IsPrefix old.seen heard → Learned old heard (record old { seen = heard })
 learned old heard p = record { longer = longer_second old.seen heard p; own = p; other = itself heard; number = refl; tally = refl }

@@ -1,6 +1,6 @@
 pub mod View
 pub mod Snapshots
 pub mod Code
-pub mod Sitting
+pub mod SeatView
 pub mod Rules
 pub mod Published

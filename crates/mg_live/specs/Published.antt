@@ -5,7 +5,7 @@ use Rattle.mg_engine.specs.Settled.{is_accepted}
 use Rattle.mg_machine.specs.Laws.{IsPrefix}
 use Rattle.mg_machine.specs.Machine.{Commit, after_write, write_reply}
 use Rattle.mg_live.specs.View.{commits_seen}
-use Rattle.mg_live.specs.Sitting.{tally_after}
+use Rattle.mg_live.specs.SeatView.{tally_after}
 use Rattle.mg_live.specs.declared.commit_log.Prefix.{Prefix}
 
 -- the reply to a write after commits, and the commits after it if it is accepted

@@ -2,7 +2,7 @@
 use Rattle.std.specs.Prelude.{◌≡◌, ℕ, List, length}
 use Rattle.std.specs.Arc.{arc_value}
 use Rattle.logbook.specs.Pages.{Book}
-use Rattle.mg_engine.specs.Stands.{Shown, Stands}
+use Rattle.mg_engine.specs.Stands.{StateView, Stands}
 use Rattle.mg_machine.specs.Machine.{Commit, shards_of, world_of}
 use Rattle.mg_machine.specs.Points.{IsAfter, IsDealt}
 use Rattle.mg_live.specs.View.{commits_seen}
@@ -13,7 +13,7 @@ abbrev pub commits_of : {P : Type 0} → Snapshot P → List Commit
 commits_of s = commits_seen s.prefix.seen.log
 
 -- what a snapshot's engine holds
-abbrev pub state_of : {P : Type 0} → Snapshot P → Shown
+abbrev pub state_of : {P : Type 0} → Snapshot P → StateView
 state_of s = (arc_value s.point.engine).1
 
 -- a snapshot of the database with this commit log and name, whose documents are placed by `place` and which was opened with `opened`

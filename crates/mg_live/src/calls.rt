@@ -3,7 +3,7 @@ ghost use Rattle.std.specs.Prelude.{◌≤◌};
 ghost use Rattle.mg_value.specs.View.{view};
 ghost use Rattle.mg_engine.specs.Commands.{bulk, create_index, drop_index, explain, find, get, list_indexes, reshard};
 ghost use Rattle.mg_engine.specs.View.{said};
-ghost use Rattle.mg_live.specs.Sitting.{Answered};
+ghost use Rattle.mg_live.specs.SeatView.{Answered};
 
 use crate::database::{Database, Ends};
 use crate::seat::Seat;

@@ -2,7 +2,7 @@
 ghost use Rattle.std.specs.Prelude.{◌≡◌, ◌≢◌, ◌≤◌, ◌+◌, [], List, All, IfErr, IfOk, MatchBool, OnOk, length, vec_len};
 ghost use Rattle.mg_machine.specs.Laws.{IsPrefix};
 ghost use Rattle.mg_machine.specs.Machine.{Commit};
-ghost use Rattle.mg_live.specs.Sitting.{AreAll, IsAhead, all_tallies, new_seats};
+ghost use Rattle.mg_live.specs.SeatView.{AreAll, IsAhead, all_tallies, new_seats};
 ghost use Rattle.mg_live.specs.View.{commits_seen};
 ghost use Rattle.mg_live.specs.declared.live.CloseError.TheVariants.{Ahead, Missing};
 

@@ -4,7 +4,7 @@ ghost use Rattle.mg_engine.specs.Commands.{is_write};
 ghost use Rattle.mg_engine.specs.View.{asked, said};
 ghost use Rattle.mg_live.specs.Snapshots.{StandsAfter, IsPublished};
 ghost use Rattle.mg_live.specs.Rules.{log_word_of};
-ghost use Rattle.mg_live.specs.Sitting.{Answered, IsLater, SeatReads, Learned, SeatWrites};
+ghost use Rattle.mg_live.specs.SeatView.{Answered, IsLater, SeatReads, Learned, SeatWrites};
 
 use crate::commit_log::{LogWord, Prefix, Write};
 use crate::database::{Database, Ends};
@@ -59,11 +59,11 @@ where
     Snapshot<P>: Absorb<(), State = ()>,
 {
     ghost use Rattle.std.specs.Prelude.{◌≡◌};
-    ghost use Rattle.mg_live.specs.Sitting.{Sitting, sitting_code};
+    ghost use Rattle.mg_live.specs.SeatView.{SeatView, seat_view_code};
 
-    ghost Value = { Sitting };
+    ghost Value = { SeatView };
 
-    ghost coded = { sitting_code };
+    ghost coded = { seat_view_code };
 
     ghost use Rattle.mg_live.specs.View.{commits_seen};
 

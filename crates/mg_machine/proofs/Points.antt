@@ -8,7 +8,7 @@ use Rattle.mg_engine.specs.World.{World}
 use Rattle.mg_engine.specs.Commands.{Asked, Answer, reply_of, shards_after, shards_after_all}
 use Rattle.mg_engine.specs.Execution.{Answers}
 use Rattle.mg_engine.specs.Settled.{IsSettled}
-use Rattle.mg_engine.specs.Stands.{Shown, Stands, shard_count}
+use Rattle.mg_engine.specs.Stands.{StateView, Stands, shard_count}
 use Rattle.mg_engine.specs.View.{said}
 use Rattle.mg_engine.specs.declared.reply.Reply.{Reply}
 use Rattle.mg_shard.specs.declared.placement.Md5Placement.{Md5Placement}
@@ -54,7 +54,7 @@ module _ {P : Type 0} {place : P → List ℕ → ℕ → ℕ} where
       (ap Some reply, rw yes more)
 
   -- a write that is accepted: `r` is the engine's reply `given`, which is complete, and the point `q` has the engine `e` after it
-  pub one_more : (name : List ℕ) (p q : Point P) (cs : List Commit) (seat : ℕ) (c : Asked) (r given : Reply) (next : Option (P × Shown)) (now e : P × Shown)
+  pub one_more : (name : List ℕ) (p q : Point P) (cs : List Commit) (seat : ℕ) (c : Asked) (r given : Reply) (next : Option (P × StateView)) (now e : P × StateView)
       → p.commits < 18446744073709551615 → IsAfter place name p cs → (r ≡ given) × (is_some (said r) ≡ true) → now ≡ arc_value p.engine → next ≡ Some e → arc_value q.engine ≡ e → q.commits ≡ p.commits + 1
       → ((w : World) → Stands place now w → Answers w c (said given) (Stands place (unwrap_or next now))) → IsSettled given next → Written place name cs seat c (said r) q
   one_more name p q cs seat c r given next now e room at whole before left kept count did settled =
@@ -73,7 +73,7 @@ module _ {P : Type 0} {place : P → List ℕ → ℕ → ℕ} where
       (ap Some reply, rw no again)
 
   -- a write that is refused: `r` is the engine's reply `given`, which is complete, and the point `q` has the same engine
-  pub no_more : (name : List ℕ) (p q : Point P) (cs : List Commit) (seat : ℕ) (c : Asked) (r given : Reply) (next : Option (P × Shown)) (now : P × Shown)
+  pub no_more : (name : List ℕ) (p q : Point P) (cs : List Commit) (seat : ℕ) (c : Asked) (r given : Reply) (next : Option (P × StateView)) (now : P × StateView)
       → p.commits < 18446744073709551615 → IsAfter place name p cs → (r ≡ given) × (is_some (said r) ≡ true) → now ≡ arc_value p.engine → next ≡ None → arc_value q.engine ≡ arc_value p.engine → q.commits ≡ p.commits
       → ((w : World) → Stands place now w → Answers w c (said given) (Stands place (unwrap_or next now))) → IsSettled given next → Written place name cs seat c (said r) q
   no_more name p q cs seat c r given next now room at whole before left same count did settled =
@@ -94,7 +94,7 @@ shards_of-one : (n : ℕ) (cs : List Commit) (p : Commit) → shards_of n (cs ++
 shards_of-one n cs p = ap (shards_after_all n) (map-append (λ c. c.1) cs (p ∷ [])) ∙ shards_after_all-one n (commands_of cs) p.1
 
 -- a write that is accepted, as in `one_more`
-pub dealt_more : {P : Type 0} (name : List ℕ) (n : ℕ) (p : Point P) (q : P × Shown) (cs : List Commit) (seat : ℕ) (c : Asked) (r given : Reply) (next : Option (P × Shown)) (now e : P × Shown)
+pub dealt_more : {P : Type 0} (name : List ℕ) (n : ℕ) (p : Point P) (q : P × StateView) (cs : List Commit) (seat : ℕ) (c : Asked) (r given : Reply) (next : Option (P × StateView)) (now e : P × StateView)
     → said r ≡ Some (write_reply name cs c) → r ≡ given → now ≡ arc_value p.engine → next ≡ Some e → q ≡ e
     → IfSome (said given) (λ _. shard_count (unwrap_or next now) ≡ shards_after (shard_count now) c) → IsSettled given next → IsDealt n p cs → shard_count q ≡ shards_of n (after_write name cs seat c)
 dealt_more name n p q cs seat c r given next now e is made before kept left deals settled at =
@@ -106,7 +106,7 @@ dealt_more name n p q cs seat c r given next now e is made before kept left deal
     rw (yes, one, left) (count ∙ ap (λ k. shards_after k c) (rw before at))
 
 -- a write that is refused
-pub dealt_same : {P : Type 0} (name : List ℕ) (n : ℕ) (p : Point P) (q : P × Shown) (cs : List Commit) (seat : ℕ) (c : Asked) (r given : Reply) (next : Option (P × Shown))
+pub dealt_same : {P : Type 0} (name : List ℕ) (n : ℕ) (p : Point P) (q : P × StateView) (cs : List Commit) (seat : ℕ) (c : Asked) (r given : Reply) (next : Option (P × StateView))
     → said r ≡ Some (write_reply name cs c) → r ≡ given → next ≡ None → q ≡ arc_value p.engine → IsSettled given next → IsDealt n p cs → shard_count q ≡ shards_of n (after_write name cs seat c)
 dealt_same name n p q cs seat c r given next is made left same settled at =
     let told : said given ≡ Some (write_reply name cs c) = rw made at is in

@@ -7,7 +7,7 @@ use Rattle.mg_collate.specs.Row.{RowValue, directed_order}
 use Rattle.mg_collate.specs.Sorted.{IsInOrder, sorted, sorted_with}
 use Rattle.mg_collate.proofs.Directed.{directed_total}
 use Rattle.mg_merge.specs.Merged.{joined, order_by}
-use Rattle.mg_merge.specs.Pulled.{AreFrom, IsAhead, IsGivenBy, remaining, all_remaining, firsts_of}
+use Rattle.mg_merge.specs.Pulled.{AreFrom, IsUnderWay, IsGivenBy, remaining, all_remaining, firsts_of}
 use Rattle.mg_merge.specs.Rests.{BeginsFirst, begin_order}
 use Rattle.mg_merge.specs.Winners.{IsWinnerTree, IsWinnerTreeBut}
 use Rattle.mg_merge.proofs.Heads.{first_taken, none_left, order_kept}
@@ -175,9 +175,9 @@ source_first row rest direction heads sources p x pulled s new h order low begin
 pub source_ahead : {T S : Type 0} (row : T → RowValue) (rest : S → List RowValue) (direction : Direction) (heads : List (Option T)) (sources : List S) (winners : List ℕ) (p : ℕ) (x : T) (pulled : Option T) (s new : S)
     → length heads ≡ length (map rest sources) → All (IsInOrder direction) (all_remaining (map (option_map row) heads) (map rest sources)) → p < length heads
     → get_or heads p None ≡ Some x → p < length sources → s ≡ get_or sources p s → rest s ≡ remaining (option_map row pulled) (rest new) → IsWinnerTree (order_by row direction) (firsts_of (set heads p pulled)) winners
-    → IsAhead row direction (set heads p pulled) (map rest (set sources p new)) winners
+    → IsUnderWay row direction (set heads p pulled) (map rest (set sources p new)) winners
 source_ahead row rest direction heads sources winners p x pulled s new h order low e l at was tree =
-    subst (λ rs. IsAhead row direction (set heads p pulled) rs winners) (sym (map-set rest sources p new)) (record {
+    subst (λ rs. IsUnderWay row direction (set heads p pulled) rs winners) (sym (map-set rest sources p new)) (record {
       size = length-set heads p pulled ∙ h ∙ sym (length-set (map rest sources) p (rest new));
       order = pulled_order row direction heads (map rest sources) p x pulled (rest new) h order low e (source_at rest sources p s (remaining (option_map row pulled) (rest new)) l at was);
       tree = tree;

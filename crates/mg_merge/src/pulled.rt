@@ -3,7 +3,7 @@ ghost use Rattle.std.specs.Prelude.{◌≡◌, ◌≤◌, ◌+◌, ◌∷◌, �
 ghost use Rattle.mg_collate.specs.Row.{directed_order};
 ghost use Rattle.mg_collate.specs.Sorted.{IsInOrder, sorted};
 ghost use Rattle.mg_merge.specs.Merged.{joined, merged};
-ghost use Rattle.mg_merge.specs.Pulled.{AreFrom, IsAhead, IsGivenBy, all_remaining, firsts_of};
+ghost use Rattle.mg_merge.specs.Pulled.{AreFrom, IsUnderWay, IsGivenBy, all_remaining, firsts_of};
 
 use crate::ranked::Ranked;
 use crate::source::RowSource;
@@ -70,7 +70,7 @@ fn merge_ahead<T: Ranked + Copy, S: RowSource<T>>(
     direction: Direction,
     take: usize,
 ) -> Result<Vec<T>, NoMemory>
-    requires { IsAhead T.row_of direction heads.old.items (map S.rest sources.old)
+    requires { IsUnderWay T.row_of direction heads.old.items (map S.rest sources.old)
         winners.old.places.items }
     ensures within { IfOk result (λ items. length items.items ≤ take) }
     ensures size { OnOk result (length heads.new.items ≡ length heads.old.items) }
@@ -104,9 +104,9 @@ fn pull_first<T: Ranked + Copy, S: RowSource<T>>(
     winners: &mut Winners,
     direction: Direction,
 ) -> Option<T>
-    requires { IsAhead T.row_of direction heads.old.items (map S.rest sources.old)
+    requires { IsUnderWay T.row_of direction heads.old.items (map S.rest sources.old)
         winners.old.places.items }
-    ensures ahead { IsAhead T.row_of direction heads.new.items (map S.rest sources.new)
+    ensures under_way { IsUnderWay T.row_of direction heads.new.items (map S.rest sources.new)
         winners.new.places.items }
     ensures first { IfSome result (λ item. sorted (directed_order direction)
         (joined (all_remaining (map (option_map T.row_of) heads.old.items) (map S.rest sources.old)))

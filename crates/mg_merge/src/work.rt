@@ -12,11 +12,11 @@ pub struct Work {
 }
 
 impl Model for Work {
-    ghost use Rattle.mg_merge.specs.Work.{Hand, hand_code};
+    ghost use Rattle.mg_merge.specs.Work.{WorkView, work_view_code};
 
-    ghost Value = { Hand };
+    ghost Value = { WorkView };
 
-    ghost coded = { hand_code };
+    ghost coded = { work_view_code };
 
     ghost view = { λ w. record { handed = w.handed.items; taken = w.taken } };
 }

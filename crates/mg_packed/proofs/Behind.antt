@@ -10,7 +10,7 @@ use Rattle.mg_packed.proofs.Laws.{value_is}
 -- the block b of w, and behind it the text of w
 module _ (b text all : List ℕ) (w : Value) (block : IsBlock b) (is : value_in b ≡ w) (of : text ≡ compact w) (together : all ≡ b ++ text) where
   held : Holds all block.0
-  held = record { kept = block.1.0.kept; short = block.1.0.short; rest = text; begins = together ∙ ap (λ x. x ++ text) block.1.1 }
+  held = record { stored = block.1.0.stored; short = block.1.0.short; rest = text; begins = together ∙ ap (λ x. x ++ text) block.1.1 }
 
   pub value_behind : value_in all ≡ w
   value_behind = value_is all block.0 held ∙ sym (value_is b block.0 block.1.0) ∙ is

@@ -3,19 +3,19 @@ use Rattle.std.proofs.Common.{◌≡◌, ℕ, suc, ◌+◌, ◌*◌, ◌-◌, �
 use Rattle.std.proofs.lemmas.List.{drop_at, drop-drop}
 use Rattle.std.specs.List.{concat}
 use Rattle.mg_value.specs.Value.{Value, null, flag, whole, text, list, object, put, with_member}
-use Rattle.mg_packed.specs.Gap.{begin_of, with_row, rows_in, IsObjectBlock, names_before, names_up_to}
+use Rattle.mg_packed.specs.Gap.{begin_of, with_entry, entries_in, IsObjectBlock, names_before, names_up_to}
 use Rattle.mg_value.specs.Stored.{IsStored}
-use Rattle.mg_packed.specs.Packed.{word, places, packed, table, named, member_rows}
-use Rattle.mg_packed.specs.Read.{Holds, IsBlockOf, tag_of, word_of, place_of, members_in}
-use Rattle.mg_packed.proofs.Gaps.{first_places, first_rows, last_rows, begin_behind, length-with_row, concat-with_row, assembled}
+use Rattle.mg_packed.specs.Packed.{word, offsets, packed, table, named, member_entries}
+use Rattle.mg_packed.specs.Read.{Holds, IsBlockOf, tag_of, word_of, offset_of, members_in}
+use Rattle.mg_packed.proofs.Gaps.{first_offsets, first_entries, last_entries, begin_behind, length-with_entry, concat-with_entry, assembled}
 use Rattle.mg_packed.proofs.Laws.{members_is}
 use Rattle.mg_packed.proofs.Parts.{object_table}
-use Rattle.mg_packed.proofs.Put.{put_row, put_kept}
-use Rattle.mg_packed.proofs.Rows.{count, place_is, length-word, length-places, length-table}
+use Rattle.mg_packed.proofs.Put.{put_entry, put_stored}
+use Rattle.mg_packed.proofs.Entries.{count, offset_is, length-word, length-offsets, length-table}
 use Rattle.mg_packed.proofs.Words.{tail}
 
 block : (b : List ℕ) (v : Value) → IsStored v → length (packed v) < 2 ^ 32 → b ≡ packed v → Holds b v
-block b v kept short is = record { kept = kept; short = short; rest = []; begins = is ∙ sym (append-nil (packed v)) }
+block b v stored short is = record { stored = stored; short = short; rest = []; begins = is ∙ sym (append-nil (packed v)) }
 
 pub object_block : (b : List ℕ) (v : Value) → Holds b v → b ≡ packed v → tag_of b ≡ 6 → IsObjectBlock b × (v ≡ object (members_in b))
 object_block b (null) h is e = absurd (omega (arith, ap tag_of h.begins, e))
@@ -38,46 +38,46 @@ no_object b (object ms) k w h e = absurd (e (ap tag_of h.begins))
 
 -- ---- the parts of an object's bytes
 
-pub block_len : (b : List ℕ) → IsObjectBlock b → length b ≡ 5 + 4 * length (rows_in b) + length (concat (rows_in b))
-block_len b h = omega (arith, ap length h.1, length-table (rows_in b))
+pub block_len : (b : List ℕ) → IsObjectBlock b → length b ≡ 5 + 4 * length (entries_in b) + length (concat (entries_in b))
+block_len b h = omega (arith, ap length h.1, length-table (entries_in b))
 
 pub block_short : (b : List ℕ) → IsObjectBlock b → length b < 2 ^ 32
 block_short b h = omega (arith, ap length h.1, h.0.short)
 
-pub row_begins : (b : List ℕ) (i : ℕ) → IsObjectBlock b → i < length (rows_in b) → word_of (drop (5 + 4 * i) b) ≡ begin_of (rows_in b) i
-unfolding place_of
-row_begins b i h less =
+pub entry_begins : (b : List ℕ) (i : ℕ) → IsObjectBlock b → i < length (entries_in b) → word_of (drop (5 + 4 * i) b) ≡ begin_of (entries_in b) i
+unfolding offset_of
+entry_begins b i h less =
     let t = object_table b (members_in b) h.0 in
-    omega (arith, place_is b (rows_in b) i t less, count b (rows_in b) t)
+    omega (arith, offset_is b (entries_in b) i t less, count b (entries_in b) t)
 
-behind_count : (b : List ℕ) → IsObjectBlock b → drop 5 b ≡ places 0 (rows_in b) ++ concat (rows_in b)
+behind_count : (b : List ℕ) → IsObjectBlock b → drop 5 b ≡ offsets 0 (entries_in b) ++ concat (entries_in b)
 unfolding table
-behind_count b h = ap (drop 5) h.1 ∙ drop_at (6 ∷ word (length (rows_in b))) (places 0 (rows_in b) ++ concat (rows_in b)) 5 (ap suc (length-word (length (rows_in b))))
+behind_count b h = ap (drop 5) h.1 ∙ drop_at (6 ∷ word (length (entries_in b))) (offsets 0 (entries_in b) ++ concat (entries_in b)) 5 (ap suc (length-word (length (entries_in b))))
 
-behind_table : (b : List ℕ) (n : ℕ) → IsObjectBlock b → n ≡ length (rows_in b) → drop (5 + 4 * n) b ≡ concat (rows_in b)
+behind_table : (b : List ℕ) (n : ℕ) → IsObjectBlock b → n ≡ length (entries_in b) → drop (5 + 4 * n) b ≡ concat (entries_in b)
 behind_table b n h e =
-    let size : length (places 0 (rows_in b)) ≡ 4 * n = omega (arith, length-places 0 (rows_in b), e) in
-    sym (drop-drop (4 * n) 5 b) ∙ ap (drop (4 * n)) (behind_count b h) ∙ drop_at (places 0 (rows_in b)) (concat (rows_in b)) (4 * n) size
+    let size : length (offsets 0 (entries_in b)) ≡ 4 * n = omega (arith, length-offsets 0 (entries_in b), e) in
+    sym (drop-drop (4 * n) 5 b) ∙ ap (drop (4 * n)) (behind_count b h) ∙ drop_at (offsets 0 (entries_in b)) (concat (entries_in b)) (4 * n) size
 
-pub places_cut : (b : List ℕ) (i : ℕ) → IsObjectBlock b → i ≤ length (rows_in b) → take (5 + 4 * i - 5) (drop 5 b) ≡ places 0 (take i (rows_in b))
-places_cut b i h less =
+pub offsets_cut : (b : List ℕ) (i : ℕ) → IsObjectBlock b → i ≤ length (entries_in b) → take (5 + 4 * i - 5) (drop 5 b) ≡ offsets 0 (take i (entries_in b))
+offsets_cut b i h less =
     let e : 5 + 4 * i - 5 ≡ 4 * i = omega arith in
-    ap (λ n. take n (drop 5 b)) e ∙ ap (take (4 * i)) (behind_count b h) ∙ first_places 0 (rows_in b) i (concat (rows_in b)) less
+    ap (λ n. take n (drop 5 b)) e ∙ ap (take (4 * i)) (behind_count b h) ∙ first_offsets 0 (entries_in b) i (concat (entries_in b)) less
 
-pub rows_cut : (b : List ℕ) (n i m : ℕ) → IsObjectBlock b → n ≡ length (rows_in b) → m ≡ begin_of (rows_in b) i
-    → take (5 + 4 * n + m - (5 + 4 * n)) (drop (5 + 4 * n) b) ≡ concat (take i (rows_in b))
-rows_cut b n i m h counted begins =
-    let e : 5 + 4 * n + m - (5 + 4 * n) ≡ begin_of (rows_in b) i = omega (arith, begins) in
-    ap (λ k. take k (drop (5 + 4 * n) b)) e ∙ ap (take (begin_of (rows_in b) i)) (behind_table b n h counted) ∙ first_rows (rows_in b) i
+pub entries_cut : (b : List ℕ) (n i m : ℕ) → IsObjectBlock b → n ≡ length (entries_in b) → m ≡ begin_of (entries_in b) i
+    → take (5 + 4 * n + m - (5 + 4 * n)) (drop (5 + 4 * n) b) ≡ concat (take i (entries_in b))
+entries_cut b n i m h counted begins =
+    let e : 5 + 4 * n + m - (5 + 4 * n) ≡ begin_of (entries_in b) i = omega (arith, begins) in
+    ap (λ k. take k (drop (5 + 4 * n) b)) e ∙ ap (take (begin_of (entries_in b) i)) (behind_table b n h counted) ∙ first_entries (entries_in b) i
 
-pub rows_left : (b : List ℕ) (n i m : ℕ) → IsObjectBlock b → n ≡ length (rows_in b) → m ≡ begin_of (rows_in b) i
-    → take (length b - (5 + 4 * n + m)) (drop (5 + 4 * n + m) b) ≡ concat (drop i (rows_in b))
-rows_left b n i m h counted begins =
+pub entries_left : (b : List ℕ) (n i m : ℕ) → IsObjectBlock b → n ≡ length (entries_in b) → m ≡ begin_of (entries_in b) i
+    → take (length b - (5 + 4 * n + m)) (drop (5 + 4 * n + m) b) ≡ concat (drop i (entries_in b))
+entries_left b n i m h counted begins =
     tail b (5 + 4 * n + m)
     ∙ sym (drop-drop m (5 + 4 * n) b)
     ∙ ap (drop m) (behind_table b n h counted)
-    ∙ ap (λ k. drop k (concat (rows_in b))) begins
-    ∙ last_rows (rows_in b) i
+    ∙ ap (λ k. drop k (concat (entries_in b))) begins
+    ∙ last_entries (entries_in b) i
 
 -- ---- the new block
 
@@ -86,40 +86,40 @@ pub record IsMade (b new k : List ℕ) (v : Value) (i j n len : ℕ) : Type 0 wh
   pub before : i ≡ names_before k (members_in b)
   pub up_to : j ≡ names_up_to k (members_in b)
   pub ordered : i ≤ j
-  pub within : j ≤ length (rows_in b)
-  pub counted : n + j ≡ length (rows_in b) + i + 1
-  pub long : len + (4 * j + begin_of (rows_in b) j) ≡ length b + (4 * i + begin_of (rows_in b) i) + (4 + length (named k (packed v)))
+  pub within : j ≤ length (entries_in b)
+  pub counted : n + j ≡ length (entries_in b) + i + 1
+  pub long : len + (4 * j + begin_of (entries_in b) j) ≡ length b + (4 * i + begin_of (entries_in b) i) + (4 + length (named k (packed v)))
   pub small : len < 2 ^ 32
-  pub made : new ≡ ((6 ∷ word n) ++ (places 0 (take i (rows_in b)) ++ (word (begin_of (rows_in b) i) ++ places (begin_of (rows_in b) i + length (named k (packed v))) (drop j (rows_in b)))))
-      ++ (concat (take i (rows_in b)) ++ (named k (packed v) ++ concat (drop j (rows_in b))))
+  pub made : new ≡ ((6 ∷ word n) ++ (offsets 0 (take i (entries_in b)) ++ (word (begin_of (entries_in b) i) ++ offsets (begin_of (entries_in b) i + length (named k (packed v))) (drop j (entries_in b)))))
+      ++ (concat (take i (entries_in b)) ++ (named k (packed v) ++ concat (drop j (entries_in b))))
 
-made_table : (b new k : List ℕ) (v : Value) (i j n len : ℕ) → IsMade b new k v i j n len → member_rows (put k v (members_in b)) ≡ with_row i j (named k (packed v)) (rows_in b)
+made_table : (b new k : List ℕ) (v : Value) (i j n len : ℕ) → IsMade b new k v i j n len → member_entries (put k v (members_in b)) ≡ with_entry i j (named k (packed v)) (entries_in b)
 made_table b new k v i j n len h =
-    put_row k v (members_in b)
-    ∙ ap (λ x. with_row x (names_up_to k (members_in b)) (named k (packed v)) (rows_in b)) (sym h.before)
-    ∙ ap (λ x. with_row i x (named k (packed v)) (rows_in b)) (sym h.up_to)
+    put_entry k v (members_in b)
+    ∙ ap (λ x. with_entry x (names_up_to k (members_in b)) (named k (packed v)) (entries_in b)) (sym h.before)
+    ∙ ap (λ x. with_entry i x (named k (packed v)) (entries_in b)) (sym h.up_to)
 
 made_is : (b new k : List ℕ) (v : Value) (i j n len : ℕ) → IsMade b new k v i j n len → new ≡ packed (object (put k v (members_in b)))
 made_is b new k v i j n len h =
-    let row = named k (packed v) in
-    let counted : n ≡ length (with_row i j row (rows_in b)) = omega (arith, h.counted, length-with_row (rows_in b) row i j h.ordered h.within) in
-    assembled new (rows_in b) row i j n counted h.made ∙ ap (λ rows. 6 ∷ table rows) (sym (made_table b new k v i j n len h))
+    let entry = named k (packed v) in
+    let counted : n ≡ length (with_entry i j entry (entries_in b)) = omega (arith, h.counted, length-with_entry (entries_in b) entry i j h.ordered h.within) in
+    assembled new (entries_in b) entry i j n counted h.made ∙ ap (λ entries. 6 ∷ table entries) (sym (made_table b new k v i j n len h))
 
 pub made_block : (b new k : List ℕ) (v : Value) (i j n len : ℕ) → IsObjectBlock b → IsUtf8 k → IsStored v → IsMade b new k v i j n len → IsBlockOf new (object (put k v (members_in b)))
-made_block b new k v i j n len o utf8 kept h =
-    let row = named k (packed v) in
+made_block b new k v i j n len o utf8 stored h =
+    let entry = named k (packed v) in
     let ms = put k v (members_in b) in
-    let size : length (packed (object ms)) ≡ suc (length (table (with_row i j row (rows_in b)))) = ap (λ rows. length (6 ∷ table rows)) (made_table b new k v i j n len h) in
+    let size : length (packed (object ms)) ≡ suc (length (table (with_entry i j entry (entries_in b)))) = ap (λ entries. length (6 ∷ table entries)) (made_table b new k v i j n len h) in
     let short : length (packed (object ms)) < 2 ^ 32 = omega (
       arith,
       size,
       h.small,
       h.long,
-      length-table (with_row i j row (rows_in b)),
-      concat-with_row (rows_in b) row i j,
-      length-with_row (rows_in b) row i j h.ordered h.within,
-      begin_behind (rows_in b) j,
+      length-table (with_entry i j entry (entries_in b)),
+      concat-with_entry (entries_in b) entry i j,
+      length-with_entry (entries_in b) entry i j h.ordered h.within,
+      begin_behind (entries_in b) j,
       block_len b o,
     ) in
     let is : new ≡ packed (object ms) = made_is b new k v i j n len h in
-    (block new (object ms) (put_kept k v (members_in b) o.0.kept utf8 kept) short is, is)
+    (block new (object ms) (put_stored k v (members_in b) o.0.stored utf8 stored) short is, is)

@@ -6,21 +6,21 @@ use Rattle.std.specs.Ordering.{match_ordering}
 use Rattle.mg_value.specs.Held.{AllAfter}
 use Rattle.mg_value.specs.Value.{Value, Members, no_members, member, member_list, get_member, put}
 use Rattle.mg_collate.proofs.Ties.{same_text}
-use Rattle.mg_packed.specs.Gap.{names_before, names_up_to, with_row}
+use Rattle.mg_packed.specs.Gap.{names_before, names_up_to, with_entry}
 use Rattle.mg_value.specs.Stored.{IsStored, MembersAreStored}
-use Rattle.mg_packed.specs.Packed.{packed, member_rows, named}
+use Rattle.mg_packed.specs.Packed.{packed, member_entries, named}
 use Rattle.mg_packed.specs.Read.{nth_value}
 use Rattle.mg_packed.proofs.Search.{seen, turned, turned_back, after}
 
 -- ---- the search finds the gap
 
 pub gap_found : (name : List ℕ) (ms : Members) → MembersAreStored ms → (i : ℕ) → i < length (member_list ms) → seen name ms i ≡ Equal → (names_before name ms ≡ i) × (names_up_to name ms ≡ suc i)
-gap_found name no_members kept i h e = absurd (omega arith)
-gap_found name (member l v ms) kept zero h e =
+gap_found name no_members stored i h e = absurd (omega arith)
+gap_found name (member l v ms) stored zero h e =
     (ap (λ o. match_ordering o 0 0 (suc (names_before name ms))) e, ap (λ o. match_ordering o 0 1 (suc (names_up_to name ms))) e)
-gap_found name (member l v ms) kept (suc i) h e =
-    let above : slice_cmp nat_cmp name l ≡ Greater = nat_list_cmp_total.congr name _ l e ∙ turned l _ (after l ms i kept.0 (omega arith)) in
-    let rest = gap_found name ms kept.3 i (omega arith) e in
+gap_found name (member l v ms) stored (suc i) h e =
+    let above : slice_cmp nat_cmp name l ≡ Greater = nat_list_cmp_total.congr name _ l e ∙ turned l _ (after l ms i stored.0 (omega arith)) in
+    let rest = gap_found name ms stored.3 i (omega arith) e in
     (ap (λ o. match_ordering o 0 0 (suc (names_before name ms))) above ∙ ap suc rest.0, ap (λ o. match_ordering o 0 1 (suc (names_up_to name ms))) above ∙ ap suc rest.1)
 
 pub gap_missed : (name : List ℕ) (ms : Members) (n : ℕ) → n ≤ length (member_list ms) → ((k : ℕ) → k < n → seen name ms k ≡ Greater) → ((k : ℕ) → n ≤ k → k < length (member_list ms) → seen name ms k ≡ Less)
@@ -62,22 +62,22 @@ missed_by Equal k l w ms e a rest h = absurd (omega arith)
 missed_by Greater k l w ms e a rest h = rest (omega arith)
 
 pub missed : (k : List ℕ) (ms : Members) → MembersAreStored ms → names_up_to k ms ≤ names_before k ms → get_member k ms ≡ None
-missed k no_members kept h = refl
-missed k (member l w ms) kept h = missed_by (slice_cmp nat_cmp k l) k l w ms refl kept.0 (missed k ms kept.3) h
+missed k no_members stored h = refl
+missed k (member l w ms) stored h = missed_by (slice_cmp nat_cmp k l) k l w ms refl stored.0 (missed k ms stored.3) h
 
--- ---- the row goes into the gap
+-- ---- the entry goes into the gap
 
 put_by : (o : Ordering) (k l : List ℕ) (v w : Value) (ms : Members) → slice_cmp nat_cmp k l ≡ o
-    → member_rows (put k v ms) ≡ with_row (names_before k ms) (names_up_to k ms) (named k (packed v)) (member_rows ms)
-    → member_rows (match_ordering o (member k v (member l w ms)) (member l v ms) (member l w (put k v ms)))
-    ≡ with_row (match_ordering o 0 0 (suc (names_before k ms))) (match_ordering o 0 1 (suc (names_up_to k ms))) (named k (packed v)) (named l (packed w) ∷ member_rows ms)
+    → member_entries (put k v ms) ≡ with_entry (names_before k ms) (names_up_to k ms) (named k (packed v)) (member_entries ms)
+    → member_entries (match_ordering o (member k v (member l w ms)) (member l v ms) (member l w (put k v ms)))
+    ≡ with_entry (match_ordering o 0 0 (suc (names_before k ms))) (match_ordering o 0 1 (suc (names_up_to k ms))) (named k (packed v)) (named l (packed w) ∷ member_entries ms)
 put_by Less k l v w ms e rest = refl
-put_by Equal k l v w ms e rest = let same : l ≡ k = sym (same_text k l e) in ap (λ x. named x (packed v) ∷ member_rows ms) same
+put_by Equal k l v w ms e rest = let same : l ≡ k = sym (same_text k l e) in ap (λ x. named x (packed v) ∷ member_entries ms) same
 put_by Greater k l v w ms e rest = ap (λ x. named l (packed w) ∷ x) rest
 
-pub put_row : (k : List ℕ) (v : Value) (ms : Members) → member_rows (put k v ms) ≡ with_row (names_before k ms) (names_up_to k ms) (named k (packed v)) (member_rows ms)
-put_row k v no_members = refl
-put_row k v (member l w ms) = put_by (slice_cmp nat_cmp k l) k l v w ms refl (put_row k v ms)
+pub put_entry : (k : List ℕ) (v : Value) (ms : Members) → member_entries (put k v ms) ≡ with_entry (names_before k ms) (names_up_to k ms) (named k (packed v)) (member_entries ms)
+put_entry k v no_members = refl
+put_entry k v (member l w ms) = put_by (slice_cmp nat_cmp k l) k l v w ms refl (put_entry k v ms)
 
 -- ---- the names are still in order
 
@@ -91,12 +91,12 @@ after_put : (l k : List ℕ) (v : Value) (ms : Members) → slice_cmp nat_cmp l 
 after_put l k v no_members e a = (e, tt)
 after_put l k v (member m w ms) e a = after_by (slice_cmp nat_cmp k m) l k m v w ms e a (after_put l k v ms e a.1)
 
-kept_by : (o : Ordering) (k l : List ℕ) (v w : Value) (ms : Members) → slice_cmp nat_cmp k l ≡ o → MembersAreStored (member l w ms) → IsUtf8 k → IsStored v → MembersAreStored (put k v ms)
+stored_by : (o : Ordering) (k l : List ℕ) (v w : Value) (ms : Members) → slice_cmp nat_cmp k l ≡ o → MembersAreStored (member l w ms) → IsUtf8 k → IsStored v → MembersAreStored (put k v ms)
     → MembersAreStored (match_ordering o (member k v (member l w ms)) (member l v ms) (member l w (put k v ms)))
-kept_by Less k l v w ms e kept utf8 value rest = ((e, after_less k l ms e kept.0), utf8, value, kept)
-kept_by Equal k l v w ms e kept utf8 value rest = (kept.0, kept.1, value, kept.3)
-kept_by Greater k l v w ms e kept utf8 value rest = (after_put l k v ms (turned_back k l e) kept.0, kept.1, kept.2, rest)
+stored_by Less k l v w ms e stored utf8 value rest = ((e, after_less k l ms e stored.0), utf8, value, stored)
+stored_by Equal k l v w ms e stored utf8 value rest = (stored.0, stored.1, value, stored.3)
+stored_by Greater k l v w ms e stored utf8 value rest = (after_put l k v ms (turned_back k l e) stored.0, stored.1, stored.2, rest)
 
-pub put_kept : (k : List ℕ) (v : Value) (ms : Members) → MembersAreStored ms → IsUtf8 k → IsStored v → MembersAreStored (put k v ms)
-put_kept k v no_members kept utf8 value = (tt, utf8, value, tt)
-put_kept k v (member l w ms) kept utf8 value = kept_by (slice_cmp nat_cmp k l) k l v w ms refl kept utf8 value (put_kept k v ms kept.3 utf8 value)
+pub put_stored : (k : List ℕ) (v : Value) (ms : Members) → MembersAreStored ms → IsUtf8 k → IsStored v → MembersAreStored (put k v ms)
+put_stored k v no_members stored utf8 value = (tt, utf8, value, tt)
+put_stored k v (member l w ms) stored utf8 value = stored_by (slice_cmp nat_cmp k l) k l v w ms refl stored utf8 value (put_stored k v ms stored.3 utf8 value)

@@ -1,4 +1,4 @@
--- For private clauses: how the places of a table are filled in, one row after another.
+-- For private clauses: how the offsets of a table are filled in, one entry after another.
 use Rattle.std.specs.Prelude.{ℕ, ◌+◌, List, [], ◌∷◌, ◌++◌, length, take, drop}
 use Rattle.mg_packed.specs.Packed.{word}
 
@@ -6,8 +6,8 @@ use Rattle.mg_packed.specs.Packed.{word}
 abbrev pub with_word : ℕ → ℕ → List ℕ → List ℕ
 with_word at n b = take at b ++ (word n ++ drop (at + 4) b)
 
--- the bytes with the rows added at the end, and their places filled in from `place` on; the first row begins `at` bytes
--- after the places
+-- the bytes with the entries added at the end, and their offsets filled in from `cell` on; the first entry begins `at` bytes
+-- after the offsets
 abbrev pub filled : ℕ → ℕ → List (List ℕ) → List ℕ → List ℕ
-filled place at [] b = b
-filled place at (row ∷ rows) b = filled (place + 4) (at + length row) rows (with_word place at b ++ row)
+filled cell at [] b = b
+filled cell at (entry ∷ entries) b = filled (cell + 4) (at + length entry) entries (with_word cell at b ++ entry)

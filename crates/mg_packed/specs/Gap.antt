@@ -1,10 +1,10 @@
--- For private clauses: where a row goes among the rows of a table, and the rows with it.
+-- For private clauses: where an entry goes among the entries of a table, and the entries with it.
 use Rattle.std.specs.Prelude.{ℕ, suc, List, ◌∷◌, ◌++◌, length, take, drop}
 use Rattle.std.specs.Cmp.Lexicographic.{slice_cmp}
 use Rattle.std.specs.List.{concat}
 use Rattle.std.specs.Ordering.{nat_cmp, match_ordering}
 use Rattle.mg_value.specs.Value.{Members, no_members, member, object}
-use Rattle.mg_packed.specs.Packed.{member_rows}
+use Rattle.mg_packed.specs.Packed.{member_entries}
 use Rattle.mg_packed.specs.Read.{IsBlockOf, members_in}
 
 -- how many names come before k
@@ -17,17 +17,17 @@ abbrev pub names_up_to : List ℕ → Members → ℕ
 names_up_to k no_members = 0
 names_up_to k (member l v ms) = match_ordering (slice_cmp nat_cmp k l) 0 1 (suc (names_up_to k ms))
 
--- where the i-th row begins, counted from the end of the table; if i is the count of rows, where the rows end
+-- where the i-th entry begins, counted from the end of the table; if i is the count of entries, where the entries end
 abbrev pub begin_of : List (List ℕ) → ℕ → ℕ
-begin_of rows i = length (concat (take i rows))
+begin_of entries i = length (concat (take i entries))
 
--- the rows with this one instead of those from the n-th up to the m-th, which is kept
-abbrev pub with_row : ℕ → ℕ → List ℕ → List (List ℕ) → List (List ℕ)
-with_row n m row rows = take n rows ++ row ∷ drop m rows
+-- the entries with this one instead of those from the n-th up to the m-th, which is kept
+abbrev pub with_entry : ℕ → ℕ → List ℕ → List (List ℕ) → List (List ℕ)
+with_entry n m entry entries = take n entries ++ entry ∷ drop m entries
 
--- the rows of the object at the front of the bytes
-abbrev pub rows_in : List ℕ → List (List ℕ)
-rows_in b = member_rows (members_in b)
+-- the entries of the object at the front of the bytes
+abbrev pub entries_in : List ℕ → List (List ℕ)
+entries_in b = member_entries (members_in b)
 
 -- the bytes are those of an object
 abbrev pub IsObjectBlock : List ℕ → Type 0

@@ -1,7 +1,7 @@
-// Where a row goes among the rows of a table.
+// Where an entry goes among the entries of a table.
 ghost use Rattle.std.specs.Prelude.{◌≡◌, ◌+◌, ◌<◌, ◌^◌};
 
-// The row goes after the first `before` rows, and replaces the rows from there up to `after`.
+// The entry goes after the first `before` entries, and replaces the entries from there up to `after`.
 #[derive(Clone, Copy)]
 pub(crate) struct Gap {
     pub(crate) before: usize,
@@ -9,26 +9,26 @@ pub(crate) struct Gap {
 }
 
 impl Gap {
-    // The row goes before the row at this place, and replaces none.
-    pub(crate) fn at(place: usize) -> Gap
-        ensures before { result.before ≡ place }
-        ensures after { result.after ≡ place }
+    // The entry goes before the entry at this index, and replaces none.
+    pub(crate) fn at(index: usize) -> Gap
+        ensures before { result.before ≡ index }
+        ensures after { result.after ≡ index }
     {
         Gap {
-            before: place,
-            after: place,
+            before: index,
+            after: index,
         }
     }
 
-    // The row replaces the row at this place.
-    pub(crate) fn over(place: usize) -> Gap
-        requires { place + 1 < 2 ^ 64 }
-        ensures before { result.before ≡ place }
-        ensures after { result.after ≡ place + 1 }
+    // The entry replaces the entry at this index.
+    pub(crate) fn over(index: usize) -> Gap
+        requires { index + 1 < 2 ^ 64 }
+        ensures before { result.before ≡ index }
+        ensures after { result.after ≡ index + 1 }
     {
         Gap {
-            before: place,
-            after: place + 1,
+            before: index,
+            after: index + 1,
         }
     }
 }

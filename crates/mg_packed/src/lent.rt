@@ -53,8 +53,8 @@ impl<'a> LentValue for Part<'a> {
     }
 
     #[inline(always)]
-    fn item(list: &Array<'a>, place: usize) -> Part<'a> {
-        list.item(place)
+    fn item(list: &Array<'a>, index: usize) -> Part<'a> {
+        list.item(index)
     }
 
     #[inline(always)]
@@ -74,11 +74,11 @@ impl<'a> LentValue for Part<'a> {
 
     #[inline(always)]
     fn next(walk: &mut (Object<'a>, usize)) -> Option<(&'a str, Part<'a>)> {
-        let place = walk.1;
-        if place >= walk.0.len() {
+        let index = walk.1;
+        if index >= walk.0.len() {
             return None;
         }
-        walk.1 = place + 1;
-        Some((walk.0.name(place), walk.0.value(place)))
+        walk.1 = index + 1;
+        Some((walk.0.name(index), walk.0.value(index)))
     }
 }

@@ -62,7 +62,7 @@ fn long_len(_number: i64) -> u32
 
 fn whole_len(number: i64) -> Result<u32, NoMemory>
     ensures len { IfOk result (λ n. n ≡ length (packed (whole number))) }
-    ensures kept { OnOk result (IsStored (whole number)) }
+    ensures stored { OnOk result (IsStored (whole number)) }
 {
     let len = long_len(number);
     Ok(len)
@@ -71,7 +71,7 @@ fn whole_len(number: i64) -> Result<u32, NoMemory>
 #[cycle(measure)]
 pub(crate) fn measure(value: &Json) -> Result<u32, NoMemory>
     ensures len { IfOk result (λ n. n ≡ length (packed (view value.now))) }
-    ensures kept { OnOk result (IsStored (view value.now)) }
+    ensures stored { OnOk result (IsStored (view value.now)) }
 {
     match value {
         Json::Null => Ok(1),
@@ -87,7 +87,7 @@ pub(crate) fn measure(value: &Json) -> Result<u32, NoMemory>
 #[cycle(measure)]
 fn measure_list(items: &[Json]) -> Result<u32, NoMemory>
     ensures len { IfOk result (λ n. n ≡ length (packed (list (items_view items.now)))) }
-    ensures kept { OnOk result (AreStored (items_view items.now)) }
+    ensures stored { OnOk result (AreStored (items_view items.now)) }
 {
     let len = measure_items(items)?;
     Ok(len)
@@ -96,17 +96,17 @@ fn measure_list(items: &[Json]) -> Result<u32, NoMemory>
 #[cycle(measure)]
 fn measure_object(members: &BTreeMap<String, Json>) -> Result<u32, NoMemory>
     ensures len { IfOk result (λ n. n ≡ length (packed (object (members_view members.now.entries)))) }
-    ensures kept { OnOk result (MembersAreStored (members_view members.now.entries)) }
+    ensures stored { OnOk result (MembersAreStored (members_view members.now.entries)) }
 {
     let len = measure_members(members)?;
     Ok(len)
 }
 
-// The size of the tag and the count, and for each item its place and its bytes.
+// The size of the tag and the count, and for each item its offset and its bytes.
 #[cycle(measure)]
 fn measure_items(items: &[Json]) -> Result<u32, NoMemory>
     ensures len { IfOk result (λ n. n ≡ 5 + items_size (items_view items.now)) }
-    ensures kept { OnOk result (AreStored (items_view items.now)) }
+    ensures stored { OnOk result (AreStored (items_view items.now)) }
 {
     let mut len = 5;
     for item in items {
@@ -115,11 +115,11 @@ fn measure_items(items: &[Json]) -> Result<u32, NoMemory>
     Ok(len)
 }
 
-// The size of the tag and the count, and for each member its place, its name and its value's bytes.
+// The size of the tag and the count, and for each member its offset, its name and its value's bytes.
 #[cycle(measure)]
 fn measure_members(members: &BTreeMap<String, Json>) -> Result<u32, NoMemory>
     ensures len { IfOk result (λ n. n ≡ 5 + members_size (members_view members.now.entries)) }
-    ensures kept { OnOk result (MembersAreStored (members_view members.now.entries)) }
+    ensures stored { OnOk result (MembersAreStored (members_view members.now.entries)) }
 {
     let mut len = 5;
     for (name, member) in members.iter() {

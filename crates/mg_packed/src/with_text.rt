@@ -1,11 +1,11 @@
-// Copies an object's block with a text at a name. Rows are copied as bytes, since the bytes of a value do not
-// depend on where they are; only the table of places is made anew.
+// Copies an object's block with a text at a name. Entries are copied as bytes, since the bytes of a value do not
+// depend on where they are; only the table of offsets is made anew.
 ghost use Rattle.std.specs.Prelude.{◌≡◌, ◌+◌, ◌*◌, ◌≤◌, ◌<◌, ◌^◌, ◌++◌, length, take, drop, IfOk, OnOk};
 ghost use Rattle.std.specs.List.{concat};
 ghost use Rattle.mg_value.specs.Value.{text as string, object, put};
-ghost use Rattle.mg_packed.specs.Packed.{word, places, packed, named};
+ghost use Rattle.mg_packed.specs.Packed.{word, offsets, packed, named};
 ghost use Rattle.mg_packed.specs.Read.{members_in, IsBlockOf};
-ghost use Rattle.mg_packed.specs.Gap.{begin_of, rows_in, IsObjectBlock};
+ghost use Rattle.mg_packed.specs.Gap.{begin_of, entries_in, IsObjectBlock};
 
 use crate::build::{push_name, push_tag, push_text, push_word};
 use crate::gap::Gap;
@@ -32,13 +32,13 @@ pub(crate) fn object_with_text(
     let members = Object::at(bytes);
     let count = members.len();
     let gap = members.gap(name);
-    let row_len = named_len(name, text_len(text)?)?;
-    let len = len_with(bytes, count, gap, row_len)?;
+    let entry_len = named_len(name, text_len(text)?)?;
+    let len = len_with(bytes, count, gap, entry_len)?;
     let mut out = Vec::with_capacity(alloc, len as usize)?;
     push_tag(&mut out, OBJECT)?;
     push_word(&mut out, as_word(count - (gap.after - gap.before) + 1)?)?;
-    push_places(&mut out, bytes, count, gap, row_len)?;
-    push_rows(&mut out, bytes, count, gap, name, text)?;
+    push_offsets(&mut out, bytes, count, gap, entry_len)?;
+    push_entries(&mut out, bytes, count, gap, name, text)?;
     Ok(out)
 }
 
@@ -51,52 +51,52 @@ pub(crate) fn copy_bytes(alloc: Global, bytes: &[u8]) -> Result<Vec<u8>, NoMemor
     Ok(copy)
 }
 
-// Where the row at `place` begins, counted from the end of the table; if `place` is the count of rows, where the rows end.
-fn row_begin(bytes: &[u8], count: usize, place: usize) -> usize
+// Where the entry at `index` begins, counted from the end of the table; if `index` is the count of entries, where the entries end.
+fn entry_begin(bytes: &[u8], count: usize, index: usize) -> usize
     requires block { IsObjectBlock bytes.now }
-    requires counted { count ≡ length (rows_in bytes.now) }
-    requires within { place ≤ length (rows_in bytes.now) }
-    ensures { result ≡ begin_of (rows_in bytes.now) place }
+    requires counted { count ≡ length (entries_in bytes.now) }
+    requires within { index ≤ length (entries_in bytes.now) }
+    ensures { result ≡ begin_of (entries_in bytes.now) index }
 {
-    if place < count {
-        read::word(bytes, 5 + 4 * place)
+    if index < count {
+        read::word(bytes, 5 + 4 * index)
     } else {
         bytes.len() - (5 + 4 * count)
     }
 }
 
-// How long the bytes are once a row of this length is in the gap.
-fn len_with(bytes: &[u8], count: usize, gap: Gap, row_len: u32) -> Result<u32, NoMemory>
+// How long the bytes are once an entry of this length is in the gap.
+fn len_with(bytes: &[u8], count: usize, gap: Gap, entry_len: u32) -> Result<u32, NoMemory>
     requires block { IsObjectBlock bytes.now }
-    requires counted { count ≡ length (rows_in bytes.now) }
+    requires counted { count ≡ length (entries_in bytes.now) }
     requires ordered { gap.before ≤ gap.after }
-    requires within { gap.after ≤ length (rows_in bytes.now) }
-    ensures { IfOk result (λ n. n + (4 * gap.after + begin_of (rows_in bytes.now) gap.after)
-        ≡ length bytes.now + (4 * gap.before + begin_of (rows_in bytes.now) gap.before) + (4 + row_len)) }
+    requires within { gap.after ≤ length (entries_in bytes.now) }
+    ensures { IfOk result (λ n. n + (4 * gap.after + begin_of (entries_in bytes.now) gap.after)
+        ≡ length bytes.now + (4 * gap.before + begin_of (entries_in bytes.now) gap.before) + (4 + entry_len)) }
 {
-    let gone = row_begin(bytes, count, gap.after) - row_begin(bytes, count, gap.before);
+    let gone = entry_begin(bytes, count, gap.after) - entry_begin(bytes, count, gap.before);
     let kept = bytes.len() - gone - 4 * (gap.after - gap.before);
-    let len = as_word(kept + 4 + row_len as usize)?;
+    let len = as_word(kept + 4 + entry_len as usize)?;
     Ok(len)
 }
 
-// Adds the places of all rows, once a row of this length is in the gap.
-fn push_places(
+// Adds the offsets of all entries, once an entry of this length is in the gap.
+fn push_offsets(
     out: &mut Vec<u8>,
     bytes: &[u8],
     count: usize,
     gap: Gap,
-    row_len: u32,
+    entry_len: u32,
 ) -> Result<(), NoMemory>
     requires block { IsObjectBlock bytes.now }
-    requires counted { count ≡ length (rows_in bytes.now) }
+    requires counted { count ≡ length (entries_in bytes.now) }
     requires ordered { gap.before ≤ gap.after }
-    requires within { gap.after ≤ length (rows_in bytes.now) }
-    ensures { OnOk result (out.new.items ≡ out.old.items ++ (places 0 (take gap.before (rows_in bytes.now))
-        ++ (word (begin_of (rows_in bytes.now) gap.before)
-        ++ places (begin_of (rows_in bytes.now) gap.before + row_len) (drop gap.after (rows_in bytes.now))))) }
+    requires within { gap.after ≤ length (entries_in bytes.now) }
+    ensures { OnOk result (out.new.items ≡ out.old.items ++ (offsets 0 (take gap.before (entries_in bytes.now))
+        ++ (word (begin_of (entries_in bytes.now) gap.before)
+        ++ offsets (begin_of (entries_in bytes.now) gap.before + entry_len) (drop gap.after (entries_in bytes.now))))) }
 {
-    let begin = row_begin(bytes, count, gap.before);
+    let begin = entry_begin(bytes, count, gap.before);
     out.extend_from_slice(&bytes[5..5 + 4 * gap.before])?;
     push_word(out, as_word(begin)?)?;
     push_moved(
@@ -104,12 +104,12 @@ fn push_places(
         bytes,
         count,
         gap.after,
-        as_word(begin + row_len as usize)?,
+        as_word(begin + entry_len as usize)?,
     )?;
     Ok(())
 }
 
-// Adds the places of the rows from `after` on, once the first of them begins at `begin`.
+// Adds the offsets of the entries from `after` on, once the first of them begins at `begin`.
 fn push_moved(
     out: &mut Vec<u8>,
     bytes: &[u8],
@@ -118,21 +118,21 @@ fn push_moved(
     begin: u32,
 ) -> Result<(), NoMemory>
     requires block { IsObjectBlock bytes.now }
-    requires counted { count ≡ length (rows_in bytes.now) }
-    requires within { after ≤ length (rows_in bytes.now) }
+    requires counted { count ≡ length (entries_in bytes.now) }
+    requires within { after ≤ length (entries_in bytes.now) }
     ensures { OnOk result
-        (out.new.items ≡ out.old.items ++ places begin (drop after (rows_in bytes.now))) }
+        (out.new.items ≡ out.old.items ++ offsets begin (drop after (entries_in bytes.now))) }
 {
-    let began = row_begin(bytes, count, after);
-    for place in after..count {
-        let moved = row_begin(bytes, count, place) - began + begin as usize;
+    let began = entry_begin(bytes, count, after);
+    for index in after..count {
+        let moved = entry_begin(bytes, count, index) - began + begin as usize;
         push_word(out, as_word(moved)?)?;
     }
     Ok(())
 }
 
-// Adds the rows before the gap, the row of the text, and the rows after the gap.
-fn push_rows(
+// Adds the entries before the gap, the entry of the text, and the entries after the gap.
+fn push_entries(
     out: &mut Vec<u8>,
     bytes: &[u8],
     count: usize,
@@ -141,15 +141,15 @@ fn push_rows(
     text: &str,
 ) -> Result<(), NoMemory>
     requires block { IsObjectBlock bytes.now }
-    requires counted { count ≡ length (rows_in bytes.now) }
+    requires counted { count ≡ length (entries_in bytes.now) }
     requires ordered { gap.before ≤ gap.after }
-    requires within { gap.after ≤ length (rows_in bytes.now) }
-    ensures { OnOk result (out.new.items ≡ out.old.items ++ (concat (take gap.before (rows_in bytes.now))
-        ++ (named name.now (packed (string text.now)) ++ concat (drop gap.after (rows_in bytes.now))))) }
+    requires within { gap.after ≤ length (entries_in bytes.now) }
+    ensures { OnOk result (out.new.items ≡ out.old.items ++ (concat (take gap.before (entries_in bytes.now))
+        ++ (named name.now (packed (string text.now)) ++ concat (drop gap.after (entries_in bytes.now))))) }
 {
     let table_end = 5 + 4 * count;
-    let before = table_end + row_begin(bytes, count, gap.before);
-    let after = table_end + row_begin(bytes, count, gap.after);
+    let before = table_end + entry_begin(bytes, count, gap.before);
+    let after = table_end + entry_begin(bytes, count, gap.after);
     out.extend_from_slice(&bytes[table_end..before])?;
     push_name(out, name)?;
     push_text(out, text)?;

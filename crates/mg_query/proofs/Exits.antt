@@ -1,13 +1,13 @@
 -- What the exit of a `?` returns.
 use Rattle.std.proofs.Common.{◌≡◌, Result, Err, sym, ap, subst}
 use Rattle.mg_selector.specs.Fault.{◌>>=◌}
-use Rattle.mg_query.specs.Seen.{Fails, Gives}
+use Rattle.mg_query.specs.Seen.{Fails, ReadsAs}
 use Rattle.mg_query.specs.declared.error.QueryError.{QueryError}
 use Rattle.mg_query.specs.declared.error.QueryError.TheVariants.{Shape, InvalidOperator, BadArg, BadBookmark, MixedSort, NoMemory}
 
 -- the fault that is handed on
-pub exits : {X Y : Type 0} (seen : X → Y) (result : Result X QueryError) (e y : QueryError) (r : Result Y QueryError) → result ≡ Err y → y ≡ e → Fails e r → Gives seen result r
-exits seen result e y r h k f = subst (λ z. Gives seen z r) (sym h) (subst (λ z. Fails z r) (sym k) f)
+pub exits : {X Y : Type 0} (seen : X → Y) (result : Result X QueryError) (e y : QueryError) (r : Result Y QueryError) → result ≡ Err y → y ≡ e → Fails e r → ReadsAs seen result r
+exits seen result e y r h k f = subst (λ z. ReadsAs seen z r) (sym h) (subst (λ z. Fails z r) (sym k) f)
 
 -- what fails first fails
 pub fails_first : {A B : Type 0} (e : QueryError) (r : Result A QueryError) (f : A → Result B QueryError) → Fails e r → Fails e (r >>= f)

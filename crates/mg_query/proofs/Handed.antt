@@ -13,7 +13,7 @@ use Rattle.mg_bookmark.specs.Bookmark.{Place}
 use Rattle.mg_index.specs.Choice.{is_usable}
 use Rattle.mg_index.specs.Definition.{Steps}
 use Rattle.mg_merge.specs.Merged.{IsInOrderBy, contents_of, joined, merged, merged_by, order_by}
-use Rattle.mg_merge.specs.Work.{Hand}
+use Rattle.mg_merge.specs.Work.{WorkView}
 use Rattle.mg_merge.specs.Sharding.{Document, rows_of}
 use Rattle.mg_merge.proofs.Cuts.{cut_in_order}
 use Rattle.mg_merge.proofs.Rows.{by_rows, rows_of_merged}
@@ -202,7 +202,7 @@ module _ (q : Query) (columns : List Steps) (normal : NormalForm) (is : IsNormal
 
   -- and what of it is merged out is bounded by the page
   pub handed_within : (lists : List (Vec Hit Global)) (shards : List ShardView) → map (λ v. hit_rows v.items) lists ≡ map (shard_rows normal columns q) shards
-      → (hits : List Hit) → hits ≡ merged_by hit_row q.direction most (contents_of lists) → (work : Hand) → work.handed ≡ map (λ (v : Vec Hit Global). length v.items) lists → work.taken ≡ length hits
+      → (hits : List Hit) → hits ≡ merged_by hit_row q.direction most (contents_of lists) → (work : WorkView) → work.handed ≡ map (λ (v : Vec Hit Global). length v.items) lists → work.taken ≡ length hits
       → IsWorkWithin (length shards) most work
   handed_within lists shards e hits merge work handed taken =
       let sizes = λ (v : Vec Hit Global). length v.items in

@@ -91,8 +91,8 @@ abbrev pub page_rows : List Steps → Query → List Candidate → List Candidat
 page_rows columns q cs = take q.limit (drop q.skip (candidates_found columns q cs))
 
 -- a document, with its conflicts where they are asked for
-abbrev pub with_asked : Query → Candidate → Value
-with_asked q c = if q.conflicts then with_conflicts_of c.history c.form else c.form
+abbrev pub form_for : Query → Candidate → Value
+form_for q c = if q.conflicts then with_conflicts_of c.history c.form else c.form
 
 -- the parts at the fields; the whole if no fields are given
 abbrev pub projected : List Steps → Value → Value
@@ -101,7 +101,7 @@ projected (field ∷ fields) v = projection_of (field ∷ fields) v
 
 -- what a page shows of a document
 abbrev pub shown_of : Query → Candidate → Value
-shown_of q c = projected q.fields (with_asked q c)
+shown_of q c = projected q.fields (form_for q c)
 
 -- the bookmark of a document
 abbrev pub bookmark_at : Source → Query → Candidate → List ℕ

@@ -4,7 +4,7 @@ use Rattle.std.specs.List.{range_with_len, sum}
 use Rattle.mg_value.specs.Text.{compact}
 use Rattle.mg_value.specs.View.{view}
 use Rattle.mg_index.specs.Definition.{IndexDefinition, Steps}
-use Rattle.mg_merge.specs.Work.{Hand}
+use Rattle.mg_merge.specs.Work.{WorkView}
 use Rattle.mg_shard.specs.Dealt.{Placing, histories_on}
 use Rattle.mg_shard.specs.Histories.{Histories}
 use Rattle.mg_query.specs.Page.{Page, Unanswered, candidates_of, source_columns, candidates_found, if_served, page_value, served_by}
@@ -21,7 +21,7 @@ text_of (Ok p) = Ok (compact (page_value p))
 text_of (Err why) = Err why
 
 -- each of `count` shards handed over at most `most` rows, and `most` of these were merged, or all if there are fewer
-pub record IsWorkWithin (count most : ℕ) (work : Hand) : Type 0 where
+pub record IsWorkWithin (count most : ℕ) (work : WorkView) : Type 0 where
   pub shards : length work.handed ≡ count
   pub handed : All (λ n. n ≤ most) work.handed
   pub taken : work.taken ≡ min most (sum work.handed)

@@ -43,6 +43,6 @@ Fails MixedSort r = r ≡ Err MixedSort
 Fails NoMemory r = Unit {0}
 
 -- what a call returned is what is read, unless an allocation failed
-abbrev pub Gives : {X Y : Type 0} → (X → Y) → Result X QueryError → Result Y QueryError → Type 0
-Gives seen (Ok x) r = r ≡ Ok (seen x)
-Gives seen (Err e) r = Fails e r
+abbrev pub ReadsAs : {X Y : Type 0} → (X → Y) → Result X QueryError → Result Y QueryError → Type 0
+ReadsAs seen (Ok x) r = r ≡ Ok (seen x)
+ReadsAs seen (Err e) r = Fails e r

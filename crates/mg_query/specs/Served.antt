@@ -32,11 +32,11 @@ IsListed ds all_docs = Unit {0}
 IsListed ds (defined d) = definition_at d.ddoc d.name ds ≡ Some d
 
 -- for private clauses: what is chosen
-abbrev pub Chooses : Result code.Source PageError → Option Source → Type 0
-Chooses (Ok s) r = r ≡ Some (source_seen s)
-Chooses (Err NoUsableIndex) r = r ≡ None
-Chooses (Err BadBookmark) r = ⊥
-Chooses (Err NoMemory) r = ⊥
+abbrev pub IsSourceChosen : Result code.Source PageError → Option Source → Type 0
+IsSourceChosen (Ok s) r = r ≡ Some (source_seen s)
+IsSourceChosen (Err NoUsableIndex) r = r ≡ None
+IsSourceChosen (Err BadBookmark) r = ⊥
+IsSourceChosen (Err NoMemory) r = ⊥
 
 -- ---- documents that are objects
 

@@ -4,7 +4,7 @@ ghost use Rattle.mg_value.specs.View.{view};
 ghost use Rattle.mg_index.specs.Reading.{each_of, field_direction as direction_given};
 ghost use Rattle.mg_selector.specs.Fault.{or_fault};
 ghost use Rattle.mg_query.specs.Query.{one_direction as shared_direction, path_of, sort_path as path_of_field};
-ghost use Rattle.mg_query.specs.Seen.{Gives};
+ghost use Rattle.mg_query.specs.Seen.{ReadsAs};
 
 use crate::error::QueryError;
 use mg_collate::Direction;
@@ -15,7 +15,7 @@ use std::alloc::Global;
 
 // The paths of texts.
 pub(crate) fn read_paths(alloc: Global, texts: &[Json]) -> Result<Vec<Path>, QueryError>
-    ensures { Gives (λ v. v.items) result
+    ensures { ReadsAs (λ v. v.items) result
         (or_fault QueryError.Shape (each_of path_of (map view texts.now))) }
 {
     let mut paths = Vec::with_capacity(alloc, texts.len())?;
@@ -27,7 +27,7 @@ pub(crate) fn read_paths(alloc: Global, texts: &[Json]) -> Result<Vec<Path>, Que
 }
 
 fn read_path(alloc: Global, text: &Json) -> Result<Path, QueryError>
-    ensures { Gives (λ path. path) result (or_fault QueryError.Shape (path_of (view text.now))) }
+    ensures { ReadsAs (λ path. path) result (or_fault QueryError.Shape (path_of (view text.now))) }
 {
     match text {
         Json::Text(text) => Ok(Path::parse(alloc, text.as_str())?),
@@ -37,7 +37,7 @@ fn read_path(alloc: Global, text: &Json) -> Result<Path, QueryError>
 
 // The paths of a sort's fields.
 pub(crate) fn read_sort_paths(alloc: Global, fields: &[Json]) -> Result<Vec<Path>, QueryError>
-    ensures { Gives (λ v. v.items) result
+    ensures { ReadsAs (λ v. v.items) result
         (or_fault QueryError.Shape (each_of path_of_field (map view fields.now))) }
 {
     let mut paths = Vec::with_capacity(alloc, fields.len())?;
@@ -49,7 +49,7 @@ pub(crate) fn read_sort_paths(alloc: Global, fields: &[Json]) -> Result<Vec<Path
 }
 
 fn read_sort_path(alloc: Global, field: &Json) -> Result<Path, QueryError>
-    ensures { Gives (λ path. path) result
+    ensures { ReadsAs (λ path. path) result
         (or_fault QueryError.Shape (path_of_field (view field.now))) }
 {
     match field_path(field) {
@@ -60,7 +60,7 @@ fn read_sort_path(alloc: Global, field: &Json) -> Result<Path, QueryError>
 
 // The directions of a sort's fields.
 pub(crate) fn read_directions(alloc: Global, fields: &[Json]) -> Result<Vec<Direction>, QueryError>
-    ensures { Gives (λ v. v.items) result
+    ensures { ReadsAs (λ v. v.items) result
         (or_fault QueryError.Shape (each_of direction_given (map view fields.now))) }
 {
     let mut directions = Vec::with_capacity(alloc, fields.len())?;
@@ -75,7 +75,7 @@ pub(crate) fn read_directions(alloc: Global, fields: &[Json]) -> Result<Vec<Dire
 
 // The direction that all share; ascending if there are none.
 pub(crate) fn one_direction(directions: &[Direction]) -> Result<Direction, QueryError>
-    ensures { Gives (λ d. d) result (or_fault QueryError.MixedSort (shared_direction directions.now)) }
+    ensures { ReadsAs (λ d. d) result (or_fault QueryError.MixedSort (shared_direction directions.now)) }
 {
     let Some((first, others)) = directions.split_first() else {
         return Ok(Direction::Asc);

@@ -5,7 +5,7 @@ ghost use Rattle.mg_selector.specs.Fault.{or_fault};
 ghost use Rattle.mg_query.specs.Query.{early_fault, query_of};
 ghost use Rattle.mg_bookmark.specs.Reading.{bookmark_read};
 ghost use Rattle.mg_bookmark.specs.Seen.{bookmark_place};
-ghost use Rattle.mg_query.specs.Seen.{Gives, lent, query_seen};
+ghost use Rattle.mg_query.specs.Seen.{ReadsAs, lent, query_seen};
 
 use crate::error::QueryError;
 use crate::fault::fault_of;
@@ -61,7 +61,7 @@ impl<'a> Query<'a> {
     /// Cost: the size of the selector, the sort, the fields and the bookmark. Source: `_find` of CouchDB's API
     /// reference.
     pub fn read(alloc: Global, body: &'a Json) -> Result<Query<'a>, QueryError>
-        ensures query { Gives query_seen result (query_of (view body.now)) }
+        ensures query { ReadsAs query_seen result (query_of (view body.now)) }
         ensures refused { (e : QueryError) → early_fault (view body.now) ≡ Some e → result ≡ Err e }
     {
         match query_in(alloc, body) {
@@ -80,7 +80,7 @@ fn first_fault(body: &Json, met: QueryError) -> QueryError
 
 // The query that a body asks.
 fn query_in(alloc: Global, body: &Json) -> Result<Query<'_>, QueryError>
-    ensures { Gives query_seen result (query_of (view body.now)) }
+    ensures { ReadsAs query_seen result (query_of (view body.now)) }
 {
     match members_in(body) {
         Some(members) => query_with(alloc, members, body.member("fields")),
@@ -94,7 +94,7 @@ fn query_with<'a>(
     members: Members<'a>,
     given_fields: Option<&'a Json>,
 ) -> Result<Query<'a>, QueryError>
-    ensures { Gives query_seen result (query_given (lent given_fields.entry) (given_seen members.entry)) }
+    ensures { ReadsAs query_seen result (query_given (lent given_fields.entry) (given_seen members.entry)) }
 {
     let fields = read_paths(alloc, members.fields)?;
     let paths = read_sort_paths(alloc, members.sort)?;
@@ -120,7 +120,7 @@ fn query_with<'a>(
 
 // The place that a bookmark's text names; `None` for `nil`.
 fn read_bookmark(alloc: Global, text: &str) -> Result<Option<Bookmark>, QueryError>
-    ensures { Gives (option_map bookmark_place) result
+    ensures { ReadsAs (option_map bookmark_place) result
         (or_fault QueryError.BadBookmark (bookmark_read text.now)) }
 {
     match Bookmark::decode(alloc, text) {

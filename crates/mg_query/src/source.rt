@@ -13,7 +13,7 @@ ghost use Rattle.mg_query.specs.Plan.{IsDecidedBy};
 ghost use Rattle.mg_query.specs.Explain.{listed_source};
 ghost use Rattle.mg_query.specs.Page.{source_columns, ddoc_of, accepts_bookmark as accepts_bookmark_of, is_ddoc as is_same_ddoc, fits_source as fits_source_of, name_of, served_by as served_of};
 ghost use Rattle.mg_query.specs.Seen.{query_seen};
-ghost use Rattle.mg_query.specs.Served.{PageAnswers, Chooses, IsListed, source_seen};
+ghost use Rattle.mg_query.specs.Served.{PageAnswers, IsSourceChosen, IsListed, source_seen};
 
 use crate::error::PageError;
 use crate::query::Query;
@@ -63,7 +63,7 @@ fn choose_source<'a>(
     normal: &Normal,
     catalog: &'a Catalog,
 ) -> Result<Source<'a>, PageError>
-    ensures chosen { Chooses result (choice_of catalog.now normal.now.atoms
+    ensures chosen { IsSourceChosen result (choice_of catalog.now normal.now.atoms
         (query_seen query.now).sort (query_seen query.now).hint) }
     ensures listed { IfOk result (λ s. IsListed catalog.now (source_seen s)) }
 {

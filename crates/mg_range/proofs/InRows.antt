@@ -8,7 +8,7 @@ use Rattle.mg_range.specs.RangeSide.{is_before, is_past, is_side_before, is_side
 use Rattle.mg_range.specs.Range.{Range, Span}
 use Rattle.mg_range.specs.declared.side.RangeSide.TheVariants.{Before, Within, Past}
 use Rattle.mg_range.specs.declared.row_range.SpanEnds.{SpanEnds}
-use Rattle.mg_rows.specs.Bound.{bound_order}
+use Rattle.mg_rows.specs.RowBound.{bound_order}
 use Rattle.mg_value.specs.Value.{item_list}
 
 -- the row is before the low of these ends

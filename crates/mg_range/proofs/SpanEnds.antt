@@ -15,7 +15,7 @@ use Rattle.mg_range.specs.SpanEnds.{IsUncrossed, end_values, high_edge, low_edge
 use Rattle.mg_range.specs.RangeSide.{admits, is_before, is_past}
 use Rattle.mg_range.specs.Range.{Limit, Range, is_crossed, range_from, range_of, span_of, tightest, with_equal}
 use Rattle.mg_collate.specs.declared.direction.Direction.TheVariants.{Asc, Desc}
-use Rattle.mg_rows.specs.Bound.{bound_order, edge_order, first_columns}
+use Rattle.mg_rows.specs.RowBound.{bound_order, edge_order, first_columns}
 use Rattle.mg_rows.specs.declared.edge.Edge.{Edge}
 use Rattle.mg_rows.specs.declared.edge.Edge.TheVariants.{Before, After}
 

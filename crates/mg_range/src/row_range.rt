@@ -3,7 +3,7 @@ ghost use Rattle.std.specs.Prelude.{◌≡◌, [], IfOk, OnOk, map, option_map};
 ghost use Rattle.std.specs.Ordering.{is_gt, is_lt};
 ghost use Rattle.mg_value.specs.Value.{item_list};
 ghost use Rattle.mg_value.specs.View.{items_view, view as json_view};
-ghost use Rattle.mg_rows.specs.Bound.{bound_order};
+ghost use Rattle.mg_rows.specs.RowBound.{bound_order};
 ghost use Rattle.mg_rows.specs.Laws.{joined_items};
 ghost use Rattle.mg_range.specs.SpanEnds.{end_values, high_edge as high_side, low_edge as low_side};
 ghost use Rattle.mg_range.specs.InRows.{ends_at, ends_of as both_ends};
@@ -13,7 +13,7 @@ ghost use Rattle.mg_range.specs.View.{limit_seen, span_seen};
 use crate::range::KeyRange;
 use crate::span::{Limit, Span};
 use mg_collate::Direction;
-use mg_rows::{Bound, Edge, KeyBytes, RowBytes, value_hint};
+use mg_rows::{Edge, KeyBytes, RowBound, RowBytes, value_hint};
 use mg_value::{Json, NoMemory};
 use std::alloc::Global;
 use std::marker::Model;
@@ -21,8 +21,8 @@ use std::marker::Model;
 // The ends of a span: the rows in it are those after the low end and before the high end.
 #[derive(Drop)]
 pub(crate) struct SpanEnds {
-    pub(crate) low: Bound,
-    pub(crate) high: Bound,
+    pub(crate) low: RowBound,
+    pub(crate) high: RowBound,
 }
 
 /// A key range with its two ends as bytes, so that rows are compared with them byte by byte. Contracts see
@@ -185,7 +185,7 @@ fn end_at(
     equal: &[Json],
     limit: Option<&Limit>,
     edge: Edge,
-) -> Result<Bound, NoMemory>
+) -> Result<RowBound, NoMemory>
     ensures { IfOk result (λ bound. bound
         ≡ (edge, end_values (map json_view equal.now) (option_map (λ l. limit_seen l.now) limit.entry))) }
 {

@@ -15,7 +15,7 @@ use crate::error::Merged;
 use crate::form::Form;
 use crate::leaf::{Leaf, SharedLeaf};
 use crate::leaf_list::{add_leaf, copy_leaves, unleaf};
-use crate::links::Known;
+use crate::links::KnownLinks;
 use crate::revision::Rev;
 use mg_value::{Json, NoMemory};
 use std::alloc::Global;
@@ -25,7 +25,7 @@ use std::{mem, slice};
 /// The known revisions of a tree, and its leaves, best first.
 #[derive(Drop)]
 pub(crate) struct Grown {
-    pub(crate) links: Known,
+    pub(crate) links: KnownLinks,
     pub(crate) leaves: Vec<SharedLeaf>,
 }
 
@@ -45,7 +45,7 @@ impl Grown {
         ensures { StandsFor result [] }
     {
         Grown {
-            links: Known::new(alloc),
+            links: KnownLinks::new(alloc),
             leaves: Vec::new(alloc),
         }
     }
@@ -61,7 +61,7 @@ impl Grown {
     }
 
     /// The lists of a tree of one leaf with these known revisions.
-    pub fn of_line(alloc: Global, leaf: &SharedLeaf, known: &Known) -> Result<Grown, NoMemory>
+    pub fn of_line(alloc: Global, leaf: &SharedLeaf, known: &KnownLinks) -> Result<Grown, NoMemory>
         ensures { IfOk result (λ grown. grown ≡ line_tree known.now leaf.now) }
     {
         Ok(Grown {
@@ -75,13 +75,13 @@ impl Grown {
         ensures { IfOk result (λ grown. grown ≡ line_tree [] leaf.now) }
     {
         Ok(Grown {
-            links: Known::new(alloc),
+            links: KnownLinks::new(alloc),
             leaves: leaves_of(alloc, leaf)?,
         })
     }
 
     /// Swaps the known revisions of these lists with `known`. Takes no memory.
-    pub fn exchange(&mut self, known: &mut Known)
+    pub fn exchange(&mut self, known: &mut KnownLinks)
         ensures given { self.new ≡ record self.old { links = known.old } }
         ensures taken { known.new ≡ self.old.links }
     {
@@ -149,10 +149,10 @@ impl Grown {
 }
 
 // The known revisions of a tree that has this one alone.
-fn links_of(alloc: Global, rev: &Rev) -> Result<Known, NoMemory>
+fn links_of(alloc: Global, rev: &Rev) -> Result<KnownLinks, NoMemory>
     ensures { IfOk result (λ known. AreNodes known (links (rev.now ∷ []))) }
 {
-    let mut known = Known::new(alloc);
+    let mut known = KnownLinks::new(alloc);
     known.join(rev.pos, slice::from_ref(&rev.id))?;
     Ok(known)
 }

@@ -13,7 +13,7 @@ use crate::error::Merged;
 use crate::form::Form;
 use crate::grown::{Grown, only_leaf};
 use crate::leaf::{Leaf, SharedLeaf};
-use crate::links::Known;
+use crate::links::KnownLinks;
 use crate::pair::Pair;
 use crate::revision::Rev;
 use mg_value::{Json, NoMemory};
@@ -31,7 +31,7 @@ pub(crate) enum Growth {
     // the leaf and its parent, which has no known parent
     Pair(Pair),
     // one leaf, and all known revisions: the tree of an edited document that never had a second leaf
-    Line(SharedLeaf, Box<Known>),
+    Line(SharedLeaf, Box<KnownLinks>),
     // all known revisions, and a list of the leaves
     Grown(Box<Grown>),
 }
@@ -224,7 +224,7 @@ impl Growth {
 }
 
 // A copy of known revisions.
-fn copy_boxed(alloc: Global, known: &Known) -> Result<Box<Known>, NoMemory>
+fn copy_boxed(alloc: Global, known: &KnownLinks) -> Result<Box<KnownLinks>, NoMemory>
     ensures { IfOk result (λ copy. copy.value ≡ known.now) }
 {
     Ok(Box::new(alloc, known.copy(alloc)?)?)
@@ -250,7 +250,7 @@ fn growth_of(alloc: Global, grown: Grown) -> Result<Growth, NoMemory>
 fn accept_on_line(
     alloc: Global,
     leaf: &mut SharedLeaf,
-    known: &mut Known,
+    known: &mut KnownLinks,
     start: u32,
     ids: &[String],
     deleted: bool,

@@ -114,7 +114,7 @@ pub fn lent_leaves(alloc: Global, leaves: &[SharedLeaf]) -> Result<Vec<&Leaf>, N
 }
 
 /// The leaves that are not deleted. If there are none, no memory is needed.
-pub fn kept_among(alloc: Global, leaves: &[SharedLeaf]) -> Result<Vec<&Leaf>, NoMemory>
+pub fn undeleted_among(alloc: Global, leaves: &[SharedLeaf]) -> Result<Vec<&Leaf>, NoMemory>
     ensures kept { IfOk result
         (λ found. map (λ l. l.now) found.items ≡ filter (λ l. not l.deleted) leaves.now) }
     ensures none { filter (λ l. not l.deleted) leaves.now ≡ [] → IsOk result }

@@ -10,5 +10,5 @@ mod pair;
 mod parts;
 mod room;
 
-pub(crate) use known::Known;
+pub(crate) use known::KnownLinks;
 pub(crate) use lookup::{LookUp, all_agree, all_held};

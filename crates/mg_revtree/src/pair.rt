@@ -10,7 +10,7 @@ ghost use Rattle.mg_revtree.specs.Tree.{AreNodes, find};
 use crate::form::Form;
 use crate::grown::{Grown, leaves_of};
 use crate::leaf::SharedLeaf;
-use crate::links::{Known, LookUp, all_agree, all_held};
+use crate::links::{KnownLinks, LookUp, all_agree, all_held};
 use crate::revision::Rev;
 use mg_value::NoMemory;
 use std::alloc::Global;
@@ -45,7 +45,11 @@ impl Model for Pair {
 
 impl Pair {
     /// The pair of a leaf and its parent, if these are the known revisions, and the parent's id has 32 bytes.
-    pub fn of(alloc: Global, leaf: &SharedLeaf, known: &Known) -> Result<Option<Pair>, NoMemory>
+    pub fn of(
+        alloc: Global,
+        leaf: &SharedLeaf,
+        known: &KnownLinks,
+    ) -> Result<Option<Pair>, NoMemory>
         ensures { IfOk result (λ found. IfSome found (λ pair. pair ≡ line_tree known.now leaf.now)) }
     {
         match parent_of(alloc, &leaf.leaf().rev, known)? {
@@ -111,14 +115,14 @@ impl Pair {
     pub fn in_lists(&self, alloc: Global) -> Result<Grown, NoMemory>
         ensures { IfOk result (λ grown. grown ≡ self.now) }
     {
-        let links = Known::of_pair(alloc, &self.leaf.leaf().rev, self.parent.as_slice())?;
+        let links = KnownLinks::of_pair(alloc, &self.leaf.leaf().rev, self.parent.as_slice())?;
         let leaves = leaves_of(alloc, &self.leaf)?;
         Ok(Grown { links, leaves })
     }
 }
 
 impl LookUp for Pair {
-    ghost kept = { λ pair. pair.links };
+    ghost known_links = { λ pair. pair.links };
 
     fn look_up_parent(&self, pos: u32, id: &[u8]) -> Option<Option<&[u8]>> {
         let rev = &self.leaf.leaf().rev;
@@ -135,7 +139,11 @@ impl LookUp for Pair {
 }
 
 // The id of a revision's parent, if the known revisions are these two, and the id has 32 bytes.
-fn parent_of(alloc: Global, rev: &Rev, known: &Known) -> Result<Option<Box<[u8; 32]>>, NoMemory>
+fn parent_of(
+    alloc: Global,
+    rev: &Rev,
+    known: &KnownLinks,
+) -> Result<Option<Box<[u8; 32]>>, NoMemory>
     ensures { IfOk result (λ found. IfSome found
         (λ parent. (0 < rev.now.0) × (known.now ≡ pair_links rev.now parent.value))) }
 {

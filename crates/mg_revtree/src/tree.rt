@@ -14,7 +14,7 @@ use crate::form::Form;
 use crate::growth::Growth;
 use crate::history::History;
 use crate::leaf::{Leaf, SharedLeaf};
-use crate::leaf_list::{is_leaf, kept_among, lent_leaves};
+use crate::leaf_list::{is_leaf, lent_leaves, undeleted_among};
 use crate::revision::Rev;
 use mg_value::{Json, NoMemory};
 use std::alloc::Global;
@@ -130,7 +130,7 @@ impl RevTree {
         if leaves.is_empty() {
             return Ok(Vec::new(self.alloc));
         }
-        Ok(kept_among(self.alloc, &leaves[1..])?)
+        Ok(undeleted_among(self.alloc, &leaves[1..])?)
     }
 
     /// A copy of the tree. It shares the leaves with their bodies, and the older known revisions.

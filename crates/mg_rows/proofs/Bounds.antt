@@ -6,7 +6,7 @@ use Rattle.mg_collate.specs.Order.{value_order, items_order}
 use Rattle.mg_collate.specs.Row.{RowValue}
 use Rattle.mg_collate.proofs.Flat.{items_order-item, items_order-above}
 use Rattle.mg_value.specs.Value.{Items, no_items, item}
-use Rattle.mg_rows.specs.Bound.{first_columns, edge_order, edge_bytes, bound_order}
+use Rattle.mg_rows.specs.RowBound.{first_columns, edge_order, edge_bytes, bound_order}
 use Rattle.mg_rows.specs.Bytes.{bytes_order, text_before, value_before, items_before, columns_before, row_bytes}
 use Rattle.mg_rows.specs.Laws.{joined_items}
 use Rattle.mg_value.specs.Stored.{AreStored}

@@ -8,7 +8,7 @@ use Rattle.mg_collate.specs.Row.{RowValue}
 use Rattle.mg_rows.specs.Bytes.{bytes_order, big_endian, sign_turned, text_before, value_before, items_before, members_before, columns_before, row_bytes}
 use Rattle.mg_value.specs.Stored.{IsStored, AreStored}
 use Rattle.mg_rows.specs.Stored.{IsKey, IsRow}
-use Rattle.mg_rows.specs.Bound.{IsBound, edge_bytes}
+use Rattle.mg_rows.specs.RowBound.{IsRowBound, edge_bytes}
 use Rattle.mg_rows.specs.Laws.{joined_items}
 use Rattle.mg_rows.specs.declared.edge.Edge.{Edge}
 
@@ -96,7 +96,7 @@ more_stored (item w vs) v h k = (h.0, more_stored vs v h.1 k)
 pub made_key : (old new : List ℕ) (key : Items) (v : Value) → IsKey old key → IsStored v → new ≡ old ++ value_before v [] → IsKey new (joined_items key (item v no_items))
 made_key old new key v h k e = (more_stored key v h.0 k, e ∙ ap (λ s. s ++ value_before v []) h.1 ∙ sym (columns_append key [] (value_before v [])) ∙ sym (columns_more key v []))
 
-pub made_place : (bytes columns : List ℕ) (edge : Edge) (key : Items) → IsKey columns key → bytes ≡ columns ++ edge_bytes edge → IsBound edge bytes key
+pub made_place : (bytes columns : List ℕ) (edge : Edge) (key : Items) → IsKey columns key → bytes ≡ columns ++ edge_bytes edge → IsRowBound edge bytes key
 made_place bytes columns edge key h e = (h.0, e ∙ ap (λ s. s ++ edge_bytes edge) h.1 ∙ sym (columns_append key [] (edge_bytes edge)))
 
 -- ---- rows

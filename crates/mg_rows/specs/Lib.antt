@@ -1,6 +1,6 @@
 pub mod Bytes
 pub mod Stored
-pub mod Bound
+pub mod RowBound
 pub mod Code
 pub mod Only
 pub mod Split

@@ -13,7 +13,7 @@ use Rattle.mg_collate.proofs.Ties.{both, same, same_items, same_rows, same_text}
 use Rattle.mg_rows.specs.Bytes.{bytes_order, value_before, items_before, columns_before, row_bytes, row_parts}
 use Rattle.mg_value.specs.Stored.{IsStored, AreStored, MembersAreStored}
 use Rattle.mg_rows.specs.Stored.{IsStoredRow, IsKey, IsRow}
-use Rattle.mg_rows.specs.Bound.{IsBound, edge_bytes}
+use Rattle.mg_rows.specs.RowBound.{IsRowBound, edge_bytes}
 use Rattle.mg_rows.specs.Ranked.{value_cmp, items_cmp, row_cmp}
 use Rattle.mg_rows.specs.declared.edge.Edge.{Edge}
 use Rattle.mg_rows.specs.declared.edge.Edge.TheVariants.{Before, After}
@@ -28,7 +28,7 @@ KeyOf bytes = (key : Items) × IsKey bytes key
 
 -- the place whose bytes these are
 abbrev pub PlaceOf : List ℕ → Type 0
-PlaceOf bytes = (place : Edge × Items) × IsBound place.0 bytes place.1
+PlaceOf bytes = (place : Edge × Items) × IsRowBound place.0 bytes place.1
 
 -- ---- what is known of stored values has at most one proof
 
@@ -65,8 +65,8 @@ IsRow-prop parts row = ×_prop (×_prop (AreStored-prop row.0) (utf8_prop row.1)
 pub IsKey-prop : (bytes : List ℕ) (key : Items) → IsProp (IsKey bytes key)
 IsKey-prop bytes key = ×_prop (AreStored-prop key) (bytes_prop bytes _)
 
-pub IsBound-prop : (bytes : List ℕ) (place : Edge × Items) → IsProp (IsBound place.0 bytes place.1)
-IsBound-prop bytes place = ×_prop (AreStored-prop place.1) (bytes_prop bytes (columns_before place.1 (edge_bytes place.0)))
+pub IsRowBound-prop : (bytes : List ℕ) (place : Edge × Items) → IsProp (IsRowBound place.0 bytes place.1)
+IsRowBound-prop bytes place = ×_prop (AreStored-prop place.1) (bytes_prop bytes (columns_before place.1 (edge_bytes place.0)))
 
 -- ---- bytes are those of one value
 
@@ -132,7 +132,7 @@ one_end e f (item v vs) (item w ws) g h k =
     let q = one_end e f vs ws g.1 h.1 p.1 in
     (q.0, ap₂ item p.0 q.1)
 
-pub one_place : (bytes : List ℕ) (a b : Edge × Items) → IsBound a.0 bytes a.1 → IsBound b.0 bytes b.1 → a ≡ b
+pub one_place : (bytes : List ℕ) (a b : Edge × Items) → IsRowBound a.0 bytes a.1 → IsRowBound b.0 bytes b.1 → a ≡ b
 one_place bytes a b f g = let p = one_end a.0 b.0 a.1 b.1 f.0 g.0 (sym f.1 ∙ g.1) in ap₂ (λ e vs. (e, vs)) p.0 p.1
 
 pub one_key : (bytes : List ℕ) (a b : Items) → IsKey bytes a → IsKey bytes b → a ≡ b
@@ -150,7 +150,7 @@ KeyOf-prop bytes = λ x y. Σ_prop_path (IsKey-prop bytes) (one_key bytes x.0 y.
 
 -- bytes are those of at most one place
 pub PlaceOf-prop : (bytes : List ℕ) → IsProp (PlaceOf bytes)
-PlaceOf-prop bytes = λ x y. Σ_prop_path (IsBound-prop bytes) (one_place bytes x.0 y.0 x.1 y.1)
+PlaceOf-prop bytes = λ x y. Σ_prop_path (IsRowBound-prop bytes) (one_place bytes x.0 y.0 x.1 y.1)
 
 -- ---- the ghost fields hold what the bytes are known to stand for
 
@@ -160,5 +160,5 @@ the_row parts kept row h = one_row_of_parts parts kept.0 row kept.1 h
 pub the_key : (bytes : List ℕ) (kept : KeyOf bytes) (key : Items) → IsKey bytes key → kept.0 ≡ key
 the_key bytes kept key h = one_key bytes kept.0 key kept.1 h
 
-pub the_place : (bytes : List ℕ) (kept : PlaceOf bytes) (place : Edge × Items) → IsBound place.0 bytes place.1 → kept.0 ≡ place
+pub the_place : (bytes : List ℕ) (kept : PlaceOf bytes) (place : Edge × Items) → IsRowBound place.0 bytes place.1 → kept.0 ≡ place
 the_place bytes kept place h = one_place bytes kept.0 place kept.1 h

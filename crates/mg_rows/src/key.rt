@@ -1,8 +1,8 @@
 ghost use Rattle.mg_rows.specs.Only.{KeyOf, KeyOf-prop};
 
-use crate::bound::Bound;
 use crate::edge::Edge;
 use crate::row::RowBytes;
+use crate::row_bound::RowBound;
 use crate::write::write_column;
 use mg_value::{LentValue, NoMemory};
 use std::alloc::Global;
@@ -73,9 +73,9 @@ impl KeyBytes {
     /// The place before or after all rows whose key begins with these columns, made of the key's own bytes.
     ///
     /// Errors: `NoMemory` if an allocation fails. Cost: constant, unless the bytes have to move to gain one more.
-    pub fn into_bound(self, edge: Edge) -> Result<Bound, NoMemory>
+    pub fn into_bound(self, edge: Edge) -> Result<RowBound, NoMemory>
         ensures { IfOk result (λ bound. bound ≡ (edge, self)) }
     {
-        Bound::of_bytes(self.bytes, edge)
+        RowBound::of_bytes(self.bytes, edge)
     }
 }

@@ -1,7 +1,6 @@
 //! Rows of an index as bytes, whose order is the order of rows.
 #![tactic(auto)]
 
-mod bound;
 mod edge;
 mod element;
 mod error;
@@ -11,11 +10,12 @@ mod key;
 pub mod laws;
 mod read;
 mod row;
+mod row_bound;
 mod split;
 mod write;
 
-pub use bound::Bound;
 pub use edge::Edge;
 pub use hint::value_hint;
 pub use key::KeyBytes;
 pub use row::RowBytes;
+pub use row_bound::RowBound;

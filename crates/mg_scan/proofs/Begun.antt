@@ -7,16 +7,16 @@ use Rattle.mg_collate.specs.Sorted.{sorted_with, sorted}
 use Rattle.mg_index.specs.Definition.{IndexDefinition, Steps}
 use Rattle.mg_scan.specs.Begun.{IsBegunIn}
 use Rattle.mg_scan.specs.Hit.{IsHitOf}
-use Rattle.mg_scan.specs.Lead.{AreServed, IsLeadLeft, IsLeadOf, lead_rows, rows_on_way, unasked}
+use Rattle.mg_scan.specs.Lead.{AreServed, IsLeadUnread, IsLeadOf, lead_rows, rows_on_way, unasked}
 use Rattle.mg_scan.specs.Scan.{all_scanned}
 use Rattle.mg_scan.specs.Search.{search_input}
 use Rattle.mg_scan.specs.Way.{begin_at, walked_all_by}
-use Rattle.mg_scan.specs.Sourced.{IsLeft, left_rows}
+use Rattle.mg_scan.specs.Sourced.{IsUnread, left_rows}
 use Rattle.mg_scan.specs.Walked.{id_row, is_late_row}
 use Rattle.mg_scan.specs.declared.hit.Hit.{Hit}
 use Rattle.mg_scan.specs.declared.lead.Lead.{Lead}
-use Rattle.mg_scan.specs.declared.left.Left.{Left}
-use Rattle.mg_scan.specs.declared.left.Left.TheVariants as left
+use Rattle.mg_scan.specs.declared.left.Unread.{Unread}
+use Rattle.mg_scan.specs.declared.left.Unread.TheVariants as left
 use Rattle.mg_scan.specs.declared.search.Search.{Search}
 use Rattle.mg_scan.proofs.Entries.{all_beyond, all_forms}
 use Rattle.mg_scan.proofs.Found.{all_owned}
@@ -44,7 +44,7 @@ none_begun s ds (Some d) e = absurd cc
 -- ---- hits
 
 -- all that is found on the way from there is all that there is
-pub begun_hits : (at : Option (List Steps)) (s : Search) (shard : ShardView) (l : Left) → IsBegunIn at s shard l
+pub begun_hits : (at : Option (List Steps)) (s : Search) (shard : ShardView) (l : Unread) → IsBegunIn at s shard l
     → left_rows s shard l ≡ option_map_or (λ columns. all_scanned (search_input s columns) (docs_of shard.documents)) at []
 begun_hits at s shard (left.Rows rows) b =
     let ds = shard.documents in
@@ -55,7 +55,7 @@ begun_hits at s shard (left.Documents documents) b =
     ∙ ap (λ o. option_map_or (λ columns. all_scanned (search_input s columns) (docs_of ds)) o []) (sym b.0)
 begun_hits at s shard left.Nothing b = ap (λ o. option_map_or (λ columns. all_scanned (search_input s columns) (docs_of shard.documents)) o []) (sym b)
 
-pub begun_lent : (at : Option (List Steps)) (s : Search) (shard : ShardView) (l : Left) → IsBegunIn at s shard l → (h : Hit) → IsLeft shard l h → IsHitOf shard.documents h
+pub begun_lent : (at : Option (List Steps)) (s : Search) (shard : ShardView) (l : Unread) → IsBegunIn at s shard l → (h : Hit) → IsUnread shard l h → IsHitOf shard.documents h
 begun_lent at s shard (left.Rows rows) b h lent = lent
 begun_lent at s shard (left.Documents documents) b h lent = lent (all_owned shard.documents s.direction (λ e. begin_at s (id_row e.0)) documents b.1.begun)
 begun_lent at s shard left.Nothing b h lent = lent
@@ -107,7 +107,7 @@ on_way s ds (r ∷ rows) h =
     held_step s ds r (is_late_row s.direction s.range.now r) (rows_on_way s rows) (walked_all_by (unasked s) ds rows) (form_at ds r.1) refl h.0 (on_way s ds rows h.1)
 
 -- all rows on the way from there are all that there are, where nothing is asked of documents
-pub begun_leads : (at : Option (List Steps)) (s : Search) (shard : ShardView) (l : Left) → IsBegunIn at s shard l
+pub begun_leads : (at : Option (List Steps)) (s : Search) (shard : ShardView) (l : Unread) → IsBegunIn at s shard l
     → lead_rows s l ≡ option_map_or (λ columns. all_scanned (search_input (unasked s) columns) (docs_of shard.documents)) at []
 begun_leads at s shard (left.Rows rows) b =
     on_way s shard.documents rows (served_begun s shard.documents b.0 rows b.2) ∙ begun_hits at (unasked s) shard (left.Rows rows) b
@@ -115,7 +115,7 @@ begun_leads at s shard (left.Documents documents) b =
     begun_hits at (unasked s) shard (left.Documents documents) (b.0, record { own = b.1.own; begun = b.1.begun })
 begun_leads at s shard left.Nothing b = begun_hits at (unasked s) shard left.Nothing b
 
-pub begun_led : (at : Option (List Steps)) (s : Search) (shard : ShardView) (l : Left) → IsBegunIn at s shard l → (lead : Lead) → IsLeadLeft shard l lead → IsLeadOf shard lead
+pub begun_led : (at : Option (List Steps)) (s : Search) (shard : ShardView) (l : Unread) → IsBegunIn at s shard l → (lead : Lead) → IsLeadUnread shard l lead → IsLeadOf shard lead
 begun_led at s shard (left.Rows rows) b lead lent = lent (served_begun s shard.documents b.0 rows b.2)
 begun_led at s shard (left.Documents documents) b lead lent = lent (all_owned shard.documents s.direction (λ e. begin_at s (id_row e.0)) documents b.1.begun)
 begun_led at s shard left.Nothing b lead lent = lent

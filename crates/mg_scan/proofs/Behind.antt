@@ -18,14 +18,14 @@ use Rattle.mg_merge.specs.Merged.{merged}
 use Rattle.mg_merge.specs.Pulled.{IsGivenBy}
 use Rattle.mg_scan.specs.Begun.{IsBegunIn, IsBehind}
 use Rattle.mg_scan.specs.Decided.{IsDecidedIn}
-use Rattle.mg_scan.specs.Lead.{AreLeadsIn, IsLeadIn, IsLeadLeft, IsLeadOf, IsLeadSourceBehind, lead_rows, unasked}
+use Rattle.mg_scan.specs.Lead.{AreLeadsIn, IsLeadIn, IsLeadUnread, IsLeadOf, IsLeadSourceBehind, lead_rows, unasked}
 use Rattle.mg_scan.specs.Search.{search_input, found_by}
 use Rattle.mg_scan.specs.Way.{all_found_by}
 use Rattle.mg_scan.specs.Walked.{is_late_row, walked_all}
 use Rattle.mg_scan.specs.declared.lead.Lead.{Lead}
 use Rattle.mg_scan.specs.declared.lead_source.LeadSource.{LeadSource}
-use Rattle.mg_scan.specs.declared.left.Left.{Left}
-use Rattle.mg_scan.specs.declared.left.Left.TheVariants as left
+use Rattle.mg_scan.specs.declared.left.Unread.{Unread}
+use Rattle.mg_scan.specs.declared.left.Unread.TheVariants as left
 use Rattle.mg_scan.specs.declared.search.Search.{Search}
 use Rattle.mg_scan.proofs.Begun.{begun_led, served_begun}
 use Rattle.mg_scan.proofs.Decided.{all_alike}
@@ -85,7 +85,7 @@ nothing_behind zero = refl
 nothing_behind (suc n) = refl
 
 -- behind the first rows that are read are those behind the first that are found
-pub behind_rows : (at : Option (List Steps)) (s : Search) (shard : ShardView) (n : ℕ) (l m : Left) → IsBegunIn at s shard l → IsBehind n l m → lead_rows s m ≡ drop n (lead_rows s l)
+pub behind_rows : (at : Option (List Steps)) (s : Search) (shard : ShardView) (n : ℕ) (l m : Unread) → IsBegunIn at s shard l → IsBehind n l m → lead_rows s m ≡ drop n (lead_rows s l)
 behind_rows at s shard n (left.Rows rows) m b e =
     let ds = shard.documents in
     ap (lead_rows s) e
@@ -94,13 +94,13 @@ behind_rows at s shard n (left.Documents documents) m b e =
     ap (lead_rows s) e.1 ∙ sym (ap (λ k. drop k (lead_rows s (left.Documents documents))) e.0)
 behind_rows at s shard n left.Nothing m b e = ap (lead_rows s) e ∙ nothing_behind n
 
-pub behind_led : (at : Option (List Steps)) (s : Search) (shard : ShardView) (n : ℕ) (l m : Left) → IsBegunIn at s shard l → IsBehind n l m → (lead : Lead) → IsLeadLeft shard m lead → IsLeadOf shard lead
+pub behind_led : (at : Option (List Steps)) (s : Search) (shard : ShardView) (n : ℕ) (l m : Unread) → IsBegunIn at s shard l → IsBehind n l m → (lead : Lead) → IsLeadUnread shard m lead → IsLeadOf shard lead
 behind_led at s shard n (left.Rows rows) m b e lead lent =
     let served = served_begun s shard.documents b.0 rows b.2 in
     let kept = all_dropped _ n rows served in
-    subst (λ (x : Left). IsLeadLeft shard x lead) e lent kept
-behind_led at s shard n (left.Documents documents) m b e lead lent = begun_led at s shard (left.Documents documents) b lead (subst (λ (x : Left). IsLeadLeft shard x lead) e.1 lent)
-behind_led at s shard n left.Nothing m b e lead lent = begun_led at s shard left.Nothing b lead (subst (λ (x : Left). IsLeadLeft shard x lead) e lent)
+    subst (λ (x : Unread). IsLeadUnread shard x lead) e lent kept
+behind_led at s shard n (left.Documents documents) m b e lead lent = begun_led at s shard (left.Documents documents) b lead (subst (λ (x : Unread). IsLeadUnread shard x lead) e.1 lent)
+behind_led at s shard n left.Nothing m b e lead lent = begun_led at s shard left.Nothing b lead (subst (λ (x : Unread). IsLeadUnread shard x lead) e lent)
 
 -- ---- one shard
 
@@ -136,7 +136,7 @@ module _ (s : Search) (n : ℕ) (shard : ShardView) (source : LeadSource) (is : 
       ∙ sym (found_merged (unasked s) (shard ∷ [])) ∙ merged_one s.direction s.take all all_rises in
       ap (drop more) here ∙ drop-drop more n (take s.take all) ∙ ap (λ k. drop k (take s.take all)) sum ∙ ap (drop skip) (sym there)
 
-  pub one_given : (leads : List Lead) → All (IsGivenBy (λ x. IsLeadLeft x.shard.now x.left) (source ∷ [])) leads → AreLeadsIn (shard ∷ []) leads
+  pub one_given : (leads : List Lead) → All (IsGivenBy (λ x. IsLeadUnread x.shard.now x.left) (source ∷ [])) leads → AreLeadsIn (shard ∷ []) leads
   one_given leads given =
       all_weaker (InOneOf IsLeadOf (shard ∷ [])) (IsLeadIn (shard ∷ [])) (λ lead here. record { place = here.0; shard = here.1; there = here.2; lead = here.3 }) leads
-      (all_given (IsLeadSourceBehind n s) (λ x. IsLeadLeft x.shard.now x.left) IsLeadOf (λ t x here. here.leads) (shard ∷ []) (source ∷ []) (is, tt) leads given)
+      (all_given (IsLeadSourceBehind n s) (λ x. IsLeadUnread x.shard.now x.left) IsLeadOf (λ t x here. here.leads) (shard ∷ []) (source ∷ []) (is, tt) leads given)

@@ -7,8 +7,8 @@ use Rattle.mg_scan.specs.Begun.{IsBegunIn, IsBehind}
 use Rattle.mg_scan.specs.RangeEnd.{AreBeforeEnd, EndsOnce, index_rows, is_past_at}
 use Rattle.mg_scan.specs.Search.{search_input}
 use Rattle.mg_scan.specs.Walked.{is_late_row}
-use Rattle.mg_scan.specs.declared.left.Left.{Left}
-use Rattle.mg_scan.specs.declared.left.Left.TheVariants as left
+use Rattle.mg_scan.specs.declared.left.Unread.{Unread}
+use Rattle.mg_scan.specs.declared.left.Unread.TheVariants as left
 use Rattle.mg_scan.specs.declared.search.Search.{Search}
 use Rattle.mg_scan.proofs.Entries.{all_forms}
 use Rattle.mg_scan.proofs.Walking.{LateLast, late_rows}
@@ -56,13 +56,13 @@ ends_behind s (suc n) (r ∷ rows) h = ends_behind s n rows (ends_on s r rows h)
 -- ---- rows that are left of an index
 
 -- from where a search begins
-pub begun_ends : (at : Option (List Steps)) (s : Search) (shard : ShardView) (l : Left) → IsBegunIn at s shard l → EndsOnce s (index_rows l)
+pub begun_ends : (at : Option (List Steps)) (s : Search) (shard : ShardView) (l : Unread) → IsBegunIn at s shard l → EndsOnce s (index_rows l)
 begun_ends at s shard (left.Rows rows) b = ends_once s rows (late_rows (search_input s b.0) shard.documents rows (all_forms shard.documents) b.2)
 begun_ends at s shard (left.Documents documents) b = λ i j le e. refl
 begun_ends at s shard left.Nothing b = λ i j le e. refl
 
 -- behind the first n rows
-pub behind_ends : (s : Search) (n : ℕ) (l m : Left) → IsBehind n l m → EndsOnce s (index_rows l) → EndsOnce s (index_rows m)
-behind_ends s n (left.Rows rows) m e h = subst (λ (x : Left). EndsOnce s (index_rows x)) (sym e) (ends_behind s n rows h)
-behind_ends s n (left.Documents documents) m e h = subst (λ (x : Left). EndsOnce s (index_rows x)) (sym e.1) h
-behind_ends s n left.Nothing m e h = subst (λ (x : Left). EndsOnce s (index_rows x)) (sym e) h
+pub behind_ends : (s : Search) (n : ℕ) (l m : Unread) → IsBehind n l m → EndsOnce s (index_rows l) → EndsOnce s (index_rows m)
+behind_ends s n (left.Rows rows) m e h = subst (λ (x : Unread). EndsOnce s (index_rows x)) (sym e) (ends_behind s n rows h)
+behind_ends s n (left.Documents documents) m e h = subst (λ (x : Unread). EndsOnce s (index_rows x)) (sym e.1) h
+behind_ends s n left.Nothing m e h = subst (λ (x : Unread). EndsOnce s (index_rows x)) (sym e) h

@@ -14,7 +14,7 @@ use Rattle.mg_scan.specs.Scan.{scanned}
 use Rattle.mg_scan.specs.Search.{search_input}
 use Rattle.mg_scan.specs.Way.{begin_at, entry_rows, walked_by}
 use Rattle.mg_scan.specs.Walked.{id_row}
-use Rattle.mg_scan.specs.Worked.{Gives}
+use Rattle.mg_scan.specs.Worked.{AreHitsFound}
 use Rattle.mg_scan.specs.declared.hit.Hit.{Hit}
 use Rattle.mg_scan.specs.declared.search.Search.{Search}
 use Rattle.mg_scan.specs.declared.target.Target.TheVariants.{AllDocs, Index}
@@ -43,7 +43,7 @@ all_found s ds es own is =
     ∙ ap (walked_by s ds s.take) (rows-beyond s.direction (begin_at s) (entries ds) (own_rows ds own) ∙ ap (beyond s.direction (begin_at s)) (all_rows ds own))
     ∙ found_rows (search_input s all_columns) ds (beyond s.direction (begin_at s) (rows_of all_columns (docs_of ds))) (all_forms ds) refl
 
-pub gives_all : (s : Search) (shard : ShardView) (hits : List Hit) → s.target ≡ AllDocs → hit_rows hits ≡ scanned (search_input s all_columns) (docs_of shard.documents) → AreHitsOf shard.documents hits → Gives s shard hits
+pub gives_all : (s : Search) (shard : ShardView) (hits : List Hit) → s.target ≡ AllDocs → hit_rows hits ≡ scanned (search_input s all_columns) (docs_of shard.documents) → AreHitsOf shard.documents hits → AreHitsFound s shard hits
 gives_all s shard hits e is documents = record { rows = is ∙ ap (λ t. found_in t (search_input s) shard) (sym e); documents = documents }
 
 -- ---- an index
@@ -68,7 +68,7 @@ or_map f (Some d) = refl
 
 pub gives_index : (s : Search) (shard : ShardView) (hits : List Hit) (ddoc name : Bor (List ℕ)) → s.target ≡ Index ddoc name
     → hit_rows hits ≡ option_map_or (λ d. scanned (search_input s d.columns) (docs_of shard.documents)) (definition_at ddoc.now name.now shard.definitions) [] → AreHitsOf shard.documents hits
-    → Gives s shard hits
+    → AreHitsFound s shard hits
 gives_index s shard hits ddoc name e is documents =
     record {
       rows = is ∙ or_map (λ columns. scanned (search_input s columns) (docs_of shard.documents)) (definition_at ddoc.now name.now shard.definitions) ∙ ap (λ t. found_in t (search_input s) shard) (sym e);

@@ -11,7 +11,7 @@ use Rattle.mg_merge.specs.Pulled.{IsGivenBy}
 use Rattle.mg_normal.specs.Normal.{normal_holds}
 use Rattle.mg_scan.specs.Decided.{IsDecidedIn, everything}
 use Rattle.mg_scan.specs.Hit.{AreHitsIn, IsHitIn, IsHitOf, hit_row, hit_rows}
-use Rattle.mg_scan.specs.Lead.{AreLeadsIn, IsLeadIn, IsLeadLeft, IsLeadOf, IsLeadSourceOf, lead_row, lead_rows, unasked}
+use Rattle.mg_scan.specs.Lead.{AreLeadsIn, IsLeadIn, IsLeadUnread, IsLeadOf, IsLeadSourceOf, lead_row, lead_rows, unasked}
 use Rattle.mg_scan.specs.Search.{found_by}
 use Rattle.mg_scan.specs.Sourced.{walked_on}
 use Rattle.mg_scan.specs.Walked.{list_of_option}
@@ -72,10 +72,10 @@ leads_merged s shards sources h decided =
 
 -- what the sources give are leads in the shards
 pub leads_given : (s : Search) (shards : List ShardView) (sources : List LeadSource) → AllZip (IsLeadSourceOf s) shards sources → (leads : List Lead)
-    → All (IsGivenBy (λ x. IsLeadLeft x.shard.now x.left) sources) leads → AreLeadsIn shards leads
+    → All (IsGivenBy (λ x. IsLeadUnread x.shard.now x.left) sources) leads → AreLeadsIn shards leads
 leads_given s shards sources h leads given =
     all_weaker (InOneOf IsLeadOf shards) (IsLeadIn shards) (λ lead is. record { place = is.0; shard = is.1; there = is.2; lead = is.3 }) leads
-    (all_given (IsLeadSourceOf s) (λ x. IsLeadLeft x.shard.now x.left) IsLeadOf (λ shard x is. is.leads) shards sources h leads given)
+    (all_given (IsLeadSourceOf s) (λ x. IsLeadUnread x.shard.now x.left) IsLeadOf (λ shard x is. is.leads) shards sources h leads given)
 
 lead_at : (shards : List ShardView) (leads : List Lead) (i : ℕ) (lead : Lead) → AreLeadsIn shards leads → i < length leads → lead ≡ get_or leads i lead → IsLeadIn shards lead
 lead_at shards [] i lead h less is = absurd (omega arith)

@@ -8,7 +8,7 @@ use Rattle.std.specs.declared.alloc.Global.{Global}
 use Rattle.mg_shard.specs.Shard.{shards_seen, ShardView}
 use Rattle.mg_scan.specs.Hit.{AreHitsOf, hit_rows}
 use Rattle.mg_scan.specs.Search.{found_by}
-use Rattle.mg_scan.specs.Worked.{AllSlots, HitsAnswer, Gives}
+use Rattle.mg_scan.specs.Worked.{AllSlots, HitsAnswer, AreHitsFound}
 use Rattle.mg_scan.specs.declared.hit.Hit.{Hit}
 use Rattle.mg_scan.specs.declared.search.Search.{Search}
 
@@ -22,9 +22,9 @@ some_is x y e = cc
 
 -- the hits of a shard are those of its place
 pub answers : (search : Search) (shards : List (Arc ShardView Global)) (i : ℕ) (a : Arc ShardView Global) (s : ShardView) (hits : List Hit) → i < length shards → a ≡ get_or shards i a → s ≡ arc_value a
-    → Gives search s hits → HitsAnswer search (shards_seen shards) i hits
+    → AreHitsFound search s hits → HitsAnswer search (shards_seen shards) i hits
 answers search shards i a s hits less is same given =
-    record { gives = λ t e. subst (λ (x : ShardView). Gives search x hits) (same ∙ some_is (arc_value a) t (sym (get-map arc_value shards i a less is) ∙ e)) given }
+    record { gives = λ t e. subst (λ (x : ShardView). AreHitsFound search x hits) (same ∙ some_is (arc_value a) t (sym (get-map arc_value shards i a less is) ∙ e)) given }
 
 -- what stands in a list after one place was set: the new value there, else what stood there
 pub get-set : {A : Type 0} (P : ℕ → A → Type 0) (xs : List A) (at : ℕ) (a : A) → P at a → ((i : ℕ) (x : A) → slice_get xs i ≡ Some x → P i x) → (i : ℕ) (x : A) → slice_get (set xs at a) i ≡ Some x → P i x
@@ -73,10 +73,10 @@ zip_more R (x ∷ xs) (z ∷ ys) (suc i) y less h here = (h.0, zip_more R xs ys 
 
 -- the lists so far, and that of one shard more
 pub lists-more : (search : Search) (shards : List (Arc ShardView Global)) (all : List (Vec Hit Global)) (i : ℕ) (v : Vec Hit Global) → i < length shards
-    → AllZip (λ s w. Gives search s w.items) (take i (shards_seen shards)) all → HitsAnswer search (shards_seen shards) i v.items
-    → AllZip (λ s w. Gives search s w.items) (take (i + 1) (shards_seen shards)) (all ++ v ∷ [])
+    → AllZip (λ s w. AreHitsFound search s w.items) (take i (shards_seen shards)) all → HitsAnswer search (shards_seen shards) i v.items
+    → AllZip (λ s w. AreHitsFound search s w.items) (take (i + 1) (shards_seen shards)) (all ++ v ∷ [])
 lists-more search shards all i v less so here =
-    rw add-one (zip_more (λ s (w : Vec Hit Global). Gives search s w.items) (shards_seen shards) all i v (omega (arith, less, length-seen shards)) so here.gives)
+    rw add-one (zip_more (λ s (w : Vec Hit Global). AreHitsFound search s w.items) (shards_seen shards) all i v (omega (arith, less, length-seen shards)) so here.gives)
 
 take_all : {A : Type 0} (xs : List A) (n : ℕ) → n ≡ length xs → take n xs ≡ xs
 take_all [] zero e = refl
@@ -86,16 +86,16 @@ take_all (x ∷ xs) (suc n) e = ap (λ ys. x ∷ ys) (take_all xs n (omega (arit
 
 -- all of them
 pub lists-all : (search : Search) (shards : List (Arc ShardView Global)) (all : List (Vec Hit Global)) (i : ℕ) → i ≡ length shards
-    → AllZip (λ s w. Gives search s w.items) (take i (shards_seen shards)) all → AllZip (λ s w. Gives search s w.items) (shards_seen shards) all
-lists-all search shards all i e h = subst (λ xs. AllZip (λ s (w : Vec Hit Global). Gives search s w.items) xs all) (take_all (shards_seen shards) i (e ∙ sym (length-seen shards))) h
+    → AllZip (λ s w. AreHitsFound search s w.items) (take i (shards_seen shards)) all → AllZip (λ s w. AreHitsFound search s w.items) (shards_seen shards) all
+lists-all search shards all i e h = subst (λ xs. AllZip (λ s (w : Vec Hit Global). AreHitsFound search s w.items) xs all) (take_all (shards_seen shards) i (e ∙ sym (length-seen shards))) h
 
-pub zip_rows : (search : Search) (shards : List ShardView) (all : List (Vec Hit Global)) → AllZip (λ s w. Gives search s w.items) shards all → map (λ w. hit_rows w.items) all ≡ map (found_by search) shards
+pub zip_rows : (search : Search) (shards : List ShardView) (all : List (Vec Hit Global)) → AllZip (λ s w. AreHitsFound search s w.items) shards all → map (λ w. hit_rows w.items) all ≡ map (found_by search) shards
 zip_rows search [] [] h = refl
 zip_rows search [] (v ∷ all) h = absurd h
 zip_rows search (s ∷ shards) [] h = absurd h
 zip_rows search (s ∷ shards) (v ∷ all) h = ap₂ (λ rows lists. rows ∷ lists) h.0.rows (zip_rows search shards all h.1)
 
-pub zip_documents : (search : Search) (shards : List ShardView) (all : List (Vec Hit Global)) → AllZip (λ s w. Gives search s w.items) shards all → AllZip (λ s w. AreHitsOf s.documents w.items) shards all
+pub zip_documents : (search : Search) (shards : List ShardView) (all : List (Vec Hit Global)) → AllZip (λ s w. AreHitsFound search s w.items) shards all → AllZip (λ s w. AreHitsOf s.documents w.items) shards all
 zip_documents search [] [] h = tt
 zip_documents search [] (v ∷ all) h = absurd h
 zip_documents search (s ∷ shards) [] h = absurd h

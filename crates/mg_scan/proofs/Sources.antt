@@ -21,7 +21,7 @@ use Rattle.mg_scan.specs.Hit.{AreHitsIn, IsHitIn, IsHitOf, hit_row}
 use Rattle.mg_scan.specs.Scan.{all_scanned, asked_documents, is_wanted}
 use Rattle.mg_scan.specs.Search.{search_input, found_by}
 use Rattle.mg_scan.specs.Way.{all_found_by, begin_at, entry_rows, walked_all_by}
-use Rattle.mg_scan.specs.Sourced.{AreKept, IsLeft, IsSourceOf, holds_for, left_rows, row_among, walked_documents, walked_on}
+use Rattle.mg_scan.specs.Sourced.{AreKept, IsUnread, IsSourceOf, holds_for, left_rows, row_among, walked_documents, walked_on}
 use Rattle.mg_scan.specs.Walked.{holds_at, id_row, is_late_row}
 use Rattle.mg_scan.specs.declared.hit.Hit.{Hit}
 use Rattle.mg_scan.specs.declared.search.Search.{Search}
@@ -210,7 +210,7 @@ hits_merged s shards sources h = sources_merged s (IsSourceOf s) hit_rests (λ s
 
 -- what they give are hits in the shards
 pub hits_given : (s : Search) (shards : List ShardView) (sources : List HitSource) → AllZip (IsSourceOf s) shards sources → (hits : List Hit)
-    → All (IsGivenBy (λ x. IsLeft x.shard.now x.left) sources) hits → AreHitsIn shards hits
+    → All (IsGivenBy (λ x. IsUnread x.shard.now x.left) sources) hits → AreHitsIn shards hits
 hits_given s shards sources h hits given =
     all_weaker (InOneOf (λ shard. IsHitOf shard.documents) shards) (IsHitIn shards) (λ hit is. record { place = is.0; shard = is.1; there = is.2; hit = is.3 }) hits
-    (all_given (IsSourceOf s) (λ x. IsLeft x.shard.now x.left) (λ shard. IsHitOf shard.documents) (λ shard x is. is.hits) shards sources h hits given)
+    (all_given (IsSourceOf s) (λ x. IsUnread x.shard.now x.left) (λ shard. IsHitOf shard.documents) (λ shard x is. is.hits) shards sources h hits given)

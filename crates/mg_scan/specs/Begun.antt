@@ -5,8 +5,8 @@ use Rattle.mg_index.specs.Definition.{Steps}
 use Rattle.mg_scan.specs.Found.{target_columns}
 use Rattle.mg_scan.specs.Way.{begin_at}
 use Rattle.mg_scan.specs.Walked.{id_row}
-use Rattle.mg_scan.specs.declared.left.Left.{Left}
-use Rattle.mg_scan.specs.declared.left.Left.TheVariants as left
+use Rattle.mg_scan.specs.declared.left.Unread.{Unread}
+use Rattle.mg_scan.specs.declared.left.Unread.TheVariants as left
 use Rattle.mg_scan.specs.declared.search.Search.{Search}
 use Rattle.mg_shard.specs.Documents.{KeptDocuments, docs_of, form_at, kept_entry}
 use Rattle.mg_shard.specs.Own.{HasOwnId, all_columns}
@@ -22,17 +22,17 @@ pub record AreBegun (s : Search) (ds : KeptDocuments) (documents : List Document
   pub begun : map kept_entry documents ≡ beyond s.direction (λ e. begin_at s (id_row e.0)) (entries ds)
 
 -- what is left is all from where the search begins, in these columns, if the shard has them
-abbrev pub IsBegunIn : Option (List Steps) → Search → ShardView → Left → Type 0
+abbrev pub IsBegunIn : Option (List Steps) → Search → ShardView → Unread → Type 0
 IsBegunIn at s shard (left.Rows rows) = (columns : List Steps) × (at ≡ Some columns) × (rows ≡ beyond s.direction (begin_at s) (rows_of columns (docs_of shard.documents)))
 IsBegunIn at s shard (left.Documents documents) = (at ≡ Some all_columns) × AreBegun s shard.documents documents
 IsBegunIn at s shard left.Nothing = at ≡ None
 
 -- what is left is all from where the search begins in its target
-abbrev pub IsBegun : Search → ShardView → Left → Type 0
+abbrev pub IsBegun : Search → ShardView → Unread → Type 0
 IsBegun s shard = IsBegunIn (target_columns s.target shard.definitions) s shard
 
 -- the second is what is left of the first after n rows of an index; of documents none is passed over, so n is 0
-abbrev pub IsBehind : ℕ → Left → Left → Type 0
+abbrev pub IsBehind : ℕ → Unread → Unread → Type 0
 IsBehind n (left.Rows rows) l = l ≡ left.Rows (drop n rows)
 IsBehind n (left.Documents documents) l = (n ≡ 0) × (l ≡ left.Documents documents)
 IsBehind n left.Nothing l = l ≡ left.Nothing

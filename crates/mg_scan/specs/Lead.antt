@@ -9,8 +9,8 @@ use Rattle.mg_scan.specs.Sourced.{AreKept, walked_documents}
 use Rattle.mg_scan.specs.Walked.{is_late_row, walked_all}
 use Rattle.mg_scan.specs.declared.lead.Lead.{Lead}
 use Rattle.mg_scan.specs.declared.lead_source.LeadSource.{LeadSource}
-use Rattle.mg_scan.specs.declared.left.Left.{Left}
-use Rattle.mg_scan.specs.declared.left.Left.TheVariants as left
+use Rattle.mg_scan.specs.declared.left.Unread.{Unread}
+use Rattle.mg_scan.specs.declared.left.Unread.TheVariants as left
 use Rattle.mg_scan.specs.declared.search.Search.{Search}
 use Rattle.mg_shard.specs.Documents.{KeptDocuments, form_at}
 use Rattle.mg_shard.specs.Shard.{ShardView}
@@ -48,23 +48,23 @@ abbrev pub rows_on_way : Search → List RowValue → List RowValue
 rows_on_way s rows = walked_all (is_late_row s.direction s.range.now) (λ r. true) rows
 
 -- the rows of the leads that are still to come
-abbrev pub lead_rows : Search → Left → List RowValue
+abbrev pub lead_rows : Search → Unread → List RowValue
 lead_rows s (left.Rows rows) = rows_on_way s rows
 lead_rows s (left.Documents ds) = walked_documents (unasked s) ds
 lead_rows s left.Nothing = []
 
 -- what each of these is: a lead of the shard, where what is left is of its served documents
-abbrev pub IsLeadLeft : ShardView → Left → Lead → Type 0
-IsLeadLeft shard (left.Rows rows) l = AreServed shard.documents rows → IsLeadOf shard l
-IsLeadLeft shard (left.Documents ds) l = AreKept shard.documents ds → IsLeadOf shard l
-IsLeadLeft shard left.Nothing l = IsLeadOf shard l
+abbrev pub IsLeadUnread : ShardView → Unread → Lead → Type 0
+IsLeadUnread shard (left.Rows rows) l = AreServed shard.documents rows → IsLeadOf shard l
+IsLeadUnread shard (left.Documents ds) l = AreKept shard.documents ds → IsLeadOf shard l
+IsLeadUnread shard left.Nothing l = IsLeadOf shard l
 
 -- a source of all rows in the search's range, whatever their documents
 pub record IsLeadSourceOf (search : Search) (s : ShardView) (source : LeadSource) : Type 0 where
   pub rows : lead_rows source.search source.left ≡ all_found_by (unasked search) s
-  pub leads : (l : Lead) → IsLeadLeft source.shard.now source.left l → IsLeadOf s l
+  pub leads : (l : Lead) → IsLeadUnread source.shard.now source.left l → IsLeadOf s l
 
 -- a source of all rows in the search's range but the first n, whatever their documents
 pub record IsLeadSourceBehind (n : ℕ) (search : Search) (s : ShardView) (source : LeadSource) : Type 0 where
   pub rows : lead_rows source.search source.left ≡ drop n (all_found_by (unasked search) s)
-  pub leads : (l : Lead) → IsLeadLeft source.shard.now source.left l → IsLeadOf s l
+  pub leads : (l : Lead) → IsLeadUnread source.shard.now source.left l → IsLeadOf s l

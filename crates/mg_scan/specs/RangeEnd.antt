@@ -3,8 +3,8 @@ use Rattle.std.specs.Prelude.{◌≡◌, ℕ, ◌<◌, ◌≤◌, Bool, true, fa
 use Rattle.std.specs.Option.{option_map_or}
 use Rattle.mg_collate.specs.Row.{RowValue}
 use Rattle.mg_scan.specs.Walked.{is_late_row}
-use Rattle.mg_scan.specs.declared.left.Left.{Left}
-use Rattle.mg_scan.specs.declared.left.Left.TheVariants as left
+use Rattle.mg_scan.specs.declared.left.Unread.{Unread}
+use Rattle.mg_scan.specs.declared.left.Unread.TheVariants as left
 use Rattle.mg_scan.specs.declared.search.Search.{Search}
 
 -- the row at a place comes after the range; true also where there is no row
@@ -20,7 +20,7 @@ abbrev pub AreBeforeEnd : Search → List RowValue → ℕ → Type 0
 AreBeforeEnd s rows n = (i : ℕ) → i < n → is_past_at s rows i ≡ false
 
 -- the rows of an index that are left
-abbrev pub index_rows : Left → List RowValue
+abbrev pub index_rows : Unread → List RowValue
 index_rows (left.Rows rows) = rows
 index_rows (left.Documents documents) = []
 index_rows left.Nothing = []

@@ -11,13 +11,13 @@ use Rattle.mg_scan.specs.declared.workers.Done.{Done}
 use Rattle.mg_shard.specs.Shard.{ShardView}
 
 -- the hits are what the search finds in the shard, with their documents
-pub record Gives (search : Search) (s : ShardView) (hits : List Hit) : Type 0 where
+pub record AreHitsFound (search : Search) (s : ShardView) (hits : List Hit) : Type 0 where
   pub rows : hit_rows hits ≡ found_by search s
   pub documents : AreHitsOf s.documents hits
 
 -- the hits are what the search finds in the i-th shard
 pub record HitsAnswer (search : Search) (shards : List ShardView) (i : ℕ) (hits : List Hit) : Type 0 where
-  pub gives : (s : ShardView) → slice_get shards i ≡ Some s → Gives search s hits
+  pub gives : (s : ShardView) → slice_get shards i ≡ Some s → AreHitsFound search s hits
 
 -- each of these has the hits of the shard that it names
 abbrev pub AllDone : Search → List ShardView → List Done → Type 0

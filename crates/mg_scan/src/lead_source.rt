@@ -1,7 +1,7 @@
 //! What a search has still to find in a shard, whatever the documents.
 ghost use Rattle.mg_scan.specs.RangeEnd.{AreBeforeEnd, EndsOnce, index_rows};
 
-use crate::left::Left;
+use crate::left::Unread;
 use crate::range_end::RangeEnd;
 use crate::search::Search;
 use mg_shard::Shard;
@@ -10,7 +10,7 @@ use mg_shard::Shard;
 #[derive(Drop)]
 pub(crate) struct LeadSource<'a, 'b> {
     pub(crate) shard: &'a Shard,
-    pub(crate) left: Left<'a>,
+    pub(crate) left: Unread<'a>,
     pub(crate) search: Search<'b>,
     pub(crate) range_end: RangeEnd,
     // Rows of an index are in order.

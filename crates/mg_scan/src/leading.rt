@@ -3,13 +3,13 @@ ghost use Rattle.std.specs.Prelude.{◌≡◌, ◌≤◌, ◌∷◌, [], IfNone,
 ghost use Rattle.mg_shard.specs.Documents.{KeptDocuments};
 ghost use Rattle.mg_shard.specs.Shard.{ShardView};
 ghost use Rattle.mg_scan.specs.RangeEnd.{AreBeforeEnd, EndsOnce};
-ghost use Rattle.mg_scan.specs.Lead.{AreServed, IsLeadLeft, IsLeadOf, IsLeadSourceBehind, IsLeadSourceOf, lead_row, lead_rows, rows_on_way, unasked};
+ghost use Rattle.mg_scan.specs.Lead.{AreServed, IsLeadUnread, IsLeadOf, IsLeadSourceBehind, IsLeadSourceOf, lead_row, lead_rows, rows_on_way, unasked};
 ghost use Rattle.mg_scan.specs.Sourced.{AreKept, walked_documents};
 
 use crate::hit_row::HitRow;
 use crate::lead::Lead;
 use crate::lead_source::LeadSource;
-use crate::left::{Left, left_behind, left_of};
+use crate::left::{Unread, left_behind, left_of};
 use crate::range_end::RangeEnd;
 use crate::search::{Search, is_past_id};
 use mg_merge::RowSource;
@@ -18,13 +18,13 @@ use mg_shard::{Documents, Rows, Shard};
 impl<'a, 'b> RowSource<Lead<'a>> for LeadSource<'a, 'b> {
     ghost rest = { λ s. lead_rows s.search s.left };
 
-    ghost gives = { λ s. IsLeadLeft s.shard.now s.left };
+    ghost gives = { λ s. IsLeadUnread s.shard.now s.left };
 
     fn next(&mut self) -> Option<Lead<'a>> {
         match &mut self.left {
-            Left::Rows(rows) => lead_of_rows(self.shard, rows, self.search, &mut self.range_end),
-            Left::Documents(documents) => lead_of_documents(self.shard, documents, self.search),
-            Left::Nothing => None,
+            Unread::Rows(rows) => lead_of_rows(self.shard, rows, self.search, &mut self.range_end),
+            Unread::Documents(documents) => lead_of_documents(self.shard, documents, self.search),
+            Unread::Nothing => None,
         }
     }
 }

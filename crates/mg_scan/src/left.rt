@@ -10,7 +10,7 @@ use mg_shard::{Documents, Rows, Shard};
 
 /// What a search has still to read in a shard.
 #[derive(Drop)]
-pub(crate) enum Left<'a> {
+pub(crate) enum Unread<'a> {
     /// Rows of an index.
     Rows(Rows<'a>),
     /// Documents, by their ids.
@@ -21,11 +21,11 @@ pub(crate) enum Left<'a> {
 
 // All that a search has to read in a shard. Cost: one look-up of where to begin.
 #[inline(always)]
-pub(crate) fn left_of<'a>(shard: &'a Shard, search: Search<'_>) -> Left<'a>
+pub(crate) fn left_of<'a>(shard: &'a Shard, search: Search<'_>) -> Unread<'a>
     ensures { IsBegun search.entry shard.now result }
 {
     match search.target {
-        Target::AllDocs => Left::Documents(documents_of(shard, search)),
+        Target::AllDocs => Unread::Documents(documents_of(shard, search)),
         Target::Index { ddoc, name } => left_in_index(shard, ddoc, name, search),
     }
 }
@@ -40,28 +40,28 @@ fn documents_of<'a>(shard: &'a Shard, search: Search<'_>) -> Documents<'a>
 
 // The rows of an index from where the search begins; nothing if the shard has no such index.
 #[inline(always)]
-fn left_in_index<'a>(shard: &'a Shard, ddoc: &str, name: &str, search: Search<'_>) -> Left<'a>
+fn left_in_index<'a>(shard: &'a Shard, ddoc: &str, name: &str, search: Search<'_>) -> Unread<'a>
     ensures { IsBegunIn (option_map (λ d. d.columns) (definition_at ddoc.now name.now shard.now.definitions))
         search.entry shard.now result }
 {
     match shard.rows_beyond(ddoc, name, &Begin { search }, search.direction) {
-        Some(rows) => Left::Rows(rows),
-        None => Left::Nothing,
+        Some(rows) => Unread::Rows(rows),
+        None => Unread::Nothing,
     }
 }
 
 // Passes over the first `count` rows of an index. Returns what is left, and how many rows were passed over. Documents are not passed
 // over (0), since some of them may be deleted.
-pub(crate) fn left_behind<'a>(left: Left<'a>, count: usize) -> (Left<'a>, usize)
+pub(crate) fn left_behind<'a>(left: Unread<'a>, count: usize) -> (Unread<'a>, usize)
     ensures behind { IsBehind result.1 left.entry result.0 }
     ensures within { result.1 ≤ count }
 {
     match left {
-        Left::Rows(mut rows) => {
+        Unread::Rows(mut rows) => {
             rows.advance(count);
-            (Left::Rows(rows), count)
+            (Unread::Rows(rows), count)
         }
-        Left::Documents(documents) => (Left::Documents(documents), 0),
-        Left::Nothing => (Left::Nothing, 0),
+        Unread::Documents(documents) => (Unread::Documents(documents), 0),
+        Unread::Nothing => (Unread::Nothing, 0),
     }
 }

@@ -13,7 +13,7 @@ ghost use Rattle.mg_scan.specs.Scan.{scanned};
 ghost use Rattle.mg_scan.specs.Search.{search_input};
 ghost use Rattle.mg_scan.specs.Walked.{holds_at, id_row, is_late_row, list_of_option};
 ghost use Rattle.mg_scan.specs.Way.{entry_rows, walked_by};
-ghost use Rattle.mg_scan.specs.Worked.{Gives};
+ghost use Rattle.mg_scan.specs.Worked.{AreHitsFound};
 
 use crate::begin::Begin;
 use crate::hit::Hit;
@@ -184,7 +184,7 @@ pub(crate) fn hits_in<'a>(
     shard: &'a Shard,
     search: Search<'_>,
 ) -> Result<Vec<Hit<'a>>, NoMemory>
-    ensures { IfOk result (λ v. Gives search.entry shard.now v.items) }
+    ensures { IfOk result (λ v. AreHitsFound search.entry shard.now v.items) }
 {
     match search.target {
         Target::AllDocs => Ok(hits_of_all(alloc, shard, search)?),

@@ -3,11 +3,11 @@ ghost use Rattle.std.specs.Prelude.{◌≡◌, ◌∷◌, [], IfNone, IfSome};
 ghost use Rattle.mg_shard.specs.Documents.{KeptDocuments};
 ghost use Rattle.mg_scan.specs.Hit.{IsHitOf, hit_row};
 ghost use Rattle.mg_scan.specs.Way.{walked_all_by};
-ghost use Rattle.mg_scan.specs.Sourced.{AreKept, IsLeft, IsSourceOf, left_rows, walked_documents};
+ghost use Rattle.mg_scan.specs.Sourced.{AreKept, IsUnread, IsSourceOf, left_rows, walked_documents};
 
 use crate::hit::Hit;
 use crate::hit_row::HitRow;
-use crate::left::{Left, left_of};
+use crate::left::{Unread, left_of};
 use crate::search::{Search, is_past_id, is_past_row};
 use crate::shard::{hit_at, hit_of};
 use mg_merge::RowSource;
@@ -17,20 +17,20 @@ use mg_shard::{Documents, Rows, Shard};
 #[derive(Drop)]
 pub(crate) struct HitSource<'a, 'b> {
     pub(crate) shard: &'a Shard,
-    pub(crate) left: Left<'a>,
+    pub(crate) left: Unread<'a>,
     pub(crate) search: Search<'b>,
 }
 
 impl<'a, 'b> RowSource<Hit<'a>> for HitSource<'a, 'b> {
     ghost rest = { λ s. left_rows s.search s.shard.now s.left };
 
-    ghost gives = { λ s. IsLeft s.shard.now s.left };
+    ghost gives = { λ s. IsUnread s.shard.now s.left };
 
     fn next(&mut self) -> Option<Hit<'a>> {
         match &mut self.left {
-            Left::Rows(rows) => next_of_rows(self.shard, rows, self.search),
-            Left::Documents(documents) => next_of_documents(documents, self.search),
-            Left::Nothing => None,
+            Unread::Rows(rows) => next_of_rows(self.shard, rows, self.search),
+            Unread::Documents(documents) => next_of_documents(documents, self.search),
+            Unread::Nothing => None,
         }
     }
 }

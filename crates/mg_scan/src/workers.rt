@@ -2,7 +2,7 @@
 ghost use Rattle.std.specs.Prelude.{◌≡◌, ◌<◌, List, length, vec_len, All, IfOk, IfSome};
 ghost use Rattle.std.specs.List.{AllZip};
 ghost use Rattle.mg_shard.specs.Shard.{ShardView, shards_seen};
-ghost use Rattle.mg_scan.specs.Worked.{AllDone, AllSlots, HitsAnswer, Gives};
+ghost use Rattle.mg_scan.specs.Worked.{AllDone, AllSlots, HitsAnswer, AreHitsFound};
 
 use crate::gate::{Gate, Place};
 use crate::hit::Hit;
@@ -150,7 +150,7 @@ pub(crate) fn hits_in_order<'a, G: Gate>(
     requires slots { AllSlots search (shards_seen shards.now) slots.items }
     requires len { vec_len slots ≡ length shards.now }
     ensures { IfOk result
-        (λ lists. AllZip (λ s v. Gives search.entry s v.items) (shards_seen shards.now) lists.items) }
+        (λ lists. AllZip (λ s v. AreHitsFound search.entry s v.items) (shards_seen shards.now) lists.items) }
 {
     let mut slots = slots;
     let mut all = Vec::new(alloc);

@@ -3,7 +3,7 @@ use Rattle.std.proofs.Common.{◌≡◌, ℕ, List, Option, Some, None, is_some,
 use Rattle.std.specs.Option.{option_map_or}
 use Rattle.std.specs.Result.{result_err}
 use Rattle.mg_selector.specs.Fault.{◌>>=◌, fmap}
-use Rattle.mg_selector.specs.Reading.{Gives}
+use Rattle.mg_selector.specs.Reading.{ReadsAs}
 use Rattle.mg_selector.specs.Selector.{Selector, at, Arms, arm}
 use Rattle.mg_selector.specs.declared.error.SelError.{SelError}
 use Rattle.mg_selector.specs.declared.error.SelError.TheVariants.{InvalidOperator, BadArg, Shape, NoMemory}
@@ -24,7 +24,7 @@ fault_here (Ok s) rest fault is some = absurd cc
 fault_here (Err e) rest fault is some = is
 
 -- a fault of what was read, or a refusal, is what a reading may return
-pub fault_or_no_memory : {A B : Type 0} (seen : A → B) (r : Result B SelError) → Gives seen (Err (unwrap_or (result_err r) NoMemory)) r
+pub fault_or_no_memory : {A B : Type 0} (seen : A → B) (r : Result B SelError) → ReadsAs seen (Err (unwrap_or (result_err r) NoMemory)) r
 fault_or_no_memory seen (Ok x) = tt
 fault_or_no_memory seen (Err InvalidOperator) = refl
 fault_or_no_memory seen (Err BadArg) = refl

@@ -21,9 +21,9 @@ Fails BadArg r = r ≡ Err BadArg
 Fails Shape r = r ≡ Err Shape
 
 -- a call returned what the definition gives, unless an allocation failed
-abbrev pub Gives : {X Y : Type 0} → (X → Y) → Result X SelError → Result Y SelError → Type 0
-Gives seen (Ok x) r = r ≡ Ok (seen x)
-Gives seen (Err e) r = Fails e r
+abbrev pub ReadsAs : {X Y : Type 0} → (X → Y) → Result X SelError → Result Y SelError → Type 0
+ReadsAs seen (Ok x) r = r ≡ Ok (seen x)
+ReadsAs seen (Err e) r = Fails e r
 
 -- the argument of a path, where `inner` is its reading as a selector: an object with members is a selector, all else is compared
 abbrev pub argument : Value → Result Selector SelError → Result Selector SelError

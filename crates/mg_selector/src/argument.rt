@@ -3,7 +3,7 @@ ghost use Rattle.std.specs.Result.{result_err};
 ghost use Rattle.mg_value.specs.Value.{list};
 ghost use Rattle.mg_value.specs.View.{view, items_view};
 ghost use Rattle.mg_selector.specs.Argument.{exists_of, type_of, size_of, modulo_of, modulo_by, array_of, operator_with};
-ghost use Rattle.mg_selector.specs.Reading.{Gives};
+ghost use Rattle.mg_selector.specs.Reading.{ReadsAs};
 ghost use Rattle.mg_selector.specs.View.{operator_of};
 
 use crate::error::SelError;
@@ -16,7 +16,7 @@ use std::num::NonZeroI64;
 
 /// The operator with the value as its argument.
 pub(crate) fn read_operator(alloc: Global, test: Test, value: &Json) -> Result<Op, SelError>
-    ensures { Gives operator_of result (operator_with test (view value.now)) }
+    ensures { ReadsAs operator_of result (operator_with test (view value.now)) }
 {
     match test {
         Test::Lt => Ok(Op::Lt(value.copy(alloc)?)),
@@ -36,7 +36,7 @@ pub(crate) fn read_operator(alloc: Global, test: Test, value: &Json) -> Result<O
 }
 
 pub(crate) fn read_exists(value: &Json) -> Result<Op, SelError>
-    ensures operator { Gives operator_of result (exists_of (view value.now)) }
+    ensures operator { ReadsAs operator_of result (exists_of (view value.now)) }
     ensures fault { result_err result ≡ result_err (exists_of (view value.now)) }
 {
     match value {
@@ -46,7 +46,7 @@ pub(crate) fn read_exists(value: &Json) -> Result<Op, SelError>
 }
 
 pub(crate) fn read_type(value: &Json) -> Result<Op, SelError>
-    ensures operator { Gives operator_of result (type_of (view value.now)) }
+    ensures operator { ReadsAs operator_of result (type_of (view value.now)) }
     ensures fault { result_err result ≡ result_err (type_of (view value.now)) }
 {
     match value {
@@ -59,7 +59,7 @@ pub(crate) fn read_type(value: &Json) -> Result<Op, SelError>
 }
 
 pub(crate) fn read_size(value: &Json) -> Result<Op, SelError>
-    ensures operator { Gives operator_of result (size_of (view value.now)) }
+    ensures operator { ReadsAs operator_of result (size_of (view value.now)) }
     ensures fault { result_err result ≡ result_err (size_of (view value.now)) }
 {
     match value {
@@ -69,7 +69,7 @@ pub(crate) fn read_size(value: &Json) -> Result<Op, SelError>
 }
 
 pub(crate) fn read_mod(value: &Json) -> Result<Op, SelError>
-    ensures operator { Gives operator_of result (modulo_of (view value.now)) }
+    ensures operator { ReadsAs operator_of result (modulo_of (view value.now)) }
     ensures fault { result_err result ≡ result_err (modulo_of (view value.now)) }
 {
     match value {
@@ -79,7 +79,7 @@ pub(crate) fn read_mod(value: &Json) -> Result<Op, SelError>
 }
 
 fn modulo_of(items: &[Json]) -> Result<Op, SelError>
-    ensures operator { Gives operator_of result (modulo_of (list (items_view items.now))) }
+    ensures operator { ReadsAs operator_of result (modulo_of (list (items_view items.now))) }
     ensures fault { result_err result ≡ result_err (modulo_of (list (items_view items.now))) }
 {
     if items.len() != 2 {
@@ -89,7 +89,7 @@ fn modulo_of(items: &[Json]) -> Result<Op, SelError>
 }
 
 fn modulo(divisor: &Json, remainder: &Json) -> Result<Op, SelError>
-    ensures operator { Gives operator_of result (modulo_by (view divisor.now) (view remainder.now)) }
+    ensures operator { ReadsAs operator_of result (modulo_by (view divisor.now) (view remainder.now)) }
     ensures fault { result_err result ≡ result_err (modulo_by (view divisor.now) (view remainder.now)) }
 {
     match (divisor, remainder) {
@@ -102,7 +102,7 @@ fn modulo(divisor: &Json, remainder: &Json) -> Result<Op, SelError>
 }
 
 fn read_array(alloc: Global, value: &Json) -> Result<Vec<Json>, SelError>
-    ensures { Gives (λ v. items_view v.items) result (array_of (view value.now)) }
+    ensures { ReadsAs (λ v. items_view v.items) result (array_of (view value.now)) }
 {
     match value {
         Json::List(items) => Ok(copy_items(alloc, items)?),

@@ -1,6 +1,6 @@
 ghost use Rattle.std.specs.Prelude.{◌≡◌, Ok, Err};
 ghost use Rattle.mg_value.specs.View.{view, items_view, members_view};
-ghost use Rattle.mg_selector.specs.Reading.{Gives, IsObject, reading, of_object, of_arms, of_items, of_members, by_word, named, path_named, argument};
+ghost use Rattle.mg_selector.specs.Reading.{ReadsAs, IsObject, reading, of_object, of_arms, of_items, of_members, by_word, named, path_named, argument};
 ghost use Rattle.mg_selector.specs.Selector.{asks, equal};
 ghost use Rattle.mg_selector.specs.View.{selector_of, arms_view};
 
@@ -16,7 +16,7 @@ use std::collections::BTreeMap;
 
 // The selector that the value spells.
 pub(crate) fn read(alloc: Global, value: &Json) -> Result<Sel, SelError>
-    ensures reading { Gives selector_of result (reading (view value.now)) }
+    ensures reading { ReadsAs selector_of result (reading (view value.now)) }
     ensures shape { ¬ IsObject (view value.now) → result ≡ Err SelError.Shape }
 {
     match value {
@@ -27,7 +27,7 @@ pub(crate) fn read(alloc: Global, value: &Json) -> Result<Sel, SelError>
 
 #[cycle(reading)]
 fn read_object(alloc: Global, value: &Json) -> Result<Sel, SelError>
-    ensures { Gives selector_of result (of_object (view value.now)) }
+    ensures { ReadsAs selector_of result (of_object (view value.now)) }
 {
     match value {
         Json::Object(members) => Ok(Sel::Members(read_members(alloc, members)?)),
@@ -37,7 +37,7 @@ fn read_object(alloc: Global, value: &Json) -> Result<Sel, SelError>
 
 #[cycle(reading)]
 fn read_arms(alloc: Global, value: &Json) -> Result<Vec<Sel>, SelError>
-    ensures { Gives (λ v. arms_view v.items) result (of_arms (view value.now)) }
+    ensures { ReadsAs (λ v. arms_view v.items) result (of_arms (view value.now)) }
 {
     match value {
         Json::List(items) => read_items(alloc, items),
@@ -47,7 +47,7 @@ fn read_arms(alloc: Global, value: &Json) -> Result<Vec<Sel>, SelError>
 
 #[cycle(reading)]
 fn read_items(alloc: Global, items: &[Json]) -> Result<Vec<Sel>, SelError>
-    ensures { Gives (λ v. arms_view v.items) result (of_items (items_view items.now)) }
+    ensures { ReadsAs (λ v. arms_view v.items) result (of_items (items_view items.now)) }
 {
     let mut found = Vec::with_capacity(alloc, items.len())?;
     for item in items {
@@ -59,7 +59,7 @@ fn read_items(alloc: Global, items: &[Json]) -> Result<Vec<Sel>, SelError>
 
 #[cycle(reading)]
 fn read_members(alloc: Global, members: &BTreeMap<String, Json>) -> Result<Vec<Sel>, SelError>
-    ensures { Gives (λ v. arms_view v.items) result (of_members (members_view members.now.entries)) }
+    ensures { ReadsAs (λ v. arms_view v.items) result (of_members (members_view members.now.entries)) }
 {
     let mut found = Vec::with_capacity(alloc, members.len())?;
     for (name, value) in members.iter() {
@@ -71,7 +71,7 @@ fn read_members(alloc: Global, members: &BTreeMap<String, Json>) -> Result<Vec<S
 
 #[cycle(reading)]
 fn read_member(alloc: Global, name: &str, value: &Json) -> Result<Sel, SelError>
-    ensures { Gives selector_of result
+    ensures { ReadsAs selector_of result
         (named name.now (view value.now) (of_object (view value.now)) (of_arms (view value.now))) }
 {
     read_by_word(alloc, word_of(name), name, value)
@@ -79,7 +79,7 @@ fn read_member(alloc: Global, name: &str, value: &Json) -> Result<Sel, SelError>
 
 #[cycle(reading)]
 fn read_by_word(alloc: Global, word: Word, name: &str, value: &Json) -> Result<Sel, SelError>
-    ensures { Gives selector_of result (by_word word name.now
+    ensures { ReadsAs selector_of result (by_word word name.now
         (view value.now) (of_object (view value.now)) (of_arms (view value.now))) }
 {
     match word {
@@ -97,7 +97,7 @@ fn read_by_word(alloc: Global, word: Word, name: &str, value: &Json) -> Result<S
 
 #[cycle(reading)]
 fn read_inner(alloc: Global, value: &Json) -> Result<Box<Sel>, SelError>
-    ensures { Gives (λ b. selector_of b.value) result (of_object (view value.now)) }
+    ensures { ReadsAs (λ b. selector_of b.value) result (of_object (view value.now)) }
 {
     Ok(Box::new(alloc, read_object(alloc, value)?)?)
 }
@@ -105,7 +105,7 @@ fn read_inner(alloc: Global, value: &Json) -> Result<Box<Sel>, SelError>
 // The path is read before its argument.
 #[cycle(reading)]
 fn read_path(alloc: Global, name: &str, value: &Json) -> Result<Sel, SelError>
-    ensures { Gives selector_of result (path_named name.now (view value.now) (of_object (view value.now))) }
+    ensures { ReadsAs selector_of result (path_named name.now (view value.now) (of_object (view value.now))) }
 {
     let path = Path::parse(alloc, name)?;
     Ok(Sel::At(path, Box::new(alloc, read_argument(alloc, value)?)?))
@@ -113,7 +113,7 @@ fn read_path(alloc: Global, name: &str, value: &Json) -> Result<Sel, SelError>
 
 #[cycle(reading)]
 fn read_argument(alloc: Global, value: &Json) -> Result<Sel, SelError>
-    ensures { Gives selector_of result (argument (view value.now) (of_object (view value.now))) }
+    ensures { ReadsAs selector_of result (argument (view value.now) (of_object (view value.now))) }
 {
     match value {
         Json::Object(members) => if members.is_empty() {
@@ -126,7 +126,7 @@ fn read_argument(alloc: Global, value: &Json) -> Result<Sel, SelError>
 }
 
 fn equal_to(alloc: Global, value: &Json) -> Result<Sel, SelError>
-    ensures { Gives selector_of result (Ok (asks (equal (view value.now)))) }
+    ensures { ReadsAs selector_of result (Ok (asks (equal (view value.now)))) }
 {
     Ok(Sel::Ask(Op::Eq(value.copy(alloc)?)))
 }

@@ -34,7 +34,7 @@ pub enum Sel {
 
 impl Sel {
     ghost use Rattle.mg_selector.specs.Meaning.{holds_in};
-    ghost use Rattle.mg_selector.specs.Reading.{Gives, IsObject};
+    ghost use Rattle.mg_selector.specs.Reading.{ReadsAs, IsObject};
     ghost use Rattle.mg_selector.specs.View.{selector_of};
 
     /// Reads a selector such as `{"a":{"$gt":1},"b.c":2}`. A name that begins with `$` is an operator on
@@ -47,7 +47,7 @@ impl Sel {
     /// `NoMemory` if an allocation fails and the value has no fault.
     /// Cost: the size of the value. Source: the selector syntax of CouchDB's `_find`.
     pub fn read(alloc: Global, value: &Json) -> Result<Sel, SelError>
-        ensures reading { Gives selector_of result (reading (view value.now)) }
+        ensures reading { ReadsAs selector_of result (reading (view value.now)) }
         ensures shape { ¬ IsObject (view value.now) → result ≡ Err SelError.Shape }
         ensures refused { (e : SelError) → reading (view value.now) ≡ Err e → result ≡ Err e }
     {

@@ -4,7 +4,7 @@ ghost use Rattle.std.specs.FinMap as finite;
 ghost use Rattle.std.specs.FinMap.{get, insert};
 ghost use Rattle.mg_revtree.specs.History.{Paths};
 ghost use Rattle.mg_revtree.specs.Tree.{StandsFor, Tree};
-ghost use Rattle.mg_doc.specs.Applied.{IsReady, refusal_told};
+ghost use Rattle.mg_doc.specs.Applied.{IsReady, refusal_in};
 ghost use Rattle.mg_doc.specs.Edit.{edited, outcome_of};
 ghost use Rattle.mg_shard.specs.Documents.{StandFor, shown, tree_at};
 ghost use Rattle.mg_shard.specs.Draft.{DraftStandsFor, TouchedStandFor, Touches, touched_of};
@@ -126,7 +126,7 @@ impl<'a> Draft<'a> {
 
 // The reply to an edit that this error refuses. `NoMemory` is not a reply, and stays an error.
 fn reply_of(error: EditError) -> Result<EditReply, NoMemory>
-    ensures { IfOk result (λ r. option_map Err (refusal_told error) ≡ Some (outcome_seen r)) }
+    ensures { IfOk result (λ r. option_map Err (refusal_in error) ≡ Some (outcome_seen r)) }
 {
     match error {
         EditError::Conflict => Ok(EditReply::Conflict),

@@ -1,7 +1,7 @@
-//! Rows of an index as bytes. The bytes and their order were worked out by hand from the documentation of `RowBytes` and `Bound`.
+//! Rows of an index as bytes. The bytes and their order were worked out by hand from the documentation of `RowBytes` and `RowBound`.
 use crate::given::{check, json};
 use mg_pages::{Element, Keyed};
-use mg_rows::{Bound, Edge, KeyBytes, RowBytes, value_hint};
+use mg_rows::{Edge, KeyBytes, RowBound, RowBytes, value_hint};
 use mg_value::Json;
 use std::alloc::Global;
 use std::cmp::Ordering;
@@ -115,7 +115,7 @@ fn is_in_place(rows: &[RowBytes], row: &RowBytes, place: usize) -> bool {
 }
 
 // Whether exactly the first `below` rows are below the bound.
-fn parts_rows(rows: &[RowBytes], bound: &Bound, below: usize) -> bool {
+fn parts_rows(rows: &[RowBytes], bound: &RowBound, below: usize) -> bool {
     for (place, row) in rows.iter().enumerate() {
         let wanted = below.cmp(&place).then(Ordering::Less);
         if bound.against(row) != wanted {
@@ -154,7 +154,7 @@ fn a_place_is_between_rows_and_never_on_one(rt: HostRuntime) {
     let rows = all_rows(&rt, alloc);
     for (values, edge, below) in PLACES {
         let key = values_of(&rt, alloc, values);
-        let bound = Bound::at(alloc, &key, *edge).expect(&rt, "memory");
+        let bound = RowBound::at(alloc, &key, *edge).expect(&rt, "memory");
         check(&rt, parts_rows(&rows, &bound, *below), values);
         let mut columns = KeyBytes::new(alloc);
         put_columns(&rt, alloc, &mut columns, values);
@@ -244,7 +244,7 @@ fn hints_rise_with_the_rows(rt: HostRuntime) {
 }
 
 // Whether the hints of the rows below the bound are at most the bound's hint, and those of all other rows at least that.
-fn parts_hints(rows: &[RowBytes], bound: &Bound) -> bool {
+fn parts_hints(rows: &[RowBytes], bound: &RowBound) -> bool {
     for row in rows {
         let wanted = match bound.against(row) {
             Ordering::Greater => row.hint() <= bound.hint(),
@@ -269,7 +269,7 @@ fn hints_of_bounds_are_between_those_of_rows(rt: HostRuntime) {
     for text in KEYS {
         let key = values_of(&rt, alloc, text);
         for edge in [Edge::Before, Edge::After] {
-            let bound = Bound::at(alloc, &key, edge).expect(&rt, "memory");
+            let bound = RowBound::at(alloc, &key, edge).expect(&rt, "memory");
             check(&rt, parts_hints(&rows, &bound), text);
         }
     }

@@ -59,10 +59,10 @@ pub trait LentValue: Sized + Drop {
     fn len(list: &Self::List) -> usize
         ensures { result ≡ length (item_list (items list.now)) };
 
-    /// The item at a place, from 0. The place must be below `len`.
-    fn item(list: &Self::List, place: usize) -> Self
-        requires { place < length (item_list (items list.now)) }
-        ensures { slice_get (item_list (items list.now)) place ≡ Some (value result) };
+    /// The item at an index, from 0. The index must be below `len`.
+    fn item(list: &Self::List, index: usize) -> Self
+        requires { index < length (item_list (items list.now)) }
+        ensures { slice_get (item_list (items list.now)) index ≡ Some (value result) };
 
     /// The member with this name, if there is one. Cost: the logarithm of the count of members.
     fn member(object: &Self::Object, name: &str) -> Option<Self>
@@ -147,8 +147,8 @@ impl<'a> LentValue for &'a Json {
     }
 
     #[inline(always)]
-    fn item(list: &&'a [Json], place: usize) -> &'a Json {
-        item_in(*list, place)
+    fn item(list: &&'a [Json], index: usize) -> &'a Json {
+        item_in(*list, index)
     }
 
     #[inline(always)]
@@ -179,9 +179,9 @@ impl<'a> LentValue for &'a Json {
 }
 
 #[inline(always)]
-fn item_in<'a>(items: &'a [Json], place: usize) -> &'a Json
-    requires { place < length items.now }
-    ensures { slice_get items.now place ≡ Some result.now }
+fn item_in<'a>(items: &'a [Json], index: usize) -> &'a Json
+    requires { index < length items.now }
+    ensures { slice_get items.now index ≡ Some result.now }
 {
-    &items[place]
+    &items[index]
 }

@@ -6,7 +6,7 @@ ghost use Rattle.mg_engine.specs.Ahead.{Determines};
 ghost use Rattle.mg_engine.specs.Bulk.{are_objects, bulk_of, edits_of, edits_or_refusal, of_objects, shaped};
 ghost use Rattle.mg_engine.specs.BulkView.{bulk_seen, edits_seen};
 ghost use Rattle.mg_engine.specs.Commands.{bulk};
-ghost use Rattle.mg_engine.specs.Faults.{Gives};
+ghost use Rattle.mg_engine.specs.Faults.{ReadsAs};
 
 use crate::fault::Fault;
 use crate::refusal::Refusal;
@@ -112,7 +112,7 @@ fn is_object(value: &Json) -> bool
 // Reads the edit of each document, in order. The error is the first fault.
 fn read_edits(alloc: Global, new_edits: bool, documents: Vec<Json>) -> Result<Vec<Edit>, Fault>
     requires { are_objects (items_view documents.items) ≡ true }
-    ensures { Gives (edits_seen new_edits) result
+    ensures { ReadsAs (edits_seen new_edits) result
         (edits_or_refusal new_edits (edits_of new_edits (items_view documents.items))) }
 {
     let mut edits = Vec::with_capacity(alloc, documents.len())?;

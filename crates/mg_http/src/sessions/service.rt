@@ -3,7 +3,7 @@ ghost use Rattle.std.specs.Prelude.{◌≡◌, ◌≤◌, Option, IfNone};
 ghost use Rattle.mg_engine.specs.Commands.{Asked, Answer};
 ghost use Rattle.mg_engine.specs.View.{asked, said};
 ghost use Rattle.mg_http.specs.Solo.{EngineAnswers};
-ghost use Rattle.mg_live.specs.Sitting.{Answered};
+ghost use Rattle.mg_live.specs.SeatView.{Answered};
 
 use mg_engine::{Command, Engine, Reply};
 use mg_live::{Database, Ends, Seat};

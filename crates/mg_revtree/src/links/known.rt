@@ -41,12 +41,12 @@ fn are_few(newer: usize, older: usize) -> bool {
 /// runs joined since then have more revisions than the limit, known ones included. The parent of a revision is the one in the older
 /// list; if that list has none, the one in the newer list.
 #[derive(Drop)]
-pub struct Known {
+pub struct KnownLinks {
     older: Older,
     newer: Links,
 }
 
-impl Model for Known {
+impl Model for KnownLinks {
     ghost use Rattle.std.specs.Prelude.{List};
     ghost use Rattle.std.specs.Coded.{coded_list};
     ghost use Rattle.mg_revtree.specs.History.{Link};
@@ -62,12 +62,12 @@ impl Model for Known {
     ghost invariant = { λ k. AreSorted k.older × AreSorted k.newer };
 }
 
-impl Known {
+impl KnownLinks {
     /// No revisions. Takes no memory.
-    pub fn new(alloc: Global) -> Known
+    pub fn new(alloc: Global) -> KnownLinks
         ensures { result ≡ [] }
     {
-        Known {
+        KnownLinks {
             older: Older::none(),
             newer: Links::new(alloc),
         }
@@ -120,11 +120,11 @@ impl Known {
     }
 
     /// The known revisions that are a revision and its parent, which has no known parent. The parent is given by its id.
-    pub fn of_pair(alloc: Global, rev: &Rev, parent: &[u8]) -> Result<Known, NoMemory>
+    pub fn of_pair(alloc: Global, rev: &Rev, parent: &[u8]) -> Result<KnownLinks, NoMemory>
         requires { 0 < rev.now.0 }
         ensures { IfOk result (λ known. known ≡ pair_links rev.now parent.now) }
     {
-        Ok(Known {
+        Ok(KnownLinks {
             older: Older::none(),
             newer: Links::of_pair(alloc, rev, parent)?,
         })
@@ -144,18 +144,18 @@ impl Known {
 
     /// A copy that shares the older list. Cost: copies the two blocks of memory of the newer list, with no work for each
     /// revision.
-    pub fn copy(&self, alloc: Global) -> Result<Known, NoMemory>
+    pub fn copy(&self, alloc: Global) -> Result<KnownLinks, NoMemory>
         ensures { IfOk result (λ known. known ≡ self.now) }
     {
-        Ok(Known {
+        Ok(KnownLinks {
             older: self.older.share()?,
             newer: self.newer.copy(alloc)?,
         })
     }
 }
 
-impl LookUp for Known {
-    ghost kept = { λ known. known };
+impl LookUp for KnownLinks {
+    ghost known_links = { λ known. known };
 
     fn look_up_parent(&self, pos: u32, id: &[u8]) -> Option<Option<&[u8]>> {
         match self.older.look_up_parent(pos, id) {

@@ -11,11 +11,11 @@ use crate::links::node::Node;
 /// Known revisions with their parents, in which a revision can be looked up.
 pub(crate) trait LookUp {
     // the list of them
-    ghost kept: { Self → List Link };
+    ghost known_links: { Self → List Link };
 
     /// Looks up a revision: the id of its parent, `Some(None)` if it has no known parent, `None` if it is unknown. Takes no memory.
     fn look_up_parent(&self, pos: u32, id: &[u8]) -> Option<Option<&[u8]>>
-        ensures { option_map (λ p. parent_below pos (option_copied p)) result ≡ find (pos, id.now) (kept self.now) };
+        ensures { option_map (λ p. parent_below pos (option_copied p)) result ≡ find (pos, id.now) (known_links self.now) };
 }
 
 /// The place of a revision's node, or the place where it would go.
@@ -34,7 +34,7 @@ pub fn place(texts: &[u8], nodes: &[Node], pos: u32, id: &[u8]) -> Result<usize,
 // Whether the parent given for a revision does not contradict the known one.
 fn agrees<K: LookUp>(known: &K, pos: u32, id: &String, parent: Option<&String>) -> bool
     ensures { result
-        ≡ agrees_found (find (pos, string_bytes id.now) (K.kept known.now)) (option_map
+        ≡ agrees_found (find (pos, string_bytes id.now) (K.known_links known.now)) (option_map
         (λ p. (pos - 1, string_bytes p)) (option_copied parent.entry)) }
 {
     match (known.look_up_parent(pos, id.as_bytes()), parent) {
@@ -45,7 +45,7 @@ fn agrees<K: LookUp>(known: &K, pos: u32, id: &String, parent: Option<&String>) 
 
 /// Whether no parent in a run contradicts a known one.
 pub fn all_agree<K: LookUp>(known: &K, start: u32, ids: &[String]) -> bool
-    ensures { (ls : List Link) → AreNodes (K.kept known.now) ls
+    ensures { (ls : List Link) → AreNodes (K.known_links known.now) ls
         → result ≡ fit ls (links (run_from start (map string_bytes ids.now))) }
 {
     let mut pos = start;
@@ -61,7 +61,7 @@ pub fn all_agree<K: LookUp>(known: &K, start: u32, ids: &[String]) -> bool
 // Whether a revision is known, and with the given parent, if one is given.
 fn is_held<K: LookUp>(known: &K, pos: u32, id: &String, parent: Option<&String>) -> bool
     ensures { result
-        ≡ held_found (find (pos, string_bytes id.now) (K.kept known.now)) (option_map
+        ≡ held_found (find (pos, string_bytes id.now) (K.known_links known.now)) (option_map
         (λ p. (pos - 1, string_bytes p)) (option_copied parent.entry)) }
 {
     match (known.look_up_parent(pos, id.as_bytes()), parent) {
@@ -73,7 +73,7 @@ fn is_held<K: LookUp>(known: &K, pos: u32, id: &String, parent: Option<&String>)
 
 /// Whether all revisions of a run are known, with the parents that the run gives them.
 pub fn all_held<K: LookUp>(known: &K, start: u32, ids: &[String]) -> bool
-    ensures { (ls : List Link) → AreNodes (K.kept known.now) ls
+    ensures { (ls : List Link) → AreNodes (K.known_links known.now) ls
         → result ≡ are_held ls (links (run_from start (map string_bytes ids.now))) }
 {
     let mut pos = start;

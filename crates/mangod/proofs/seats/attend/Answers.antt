@@ -1,5 +1,5 @@
 use Rattle.std.proofs.Common.{ℕ, List, subst}
-use Rattle.mg_live.specs.Sitting.{Answered}
+use Rattle.mg_live.specs.SeatView.{Answered}
 use Rattle.mangod.specs.Conversations.{InTurn}
 use Rattle.mangod.proofs.Turns.{seats_served}
 use Rattle.mangod.proofs.seats.attend.Goals as goal

@@ -3,7 +3,7 @@ use denote.Exit.{no}
 use denote.Param.Send.{arg_send, param_send}
 use Rattle.std.proofs.Common.{◌<◌, length, arith, sym, subst}
 use Rattle.std.specs.Prelude.{slice_index_or}
-use Rattle.mg_live.specs.Sitting.{Sitting}
+use Rattle.mg_live.specs.SeatView.{SeatView}
 use Rattle.mg_live.proofs.Crossing.{seat_send, waiting_send}
 use Rattle.mg_live.specs.contracts.database.Waiting as Waiting
 use Rattle.mangod.specs.Conversations.{IsServed}
@@ -27,4 +27,4 @@ returns-clause-each g c = λ i d inside.
     let there : i < length c.args.services.items = omega (arith, inside, c.args.services.ok.0) in
     let job = (c.in_ok-after.ensures.each i d there).1 in
     let seat = shown_at c.args.services.items i job.job d (λ s. s.seat) there job.job_is in
-    subst (λ (s : Sitting). IsServed g.D.Database.db s (slice_index_or c.in_ok-after.after.items i d)) (sym seat) job.call.met
+    subst (λ (s : SeatView). IsServed g.D.Database.db s (slice_index_or c.in_ok-after.after.items i d)) (sym seat) job.call.met

@@ -1,5 +1,5 @@
 use Rattle.std.proofs.Common.{◌≡◌, ◌≤◌, ◌*◌, take}
-use Rattle.mg_live.specs.Sitting.{all_tallies}
+use Rattle.mg_live.specs.SeatView.{all_tallies}
 use Rattle.mg_live.proofs.live.all_made.Given as goal
 
 -- how many commits the seats so far have made, and a bound on this number

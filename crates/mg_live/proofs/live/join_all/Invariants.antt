@@ -1,5 +1,5 @@
 use Rattle.std.proofs.Common.{◌≡◌, length}
-use Rattle.mg_live.specs.Sitting.{all_tallies}
+use Rattle.mg_live.specs.SeatView.{all_tallies}
 use Rattle.mg_live.proofs.live.join_all.Given as goal
 
 abbrev pub invariant-loop-seat : goal.invariant-loop-seat

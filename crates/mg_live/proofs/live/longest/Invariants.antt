@@ -1,7 +1,7 @@
 use Rattle.std.proofs.Common.{◌≡◌, ◌≤◌, ℕ, ◌<◌, get_or, length}
 use Rattle.mg_machine.specs.Laws.{IsPrefix}
 use Rattle.mg_live.specs.View.{commits_seen}
-use Rattle.mg_live.specs.Sitting.{Sitting}
+use Rattle.mg_live.specs.SeatView.{SeatView}
 use Rattle.mg_live.proofs.live.longest.Given as goal
 
 -- what each seat so far has seen is a prefix of `longest`
@@ -10,5 +10,5 @@ invariant-loop-seat g l =
     record {
       here : l.longest.seen.book ≡ g.D.Database.commit_log;
       within : length (commits_seen l.longest.seen.log) ≤ l.made;
-      begins : (k : ℕ) (d : Sitting) → k < l.seat-index → IsPrefix (get_or l.seats k d).seen (commits_seen l.longest.seen.log);
+      begins : (k : ℕ) (d : SeatView) → k < l.seat-index → IsPrefix (get_or l.seats k d).seen (commits_seen l.longest.seen.log);
     }

@@ -19,7 +19,7 @@ loop-direction-preserved g c =
     let first = subst (λ taken. IfSome taken (λ item. before ≡ row item ∷ after)) c.in-Some.is c.pull_first.ensures.first in
     record {
       within = omega arith;
-      ahead = c.pull_first.ensures.ahead;
+      under_way = c.pull_first.ensures.under_way;
       size = c.pull_first.ensures.size ∙ invariant.size;
       sources = omega arith;
       left = rw c.in_ok-push-in-Some.ensures.items (one_more row items c.in-Some.item all before after invariant.left first);

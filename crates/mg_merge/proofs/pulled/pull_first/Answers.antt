@@ -70,8 +70,8 @@ update-requires-clause-list g c =
 pub update-requires-clause-others : goal.update-requires-clause-others
 update-requires-clause-others g c = pulled_changed g.T.Ranked.row_of c.args.direction c.args.heads.now.items c.args.winners.now.places.items c.in_ok-source.source c.next.result c.requires.tree
 
-pub returns-clause-ahead : goal.returns-clause-ahead
-returns-clause-ahead g c =
+pub returns-clause-under_way : goal.returns-clause-under_way
+returns-clause-under_way g c =
     let row = g.T.Ranked.row_of in
     let rest = g.S.RowSource.rest in
     let direction = c.args.direction in

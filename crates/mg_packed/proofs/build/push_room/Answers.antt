@@ -1,7 +1,7 @@
 use Rattle.std.proofs.Common.{length, take, ap, ◌∙◌, arith, length-append}
 use Rattle.std.proofs.lemmas.List.{take-append-le}
 use Rattle.mg_packed.specs.Packed.{word}
-use Rattle.mg_packed.proofs.Rows.{length-word}
+use Rattle.mg_packed.proofs.Entries.{length-word}
 use Rattle.mg_packed.proofs.build.push_room.Goals as goal
 
 pub loop-preserved : goal.loop-preserved

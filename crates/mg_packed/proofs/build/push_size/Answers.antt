@@ -1,6 +1,6 @@
 use Rattle.std.proofs.Common.{◌≡◌, ℕ, ◌≤◌, List, [], ◌∷◌, ◌++◌, OnOk, sym, ap, ◌∙◌, subst, append_assoc}
 use Rattle.mg_packed.specs.Packed.{size, word}
-use Rattle.mg_packed.proofs.Rows.{size_long, size_short}
+use Rattle.mg_packed.proofs.Entries.{size_long, size_short}
 use Rattle.mg_packed.proofs.build.push_size.Goals as goal
 
 spelt : (o a : List ℕ) (w n : ℕ) → a ≡ o ++ 255 ∷ [] → w ≡ n → 255 ≤ n → a ++ word w ≡ o ++ size n

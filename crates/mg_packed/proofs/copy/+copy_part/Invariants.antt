@@ -14,8 +14,8 @@ decreases-copy_items l = items_weight l.items.now
 abbrev pub decreases-copy_members : goal.decreases-copy_members
 decreases-copy_members l = members_weight l.members.now
 
-abbrev pub invariant-copy_items-loop-place : goal.invariant-copy_items-loop-place
-invariant-copy_items-loop-place l = map view l.copies.items ≡ take l.place (item_list l.items)
+abbrev pub invariant-copy_items-loop-index : goal.invariant-copy_items-loop-index
+invariant-copy_items-loop-index l = map view l.copies.items ≡ take l.index (item_list l.items)
 
-abbrev pub invariant-copy_members-loop-place : goal.invariant-copy_members-loop-place
-invariant-copy_members-loop-place l = members_view l.copies.entries ≡ first_members l.place l.members
+abbrev pub invariant-copy_members-loop-index : goal.invariant-copy_members-loop-index
+invariant-copy_members-loop-index l = members_view l.copies.entries ≡ first_members l.index l.members

@@ -31,5 +31,5 @@ measure_members-loop-name-preserved t c =
       omega (arith, l.invariant.0, size, named, width, c.in_ok-measure.ensures.len, c.in_ok-named_len.ensures, c.in_ok-add.ensures, c.in_ok-len.ensures),
       done ++ e ∷ [],
       all ∙ sym (append_assoc done (e ∷ []) left),
-      λ kept. l.invariant.3 (subst (λ es. MembersAreStored (members_view es)) (sym step) (above, IsUtf8-string_bytes e.0, c.in_ok-measure.ensures.kept, kept)),
+      λ stored. l.invariant.3 (subst (λ es. MembersAreStored (members_view es)) (sym step) (above, IsUtf8-string_bytes e.0, c.in_ok-measure.ensures.stored, stored)),
     )

@@ -1,5 +1,5 @@
 use Rattle.std.proofs.Common.{sym}
-use Rattle.mg_packed.proofs.Rows.{size_len_long, size_len_short}
+use Rattle.mg_packed.proofs.Entries.{size_len_long, size_len_short}
 use Rattle.mg_packed.proofs.measure.size_len.Goals as goal
 
 pub returns-then-len : goal.returns-then-len

@@ -1,5 +1,5 @@
 use Rattle.std.proofs.Common.{suc, sym, ap, ◌∙◌}
-use Rattle.mg_packed.proofs.Rows.{length-long}
+use Rattle.mg_packed.proofs.Entries.{length-long}
 use Rattle.mg_packed.proofs.measure.whole_len.Goals as goal
 
 pub returns-clause-len : goal.returns-clause-len

@@ -1,5 +1,5 @@
 use Rattle.std.proofs.Common.{ap}
-use Rattle.mg_scan.specs.declared.left.Left.TheVariants as left
+use Rattle.mg_scan.specs.declared.left.Unread.TheVariants as left
 use Rattle.mg_scan.proofs.left.left_behind.Goals as goal
 
 pub returns-in-Rows-clause-behind : goal.returns-in-Rows-clause-behind

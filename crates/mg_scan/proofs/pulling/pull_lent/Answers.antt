@@ -3,7 +3,7 @@ use Rattle.mg_collate.specs.Sorted.{IsInOrder}
 use Rattle.mg_merge.specs.Merged.{merged}
 use Rattle.mg_merge.specs.Pulled.{IsGivenBy}
 use Rattle.mg_shard.specs.Shard.{shards_seen}
-use Rattle.mg_scan.specs.Sourced.{IsLeft, left_rows}
+use Rattle.mg_scan.specs.Sourced.{IsUnread, left_rows}
 use Rattle.mg_scan.specs.declared.hit.Hit.{Hit}
 use Rattle.mg_scan.specs.declared.source.HitSource.{HitSource}
 use Rattle.mg_scan.proofs.Maps.{length-seen}
@@ -24,7 +24,7 @@ returns-clause-rows c =
 pub returns-clause-hits : goal.returns-clause-hits
 returns-clause-hits c =
     hits_given _ (shards_seen c.args.shards.now) c.in_ok-sources.sources.items c.in_ok-sources.ensures c.in_ok-hits.hits.items
-    (subst (λ (sources : List HitSource). All (IsGivenBy (λ (x : HitSource) (h : Hit). IsLeft x.shard.now x.left h) sources) c.in_ok-hits.hits.items) c.deref_mut.ensures.value c.in_ok-hits.ensures.given)
+    (subst (λ (sources : List HitSource). All (IsGivenBy (λ (x : HitSource) (h : Hit). IsUnread x.shard.now x.left h) sources) c.in_ok-hits.hits.items) c.deref_mut.ensures.value c.in_ok-hits.ensures.given)
 
 pub returns-clause-pulled : goal.returns-clause-pulled
 returns-clause-pulled c =

@@ -3,7 +3,7 @@ use Rattle.std.proofs.lemmas.List.{drop_more, drop_all}
 use Rattle.mg_value.specs.View.{view, items_view, members_view}
 use Rattle.mg_value.proofs.Views.{Entry, view-Object}
 use Rattle.mg_selector.specs.Fault.{fmap}
-use Rattle.mg_selector.specs.Reading.{Gives, by_word, of_object, of_arms, of_items, of_members, named, argument}
+use Rattle.mg_selector.specs.Reading.{ReadsAs, by_word, of_object, of_arms, of_items, of_members, named, argument}
 use Rattle.mg_selector.specs.View.{selector_of}
 use Rattle.mg_selector.proofs.Arms.{arms_before, one_more, all_before, argument-object}
 use Rattle.mg_selector.proofs.reader.+reading.Goals as goal
@@ -14,7 +14,7 @@ read_argument-returns-else-is_empty t c =
     let inner = of_object v in
     let some : length c.in-Object.members.entries ≡ 0 → ⊥ = search rules in
     let seen = ap view c.in-Object.is ∙ view-Object c.in-Object.members in
-    subst (Gives selector_of c.read_object.result) (sym (ap (λ x. argument x inner) seen ∙ argument-object c.in-Object.members.entries inner some)) c.read_object.ensures
+    subst (ReadsAs selector_of c.read_object.result) (sym (ap (λ x. argument x inner) seen ∙ argument-object c.in-Object.members.entries inner some)) c.read_object.ensures
 
 pub read_items-loop-item-preserved : goal.read_items-loop-item-preserved
 read_items-loop-item-preserved t c =
@@ -56,4 +56,4 @@ pub read_member-returns : goal.read_member-returns
 read_member-returns t c =
     let v = view c.args.value.now in
     let k = c.args.name.now in
-    subst (Gives selector_of c.read_by_word.result) (ap (λ w. by_word w k v (of_object v) (of_arms v)) c.word_of.ensures) c.read_by_word.ensures
+    subst (ReadsAs selector_of c.read_by_word.result) (ap (λ w. by_word w k v (of_object v) (of_arms v)) c.word_of.ensures) c.read_by_word.ensures

@@ -1,5 +1,5 @@
 use Rattle.std.proofs.Common.{ap, sym, ◌∙◌, subst}
-use Rattle.mg_doc.specs.Applied.{refusal_told}
+use Rattle.mg_doc.specs.Applied.{refusal_in}
 use Rattle.mg_doc.specs.Document.{Edit}
 use Rattle.mg_doc.specs.Edit.{outcome_of}
 use Rattle.mg_shard.specs.Draft.{Touches, touched_of}
@@ -58,7 +58,7 @@ returns-clause-outcome c = λ hs st.
     let e = c.args.edit in
     let h = history_at hs (id_in e) in
     let tree = tree_before c.args.shard.now.documents ts e c.id_in.result.now c.id_in.ensures c.new-empty.result c.tree_or-before.result.now c.tree_or-before.ensures c.requires hs c.new-empty.ensures st in
-    (reply_refused h e (refusal_told c.in-Err.error) (outcome_seen c.in_ok-reply_of-in-Err.field-0) c.in_ok-reply_of-in-Err.ensures (c.in-Err.ensures.foreseen h tree)).0
+    (reply_refused h e (refusal_in c.in-Err.error) (outcome_seen c.in_ok-reply_of-in-Err.field-0) c.in_ok-reply_of-in-Err.ensures (c.in-Err.ensures.foreseen h tree)).0
 
 pub returns-clause-stands : goal.returns-clause-stands
 returns-clause-stands c = λ hs st.
@@ -66,4 +66,4 @@ returns-clause-stands c = λ hs st.
     let ts = touched_of c.args.touched.now.entries in
     let e = c.args.edit in
     let tree = tree_before ds ts e c.id_in.result.now c.id_in.ensures c.new-empty.result c.tree_or-before.result.now c.tree_or-before.ensures c.requires hs c.new-empty.ensures st in
-    reply_stands ds ts hs e (refusal_told c.in-Err.error) (outcome_seen c.in_ok-reply_of-in-Err.field-0) c.in_ok-reply_of-in-Err.ensures (c.in-Err.ensures.foreseen (history_at hs (id_in e)) tree) st
+    reply_stands ds ts hs e (refusal_in c.in-Err.error) (outcome_seen c.in_ok-reply_of-in-Err.field-0) c.in_ok-reply_of-in-Err.ensures (c.in-Err.ensures.foreseen (history_at hs (id_in e)) tree) st

@@ -2,7 +2,7 @@ use Rattle.std.proofs.Common.{◌≡◌, Option, None, Result, Err, option_copie
 use Rattle.std.proofs.lemmas.Result.{err_from_is_err_and}
 use Rattle.mg_value.specs.View.{view}
 use Rattle.mg_revtree.specs.Revision.{Revision}
-use Rattle.mg_doc.specs.Applied.{refusal_told}
+use Rattle.mg_doc.specs.Applied.{refusal_in}
 use Rattle.mg_doc.specs.Brought.{Brings}
 use Rattle.mg_doc.specs.Base.{extended_by, made_on}
 use Rattle.mg_doc.specs.declared.error.EditError.{EditError}
@@ -19,7 +19,7 @@ returns-in_err-base-in-None-clause-brings c = λ h stands.
     let named : option_copied c.args.named ≡ None = ap option_copied c.in-None.is in
     let P : Result Revision EditError → Type 0 = λ r. Brings h c.args.deleted b (extended_by h c.args.deleted b (option_copied c.args.named)) r t in
     let Q : Option Revision → Type 0 = λ n. Brings h c.args.deleted b (extended_by h c.args.deleted b n) (Err x) t in
-    subst P (sym is) (subst Q (sym named) (no_base h c.args.deleted b None (refusal_told x) (c.in_err-base-in-None.ensures h stands)))
+    subst P (sym is) (subst Q (sym named) (no_base h c.args.deleted b None (refusal_in x) (c.in_err-base-in-None.ensures h stands)))
 
 pub returns-in-Some-clause-brings : goal.returns-in-Some-clause-brings
 returns-in-Some-clause-brings c = λ h stands.

@@ -1,6 +1,6 @@
 use Rattle.std.proofs.Common.{refl, ap, ◌+◌, ◌∙◌}
 use Rattle.mg_engine.specs.View.{asked, said}
-use Rattle.mg_engine.specs.Stands.{Stands, Shown, shard_count}
+use Rattle.mg_engine.specs.Stands.{Stands, StateView, shard_count}
 use Rattle.mg_engine.proofs.Numbers.{is_number_then, number_after, number_here}
 use Rattle.mg_engine.proofs.Executions.{world_then, ends_then, goes_on_after, ends_here}
 use Rattle.mg_engine.proofs.engine.Engine.run.Goals as goal
@@ -22,7 +22,7 @@ loop-command-preserved g c =
       some = rw pushed.len (ap (λ n. n + 1) l.invariant.some);
       placement = c.step-reply.ensures.placement ∙ l.invariant.placement;
       numbers = λ rs.
-          let went = is_number_then (λ (e : g.row.P.Denot × Shown). shard_count e) l.self c.step-reply.new.self (asked command) (said reply) c.step-reply.ensures.refused c.step-reply.ensures.shards in
+          let went = is_number_then (λ (e : g.row.P.Denot × StateView). shard_count e) l.self c.step-reply.new.self (asked command) (said reply) c.step-reply.ensures.refused c.step-reply.ensures.shards in
           rw pushed.items (number_after (shard_count c.args.self.now) (shard_count l.self) (shard_count c.step-reply.new.self) c.args.commands.now l.command-index command l.replies.items reply rs
           c.loop-command-test.true c.command-item.is went (λ rest. l.invariant.numbers rest));
       goes_on = λ w h.

@@ -2,7 +2,7 @@ use Rattle.std.proofs.Common.{◌≡◌, ◌++◌, List, Option, map, drop, leng
 use Rattle.mg_engine.specs.World.{World}
 use Rattle.mg_engine.specs.Commands.{Answer, shards_after_all}
 use Rattle.mg_engine.specs.View.{asked, said}
-use Rattle.mg_engine.specs.Stands.{Stands, Shown, shard_count}
+use Rattle.mg_engine.specs.Stands.{Stands, StateView, shard_count}
 use Rattle.mg_engine.specs.Execution.{IsExecution, kept}
 use Rattle.mg_engine.proofs.engine.Engine.run.Given as goal
 
@@ -18,6 +18,6 @@ invariant-loop-command g l =
           ≡ shards_after_all (shard_count l.fn.self) (kept (map asked l.commands) (map said l.replies.items ++ rs));
       goes_on : (w : World) → Stands place l.fn.self w
           → (u : World) × Stands place l.self u
-          × ((rs : List (Option Answer)) (after : g.row.P.Denot × Shown) → IsExecution u (map asked (drop l.command-index l.commands)) rs (Stands place after)
+          × ((rs : List (Option Answer)) (after : g.row.P.Denot × StateView) → IsExecution u (map asked (drop l.command-index l.commands)) rs (Stands place after)
           → IsExecution w (map asked l.commands) (map said l.replies.items ++ rs) (Stands place after));
     }

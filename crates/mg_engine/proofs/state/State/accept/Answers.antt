@@ -9,7 +9,7 @@ use Rattle.mg_engine.specs.Bodies.{line_of}
 use Rattle.mg_engine.specs.Bulk.{counter_after, entries_of, numbered}
 use Rattle.mg_engine.specs.Commands.{Answer}
 use Rattle.mg_engine.specs.Outcomes.{entries_seen, reply_in, id_seen}
-use Rattle.mg_engine.specs.Stands.{StateStandsFor, Shown, definitions_of}
+use Rattle.mg_engine.specs.Stands.{StateStandsFor, StateView, definitions_of}
 use Rattle.mg_engine.specs.declared.bulk.apply.EditEntry.{EditEntry}
 use Rattle.mg_engine.proofs.Entries.{by_ids}
 use Rattle.mg_engine.proofs.Indexes.{have_same}
@@ -24,11 +24,11 @@ returns-clause-holds g c = λ w bring h.
     let place = g.P.Placement.place c.args.placement.now in
     let given = c.args.edits.items in
     let made = shards_seen c.in_ok-outcomes.shards.items in
-    let counter : c.self.inside.counter ≡ w.counter = ap (λ (s : Shown). s.counter) c.self.view_is ∙ h.counter in
-    let shards : shards_seen c.deref.result.now ≡ c.args.self.now.shards = ap shards_seen c.deref.ensures.value ∙ ap (λ (s : Shown). s.shards) c.self.view_is in
+    let counter : c.self.inside.counter ≡ w.counter = ap (λ (s : StateView). s.counter) c.self.view_is ∙ h.counter in
+    let shards : shards_seen c.deref.result.now ≡ c.args.self.now.shards = ap shards_seen c.deref.ensures.value ∙ ap (λ (s : StateView). s.shards) c.self.view_is in
     let edits = c.in_ok-edits.ensures.edits ∙ ap (λ n. numbered n given) counter in
     let before = subst (λ (ss : List ShardView). ShardsStandFor place ss w.docs) (sym shards) h.documents in
-    subst (λ (s : Shown). StateStandsFor place s (record w { docs = after_edits w.docs (numbered w.counter given); counter = counter_after w.counter given })) (sym c.in_ok-next.ensures)
+    subst (λ (s : StateView). StateStandsFor place s (record w { docs = after_edits w.docs (numbered w.counter given); counter = counter_after w.counter given })) (sym c.in_ok-next.ensures)
     (record {
       name = h.name;
       documents = subst (λ (hs : Histories). ShardsStandFor place made hs) (ap (after_edits w.docs) edits) (c.in_ok-outcomes.ensures.stands w.docs before);
@@ -44,8 +44,8 @@ returns-clause-reply g c = λ w h.
     let given = c.args.edits.items in
     let b = c.args.new_edits in
     let outs = c.in_ok-outcomes.outcomes.items in
-    let counter : c.self.inside.counter ≡ w.counter = ap (λ (s : Shown). s.counter) c.self.view_is ∙ h.counter in
-    let shards : shards_seen c.deref.result.now ≡ c.args.self.now.shards = ap shards_seen c.deref.ensures.value ∙ ap (λ (s : Shown). s.shards) c.self.view_is in
+    let counter : c.self.inside.counter ≡ w.counter = ap (λ (s : StateView). s.counter) c.self.view_is ∙ h.counter in
+    let shards : shards_seen c.deref.result.now ≡ c.args.self.now.shards = ap shards_seen c.deref.ensures.value ∙ ap (λ (s : StateView). s.shards) c.self.view_is in
     let edits = c.in_ok-edits.ensures.edits ∙ ap (λ n. numbered n given) counter in
     let before = subst (λ (ss : List ShardView). ShardsStandFor place ss w.docs) (sym shards) h.documents in
     let replies : map reply_in outs ≡ outcomes w.docs (numbered w.counter given) = c.in_ok-outcomes.ensures.replies w.docs before ∙ ap (outcomes w.docs) edits in

@@ -6,17 +6,17 @@ use Rattle.mg_shard.specs.Dealt.{ShardsStandFor}
 use Rattle.mg_shard.specs.Shard.{HaveIndexes, ShardView, shards_seen}
 use Rattle.mg_value.specs.View.{view}
 use Rattle.mg_engine.specs.Commands.{answer_of_query}
-use Rattle.mg_engine.specs.Stands.{Shown}
+use Rattle.mg_engine.specs.Stands.{StateView}
 use Rattle.mg_engine.proofs.Objects.{have_ids_and_revs}
 use Rattle.mg_engine.proofs.state.State.find.Goals as goal
 
 pub page_line-line-requires-clause-indexes : goal.page_line-line-requires-clause-indexes
 page_line-line-requires-clause-indexes g c = λ κs within.
-    let catalog : c.args.self.now.catalog ≡ c.deref.result.now = sym (c.deref.ensures ∙ ap (λ (s : Shown). s.catalog) c.self.view_is) in
+    let catalog : c.args.self.now.catalog ≡ c.deref.result.now = sym (c.deref.ensures ∙ ap (λ (s : StateView). s.catalog) c.self.view_is) in
     subst (λ (ds : List IndexDefinition). HaveIndexes ds (shards_seen c.indexed_shards.result.now)) catalog (have_all c.args.self.now.catalog (shards_seen c.indexed_shards.result.now) c.indexed_shards.ensures.rows)
 
 pub returns : goal.returns
 returns g c = λ place w h.
-    let catalog : w.indexes ≡ c.deref.result.now = sym (c.deref.ensures ∙ ap (λ (s : Shown). s.catalog) c.self.view_is ∙ h.indexes) in
+    let catalog : w.indexes ≡ c.deref.result.now = sym (c.deref.ensures ∙ ap (λ (s : StateView). s.catalog) c.self.view_is ∙ h.indexes) in
     let documents = subst (λ (ss : List ShardView). ShardsStandFor place ss w.docs) (sym c.indexed_shards.ensures.shards) h.documents in
     c.in_ok-reply.ensures (answer_of_query w (query_of (view c.args.body.now))) (c.page_line-line.ensures place w documents (have_ids_and_revs w.docs h.objects) catalog)

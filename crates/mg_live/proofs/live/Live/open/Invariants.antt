@@ -1,5 +1,5 @@
 use Rattle.std.proofs.Common.{◌≡◌, ◌+◌}
-use Rattle.mg_live.specs.Sitting.{new_seats}
+use Rattle.mg_live.specs.SeatView.{new_seats}
 use Rattle.mg_live.proofs.live.Live.open.Given as goal
 
 -- each seat so far has one part of the ledger, and the other parts are left

@@ -12,10 +12,10 @@ loop-low-preserved-in-Greater c =
     let within : m < length (member_list c.args.self.now) = omega arith in
     let at : seen c.args.name.now c.args.self.now m ≡ Greater = ap (slice_cmp nat_cmp c.args.name.now) (sym c.name.ensures) ∙ sym c.in-Greater.ensures in
     record {
-      kept = i.kept;
+      stored = i.stored;
       ordered = omega arith;
       within = i.within;
-      below = λ k h. lower c.args.name.now c.args.self.now i.kept m k (omega arith) within at;
+      below = λ k h. lower c.args.name.now c.args.self.now i.stored m k (omega arith) within at;
       above = i.above;
     }
 
@@ -25,11 +25,11 @@ loop-low-preserved c =
     let m = c.loop-low.low + (c.loop-low.high - c.loop-low.low) / 2 in
     let at : seen c.args.name.now c.args.self.now m ≡ Less = ap (slice_cmp nat_cmp c.args.name.now) (sym c.name.ensures) ∙ sym c.in-Less.ensures in
     record {
-      kept = i.kept;
+      stored = i.stored;
       ordered = omega arith;
       within = omega arith;
       below = i.below;
-      above = λ k h less. upper c.args.name.now c.args.self.now i.kept m k h less at;
+      above = λ k h less. upper c.args.name.now c.args.self.now i.stored m k h less at;
     }
 
 pub returns-in-Equal-clause-before : goal.returns-in-Equal-clause-before
@@ -37,7 +37,7 @@ returns-in-Equal-clause-before c =
     let m = c.loop-low.low + (c.loop-low.high - c.loop-low.low) / 2 in
     let within : m < length (member_list c.args.self.now) = omega (arith, c.loop-low.invariant.within) in
     let at : seen c.args.name.now c.args.self.now m ≡ Equal = ap (slice_cmp nat_cmp c.args.name.now) (sym c.name.ensures) ∙ sym c.in-Equal.ensures in
-    c.over.ensures.before ∙ sym (gap_found c.args.name.now c.args.self.now c.loop-low.invariant.kept m within at).0
+    c.over.ensures.before ∙ sym (gap_found c.args.name.now c.args.self.now c.loop-low.invariant.stored m within at).0
 
 pub returns-in-Equal-clause-after : goal.returns-in-Equal-clause-after
 returns-in-Equal-clause-after c =
@@ -45,7 +45,7 @@ returns-in-Equal-clause-after c =
     let within : m < length (member_list c.args.self.now) = omega (arith, c.loop-low.invariant.within) in
     let at : seen c.args.name.now c.args.self.now m ≡ Equal = ap (slice_cmp nat_cmp c.args.name.now) (sym c.name.ensures) ∙ sym c.in-Equal.ensures in
     let next : m + 1 ≡ suc m = omega arith in
-    c.over.ensures.after ∙ next ∙ sym (gap_found c.args.name.now c.args.self.now c.loop-low.invariant.kept m within at).1
+    c.over.ensures.after ∙ next ∙ sym (gap_found c.args.name.now c.args.self.now c.loop-low.invariant.stored m within at).1
 
 pub returns-clause-before : goal.returns-clause-before
 returns-clause-before c =

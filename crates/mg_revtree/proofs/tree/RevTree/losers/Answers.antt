@@ -20,7 +20,7 @@ returns-in_err-kept_among-clause-none c = λ h stands none.
 pub returns-clause-list : goal.returns-clause-list
 returns-clause-list c = λ h stands.
     let s : StandsFor (tree_in c.self.inside.growth) h = subst (λ (t : Tree). StandsFor t h) (sym c.self.view_is) stands in
-    c.in_ok-kept_among.ensures.kept ∙ losers_rest h (tree_in c.self.inside.growth).leaves c.leaves-leaves.result.now s.leaves c.leaves-leaves.ensures
+    c.in_ok-undeleted_among.ensures.kept ∙ losers_rest h (tree_in c.self.inside.growth).leaves c.leaves-leaves.result.now s.leaves c.leaves-leaves.ensures
 
 pub returns-clause-each : goal.returns-clause-each
 returns-clause-each c = λ h stands. subst (AreLosers h) (sym (returns-clause-list c h stands)) (are_losers h)

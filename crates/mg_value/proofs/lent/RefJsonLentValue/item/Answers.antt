@@ -7,4 +7,4 @@ pub item_in-requires : goal.item_in-requires
 item_in-requires c = omega (arith, c.requires, length-items_view c.args.list.now.now)
 
 pub returns : goal.returns
-returns c = slice_get-items_view c.args.list.now.now c.args.place ∙ ap (option_map view) c.item_in.ensures
+returns c = slice_get-items_view c.args.list.now.now c.args.index ∙ ap (option_map view) c.item_in.ensures

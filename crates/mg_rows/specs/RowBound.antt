@@ -32,5 +32,5 @@ edge_bytes Before = []
 edge_bytes After = 255 ∷ []
 
 -- these are the bytes of the place
-abbrev pub IsBound : Edge → List ℕ → Items → Type 0
-IsBound edge bytes values = AreStored values × (bytes ≡ columns_before values (edge_bytes edge))
+abbrev pub IsRowBound : Edge → List ℕ → Items → Type 0
+IsRowBound edge bytes values = AreStored values × (bytes ≡ columns_before values (edge_bytes edge))

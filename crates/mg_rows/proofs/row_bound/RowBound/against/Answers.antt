@@ -1,7 +1,7 @@
 use Rattle.std.proofs.Common.{ap, ◌∙◌}
 use Rattle.mg_rows.specs.Bytes.{bytes_order}
 use Rattle.mg_rows.proofs.Bounds.{bound_rows}
-use Rattle.mg_rows.proofs.bound.Bound.against.Goals as goal
+use Rattle.mg_rows.proofs.row_bound.RowBound.against.Goals as goal
 
 pub returns-clause-rows : goal.returns-clause-rows
 returns-clause-rows c =

@@ -1,8 +1,8 @@
 use Rattle.std.proofs.Common.{◌≡◌, ◌++◌, rules}
-use Rattle.mg_rows.specs.Bound.{edge_bytes}
+use Rattle.mg_rows.specs.RowBound.{edge_bytes}
 use Rattle.mg_rows.specs.Only.{the_place}
 use Rattle.mg_rows.proofs.Joined.{made_place}
-use Rattle.mg_rows.proofs.bound.Bound.of_bytes.Goals as goal
+use Rattle.mg_rows.proofs.row_bound.RowBound.of_bytes.Goals as goal
 
 pub invariant_of-result : goal.invariant_of-result
 invariant_of-result c =

@@ -11,18 +11,18 @@ use std::marker::Model;
 const ABOVE_ALL: u8 = 255;
 
 ghost use Rattle.std.specs.Prelude.{◌≡◌, ◌++◌, OnOk};
-ghost use Rattle.mg_rows.specs.Bound.{edge_bytes};
+ghost use Rattle.mg_rows.specs.RowBound.{edge_bytes};
 ghost use Rattle.mg_rows.specs.Only.{PlaceOf, PlaceOf-prop};
 
 /// A place among rows: before or after all rows whose key begins with some values. Contracts see the side and the
 /// values.
 #[derive(Drop)]
-pub struct Bound {
+pub struct RowBound {
     bytes: Vec<u8>,
     ghost place: { PlaceOf bytes.items } by { PlaceOf-prop bytes.items },
 }
 
-impl Model for Bound {
+impl Model for RowBound {
     ghost use Rattle.mg_value.specs.Value.{Items};
     ghost use Rattle.mg_rows.specs.declared.edge.Edge.{Edge as Side};
     ghost use Rattle.mg_rows.specs.Code.{place_code};
@@ -34,35 +34,35 @@ impl Model for Bound {
     ghost view = { λ bound. bound.place.0 };
 }
 
-impl Bound {
+impl RowBound {
     ghost use Rattle.std.specs.Prelude.{IfOk};
     ghost use Rattle.mg_value.specs.Value.{Items};
     ghost use Rattle.mg_value.specs.View.{items_view};
     ghost use Rattle.mg_rows.specs.Bytes.{bytes_order, columns_before, row_bytes};
-    ghost use Rattle.mg_rows.specs.Bound.{bound_order};
+    ghost use Rattle.mg_rows.specs.RowBound.{bound_order};
     ghost use Rattle.mg_rows.specs.Stored.{IsKey};
 
     /// The place before or after all rows whose key begins with these values. With no values it is before or
     /// after all rows.
     ///
     /// Errors: `NoMemory` if an allocation fails. Cost: the size of the values.
-    pub fn at(alloc: Global, values: &[Json], edge: Edge) -> Result<Bound, NoMemory>
+    pub fn at(alloc: Global, values: &[Json], edge: Edge) -> Result<RowBound, NoMemory>
         ensures { IfOk result (λ bound. bound ≡ (edge, items_view values.now)) }
     {
         let mut columns = Vec::new(alloc);
         write_columns(values, &mut columns)?;
-        Bound::of_bytes(columns, edge)
+        RowBound::of_bytes(columns, edge)
     }
 
     // Makes a place of the bytes of its values.
-    pub(crate) fn of_bytes(columns: Vec<u8>, edge: Edge) -> Result<Bound, NoMemory>
+    pub(crate) fn of_bytes(columns: Vec<u8>, edge: Edge) -> Result<RowBound, NoMemory>
         requires { (values : Items) × IsKey columns.items values }
         ensures { (values : Items) → IsKey columns.items values
             → IfOk result (λ bound. bound ≡ (edge, values)) }
     {
         let mut bytes = columns;
         write_edge(edge, &mut bytes)?;
-        Ok(Bound { bytes })
+        Ok(RowBound { bytes })
     }
 
     /// Compares the place with a row: `Less` where the row is after the place, `Greater` where the row is before

@@ -9,26 +9,26 @@ use Rattle.mg_machine.specs.Laws.{IsPrefix}
 use Rattle.mg_machine.specs.Machine.{Commit, after_write, longer_of, world_of, write_reply}
 
 -- a seat: its number, the commits that it has seen, oldest first, and how many commits it has made
-pub record Sitting : Type 0 where
+pub record SeatView : Type 0 where
   pub number : ℕ
   pub seen : List Commit
   pub tally : ℕ
 
 -- how the logic stores a seat
-abbrev pub sitting_code : Coded Sitting
-sitting_code = code_by (ℕ × (List Commit × ℕ)) (coded× coded_ℕ (coded× commits_code coded_ℕ)) (λ s. (s.number, (s.seen, s.tally))) (λ p. record { number = p.0; seen = p.1.0; tally = p.1.1 }) (λ _. refl)
+abbrev pub seat_view_code : Coded SeatView
+seat_view_code = code_by (ℕ × (List Commit × ℕ)) (coded× coded_ℕ (coded× commits_code coded_ℕ)) (λ s. (s.number, (s.seen, s.tally))) (λ p. record { number = p.0; seen = p.1.0; tally = p.1.1 }) (λ _. refl)
 
 -- a seat that has seen nothing and made no commit
-abbrev pub at_first : ℕ → Sitting
+abbrev pub at_first : ℕ → SeatView
 at_first n = record { number = n; seen = []; tally = 0 }
 
 -- this many new seats, which are numbered from 0
-abbrev pub new_seats : ℕ → List Sitting
+abbrev pub new_seats : ℕ → List SeatView
 new_seats zero = []
 new_seats (suc n) = new_seats n ++ at_first n ∷ []
 
 -- a seat later: its number and its tally are unchanged, and it has seen what it had seen, or more
-pub record IsLater (old new : Sitting) : Type 0 where
+pub record IsLater (old new : SeatView) : Type 0 where
   pub number : new.number ≡ old.number
   pub seen : IsPrefix old.seen new.seen
   pub tally : new.tally ≡ old.tally
@@ -36,7 +36,7 @@ pub record IsLater (old new : Sitting) : Type 0 where
 -- ---- reading
 
 -- the seat may see more commits, and the reply is right after those that it has then seen; or memory was refused
-abbrev pub SeatReads : List ℕ → Sitting → Asked → Option Answer → Sitting → Type 0
+abbrev pub SeatReads : List ℕ → SeatView → Asked → Option Answer → SeatView → Type 0
 SeatReads name old c None new = IsLater old new
 SeatReads name old c (Some a) new = IsLater old new × (a ≡ reply_of (world_of name new.seen) c)
 
@@ -48,7 +48,7 @@ tally_after tally a = if is_accepted a then tally + 1 else tally
 
 -- the write is answered after a list of commits, of which the seat had seen a prefix. The seat has then seen this list and, if the write
 -- was accepted, the write as its last commit, which the seat's tally counts
-pub record HasWritten (name : List ℕ) (old : Sitting) (c : Asked) (a : Answer) (new : Sitting) : Type 0 where
+pub record HasWritten (name : List ℕ) (old : SeatView) (c : Asked) (a : Answer) (new : SeatView) : Type 0 where
   pub commits : List Commit
   pub later : IsPrefix old.seen commits
   pub answer : a ≡ write_reply name commits c
@@ -57,20 +57,20 @@ pub record HasWritten (name : List ℕ) (old : Sitting) (c : Asked) (a : Answer)
   pub number : new.number ≡ old.number
 
 -- the write is answered; or memory was refused, and the seat is as it was
-abbrev pub SeatWrites : List ℕ → Sitting → Asked → Option Answer → Sitting → Type 0
+abbrev pub SeatWrites : List ℕ → SeatView → Asked → Option Answer → SeatView → Type 0
 SeatWrites name old c None new = new ≡ old
 SeatWrites name old c (Some a) new = HasWritten name old c a new
 
 -- ---- reading or writing
 
 -- a write is answered as by `SeatWrites`, any other command as by `SeatReads`
-abbrev pub Answered : List ℕ → Sitting → Asked → Option Answer → Sitting → Type 0
+abbrev pub Answered : List ℕ → SeatView → Asked → Option Answer → SeatView → Type 0
 Answered name old c o new = MatchBool (is_write c) (SeatWrites name old c o new) (SeatReads name old c o new)
 
 -- ---- learning
 
 -- the seat has learned a list of commits: it has then seen the longer of both lists, and both are prefixes of it
-pub record Learned (old : Sitting) (heard : List Commit) (new : Sitting) : Type 0 where
+pub record Learned (old : SeatView) (heard : List Commit) (new : SeatView) : Type 0 where
   pub longer : new.seen ≡ longer_of old.seen heard
   pub own : IsPrefix old.seen new.seen
   pub other : IsPrefix heard new.seen
@@ -80,15 +80,15 @@ pub record Learned (old : Sitting) (heard : List Commit) (new : Sitting) : Type 
 -- ---- closing
 
 -- how many commits these seats have made
-abbrev pub all_tallies : List Sitting → ℕ
+abbrev pub all_tallies : List SeatView → ℕ
 all_tallies seats = sum_by (λ s. s.tally) seats
 
 -- some seat has seen more than `made` commits
-abbrev pub IsAhead : List Sitting → ℕ → Type 0
+abbrev pub IsAhead : List SeatView → ℕ → Type 0
 IsAhead seats made = Any (λ s. made < length s.seen) seats
 
 -- the commits of all seats: what each seat has seen is a prefix of them, and their number is the sum of the tallies
-pub record AreAll (commits : List Commit) (seats : List Sitting) (n : ℕ) : Type 0 where
+pub record AreAll (commits : List Commit) (seats : List SeatView) (n : ℕ) : Type 0 where
   pub begin : All (λ s. IsPrefix s.seen commits) seats
   pub number : n ≡ length commits
   pub sum : n ≡ all_tallies seats

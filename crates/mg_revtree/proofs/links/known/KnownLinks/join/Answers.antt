@@ -4,7 +4,7 @@ use Rattle.mg_revtree.specs.History.{Link, links}
 use Rattle.mg_revtree.specs.Tree.{AreNodes, AreSorted}
 use Rattle.mg_revtree.specs.Known.{with_links}
 use Rattle.mg_revtree.proofs.Kept.{nodes_newer, nodes_self, sorted_all}
-use Rattle.mg_revtree.proofs.links.known.Known.join.Goals as goal
+use Rattle.mg_revtree.proofs.links.known.KnownLinks.join.Goals as goal
 
 pub invariant_of-self-then-are_few : goal.invariant_of-self-then-are_few
 invariant_of-self-then-are_few c =

@@ -1,6 +1,6 @@
 use Rattle.std.proofs.Common.{◌≡◌, not, true, sym, ap, ◌∙◌}
 use Rattle.mg_revtree.proofs.Lists.{kept_somewhere}
-use Rattle.mg_revtree.proofs.leaf_list.kept_among.Goals as goal
+use Rattle.mg_revtree.proofs.leaf_list.undeleted_among.Goals as goal
 
 pub returns-in_err-push-clause-none : goal.returns-in_err-push-clause-none
 returns-in_err-push-clause-none c = λ none.

@@ -1,7 +1,7 @@
 use Rattle.std.proofs.Common.{◌∙◌, ◌-◌, ℕ, Bor, List, Option, Some, ap, option_copied, option_map, sym}
 use Rattle.mg_revtree.specs.Known.{parent_below}
 use Rattle.mg_revtree.proofs.Kept.{found_both, found_newer, found_older, parent_flat}
-use Rattle.mg_revtree.proofs.links.known.KnownLookUp.look_up_parent.Goals as goal
+use Rattle.mg_revtree.proofs.links.known.KnownLinksLookUp.look_up_parent.Goals as goal
 
 pub returns-in-Some-Some : goal.returns-in-Some-Some
 returns-in-Some-Some c =
