@@ -1,5 +1,5 @@
 -- Filling in the offsets of a table, one entry after another, gives the table.
-use Rattle.std.proofs.Common.{◌≡◌, ℕ, ◌+◌, ◌*◌, ◌-◌, ◌≤◌, List, [], ◌∷◌, ◌++◌, length, take, drop, refl, sym, ap, ◌∙◌, append_assoc, append-nil, arith, length-append, length-drop, length-take-le, take-append-drop}
+use Rattle.std.proofs.Common.{◌≡◌, ℕ, ◌+◌, ◌*◌, ◌-◌, ◌≤◌, ◌<◌, List, [], ◌∷◌, ◌++◌, length, take, drop, refl, sym, ap, ap₂, ◌∙◌, append_assoc, append-nil, arith, length-append, length-drop, length-take-le, take-append-drop}
 use Rattle.std.proofs.lemmas.List.{take_at, drop-append-le}
 use Rattle.std.proofs.Math.Seq.{drop-append-add}
 use Rattle.std.specs.List.{concat}
@@ -76,3 +76,52 @@ filling_begins start table entries base e room =
 pub filling_ends : (start : List ℕ) (table : ℕ) (entries : List (List ℕ)) (b : List ℕ) (cell base : ℕ) → IsFilling start table entries b cell base [] → table + 4 * length entries ≡ length start
     → b ≡ take table start ++ (offsets 0 entries ++ concat entries)
 filling_ends start table entries b cell base h room = h.same ∙ filled_table table entries start room
+
+-- ---- entries that come one after another, when they are not known before
+
+filled_push : (cell at : ℕ) (entries : List (List ℕ)) (entry b : List ℕ) → filled cell at (entries ++ entry ∷ []) b ≡ with_word (cell + 4 * length entries) (at + length (concat entries)) (filled cell at entries b) ++ entry
+filled_push cell at [] entry b =
+    let same_cell : cell ≡ cell + 4 * 0 = omega arith in
+    let same_at : at ≡ at + 0 = omega arith in
+    ap₂ (λ m n. with_word m n b ++ entry) same_cell same_at
+filled_push cell at (x ∷ xs) entry b =
+    let start = with_word cell at b ++ x in
+    let next_cell : (cell + 4) + 4 * length xs ≡ cell + 4 * length (x ∷ xs) = omega arith in
+    let next_at : (at + length x) + length (concat xs) ≡ at + length (concat (x ∷ xs)) = omega (arith, length-append x (concat xs)) in
+    filled_push (cell + 4) (at + length x) xs entry start ∙ ap₂ (λ m n. with_word m n (filled (cell + 4) (at + length x) xs start) ++ entry) next_cell next_at
+
+length-filled : (cell at : ℕ) (entries : List (List ℕ)) (b : List ℕ) → cell + 4 * length entries ≤ length b → length (filled cell at entries b) ≡ length b + length (concat entries)
+length-filled cell at [] b h = omega arith
+length-filled cell at (x ∷ xs) b h =
+    let start = with_word cell at b ++ x in
+    let grown : length start ≡ length b + length x = omega (arith, length-append (with_word cell at b) x, length-with_word cell at b (omega (arith, h))) in
+    omega (arith, grown, h, length-filled (cell + 4) (at + length x) xs start (omega (arith, grown, h)), length-append x (concat xs))
+
+-- the entries so far were added to `start`, and the next offset goes to `cell`
+pub record IsFilled (start : List ℕ) (table : ℕ) (entries : List (List ℕ)) (b : List ℕ) (cell : ℕ) : Type 0 where
+  pub same : b ≡ filled table 0 entries start
+  pub next : cell ≡ table + 4 * length entries
+
+pub filled_begins : (start : List ℕ) (table : ℕ) → IsFilled start table [] start table
+filled_begins start table = record { same = refl; next = omega arith }
+
+-- where the next entry begins
+pub filled_length : (start : List ℕ) (table : ℕ) (entries : List (List ℕ)) (b : List ℕ) (cell : ℕ) → IsFilled start table entries b cell → table + 4 * length entries ≤ length start
+    → length b ≡ length start + length (concat entries)
+filled_length start table entries b cell h room = ap length h.same ∙ length-filled table 0 entries start room
+
+pub filled_within : (start : List ℕ) (table : ℕ) (entries : List (List ℕ)) (b : List ℕ) (cell n : ℕ) → IsFilled start table entries b cell → length entries < n → table + 4 * n ≡ length start → (cell + 4 ≤ length start) × (length start ≤ length b)
+filled_within start table entries b cell n h less room =
+    (omega (arith, h.next, less, room), omega (arith, filled_length start table entries b cell h (omega (arith, less, room))))
+
+pub filled_next : (start : List ℕ) (table : ℕ) (entries : List (List ℕ)) (b : List ℕ) (cell base : ℕ) (entry next : List ℕ) → IsFilled start table entries b cell → base ≡ length start → table + 4 * length entries ≤ length start
+    → next ≡ with_word cell (length b - base) b ++ entry → IsFilled start table (entries ++ entry ∷ []) next (cell + 4)
+filled_next start table entries b cell base entry next h e room is =
+    let at : length b - base ≡ 0 + length (concat entries) = omega (arith, e, filled_length start table entries b cell h room) in
+    record {
+      same = is ∙ ap₂ (λ m n. with_word m n b ++ entry) h.next at ∙ ap (λ x. with_word (table + 4 * length entries) (0 + length (concat entries)) x ++ entry) h.same ∙ sym (filled_push table 0 entries entry start);
+      next = omega (arith, h.next, length-append entries (entry ∷ []));
+    }
+
+pub filled_ends : (start : List ℕ) (table : ℕ) (entries : List (List ℕ)) (b : List ℕ) (cell : ℕ) → IsFilled start table entries b cell → table + 4 * length entries ≡ length start → b ≡ take table start ++ (offsets 0 entries ++ concat entries)
+filled_ends start table entries b cell h room = h.same ∙ filled_table table entries start room

@@ -35,14 +35,14 @@ entries_next (r ∷ entries) (suc i) h = entries_next entries i (omega arith)
 
 -- ---- the offsets and the entries in two parts
 
-offsets_joined : (at : ℕ) (xs ys : List (List ℕ)) → offsets at (xs ++ ys) ≡ offsets at xs ++ offsets (at + length (concat xs)) ys
+pub offsets_joined : (at : ℕ) (xs ys : List (List ℕ)) → offsets at (xs ++ ys) ≡ offsets at xs ++ offsets (at + length (concat xs)) ys
 offsets_joined at [] ys = let e : at ≡ at + 0 = omega arith in ap (λ n. offsets n ys) e
 offsets_joined at (x ∷ xs) ys =
     let e : (at + length x) + length (concat xs) ≡ at + length (concat (x ∷ xs)) = omega (arith, length-append x (concat xs)) in
     ap (λ p. word at ++ p) (offsets_joined (at + length x) xs ys ∙ ap (λ n. offsets (at + length x) xs ++ offsets n ys) e)
     ∙ sym (append_assoc (word at) (offsets (at + length x) xs) (offsets (at + length (concat (x ∷ xs))) ys))
 
-concat_joined : (xs ys : List (List ℕ)) → concat (xs ++ ys) ≡ concat xs ++ concat ys
+pub concat_joined : (xs ys : List (List ℕ)) → concat (xs ++ ys) ≡ concat xs ++ concat ys
 concat_joined [] ys = refl
 concat_joined (x ∷ xs) ys = ap (λ p. x ++ p) (concat_joined xs ys) ∙ sym (append_assoc x (concat xs) (concat ys))
 
@@ -55,7 +55,7 @@ first_offsets at entries i tail h =
     ∙ ap (take (4 * i)) (append_assoc (offsets at (take i entries)) more tail)
     ∙ take_at (offsets at (take i entries)) (more ++ tail) (4 * i) size
 
-joined_again : (entries : List (List ℕ)) (i : ℕ) → concat entries ≡ concat (take i entries) ++ concat (drop i entries)
+pub joined_again : (entries : List (List ℕ)) (i : ℕ) → concat entries ≡ concat (take i entries) ++ concat (drop i entries)
 joined_again entries i = ap concat (sym (take-append-drop i entries)) ∙ concat_joined (take i entries) (drop i entries)
 
 pub first_entries : (entries : List (List ℕ)) (i : ℕ) → take (begin_of entries i) (concat entries) ≡ concat (take i entries)

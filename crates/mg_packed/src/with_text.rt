@@ -52,7 +52,7 @@ pub(crate) fn copy_bytes(alloc: Global, bytes: &[u8]) -> Result<Vec<u8>, NoMemor
 }
 
 // Where the entry at `index` begins, counted from the end of the table; if `index` is the count of entries, where the entries end.
-fn entry_begin(bytes: &[u8], count: usize, index: usize) -> usize
+pub(crate) fn entry_begin(bytes: &[u8], count: usize, index: usize) -> usize
     requires block { IsObjectBlock bytes.now }
     requires counted { count ≡ length (entries_in bytes.now) }
     requires within { index ≤ length (entries_in bytes.now) }
@@ -110,7 +110,7 @@ fn push_offsets(
 }
 
 // Adds the offsets of the entries from `after` on, once the first of them begins at `begin`.
-fn push_moved(
+pub(crate) fn push_moved(
     out: &mut Vec<u8>,
     bytes: &[u8],
     count: usize,

@@ -11,6 +11,8 @@ mod machine_tests;
 #[cfg(test)]
 mod merge_tests;
 #[cfg(test)]
+mod packed_front_tests;
+#[cfg(test)]
 mod packed_tests;
 #[cfg(test)]
 mod packed_text_tests;

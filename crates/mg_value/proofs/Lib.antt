@@ -4,7 +4,7 @@ pub mod Items
 mod Whole
 mod Texts
 mod Written
-mod Trees
+pub mod Trees
 pub mod Compact
 pub mod Names
 pub mod Weights

@@ -1,4 +1,4 @@
--- For private clauses: borrowed parse trees all of whose numbers are whole.
+-- Borrowed parse trees all of whose numbers are whole.
 use Rattle.std.specs.Prelude.{◌≡◌, ℕ, ℤ, List, Option, Some, option_and_then}
 use Rattle.json.specs.Json as json
 use Rattle.serde_json.specs.Data as parsed

@@ -6,6 +6,7 @@ ghost use Rattle.serde_json.specs.Find.{as_i64};
 ghost use Rattle.serde_json.specs.Read.{number_from};
 ghost use Rattle.mg_value.specs.Borrowed.{whole_number_of, IsWhole, AreWholeItems, AreWholeMembers};
 ghost use Rattle.mg_value.specs.Text.{Reads};
+ghost use Rattle.mg_value.specs.Value.{Value};
 ghost use Rattle.mg_value.specs.View.{view, items_view, members_view};
 
 use crate::value::Json;
@@ -14,11 +15,11 @@ use json::{Reader, Scratch, Value as Tree};
 use std::alloc::Global;
 use std::collections::BTreeMap;
 
-// How deep arrays and objects may nest: the limit of `serde_json`.
-const MAX_DEPTH: usize = 127;
+/// How deep arrays and objects may nest: the limit of `serde_json`.
+pub const MAX_DEPTH: usize = 127;
 
-// The longest text, in bytes, that is read in a buffer's room. A longer one has room of its own, which its read frees.
-const LONGEST_KEPT: usize = 65_536;
+/// The longest text, in bytes, that is read in a buffer's room. A longer one has room of its own, which its read frees.
+pub const LONGEST_KEPT: usize = 65_536;
 
 /// Memory that reading needs besides the value, kept from one text to the next: a table of 16 KiB, which is
 /// cleared once, and as many bytes as the longest text that was read with it, up to 64 KiB.
@@ -33,6 +34,11 @@ impl ReadBuffer {
         ReadBuffer {
             scratch: Scratch::new(alloc),
         }
+    }
+
+    /// The memory that `read_tree` reads a text of at most `LONGEST_KEPT` bytes in.
+    pub fn scratch(&mut self) -> &mut Scratch {
+        &mut self.scratch
     }
 }
 
@@ -51,6 +57,15 @@ pub(crate) fn read_whole(alloc: Global, text: &str, buffer: &mut ReadBuffer) -> 
 fn whole_in(alloc: Global, text: &str, scratch: &mut Scratch) -> Option<Json>
     ensures { IfSome result (λ v. Reads text.now (view v)) }
 {
+    let tree = read_tree(alloc, text, scratch)?;
+    whole(alloc, &tree)
+}
+
+/// The parse tree of a JSON text, which borrows its strings; `None` if the text is not JSON, nests more than 127
+/// deep, or memory ran out. Cost: the length of the text.
+pub fn read_tree<'a>(alloc: Global, text: &'a str, scratch: &'a mut Scratch) -> Option<Tree<'a>>
+    ensures { IfSome result (λ tree. (v : Value) → IsWhole (value_view tree) v → Reads text.now v) }
+{
     let Ok(mut reader) = Reader::new(text, scratch) else {
         return None;
     };
@@ -60,7 +75,7 @@ fn whole_in(alloc: Global, text: &str, scratch: &mut Scratch) -> Option<Json>
     if reader.next().is_some() {
         return None;
     }
-    whole(alloc, &tree)
+    Some(tree)
 }
 
 #[cycle(whole)]
@@ -105,7 +120,8 @@ fn whole_members(alloc: Global, members: &[(&str, Tree<'_>)]) -> Option<BTreeMap
     Some(copies)
 }
 
-fn whole_number(text: &str) -> Option<i64>
+/// The number of a JSON numeral; `None` if it is not an `i64`. Cost: its length.
+pub fn whole_number(text: &str) -> Option<i64>
     ensures { IfSome result (λ z. whole_number_of text.now ≡ Some z) }
 {
     let bytes = text.as_bytes();

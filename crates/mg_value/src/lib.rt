@@ -11,7 +11,7 @@ mod reader;
 mod value;
 mod writer;
 
-pub use borrowed::ReadBuffer;
+pub use borrowed::{LONGEST_KEPT, MAX_DEPTH, ReadBuffer, read_tree, whole_number};
 pub use copy::{copy_items, copy_texts};
 pub use error::{NoMemory, ReadError};
 pub use kind::Kind;

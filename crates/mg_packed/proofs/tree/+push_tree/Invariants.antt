@@ -1,0 +1,33 @@
+use Rattle.std.proofs.Common.{◌≡◌, ◌+◌, ◌*◌, List, ◌++◌, take}
+use Rattle.mg_value.specs.Value.{Items, Members}
+use Rattle.mg_packed.specs.Packed.{item_entries, member_entries}
+use Rattle.mg_packed.specs.Sorted.{Named, ItemsMatch, MembersMatch}
+use Rattle.mg_packed.proofs.Filling.{IsFilled}
+use Rattle.mg_packed.proofs.tree.+push_tree.Given as goal
+
+abbrev pub decreases-push_tree : goal.decreases-push_tree
+decreases-push_tree l = 4 * l.depth + 2
+
+abbrev pub decreases-push_array : goal.decreases-push_array
+decreases-push_array l = 4 * l.depth + 1
+
+abbrev pub decreases-push_members : goal.decreases-push_members
+decreases-push_members l = 4 * l.depth + 1
+
+abbrev pub decreases-push_items : goal.decreases-push_items
+decreases-push_items l = 4 * l.depth + 4
+
+abbrev pub decreases-push_sorted : goal.decreases-push_sorted
+decreases-push_sorted l = 4 * l.depth + 4
+
+abbrev pub decreases-push_member : goal.decreases-push_member
+decreases-push_member l = 4 * l.depth + 3
+
+abbrev pub invariant-push_items-loop-item : goal.invariant-push_items-loop-item
+invariant-push_items-loop-item l =
+    (vs : Items) × ItemsMatch (take l.item-index l.items) vs × IsFilled l.initial.out.items l.table (item_entries vs) l.out.items l.cell
+
+abbrev pub invariant-push_sorted-loop-name : goal.invariant-push_sorted-loop-name
+invariant-push_sorted-loop-name l =
+    (done : List Named) × (l.sorted.entries ≡ done ++ l.name-iterator)
+    × (ms : Members) × MembersMatch done ms × IsFilled l.initial.out.items l.table (member_entries ms) l.out.items l.cell

@@ -1,0 +1,13 @@
+-- The members of an object whose names do not begin with a byte.
+use Rattle.std.specs.Prelude.{ℕ, List, [], ◌∷◌, Bool, false, ◌==◌, if◌then◌else◌}
+use Rattle.mg_value.specs.Value.{Members, no_members, member}
+
+-- whether a name begins with the byte b
+abbrev pub begins_with : ℕ → List ℕ → Bool
+begins_with b [] = false
+begins_with b (c ∷ s) = c == b
+
+-- the members whose names do not begin with the byte b
+abbrev pub without_front : ℕ → Members → Members
+without_front b no_members = no_members
+without_front b (member k v ms) = if begins_with b k then without_front b ms else member k v (without_front b ms)

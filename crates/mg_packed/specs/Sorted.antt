@@ -1,0 +1,70 @@
+-- For private clauses: the parts of a parse tree, with the values that they stand for, and its members sorted by name.
+use Rattle.std.specs.Prelude.{◌≡◌, ℕ, List, [], ◌∷◌, ◌++◌, Option, Some, option_map, option_and_then, IsUtf8, ⊤}
+use Rattle.std.specs.Borrow.{Bor}
+use Rattle.std.specs.Cmp.Lexicographic.{slice_cmp}
+use Rattle.std.specs.List.Sorted.{IsStrictlySortedBy}
+use Rattle.std.specs.Map.{keys_of}
+use Rattle.std.specs.Ordering.{nat_cmp}
+use Rattle.std.specs.declared.cmp.Ordering.{Ordering}
+use Rattle.std.specs.declared.alloc.Global.{Global}
+use Rattle.json.specs.Json as json
+use Rattle.json.specs.Value.{value_view}
+use Rattle.json.specs.declared.value.Value.{Value as Tree}
+use Rattle.serde_json.specs.Data as parsed
+use Rattle.serde_json.specs.Read.{of_json, of_members}
+use Rattle.std.specs.List.{concat}
+use Rattle.mg_packed.specs.Packed.{offsets, packed, named, item_entries}
+use Rattle.mg_value.specs.Borrowed.{IsWhole}
+use Rattle.mg_value.specs.Stored.{IsStored}
+use Rattle.mg_value.specs.Value.{Value, Items, no_items, item, Members, no_members, member}
+
+-- a member of a parse tree
+abbrev pub Named : Type 0
+Named = Bor (List ℕ) × Bor (Tree Global)
+
+-- the order of two names
+abbrev pub by_name : Bor (List ℕ) → Bor (List ℕ) → Ordering
+by_name k l = slice_cmp nat_cmp k.now l.now
+
+-- the names ascend
+abbrev pub Ascend : List Named → Type 0
+Ascend es = IsStrictlySortedBy by_name (keys_of es)
+
+-- the data of the members in this order
+abbrev pub sorted_data : List Named → Option parsed.Members
+sorted_data [] = Some parsed.no_members
+sorted_data (e ∷ es) = option_and_then (λ d. option_map (parsed.member e.0.now d) (sorted_data es)) (of_json (value_view e.1.now))
+
+-- the members in the text's order have the data of the sorted ones
+abbrev pub IsSorting : List Named → json.Members → Type 0
+IsSorting es js = (ds : parsed.Members) → sorted_data es ≡ Some ds → of_members js parsed.no_members ≡ Some ds
+
+-- each tree stands for the item
+abbrev pub ItemsMatch : List (Tree Global) → Items → Type 0
+ItemsMatch [] no_items = ⊤
+ItemsMatch [] (item v vs) = ⊥
+ItemsMatch (t ∷ ts) no_items = ⊥
+ItemsMatch (t ∷ ts) (item v vs) = IsWhole (value_view t) v × IsStored v × ItemsMatch ts vs
+
+-- each name and tree stand for the member
+abbrev pub MembersMatch : List Named → Members → Type 0
+MembersMatch [] no_members = ⊤
+MembersMatch [] (member k v ms) = ⊥
+MembersMatch (e ∷ es) no_members = ⊥
+MembersMatch (e ∷ es) (member k v ms) = (e.0.now ≡ k) × IsUtf8 k × IsWhole (value_view e.1.now) v × IsStored v × MembersMatch es ms
+
+-- the bytes are the old ones and those of a value that the tree stands for
+abbrev pub IsPushed : json.Json → List ℕ → List ℕ → Type 0
+IsPushed j old new = (v : Value) × IsWhole j v × IsStored v × (new ≡ old ++ packed v)
+
+-- the bytes are the old ones, and the name and such a value
+abbrev pub IsMemberPushed : List ℕ → json.Json → List ℕ → List ℕ → Type 0
+IsMemberPushed k j old new = IsUtf8 k × ((v : Value) × IsWhole j v × IsStored v × (new ≡ old ++ named k (packed v)))
+
+-- the bytes are the old ones, and the offsets and entries of the items
+abbrev pub AreItemsPushed : List (Tree Global) → List ℕ → List ℕ → Type 0
+AreItemsPushed ts old new = (vs : Items) × ItemsMatch ts vs × (new ≡ old ++ (offsets 0 (item_entries vs) ++ concat (item_entries vs)))
+
+-- the members, sorted, are those of the text
+abbrev pub AreMembersPushed : json.Members → Members → Type 0
+AreMembersPushed js ms = (es : List Named) × IsSorting es js × Ascend es × MembersMatch es ms

@@ -1,0 +1,102 @@
+// Reads JSON texts into blocks.
+ghost use Rattle.std.specs.Prelude.{◌≡◌, ◌<◌, length, Err, IfOk, IfSome, IsUtf8, None};
+ghost use Rattle.json.specs.Value.{value_view};
+ghost use Rattle.serde_json.specs.Data.{Data};
+ghost use Rattle.mg_value.specs.Text.{Reads, IsText, whole_of};
+ghost use Rattle.mg_value.specs.Borrowed.{IsWhole};
+ghost use Rattle.mg_value.specs.Value.{Value};
+ghost use Rattle.mg_value.specs.View.{view};
+ghost use Rattle.mg_packed.specs.Read.{IsBlockOf};
+
+use crate::measure::as_word;
+use crate::packed::Packed;
+use crate::tree::{GaveUp, push_tree};
+use json::{Scratch, Value as Tree};
+use mg_value::{Json, LONGEST_KEPT, MAX_DEPTH, ReadBuffer, ReadError, read_tree};
+use std::alloc::Global;
+
+// The value of a JSON text, in a block of its own. Errors: those of `mg_value::read`.
+pub(crate) fn read_packed(
+    alloc: Global,
+    bytes: &[u8],
+    buffer: &mut ReadBuffer,
+) -> Result<Packed, ReadError>
+    ensures ok { IfOk result (λ packed. Reads bytes.now packed) }
+    ensures not_json { result ≡ Err ReadError.NotJson → (d : Data) → ¬ IsText bytes.now d }
+    ensures not_whole { result ≡ Err ReadError.NotWhole
+        → (d : Data) × IsText bytes.now d × (whole_of d ≡ None) }
+    ensures no_memory { result ≡ Err ReadError.NoMemory
+        → IsUtf8 bytes.now × (0 < length bytes.now) }
+{
+    match read_fast(alloc, bytes, buffer) {
+        Some(packed) => Ok(packed),
+        None => read_again(alloc, bytes),
+    }
+}
+
+// The fast path, without a `Json`. It gives up (`None`) where `push_tree` does, and if the bytes are not JSON.
+fn read_fast(alloc: Global, bytes: &[u8], buffer: &mut ReadBuffer) -> Option<Packed>
+    ensures { IfSome result (λ packed. Reads bytes.now packed) }
+{
+    match str::from_utf8(bytes) {
+        Ok(text) => read_text(alloc, text, buffer),
+        Err(_) => None,
+    }
+}
+
+fn read_text(alloc: Global, text: &str, buffer: &mut ReadBuffer) -> Option<Packed>
+    ensures { IfSome result (λ packed. Reads text.now packed) }
+{
+    if text.len() > LONGEST_KEPT {
+        let mut scratch = Scratch::new(alloc);
+        return read_with(alloc, text, &mut scratch);
+    }
+    read_with(alloc, text, buffer.scratch())
+}
+
+fn read_with(alloc: Global, text: &str, scratch: &mut Scratch) -> Option<Packed>
+    ensures { IfSome result (λ packed. Reads text.now packed) }
+{
+    let tree = read_tree(alloc, text, scratch)?;
+    match tree_block(alloc, text.len(), &tree) {
+        Ok(bytes) => Some(Packed::in_block(bytes)),
+        Err(_) => None,
+    }
+}
+
+// The bytes of the value that the tree stands for, in a block that may have spare room.
+fn tree_block(alloc: Global, text_len: usize, tree: &Tree<'_>) -> Result<Vec<u8>, GaveUp>
+    ensures { IfOk result (λ b. (v : Value) × IsWhole (value_view tree.now) v × IsBlockOf b.items v) }
+{
+    let mut out = Vec::with_capacity(alloc, text_len.saturating_mul(2))?;
+    push_tree(alloc, &mut out, tree, MAX_DEPTH)?;
+    as_word(out.len())?;
+    Ok(out)
+}
+
+// The slow path, over a `Json`. It finds why a text is refused, and reads the rare texts that the fast path gives up.
+fn read_again(alloc: Global, bytes: &[u8]) -> Result<Packed, ReadError>
+    ensures ok { IfOk result (λ packed. Reads bytes.now packed) }
+    ensures not_json { result ≡ Err ReadError.NotJson → (d : Data) → ¬ IsText bytes.now d }
+    ensures not_whole { result ≡ Err ReadError.NotWhole
+        → (d : Data) × IsText bytes.now d × (whole_of d ≡ None) }
+    ensures no_memory { result ≡ Err ReadError.NoMemory
+        → IsUtf8 bytes.now × (0 < length bytes.now) }
+{
+    match mg_value::read(alloc, bytes) {
+        Ok(value) => pack(alloc, &value),
+        Err(error) => Err(error),
+    }
+}
+
+// Packs the value; a refused block is the only error.
+fn pack(alloc: Global, value: &Json) -> Result<Packed, ReadError>
+    ensures ok { IfOk result (λ packed. packed ≡ view value.now) }
+    ensures json { result ≡ Err ReadError.NotJson → ⊥ }
+    ensures whole { result ≡ Err ReadError.NotWhole → ⊥ }
+{
+    match Packed::of(alloc, value) {
+        Ok(packed) => Ok(packed),
+        Err(_) => Err(ReadError::NoMemory),
+    }
+}
