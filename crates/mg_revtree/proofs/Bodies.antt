@@ -1,10 +1,10 @@
 -- The body that a form has is the form without its id and its revision.
-use Rattle.std.proofs.Common.{◌≡◌, ℕ, List, Ordering, Less, Equal, Greater, Option, Some, None, codes, nat_cmp, refl, ap, sym, ◌∙◌, subst}
+use Rattle.std.proofs.Common.{◌≡◌, ℕ, List, length, arith, Ordering, Less, Equal, Greater, Option, Some, None, codes, nat_cmp, refl, ap, sym, ◌∙◌, subst}
 use Rattle.std.proofs.lemmas.Cmp.{nat_list_cmp_total, tied_itself}
 use Rattle.std.specs.Cmp.Lexicographic.{slice_cmp}
 use Rattle.std.specs.FinMap.{IsAntisymmetric, nat_cmp-IsAntisymmetric, slice_cmp-IsAntisymmetric}
 use Rattle.std.specs.Ordering.{match_ordering}
-use Rattle.mg_value.specs.Value.{Value, null, flag, whole, text, list, object, Members, no_members, member, get_member, member_of, put, without}
+use Rattle.mg_value.specs.Value.{Value, null, flag, whole, text, list, object, Members, no_members, member, member_list, get_member, member_of, put, without}
 use Rattle.mg_revtree.specs.Body.{as_form, bare, IsBare, IsFormOf}
 
 -- ---- the member that was put in
@@ -107,3 +107,9 @@ parts_are i r id rev (object ms) e f = same_parts i r id rev ms e f
 pub is_made : (id rev body form : Value) → IsFormOf body form → member_of (codes "_id") form ≡ Some id → member_of (codes "_rev") form ≡ Some rev → form ≡ as_form id rev body
 is_made id rev body form is e f =
     is.2 ∙ parts_are is.0 is.1 id rev body (ap (member_of (codes "_id")) (sym is.2) ∙ e) (ap (member_of (codes "_rev")) (sym is.2) ∙ f)
+
+-- ---- a body without members
+
+pub no_members_are : (ms : Members) → length (member_list ms) ≡ 0 → ms ≡ no_members
+no_members_are no_members none = refl
+no_members_are (member k v ms) none = absurd (omega (arith, none))

@@ -12,3 +12,4 @@ pub mod Body
 pub mod Block
 pub mod Growth
 pub mod Pair
+pub mod Id

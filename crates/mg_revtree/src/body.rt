@@ -44,19 +44,16 @@ impl Model for Body {
 }
 
 impl Body {
-    // Packs a body into a block of its own. The object without members takes no memory.
-    pub(crate) fn of(alloc: Global, value: &Json) -> Result<Body, NoMemory>
-        ensures { IfOk result (λ body. body ≡ view value.now) }
+    // The body in this block. Takes no memory: the block of the object without members is freed, and any other body keeps its block.
+    pub(crate) fn of(packed: Packed) -> Body
+        ensures { result ≡ packed }
     {
-        if has_no_members(value) {
-            return Ok(Body {
-                block: Block::Empty,
-            });
-        }
-        let packed = Packed::of(alloc, value)?;
-        Ok(Body {
-            block: Block::Own(packed),
-        })
+        let block = if has_no_members(&packed) {
+            Block::Empty
+        } else {
+            Block::Own(packed)
+        };
+        Body { block }
     }
 
     // The body that a form shows, in the form's block.
@@ -104,11 +101,11 @@ impl Body {
 }
 
 // Whether a value is the object without members.
-fn has_no_members(value: &Json) -> bool
-    ensures { result ≡ true → view value.now ≡ object no_members }
+fn has_no_members(packed: &Packed) -> bool
+    ensures { result ≡ true → packed.now ≡ object no_members }
 {
-    match value {
-        Json::Object(members) => members.is_empty(),
+    match packed.part().kind() {
+        Kind::Object(members) => members.len() == 0,
         _ => false,
     }
 }

@@ -1,5 +1,4 @@
 use mg_value::NoMemory;
-use std::alloc::AllocError;
 use thiserror::Error;
 
 /// Why a text was not read as a revision.
@@ -13,13 +12,13 @@ pub enum RevError {
     NoMemory,
 }
 
-impl From<AllocError> for RevError {
+impl From<NoMemory> for RevError {
     ghost use Rattle.std.specs.Prelude.{◌≡◌};
     ghost use Rattle.mg_revtree.specs.declared.error.RevError.TheVariants.{NoMemory as want};
 
     ghost from_gives = { λ _ e. e ≡ want };
 
-    fn from(_refused: AllocError) -> RevError {
+    fn from(_refused: NoMemory) -> RevError {
         RevError::NoMemory
     }
 }

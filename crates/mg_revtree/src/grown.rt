@@ -1,7 +1,6 @@
 //! Trees as lists of known revisions and of leaves. A tree that has had several leaves is kept as lists; any other tree is put into
 //! lists while it accepts a run.
 ghost use Rattle.std.specs.Prelude.{◌≡◌, ◌+◌, ◌<◌, ◌≤◌, [], ◌∷◌, IfOk, IfSome, OnErr, OnOk, length, map, string_bytes};
-ghost use Rattle.mg_value.specs.View.{view};
 ghost use Rattle.mg_revtree.specs.Revision.{run_from};
 ghost use Rattle.mg_revtree.specs.Body.{IsFormOf};
 ghost use Rattle.mg_revtree.specs.History.{Paths, first_of, links};
@@ -16,8 +15,10 @@ use crate::form::Form;
 use crate::leaf::{Leaf, SharedLeaf};
 use crate::leaf_list::{add_leaf, copy_leaves, unleaf};
 use crate::links::KnownLinks;
+use crate::rev_id::RevId;
 use crate::revision::Rev;
-use mg_value::{Json, NoMemory};
+use mg_packed::Packed;
+use mg_value::NoMemory;
 use std::alloc::Global;
 use std::marker::Model;
 use std::{mem, slice};
@@ -116,26 +117,26 @@ impl Grown {
         start: u32,
         ids: &[String],
         deleted: bool,
-        body: Json,
+        body: Packed,
     ) -> Result<Merged, NoMemory>
         requires some { 0 < length ids.now }
         requires run { length ids.now ≤ start + 1 }
         ensures accepted { OnOk result ((h : Paths) → StandsFor self.old h
             → StandsFor self.new
-            (with_path h (path_of (run_from start (map string_bytes ids.now)) deleted (view body)))) }
+            (with_path h (path_of (run_from start (map string_bytes ids.now)) deleted body))) }
         ensures found { IfOk result
             (λ m. (h : Paths) → StandsFor self.old h
             → m ≡ found_of h (run_from start (map string_bytes ids.now))) }
         ensures err { OnErr result (self.new ≡ self.old) }
     {
+        let alloc = *self.leaves.allocator();
         let id = &ids[0];
         let known = self.links.knows(start, id);
         let rev = Rev {
             pos: start,
-            id: id.clone()?,
+            id: RevId::copy_of(alloc, id)?,
         };
-        let alloc = *self.leaves.allocator();
-        let body = Body::of(alloc, &body)?;
+        let body = Body::of(body);
         let leaf = SharedLeaf::new(alloc, Leaf { rev, deleted, body })?;
         reserve(&mut self.leaves, 1)?;
         self.links.join(start, ids)?;
@@ -153,7 +154,8 @@ fn links_of(alloc: Global, rev: &Rev) -> Result<KnownLinks, NoMemory>
     ensures { IfOk result (λ known. AreNodes known (links (rev.now ∷ []))) }
 {
     let mut known = KnownLinks::new(alloc);
-    known.join(rev.pos, slice::from_ref(&rev.id))?;
+    let id = String::from_str(alloc, rev.id.as_str())?;
+    known.join(rev.pos, slice::from_ref(&id))?;
     Ok(known)
 }
 

@@ -1,6 +1,5 @@
 //! How a revision tree is kept, by how far it has grown.
 ghost use Rattle.std.specs.Prelude.{◌≡◌, ◌<◌, ◌≤◌, ◌+◌, List, [], ◌∷◌, IfOk, IfSome, OnErr, OnOk, is_some, length, map, option_map, string_bytes};
-ghost use Rattle.mg_value.specs.View.{view};
 ghost use Rattle.mg_revtree.specs.Revision.{run_from};
 ghost use Rattle.mg_revtree.specs.Body.{IsFormOf};
 ghost use Rattle.mg_revtree.specs.History.{Paths, Link, are_held, first_of, fit, links};
@@ -16,7 +15,8 @@ use crate::leaf::{Leaf, SharedLeaf};
 use crate::links::KnownLinks;
 use crate::pair::Pair;
 use crate::revision::Rev;
-use mg_value::{Json, NoMemory};
+use mg_packed::Packed;
+use mg_value::NoMemory;
 use std::alloc::Global;
 use std::slice;
 
@@ -36,8 +36,9 @@ pub(crate) enum Growth {
     Grown(Box<Grown>),
 }
 
-// Every document has a tree, so no case takes more than two pointers.
-const _: () = prove!(size_of::<Growth>() == 24);
+// Every document has a tree, so its size counts. A pair takes the most: it holds the id of the parent, which takes less memory than a
+// block for the id would.
+const _: () = prove!(size_of::<Growth>() == 48);
 
 impl Growth {
     /// The leaves, best first. Takes no memory.
@@ -119,7 +120,7 @@ impl Growth {
         match self {
             Growth::Empty => Ok(Growth::Empty),
             Growth::First(leaf) => Ok(Growth::First(leaf.share()?)),
-            Growth::Pair(pair) => Ok(Growth::Pair(pair.copy(alloc)?)),
+            Growth::Pair(pair) => Ok(Growth::Pair(pair.copy()?)),
             Growth::Line(leaf, known) => Ok(Growth::Line(leaf.share()?, copy_boxed(alloc, known)?)),
             Growth::Grown(grown) => Ok(Growth::Grown(Box::new(alloc, grown.copy(alloc)?)?)),
         }
@@ -136,12 +137,12 @@ impl Growth {
     }
 
     /// The tree of this revision alone, which has no parent.
-    pub fn first(alloc: Global, rev: Rev, deleted: bool, body: &Json) -> Result<Growth, NoMemory>
+    pub fn first(alloc: Global, rev: Rev, deleted: bool, body: Packed) -> Result<Growth, NoMemory>
         ensures { IfOk result
             (λ made. tree_in made ≡ first_tree
-            (record { rev = rev; deleted = deleted; body = view body.now })) }
+            (record { rev = rev; deleted = deleted; body = body })) }
     {
-        let body = Body::of(alloc, body)?;
+        let body = Body::of(body);
         let leaf = SharedLeaf::new(alloc, Leaf { rev, deleted, body })?;
         Ok(Growth::First(leaf))
     }
@@ -154,13 +155,13 @@ impl Growth {
         start: u32,
         ids: &[String],
         deleted: bool,
-        body: Json,
+        body: Packed,
     ) -> Result<Merged, NoMemory>
         requires some { 0 < length ids.now }
         requires run { length ids.now ≤ start + 1 }
         ensures accepted { OnOk result ((h : Paths) → StandsFor (tree_in self.old) h
             → StandsFor (tree_in self.new)
-            (with_path h (path_of (run_from start (map string_bytes ids.now)) deleted (view body)))) }
+            (with_path h (path_of (run_from start (map string_bytes ids.now)) deleted body))) }
         ensures found { IfOk result
             (λ m. (h : Paths) → StandsFor (tree_in self.old) h
             → m ≡ found_of h (run_from start (map string_bytes ids.now))) }
@@ -193,13 +194,13 @@ impl Growth {
         start: u32,
         ids: &[String],
         deleted: bool,
-        body: Json,
+        body: Packed,
     ) -> Result<(Growth, Merged), NoMemory>
         requires some { 0 < length ids.now }
         requires run { length ids.now ≤ start + 1 }
         ensures accepted { IfOk result (λ r. (h : Paths) → StandsFor (tree_in self.now) h
             → StandsFor (tree_in r.0)
-            (with_path h (path_of (run_from start (map string_bytes ids.now)) deleted (view body)))) }
+            (with_path h (path_of (run_from start (map string_bytes ids.now)) deleted body))) }
         ensures found { IfOk result (λ r. (h : Paths) → StandsFor (tree_in self.now) h
             → r.1 ≡ found_of h (run_from start (map string_bytes ids.now))) }
     {
@@ -239,7 +240,7 @@ fn growth_of(alloc: Global, grown: Grown) -> Result<Growth, NoMemory>
     }
     let Grown { links, mut leaves } = grown;
     let leaf = leaves.swap_remove(0);
-    match Pair::of(alloc, &leaf, &links)? {
+    match Pair::of(&leaf, &links)? {
         Some(pair) => Ok(Growth::Pair(pair)),
         None => Ok(Growth::Line(leaf, Box::new(alloc, links)?)),
     }
@@ -254,13 +255,13 @@ fn accept_on_line(
     start: u32,
     ids: &[String],
     deleted: bool,
-    body: Json,
+    body: Packed,
 ) -> Result<(Merged, Option<Box<Grown>>), NoMemory>
     requires some { 0 < length ids.now }
     requires run { length ids.now ≤ start + 1 }
     ensures accepted { IfOk result (λ r. (h : Paths) → StandsFor (line_tree known.old leaf.old) h
         → StandsFor (after_line (option_map (λ b. b.value) r.1) known.new leaf.new)
-        (with_path h (path_of (run_from start (map string_bytes ids.now)) deleted (view body)))) }
+        (with_path h (path_of (run_from start (map string_bytes ids.now)) deleted body))) }
     ensures found { IfOk result (λ r. (h : Paths) → StandsFor (line_tree known.old leaf.old) h
         → r.0 ≡ found_of h (run_from start (map string_bytes ids.now))) }
     ensures err { OnErr result (line_tree known.new leaf.new ≡ line_tree known.old leaf.old) }

@@ -3,6 +3,7 @@ ghost use Rattle.std.specs.List.{list_all};
 ghost use Rattle.mg_revtree.specs.Revision.{is_revision_id, run_from, run_of};
 ghost use Rattle.mg_revtree.specs.History.{newest_of};
 
+use crate::rev_id::RevId;
 use crate::revision::{Rev, is_id};
 use mg_value::{NoMemory, copy_texts};
 use std::alloc::Global;
@@ -39,13 +40,13 @@ impl History {
         Some(History { start, ids })
     }
 
-    /// A copy of the newest revision. Errors: `NoMemory` if an allocation fails.
+    /// A copy of the newest revision. Takes no memory if its id has 32 bytes. Errors: `NoMemory` if an allocation fails.
     pub fn newest(&self) -> Result<Rev, NoMemory>
         ensures { IfOk result (λ rev. newest_of self.now ≡ Some rev) }
     {
         Ok(Rev {
             pos: self.start,
-            id: self.ids[0].clone()?,
+            id: RevId::copy_of(*self.ids.allocator(), &self.ids[0])?,
         })
     }
 
@@ -56,7 +57,7 @@ impl History {
         let History { start, mut ids } = self;
         Rev {
             pos: start,
-            id: ids.swap_remove(0),
+            id: RevId::of(ids.swap_remove(0)),
         }
     }
 

@@ -13,6 +13,7 @@ mod leaf;
 mod leaf_list;
 mod links;
 mod pair;
+mod rev_id;
 mod revision;
 mod tree;
 
@@ -21,5 +22,6 @@ pub use error::{MergeError, Merged, RevError, TreeError, TreeRefusal};
 pub use form::Form;
 pub use history::History;
 pub use leaf::Leaf;
+pub use rev_id::RevId;
 pub use revision::{Rev, is_id};
 pub use tree::RevTree;

@@ -11,22 +11,20 @@ use crate::form::Form;
 use crate::grown::{Grown, leaves_of};
 use crate::leaf::SharedLeaf;
 use crate::links::{KnownLinks, LookUp, all_agree, all_held};
+use crate::rev_id::digest_of;
 use crate::revision::Rev;
 use mg_value::NoMemory;
 use std::alloc::Global;
 use std::marker::Model;
 use std::slice;
 
-// The ids of edits that are made here have this many bytes.
-const ID_BYTES: usize = 32;
-
 /// A leaf, and the id of its parent, which is at the position below and has no known parent: the tree of a document that was
-/// edited or deleted once. The id has exactly 32 bytes, so its block needs no length beside it; a tree whose parent has an id of
-/// another length is kept as a line. Contracts see the tree.
+/// edited or deleted once. The id has exactly 32 bytes and is stored in the value itself, so the parent has no block; a tree whose
+/// parent has an id of another length is kept as a line. Contracts see the tree.
 #[derive(Drop)]
 pub(crate) struct Pair {
     leaf: SharedLeaf,
-    parent: Box<[u8; 32]>,
+    parent: [u8; 32],
 }
 
 impl Model for Pair {
@@ -38,21 +36,18 @@ impl Model for Pair {
 
     ghost coded = { tree_code };
 
-    ghost view = { λ p. pair_tree p.leaf p.parent.value };
+    ghost view = { λ p. pair_tree p.leaf p.parent };
 
     ghost invariant = { λ p. 0 < p.leaf.rev.0 };
 }
 
 impl Pair {
-    /// The pair of a leaf and its parent, if these are the known revisions, and the parent's id has 32 bytes.
-    pub fn of(
-        alloc: Global,
-        leaf: &SharedLeaf,
-        known: &KnownLinks,
-    ) -> Result<Option<Pair>, NoMemory>
+    /// The pair of a leaf and its parent, if these are the known revisions, and the parent's id has 32 bytes. Takes no memory.
+    /// Errors: `NoMemory` if there are too many references to the leaf.
+    pub fn of(leaf: &SharedLeaf, known: &KnownLinks) -> Result<Option<Pair>, NoMemory>
         ensures { IfOk result (λ found. IfSome found (λ pair. pair ≡ line_tree known.now leaf.now)) }
     {
-        match parent_of(alloc, &leaf.leaf().rev, known)? {
+        match parent_of(&leaf.leaf().rev, known) {
             Some(parent) => Ok(Some(Pair {
                 leaf: leaf.share()?,
                 parent,
@@ -101,13 +96,13 @@ impl Pair {
         self.leaf.move_into(form);
     }
 
-    /// A copy that shares the leaf with its body.
-    pub fn copy(&self, alloc: Global) -> Result<Pair, NoMemory>
+    /// A copy that shares the leaf with its body. Takes no memory. Errors: `NoMemory` if there are too many references to the leaf.
+    pub fn copy(&self) -> Result<Pair, NoMemory>
         ensures { IfOk result (λ pair. pair ≡ self.now) }
     {
         Ok(Pair {
             leaf: self.leaf.share()?,
-            parent: Box::new(alloc, *self.parent)?,
+            parent: self.parent,
         })
     }
 
@@ -139,21 +134,11 @@ impl LookUp for Pair {
 }
 
 // The id of a revision's parent, if the known revisions are these two, and the id has 32 bytes.
-fn parent_of(
-    alloc: Global,
-    rev: &Rev,
-    known: &KnownLinks,
-) -> Result<Option<Box<[u8; 32]>>, NoMemory>
-    ensures { IfOk result (λ found. IfSome found
-        (λ parent. (0 < rev.now.0) × (known.now ≡ pair_links rev.now parent.value))) }
+fn parent_of(rev: &Rev, known: &KnownLinks) -> Option<[u8; 32]>
+    ensures { IfSome result (λ parent. (0 < rev.now.0) × (known.now ≡ pair_links rev.now parent)) }
 {
-    let Some(id) = known.parent_in_pair(rev) else {
-        return Ok(None);
-    };
-    if id.len() != ID_BYTES {
-        return Ok(None);
+    match known.parent_in_pair(rev) {
+        Some(id) => digest_of(id),
+        None => None,
     }
-    let mut parent = Box::new(alloc, [0u8; 32])?;
-    parent.copy_from_slice(id);
-    Ok(Some(parent))
 }

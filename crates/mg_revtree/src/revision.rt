@@ -4,6 +4,7 @@ ghost use Rattle.std.specs.List.{list_all};
 ghost use Rattle.mg_revtree.specs.Revision.{is_id_byte, is_revision_id, position_of, revision_of, revision_order, revision_text, same_revision};
 
 use crate::error::RevError;
+use crate::rev_id::RevId;
 use mg_value::NoMemory;
 use std::alloc::Global;
 use std::cmp::Ordering;
@@ -16,23 +17,22 @@ pub struct Rev {
     /// The position, from 1 to 4,294,967,295.
     pub pos: u32,
     /// The id, as written.
-    pub id: String,
+    pub id: RevId,
 }
 
 impl Model for Rev {
-    ghost use Rattle.std.specs.Prelude.{string_bytes};
     ghost use Rattle.mg_revtree.specs.Revision.{Revision};
 
     ghost Value = { Revision };
 
-    ghost view = { λ r. (r.pos, string_bytes r.id) };
+    ghost view = { λ r. (r.pos, r.id) };
 }
 
 impl Rev {
     /// Reads `N-id`, cut at the first hyphen: N in decimal, from 1 to 4,294,967,295, with no leading zero.
     ///
-    /// Errors: `Bad` for exactly the texts that are not a revision; `NoMemory` if an allocation fails.
-    /// Cost: the length of the text. Source: revisions of CouchDB's API reference.
+    /// Errors: `Bad` for exactly the texts that are not a revision; `NoMemory` if an allocation fails. Takes no memory if the id has
+    /// 32 bytes. Cost: the length of the text. Source: revisions of CouchDB's API reference.
     pub fn parse(alloc: Global, text: &str) -> Result<Rev, RevError>
         ensures ok { IfOk result (λ rev. revision_of text.now ≡ Some rev) }
         ensures bad { result ≡ Err RevError.Bad → revision_of text.now ≡ None }
@@ -49,7 +49,7 @@ impl Rev {
         };
         Ok(Rev {
             pos,
-            id: String::from_str(alloc, id)?,
+            id: RevId::copy_of(alloc, id)?,
         })
     }
 
@@ -68,7 +68,7 @@ impl Rev {
     {
         self.pos
             .cmp(&other.pos)
-            .then(self.id.as_str().cmp(other.id.as_str()))
+            .then(self.id.as_bytes().cmp(other.id.as_bytes()))
     }
 
     // Compares the revision of the given position and id to this revision.
@@ -85,13 +85,14 @@ impl Rev {
         self.against(pos, id).is_eq()
     }
 
-    /// A copy of the revision. Cost: the length of the id.
+    /// A copy of the revision. Takes no memory if the id has 32 bytes. Errors: `NoMemory` if an allocation fails. Cost: the length of
+    /// the id.
     pub fn copy(&self, alloc: Global) -> Result<Rev, NoMemory>
         ensures { IfOk result (λ rev. rev ≡ self.now) }
     {
         Ok(Rev {
             pos: self.pos,
-            id: String::from_str(alloc, &self.id)?,
+            id: self.id.copy(alloc)?,
         })
     }
 }

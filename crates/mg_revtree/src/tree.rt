@@ -1,5 +1,4 @@
 ghost use Rattle.std.specs.Prelude.{◌≡◌, ◌+◌, ◌<◌, ◌≤◌, ◌++◌, [], Err, IfOk, IfSome, IsOk, IsOkUnless, Ok, OnErr, OnOk, false, is_some, length, map, option_copied, string_bytes, true};
-ghost use Rattle.mg_value.specs.View.{view};
 ghost use Rattle.mg_revtree.specs.Revision.{run_from};
 ghost use Rattle.mg_revtree.specs.Body.{IsFormOf};
 ghost use Rattle.mg_revtree.specs.History.{Paths, first_of, fits, is_whole, leaves_of, winner_of};
@@ -15,8 +14,10 @@ use crate::growth::Growth;
 use crate::history::History;
 use crate::leaf::{Leaf, SharedLeaf};
 use crate::leaf_list::{is_leaf, lent_leaves, undeleted_among};
+use crate::rev_id::RevId;
 use crate::revision::Rev;
-use mg_value::{Json, NoMemory};
+use mg_packed::Packed;
+use mg_value::NoMemory;
 use std::alloc::Global;
 use std::marker::Model;
 
@@ -43,7 +44,7 @@ fn ids_over(alloc: Global, id: String, parent: Option<&Rev>) -> Result<Vec<Strin
     let mut ids = Vec::with_capacity(alloc, 2)?;
     ids.push(id)?;
     if let Some(parent) = parent {
-        ids.push(parent.id.clone()?)?;
+        ids.push(String::from_str(alloc, parent.id.as_str())?)?;
     }
     Ok(ids)
 }
@@ -136,8 +137,8 @@ impl RevTree {
     /// A copy of the tree. It shares the leaves with their bodies, and the older known revisions.
     ///
     /// Errors: `NoMemory` if an allocation fails, or if there are too many references to what is shared. Cost: one reference count for
-    /// each leaf; for a leaf and its parent also a copy of the parent's id; for a tree of more revisions also copies of the two blocks
-    /// that hold the newer known revisions, of which there are at most 64, or about four times the square root of the number of older ones.
+    /// each leaf; for a tree of more than a leaf and its parent also copies of the two blocks that hold the newer known revisions, of
+    /// which there are at most 64, or about four times the square root of the number of older ones.
     pub fn copy(&self, alloc: Global) -> Result<RevTree, NoMemory>
         ensures { IfOk result (λ tree. tree ≡ self.now) }
     {
@@ -184,18 +185,23 @@ impl RevTree {
     /// become known, and known ones without a parent get the parent that the path gives them. If the newest
     /// revision is already known, it keeps its mark and its body. A path that is known whole changes nothing.
     ///
-    /// Errors: `BadHistory` if the path contradicts a known parent; else `NoMemory` if an allocation fails, or if the body or the
-    /// ids of the known revisions take more than 4,294,967,295 bytes. Neither a bad path nor one that is known whole needs memory.
-    /// An error leaves the tree as it was.
+    /// Errors: `BadHistory` if the path contradicts a known parent; else `NoMemory` if an allocation fails, or if the ids of the known
+    /// revisions take more than 4,294,967,295 bytes. Neither a bad path nor one that is known whole needs memory. An error leaves the
+    /// tree as it was.
     ///
-    /// Cost: the size of the body, the length of the path times the logarithms of the known revisions and of the leaves, a
-    /// move of one pointer for each leaf, and one pass over those of the newer known revisions that are at higher positions than
-    /// the lowest unknown revision of the path. If the path extends the branch with the highest positions, there are none. If the
-    /// newer revisions and those of the path are more than 64, and more than about four times the square root of the number of
-    /// older ones, all known revisions are copied too. Source: the replication model of CouchDB.
-    pub fn merge(&mut self, path: &History, deleted: bool, body: Json) -> Result<Merged, MergeError>
+    /// Cost: the length of the path times the logarithms of the known revisions and of the leaves, a move of one pointer for each leaf,
+    /// and one pass over those of the newer known revisions that are at higher positions than the lowest unknown revision of the path.
+    /// If the path extends the branch with the highest positions, there are none. The body keeps its block and is not copied. If the
+    /// newer revisions and those of the path are more than 64, and more than about four times the square root of the number of older
+    /// ones, all known revisions are copied too. Source: the replication model of CouchDB.
+    pub fn merge(
+        &mut self,
+        path: &History,
+        deleted: bool,
+        body: Packed,
+    ) -> Result<Merged, MergeError>
         ensures accepted { OnOk result ((h : Paths) → StandsFor self.old h
-            → StandsFor self.new (with_path h (path_of path.now deleted (view body)))) }
+            → StandsFor self.new (with_path h (path_of path.now deleted body))) }
         ensures found { IfOk result (λ m. (h : Paths) → StandsFor self.old h → m ≡ found_of h path.now) }
         ensures fitting { (h : Paths) → StandsFor self.old h → fits h path.now ≡ true
             → IsOkUnless result MergeError.NoMemory }
@@ -221,13 +227,13 @@ impl RevTree {
         start: u32,
         ids: &[String],
         deleted: bool,
-        body: Json,
+        body: Packed,
     ) -> Result<Merged, NoMemory>
         requires some { 0 < length ids.now }
         requires run { length ids.now ≤ start + 1 }
         ensures accepted { OnOk result ((h : Paths) → StandsFor self.old h
             → StandsFor self.new
-            (with_path h (path_of (run_from start (map string_bytes ids.now)) deleted (view body)))) }
+            (with_path h (path_of (run_from start (map string_bytes ids.now)) deleted body))) }
         ensures found { IfOk result
             (λ m. (h : Paths) → StandsFor self.old h
             → m ≡ found_of h (run_from start (map string_bytes ids.now))) }
@@ -238,17 +244,17 @@ impl RevTree {
         }
         let rev = Rev {
             pos: start,
-            id: ids[0].clone()?,
+            id: RevId::copy_of(self.alloc, &ids[0])?,
         };
-        self.begin(rev, deleted, &body)?;
+        self.begin(rev, deleted, body)?;
         Ok(Merged::New)
     }
 
     // Makes the first revision of a tree without revisions.
-    fn begin(&mut self, rev: Rev, deleted: bool, body: &Json) -> Result<(), NoMemory>
+    fn begin(&mut self, rev: Rev, deleted: bool, body: Packed) -> Result<(), NoMemory>
         requires { self.old ≡ empty_tree }
         ensures begun { OnOk result
-            (self.new ≡ first_tree (record { rev = rev; deleted = deleted; body = view body.now })) }
+            (self.new ≡ first_tree (record { rev = rev; deleted = deleted; body = body })) }
         ensures err { OnErr result (self.new ≡ self.old) }
     {
         self.growth = Growth::first(self.alloc, rev, deleted, body)?;
@@ -266,11 +272,11 @@ impl RevTree {
         parent: Option<&Rev>,
         id: String,
         deleted: bool,
-        body: Json,
+        body: Packed,
     ) -> Result<(), TreeError>
         ensures accepted { OnOk result ((h : Paths) → StandsFor self.old h
             → StandsFor self.new
-            (with_path h (extension (option_copied parent.entry) (string_bytes id) deleted (view body)))) }
+            (with_path h (extension (option_copied parent.entry) (string_bytes id) deleted body))) }
         ensures decided { (h : Paths) → StandsFor self.old h
             → Decides (refusal_of h (option_copied parent.entry) (string_bytes id)) result }
         ensures err { OnErr result (self.new ≡ self.old) }
@@ -290,16 +296,17 @@ impl RevTree {
         parent: Option<&Rev>,
         id: String,
         deleted: bool,
-        body: Json,
+        body: Packed,
     ) -> Result<(), NoMemory>
         requires { pos ≡ position_below (option_copied parent) + 1 }
         ensures accepted { OnOk result ((h : Paths) → StandsFor self.old h
             → StandsFor self.new
-            (with_path h (extension (option_copied parent.entry) (string_bytes id) deleted (view body)))) }
+            (with_path h (extension (option_copied parent.entry) (string_bytes id) deleted body))) }
         ensures err { OnErr result (self.new ≡ self.old) }
     {
         if parent.is_none() && self.growth.is_empty() {
-            self.begin(Rev { pos, id }, deleted, &body)?;
+            let id = RevId::of(id);
+            self.begin(Rev { pos, id }, deleted, body)?;
             return Ok(());
         }
         let ids = ids_over(self.alloc, id, parent)?;

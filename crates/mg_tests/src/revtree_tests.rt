@@ -1,6 +1,7 @@
 //! The list of leaves. The program itself shows only the winner and the conflicts. Other tests of trees are in tests/trees.py and
 //! tests/conversations/revisions.txt.
 use crate::given::string;
+use mg_packed::Packed;
 use mg_revtree::{History, RevTree};
 use mg_value::Json;
 use std::alloc::Global;
@@ -19,7 +20,8 @@ fn tree_of_roots<R: Abort>(rt: &R, alloc: Global) -> RevTree {
     let mut tree = RevTree::new(alloc);
     for (id, deleted) in ROOTS {
         let path = path_of(rt, alloc, id);
-        let _ = tree.merge(&path, *deleted, Json::Null);
+        let body = Packed::of(alloc, &Json::Null).expect(rt, "memory");
+        let _ = tree.merge(&path, *deleted, body);
     }
     tree
 }

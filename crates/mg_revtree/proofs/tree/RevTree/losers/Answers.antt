@@ -12,10 +12,10 @@ returns-then-is_empty-clause-list c = λ h stands.
     let n : ls ≡ [] = grind (arith, common_steps, c.is_empty.ensures, c.if-is_empty.true) in
     ap (map (λ l. l.now)) c.new.ensures.items ∙ losers_list h [] (losers_are h [] (subst (AreLeaves h) (sym c.leaves-leaves.ensures ∙ n) s.leaves))
 
-pub returns-in_err-kept_among-clause-none : goal.returns-in_err-kept_among-clause-none
-returns-in_err-kept_among-clause-none c = λ h stands none.
+pub returns-in_err-undeleted_among-clause-none : goal.returns-in_err-undeleted_among-clause-none
+returns-in_err-undeleted_among-clause-none c = λ h stands none.
     let s : StandsFor (tree_in c.self.inside.growth) h = subst (λ (t : Tree). StandsFor t h) (sym c.self.view_is) stands in
-    absurd (let ok = c.in_err-kept_among.ensures.none (losers_rest h (tree_in c.self.inside.growth).leaves c.leaves-leaves.result.now s.leaves c.leaves-leaves.ensures ∙ none) in cc)
+    absurd (let ok = c.in_err-undeleted_among.ensures.none (losers_rest h (tree_in c.self.inside.growth).leaves c.leaves-leaves.result.now s.leaves c.leaves-leaves.ensures ∙ none) in cc)
 
 pub returns-clause-list : goal.returns-clause-list
 returns-clause-list c = λ h stands.

@@ -1,5 +1,4 @@
 use Rattle.std.proofs.Common.{◌≡◌, ◌∙◌, true, List, ap, map, string_bytes, sym, subst, arith}
-use Rattle.mg_value.specs.View.{view}
 use Rattle.mg_revtree.specs.Revision.{Revision}
 use Rattle.mg_revtree.specs.History.{all_links, fits, is_whole, links}
 use Rattle.mg_revtree.specs.Growth.{tree_in}
@@ -14,7 +13,7 @@ pub returns-then-knows_whole-clause-accepted : goal.returns-then-knows_whole-cla
 returns-then-knows_whole-clause-accepted c = λ h stands.
     let s : StandsFor (tree_in c.self.inside.growth) h = subst (λ (t : Tree). StandsFor t h) (sym c.self.view_is) stands in
     let whole : is_whole h c.args.path.now ≡ true = ap (is_whole h) c.run-start.ensures.run ∙ sym (c.knows_whole.ensures (all_links h) s.nodes) ∙ c.if-knows_whole.true in
-    whole_stands c.args.self.now h c.args.path.now c.args.deleted (view c.args.body) whole stands
+    whole_stands c.args.self.now h c.args.path.now c.args.deleted c.args.body whole stands
 
 pub returns-then-knows_whole-clause-found : goal.returns-then-knows_whole-clause-found
 returns-then-knows_whole-clause-found c = λ h stands.
@@ -30,4 +29,4 @@ returns-then-knows_whole-clause-refused c = λ h stands misfit.
 
 pub returns-clause-accepted : goal.returns-clause-accepted
 returns-clause-accepted c = λ h stands.
-    subst (λ (rs : List Revision). StandsFor c.accept.new.self (with_path h (path_of rs c.args.deleted (view c.args.body)))) (sym c.run-start.ensures.run) (c.in_ok-accept.ensures.accepted h stands)
+    subst (λ (rs : List Revision). StandsFor c.accept.new.self (with_path h (path_of rs c.args.deleted c.args.body))) (sym c.run-start.ensures.run) (c.in_ok-accept.ensures.accepted h stands)

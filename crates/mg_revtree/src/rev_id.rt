@@ -1,0 +1,117 @@
+//! Ids of revisions, as they are kept.
+ghost use Rattle.std.specs.Prelude.{◌≡◌, IfOk, IfSome, string_bytes};
+ghost use Rattle.mg_revtree.specs.Id.{IsText, held_id};
+
+use mg_value::NoMemory;
+use std::alloc::Global;
+use std::marker::Model;
+
+// An id of exactly this many bytes has no block.
+const DIGEST_BYTES: usize = 32;
+
+const _: () = prove!(size_of::<RevId>() == 40);
+
+#[derive(Debug, Drop)]
+pub(crate) enum HeldRevId {
+    Digest([u8; 32]),
+    Text(String),
+}
+
+/// The id of a revision. One of exactly 32 bytes, as every id that is made here, is stored in the value itself, since a block for
+/// each id costs memory. Any other id has a block. Contracts see the bytes.
+#[derive(Debug, Drop)]
+pub struct RevId {
+    held: HeldRevId,
+}
+
+impl Model for RevId {
+    ghost use Rattle.std.specs.Prelude.{List, ℕ};
+    ghost use Rattle.mg_revtree.specs.Id.{IsText, held_id};
+
+    ghost Value = { List ℕ };
+
+    ghost view = { λ id. held_id id.held };
+
+    ghost invariant = { λ id. IsText id.held };
+}
+
+impl RevId {
+    /// The id that this text is. Takes no memory: the block of a text of 32 bytes is freed, and any other text keeps its block.
+    pub fn of(id: String) -> RevId
+        ensures { result ≡ string_bytes id }
+    {
+        let held = hold(id);
+        RevId { held }
+    }
+
+    /// A copy of a text as an id. Takes no memory if the text has 32 bytes. Errors: `NoMemory` if an allocation fails.
+    pub fn copy_of(alloc: Global, id: &str) -> Result<RevId, NoMemory>
+        ensures { IfOk result (λ made. made ≡ id.now) }
+    {
+        let held = hold_copy(alloc, id)?;
+        Ok(RevId { held })
+    }
+
+    /// The text of the id. Takes no memory.
+    pub fn as_str(&self) -> &str
+        ensures { result.now ≡ self.now }
+    {
+        lend(&self.held)
+    }
+
+    /// The bytes of the id. Takes no memory.
+    pub fn as_bytes(&self) -> &[u8]
+        ensures { result.now ≡ self.now }
+    {
+        lend(&self.held).as_bytes()
+    }
+
+    /// A copy of the id. Takes no memory if the id has 32 bytes. Errors: `NoMemory` if an allocation fails.
+    pub fn copy(&self, alloc: Global) -> Result<RevId, NoMemory>
+        ensures { IfOk result (λ copy. copy ≡ self.now) }
+    {
+        RevId::copy_of(alloc, self.as_str())
+    }
+}
+
+/// The bytes as an array, if there are 32 of them. Takes no memory.
+pub(crate) fn digest_of(bytes: &[u8]) -> Option<[u8; 32]>
+    ensures { IfSome result (λ digest. digest ≡ bytes.now) }
+{
+    if bytes.len() != DIGEST_BYTES {
+        return None;
+    }
+    let mut digest = [0u8; 32];
+    digest.copy_from_slice(bytes);
+    Some(digest)
+}
+
+fn hold(id: String) -> HeldRevId
+    ensures bytes { held_id result ≡ string_bytes id }
+    ensures text { IsText result }
+{
+    match digest_of(id.as_bytes()) {
+        Some(digest) => HeldRevId::Digest(digest),
+        None => HeldRevId::Text(id),
+    }
+}
+
+fn hold_copy(alloc: Global, id: &str) -> Result<HeldRevId, NoMemory>
+    ensures bytes { IfOk result (λ held. held_id held ≡ id.now) }
+    ensures text { IfOk result (λ held. IsText held) }
+{
+    match digest_of(id.as_bytes()) {
+        Some(digest) => Ok(HeldRevId::Digest(digest)),
+        None => Ok(HeldRevId::Text(String::from_str(alloc, id)?)),
+    }
+}
+
+fn lend(held: &HeldRevId) -> &str
+    requires { IsText held.now }
+    ensures { result.now ≡ held_id held.now }
+{
+    match held {
+        HeldRevId::Digest(digest) => unsafe { str::from_utf8_unchecked(digest.as_slice()) },
+        HeldRevId::Text(id) => id,
+    }
+}
