@@ -27,7 +27,7 @@ use Rattle.mg_doc.specs.declared.error.EditError.{EditError}
 use Rattle.mg_doc.specs.declared.error.EditError.TheVariants.{Conflict as conflict, BadHistory as bad_history, NoMemory as no_memory}
 use Rattle.mg_doc.specs.declared.error.Refused.{Refused}
 use Rattle.mg_doc.specs.declared.error.Refused.TheVariants.{Conflict, BadHistory}
-use Rattle.mg_doc.proofs.Entries.{two}
+use Rattle.mg_doc.proofs.Cases.{two}
 
 -- ---- errors
 

@@ -1,13 +1,11 @@
--- The form of `_rev` and `_revisions`, and the change that they give.
-use Rattle.std.proofs.Common.{◌≡◌, ℕ, List, [], ◌∷◌, Bool, true, false, ◌&&◌, cond, map, length, nat_lt, nat_le, Option, Some, None, is_some, option_map, option_and_then, refl, ap, ◌∙◌, suc}
+-- The form of `_rev` and `_revisions`.
+use Rattle.std.proofs.Common.{◌≡◌, ℕ, List, ◌∷◌, Bool, true, false, ◌&&◌, cond, length, nat_lt, nat_le, Option, Some, None, is_some, option_map, option_and_then, refl, ap, ◌∙◌, suc}
 use Rattle.std.specs.List.{list_all}
 use Rattle.std.specs.Option.{option_map_or}
-use Rattle.mg_value.specs.Value.{Value, Items, no_items, item, text, null, flag, whole, list, object}
-use Rattle.mg_value.specs.View.{view, items_view}
-use Rattle.mg_value.specs.declared.value.Json.{Json}
-use Rattle.mg_revtree.specs.Revision.{Revision, is_revision_id, run_of, run_from}
-use Rattle.mg_doc.specs.Document.{change_by, path_ids}
-use Rattle.mg_doc.specs.Form.{is_enough, is_id}
+use Rattle.mg_value.specs.Value.{Items, no_items, item, text, null, flag, whole, list, object, item_list}
+use Rattle.mg_revtree.specs.Revision.{is_revision_id, run_of, run_from}
+use Rattle.mg_doc.specs.Document.{path_ids}
+use Rattle.mg_doc.specs.Form.{are_ids}
 
 -- what is not absent is there
 pub there_unless_none : {A : Type 0} (o : Option A) → (o ≡ None → ⊥) → true ≡ is_some o
@@ -19,29 +17,7 @@ pub there_or_none : {A : Type 0} (o : Option A) → cond (is_some o) (Some true)
 there_or_none None = refl
 there_or_none (Some x) = refl
 
--- whether a change is given, by whether a revision and a path are
-pub change_of_forms : (new_edit : Bool) (o : Option (Option Revision)) (p : Option (Option (List Revision)))
-    → is_some (option_and_then (λ rev. option_and_then (change_by new_edit rev) p) o)
-    ≡ is_enough new_edit (option_map is_some o) (option_map is_some p)
-change_of_forms n None None = refl
-change_of_forms n None (Some path) = refl
-change_of_forms n (Some rev) None = refl
-change_of_forms true (Some rev) (Some path) = refl
-change_of_forms false (Some None) (Some None) = refl
-change_of_forms false (Some None) (Some (Some path)) = refl
-change_of_forms false (Some (Some rev)) (Some None) = refl
-change_of_forms false (Some (Some rev)) (Some (Some path)) = refl
-
 -- ---- the ids of a path
-
--- the values of items
-abbrev values : Items → List Value
-values no_items = []
-values (item v vs) = v ∷ values vs
-
-values_of : (js : List Json) → values (items_view js) ≡ map view js
-values_of [] = refl
-values_of (j ∷ js) = ap (λ vs. view j ∷ vs) (values_of js)
 
 not_both : (b : Bool) → false ≡ (b && false)
 not_both true = refl
@@ -52,7 +28,7 @@ one_more : (s : List ℕ) (o : Option (List (List ℕ)))
 one_more s None = not_both (is_revision_id s)
 one_more s (Some ids) = refl
 
-ids_all : (vs : Items) → option_map_or (list_all is_revision_id) (path_ids vs) false ≡ list_all is_id (values vs)
+ids_all : (vs : Items) → option_map_or (list_all is_revision_id) (path_ids vs) false ≡ are_ids vs
 ids_all no_items = refl
 ids_all (item (text s) vs) = one_more s (path_ids vs) ∙ ap (λ b. is_revision_id s && b) (ids_all vs)
 ids_all (item null vs) = refl
@@ -70,9 +46,9 @@ length_later : (n : ℕ) (s : List ℕ) (o : Option (List (List ℕ))) → lengt
 length_later n s None e = refl
 length_later n s (Some ids) e = ap suc e
 
-ids_length : (vs : Items) → length_or (length (values vs)) (path_ids vs) ≡ length (values vs)
+ids_length : (vs : Items) → length_or (length (item_list vs)) (path_ids vs) ≡ length (item_list vs)
 ids_length no_items = refl
-ids_length (item (text s) vs) = length_later (length (values vs)) s (path_ids vs) (ids_length vs)
+ids_length (item (text s) vs) = length_later (length (item_list vs)) s (path_ids vs) (ids_length vs)
 ids_length (item null vs) = refl
 ids_length (item (flag b) vs) = refl
 ids_length (item (whole z) vs) = refl
@@ -95,15 +71,7 @@ run_there n m b (Some ids) e f =
     ∙ ap (λ k. nat_lt 0 k && (nat_le k n && list_all is_revision_id ids)) e
     ∙ ap (λ x. nat_lt 0 m && (nat_le m n && x)) f
 
-length_map : (js : List Json) → length (map view js) ≡ length js
-length_map [] = refl
-length_map (j ∷ js) = ap suc (length_map js)
-
 -- the ids give a path if there are 1 to `start` of them, and each is the id of a revision
-pub path_of_ids : (n : ℕ) (js : List Json)
-    → is_some (option_and_then (run_of n) (path_ids (items_view js))) ≡ (nat_lt 0 (length js) && (nat_le (length js) n && list_all is_id (map view js)))
-path_of_ids n js =
-    let vs = items_view js in
-    run_there n (length (values vs)) (list_all is_id (values vs)) (path_ids vs) (ids_length vs) (ids_all vs)
-    ∙ ap (λ ws. nat_lt 0 (length ws) && (nat_le (length ws) n && list_all is_id ws)) (values_of js)
-    ∙ ap (λ k. nat_lt 0 k && (nat_le k n && list_all is_id (map view js))) (length_map js)
+pub path_of_ids : (n : ℕ) (vs : Items)
+    → is_some (option_and_then (run_of n) (path_ids vs)) ≡ (nat_lt 0 (length (item_list vs)) && (nat_le (length (item_list vs)) n && are_ids vs))
+path_of_ids n vs = run_there n (length (item_list vs)) (are_ids vs) (path_ids vs) (ids_length vs) (ids_all vs)

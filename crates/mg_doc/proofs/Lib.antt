@@ -1,5 +1,6 @@
+mod Cases
 mod Edits
-mod Entries
 mod Forms
 mod Readings
 mod Shown
+mod Walks

@@ -1,11 +1,11 @@
 ghost use Rattle.std.specs.Prelude.{◌≡◌, IfOk, IfSome, option_copied, string_bytes};
 ghost use Rattle.mg_value.specs.Text.{compact};
-ghost use Rattle.mg_value.specs.View.{view};
 ghost use Rattle.mg_doc.specs.Ahead.{named_in};
 ghost use Rattle.mg_doc.specs.Digest.{digest_of, parent_text as text_of_parent};
 
 use crate::change::Change;
 use md5::{Digest, Md5};
+use mg_packed::{Packed, Part};
 use mg_revtree::Rev;
 use mg_value::{Json, NoMemory, write};
 use std::alloc::Global;
@@ -18,13 +18,13 @@ pub fn rev_id(
     alloc: Global,
     deleted: bool,
     parent: Option<&Rev>,
-    body: &Json,
+    body: &Part<'_>,
 ) -> Result<String, NoMemory>
     ensures { IfOk result
-        (λ id. string_bytes id ≡ digest_of deleted (option_copied parent.entry) (view body.now)) }
+        (λ id. string_bytes id ≡ digest_of deleted (option_copied parent.entry) body.now) }
 {
     let parent = parent_text(alloc, parent)?;
-    let body = write(alloc, body)?;
+    let body = body.text(alloc)?;
     let mut hasher = Md5::new();
     hasher.update(if deleted { "[true," } else { "[false," });
     hasher.update(&parent);
@@ -40,13 +40,13 @@ pub(crate) fn id_ahead(
     alloc: Global,
     change: &Change,
     deleted: bool,
-    body: &Json,
+    body: &Packed,
 ) -> Result<Option<String>, NoMemory>
     ensures { IfOk result
-        (λ o. IfSome o (λ id. string_bytes id ≡ digest_of deleted (named_in change.now) (view body.now))) }
+        (λ o. IfSome o (λ id. string_bytes id ≡ digest_of deleted (named_in change.now) body.now)) }
 {
     match change {
-        Change::New(named) => Ok(Some(rev_id(alloc, deleted, named.as_ref(), body)?)),
+        Change::New(named) => Ok(Some(rev_id(alloc, deleted, named.as_ref(), &body.part())?)),
         Change::Replica(_) => Ok(None),
     }
 }
@@ -57,15 +57,15 @@ pub(crate) fn id_over(
     ahead: Option<String>,
     deleted: bool,
     base: Option<&Rev>,
-    body: &Json,
+    body: &Packed,
 ) -> Result<String, NoMemory>
-    requires { IfSome ahead (λ id. string_bytes id ≡ digest_of deleted (option_copied base) (view body.now)) }
+    requires { IfSome ahead (λ id. string_bytes id ≡ digest_of deleted (option_copied base) body.now) }
     ensures { IfOk result
-        (λ id. string_bytes id ≡ digest_of deleted (option_copied base.entry) (view body.now)) }
+        (λ id. string_bytes id ≡ digest_of deleted (option_copied base.entry) body.now) }
 {
     match ahead {
         Some(id) => Ok(id),
-        None => rev_id(alloc, deleted, base, body),
+        None => rev_id(alloc, deleted, base, &body.part()),
     }
 }
 

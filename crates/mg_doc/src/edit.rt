@@ -1,5 +1,4 @@
 ghost use Rattle.std.specs.Prelude.{◌≡◌, Err, IfOk, None, Some, option_map, string_bytes, true};
-ghost use Rattle.mg_value.specs.View.{view, members_view};
 ghost use Rattle.mg_doc.specs.Document.{ReadsAs, edit_of, is_object, members_read};
 
 mod apply;
@@ -8,12 +7,12 @@ use crate::change::Change;
 use crate::digest::id_ahead;
 use crate::error::DocError;
 use crate::fault::gives_change;
-use crate::members::{checked_mark, keep_own, take_id};
-use crate::revisions::take_change;
+use crate::members::{checked_mark, id_in, own_body};
+use crate::revisions::change_asked;
 pub use apply::{Look, ReadyEdit};
-use mg_value::{Json, NoMemory};
+use mg_packed::{Kind, Object, Packed, Part};
+use mg_value::NoMemory;
 use std::alloc::Global;
-use std::collections::BTreeMap;
 use std::marker::Model;
 
 /// What a document of a bulk asks for: a new revision (a new edit), or the acceptance of a path of revisions from a replica.
@@ -22,7 +21,7 @@ pub struct Edit {
     id: Option<String>,
     change: Change,
     deleted: bool,
-    body: Json,
+    body: Packed,
     // the id of a new edit's revision, made before the tree is known: right if the edit extends the revision that it names, or makes the
     // first revision of its document
     ahead: Option<String>,
@@ -30,7 +29,6 @@ pub struct Edit {
 
 impl Model for Edit {
     ghost use Rattle.std.specs.Prelude.{◌≡◌, IfSome, option_map, string_bytes};
-    ghost use Rattle.mg_value.specs.View.{view as json_view};
     ghost use Rattle.mg_doc.specs.Code.{edit_code};
     ghost use Rattle.mg_doc.specs.Ahead.{named_in};
     ghost use Rattle.mg_doc.specs.Digest.{digest_of};
@@ -44,15 +42,15 @@ impl Model for Edit {
       id = option_map string_bytes e.id;
       change = e.change;
       deleted = e.deleted;
-      body = json_view e.body;
+      body = e.body;
     } };
 
     ghost invariant = { λ e. IfSome e.ahead
-        (λ id. string_bytes id ≡ digest_of e.deleted (named_in e.change) (json_view e.body)) };
+        (λ id. string_bytes id ≡ digest_of e.deleted (named_in e.change) e.body) };
 }
 
 impl Edit {
-    /// Reads a document of a bulk, which is an object. Its members are moved, not copied.
+    /// Reads a document of a bulk, which is an object. Its body is copied as bytes into one block.
     ///
     /// - `_id`: a text that is not empty and does not begin with an underscore. It may be absent.
     /// - `_rev`: the text `N-id` of a revision; `_revisions`: `{"start":N,"ids":[..]}`, a path,
@@ -64,15 +62,15 @@ impl Edit {
     /// Errors, the first fault in this order: `BadMember` for any other member that begins with an
     /// underscore, or for a bad `_deleted`; `BadId` for a bad `_id`; `BadRev` for a bad `_rev` or
     /// `_revisions`, or if a replica gives neither; `NoMemory` if an allocation fails and the document has no fault.
-    /// Cost: the number of the members and the length of the path; for a new edit also the length of its body's text, because
-    /// the id of its revision is made here. Source: CouchDB's `_bulk_docs`.
-    pub fn read(alloc: Global, document: Json, new_edit: bool) -> Result<Edit, DocError>
-        requires { is_object (view document) ≡ true }
-        ensures edit { ReadsAs (edit_of new_edit (view document)) result }
-        ensures refused { (e : DocError) → edit_of new_edit (view document) ≡ Err e → result ≡ Err e }
+    /// Cost: the number of the members, and copies of the id, of the path and of the body's bytes; for a new edit also the length
+    /// of its body's text, because the id of its revision is made here. Source: CouchDB's `_bulk_docs`.
+    pub fn read(alloc: Global, document: Part<'_>, new_edit: bool) -> Result<Edit, DocError>
+        requires { is_object document ≡ true }
+        ensures edit { ReadsAs (edit_of new_edit document.entry) result }
+        ensures refused { (e : DocError) → edit_of new_edit document.entry ≡ Err e → result ≡ Err e }
     {
-        match document {
-            Json::Object(members) => edit_in(alloc, members, new_edit),
+        match document.kind() {
+            Kind::Object(members) => edit_in(alloc, &members, new_edit),
             _ => Err(DocError::BadMember),
         }
     }
@@ -131,28 +129,21 @@ fn copied_id(alloc: Global, id: Option<&str>) -> Result<Option<String>, NoMemory
 }
 
 // The edit that a document with these members asks for.
-fn edit_in(
-    alloc: Global,
-    mut members: BTreeMap<String, Json>,
-    new_edit: bool,
-) -> Result<Edit, DocError>
-    ensures edit { ReadsAs (members_read new_edit (members_view members.entries)) result }
-    ensures refused { (e : DocError) → members_read new_edit (members_view members.entries) ≡ Err e
-        → result ≡ Err e }
+fn edit_in(alloc: Global, members: &Object<'_>, new_edit: bool) -> Result<Edit, DocError>
+    ensures edit { ReadsAs (members_read new_edit members.now) result }
+    ensures refused { (e : DocError) → members_read new_edit members.now ≡ Err e → result ≡ Err e }
 {
-    let deleted = checked_mark(&members)?;
-    let Some(id) = take_id(&mut members) else {
+    let deleted = checked_mark(members)?;
+    let Some(id) = id_in(members) else {
         return Err(DocError::BadId);
     };
-    if !gives_change(alloc, &members, new_edit) {
+    if !gives_change(alloc, members, new_edit) {
         return Err(DocError::BadRev);
     }
-    let change = take_change(alloc, &mut members, new_edit)?;
-    keep_own(&mut members);
-    let body = Json::Object(members);
-    let Ok(ahead) = id_ahead(alloc, &change, deleted, &body) else {
-        return Err(DocError::NoMemory);
-    };
+    let id = copied_id(alloc, id)?;
+    let change = change_asked(alloc, members, new_edit)?;
+    let body = own_body(alloc, members)?;
+    let ahead = id_ahead(alloc, &change, deleted, &body)?;
     Ok(Edit {
         id,
         change,

@@ -83,6 +83,17 @@ impl From<AllocError> for DocError {
     }
 }
 
+impl From<NoMemory> for DocError {
+    ghost use Rattle.std.specs.Prelude.{◌≡◌};
+    ghost use Rattle.mg_doc.specs.declared.error.DocError.TheVariants.{NoMemory as refused};
+
+    ghost from_gives = { λ _ error. error ≡ refused };
+
+    fn from(_refused: NoMemory) -> DocError {
+        DocError::NoMemory
+    }
+}
+
 impl From<NoMemory> for EditError {
     ghost use Rattle.std.specs.Prelude.{◌≡◌};
     ghost use Rattle.mg_doc.specs.declared.error.EditError.TheVariants.{NoMemory as refused};

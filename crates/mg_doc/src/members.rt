@@ -1,15 +1,16 @@
-ghost use Rattle.std.specs.Prelude.{◌≡◌, codes, option_map, string_bytes};
-ghost use Rattle.mg_value.specs.Value.{Value, get_member};
-ghost use Rattle.mg_value.specs.View.{view, members_view};
+ghost use Rattle.std.specs.Prelude.{◌≡◌, IfOk, codes, option_map};
+ghost use Rattle.mg_value.specs.Value.{get_member, object};
 ghost use Rattle.mg_doc.specs.Document.{has_known_names as are_known, id_of, is_document_id as is_id, is_reserved as reserved, is_special as special, mark_of, mark_read, own_members as own};
+ghost use Rattle.mg_doc.specs.Form.{is_known_name};
 
 use crate::error::DocError;
-use mg_value::Json;
-use std::collections::BTreeMap;
+use mg_packed::{Kind, Object, Packed, Part};
+use mg_value::NoMemory;
+use std::alloc::Global;
 
 // The deletion mark of a document. Errors: `BadMember` if the mark is malformed, or if the document has an unknown reserved name.
-pub(crate) fn checked_mark(members: &BTreeMap<String, Json>) -> Result<bool, DocError>
-    ensures { result ≡ mark_read (members_view members.now.entries) }
+pub(crate) fn checked_mark(members: &Object<'_>) -> Result<bool, DocError>
+    ensures { result ≡ mark_read members.now }
 {
     if !has_known_names(members) {
         return Err(DocError::BadMember);
@@ -17,33 +18,37 @@ pub(crate) fn checked_mark(members: &BTreeMap<String, Json>) -> Result<bool, Doc
     mark(members.get("_deleted")).ok_or(DocError::BadMember)
 }
 
-// Takes the id of a document out of its members. `None` if `_id` is malformed, `Some(None)` if it is absent.
-pub(crate) fn take_id(members: &mut BTreeMap<String, Json>) -> Option<Option<String>>
-    ensures id { option_map (option_map string_bytes) result
-        ≡ id_of (get_member (codes "_id") (members_view members.old.entries)) }
-    ensures own { own (members_view members.new.entries) ≡ own (members_view members.old.entries) }
-    ensures rev { get_member (codes "_rev") (members_view members.new.entries)
-        ≡ get_member (codes "_rev") (members_view members.old.entries) }
-    ensures revisions { get_member (codes "_revisions") (members_view members.new.entries)
-        ≡ get_member (codes "_revisions") (members_view members.old.entries) }
+// The id of a document, lent from its block. `None` if `_id` is malformed, `Some(None)` if it is absent.
+pub(crate) fn id_in<'a>(members: &Object<'a>) -> Option<Option<&'a str>>
+    ensures { option_map (option_map (λ s. s.now)) result ≡ id_of (get_member (codes "_id") members.now) }
 {
-    document_id(members.remove("_id"))
+    document_id(members.get("_id"))
 }
 
-// Keeps only the body's members: those whose names are not reserved.
-pub(crate) fn keep_own(members: &mut BTreeMap<String, Json>)
-    ensures { members_view members.new.entries ≡ own (members_view members.old.entries) }
+// The body, in a block of its own: the members whose names are not reserved.
+pub(crate) fn own_body(alloc: Global, members: &Object<'_>) -> Result<Packed, NoMemory>
+    ensures { IfOk result (λ body. body ≡ object (own members.now)) }
 {
-    members.retain(|name, _| !is_reserved(name));
+    members.without_front(alloc, b'_')
 }
 
 // Whether each reserved name is one that a document may have.
-fn has_known_names(members: &BTreeMap<String, Json>) -> bool
-    ensures { result ≡ are_known (members_view members.now.entries) }
+fn has_known_names(members: &Object<'_>) -> bool
+    ensures { result ≡ are_known members.now }
 {
-    members
-        .keys()
-        .all(|name| !is_reserved(name) || is_special(name))
+    for index in 0..members.len() {
+        if !is_known(members.name(index)) {
+            return false;
+        }
+    }
+    true
+}
+
+// Whether a document may have a member of this name.
+fn is_known(name: &str) -> bool
+    ensures { result ≡ is_known_name name.now }
+{
+    !is_reserved(name) || is_special(name)
 }
 
 // Whether a reserved name is one that a document may have.
@@ -64,28 +69,32 @@ fn is_special(name: &str) -> bool
 }
 
 // The mark that `_deleted` gives: true or false; false if it is absent.
-fn mark(member: Option<&Json>) -> Option<bool>
-    ensures { result ≡ mark_of (option_map (λ v. view v.now) member.entry) }
+fn mark(member: Option<Part<'_>>) -> Option<bool>
+    ensures { result ≡ mark_of member.entry }
 {
-    match member {
-        None => Some(false),
-        Some(Json::Flag(deleted)) => Some(*deleted),
-        Some(_) => None,
+    let Some(value) = member else {
+        return Some(false);
+    };
+    match value.kind() {
+        Kind::Flag(deleted) => Some(deleted),
+        _ => None,
     }
 }
 
 // The id that `_id` gives. `None` if `_id` is malformed, `Some(None)` if it is absent.
-fn document_id(member: Option<Json>) -> Option<Option<String>>
-    ensures { option_map (option_map string_bytes) result ≡ id_of (option_map view member) }
+fn document_id<'a>(member: Option<Part<'a>>) -> Option<Option<&'a str>>
+    ensures { option_map (option_map (λ s. s.now)) result ≡ id_of member.entry }
 {
-    match member {
-        None => Some(None),
-        Some(Json::Text(id)) => if is_document_id(&id) {
+    let Some(value) = member else {
+        return Some(None);
+    };
+    match value.kind() {
+        Kind::Text(id) => if is_document_id(id) {
             Some(Some(id))
         } else {
             None
         },
-        Some(_) => None,
+        _ => None,
     }
 }
 

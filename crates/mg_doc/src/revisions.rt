@@ -1,29 +1,25 @@
-ghost use Rattle.std.specs.Prelude.{◌≡◌, [], ◌∷◌, codes, map, option_map, pos, string_bytes, IfOk, IfSome, MatchOption, Ok, Option, Some, None};
+ghost use Rattle.std.specs.Prelude.{◌≡◌, [], ◌∷◌, codes, map, pos, string_bytes, IfOk, IfSome, MatchOption, Ok, Option, Some, None};
 ghost use Rattle.std.specs.Result.{result_map_both};
-ghost use Rattle.mg_value.specs.Value.{Value, get_member, whole};
-ghost use Rattle.mg_value.specs.View.{view, items_view, members_view};
-ghost use Rattle.mg_doc.specs.Document.{ReadsAs, IsRevision, change_by, change_given, or_fault, own_members as own, path_ids as ids_of_path, rev_of, revisions_of, run_at};
+ghost use Rattle.mg_value.specs.Value.{Items, Value, get_member, item, text, whole};
+ghost use Rattle.mg_doc.specs.Document.{ReadsAs, IsRevision, change_by, change_given, or_fault, path_ids as ids_of_path, rev_of, revisions_of, run_at};
 
 use crate::change::Change;
 use crate::error::DocError;
+use mg_packed::{Array, Kind, Object, Part};
 use mg_revtree::{History, Rev};
-use mg_value::Json;
 use std::alloc::Global;
-use std::collections::BTreeMap;
 
 // The change that a document asks for. If both `_revisions` and `_rev` are there, `_revisions` decides; a replica has to give
-// one of them. Takes `_revisions` out of the members.
-pub(crate) fn take_change(
+// one of them.
+pub(crate) fn change_asked(
     alloc: Global,
-    members: &mut BTreeMap<String, Json>,
+    members: &Object<'_>,
     new_edit: bool,
 ) -> Result<Change, DocError>
-    ensures change { ReadsAs (or_fault DocError.BadRev
-        (change_given new_edit (members_view members.old.entries))) result }
-    ensures own { own (members_view members.new.entries) ≡ own (members_view members.old.entries) }
+    ensures { ReadsAs (or_fault DocError.BadRev (change_given new_edit members.now)) result }
 {
     let rev = rev_in(alloc, members.get("_rev"))?;
-    let revisions = revisions_in(alloc, members.remove("_revisions"))?;
+    let revisions = revisions_in(alloc, members.get("_revisions"))?;
     change_in(alloc, rev, revisions, new_edit)
 }
 
@@ -62,15 +58,16 @@ fn change_of(alloc: Global, rev: Option<Rev>, new_edit: bool) -> Result<Change, 
 }
 
 // The revision that `_rev` gives, if it is there.
-fn rev_in(alloc: Global, member: Option<&Json>) -> Result<Option<Rev>, DocError>
-    ensures rev { ReadsAs
-        (or_fault DocError.BadRev (rev_of (option_map (λ v. view v.now) member.entry))) result }
+fn rev_in(alloc: Global, member: Option<Part<'_>>) -> Result<Option<Rev>, DocError>
+    ensures rev { ReadsAs (or_fault DocError.BadRev (rev_of member.entry)) result }
     ensures revision { IfOk result (λ o. IfSome o IsRevision) }
 {
-    match member {
-        None => Ok(None),
-        Some(Json::Text(text)) => Ok(Some(Rev::parse(alloc, text)?)),
-        Some(_) => Err(DocError::BadRev),
+    let Some(value) = member else {
+        return Ok(None);
+    };
+    match value.kind() {
+        Kind::Text(text) => Ok(Some(Rev::parse(alloc, text)?)),
+        _ => Err(DocError::BadRev),
     }
 }
 
@@ -79,72 +76,86 @@ fn path_of(alloc: Global, rev: Rev) -> Result<History, DocError>
     requires { IsRevision rev }
     ensures { ReadsAs (Ok (rev ∷ [])) result }
 {
-    History::new(rev.pos, vec![in alloc; rev.id]?).ok_or(DocError::BadRev)
+    let id = String::from_str(alloc, rev.id.as_str())?;
+    History::new(rev.pos, vec![in alloc; id]?).ok_or(DocError::BadRev)
 }
 
 // The path that `_revisions` gives, `{"start":N,"ids":[..]}`, if it is there.
-fn revisions_in(alloc: Global, member: Option<Json>) -> Result<Option<History>, DocError>
-    ensures { ReadsAs (or_fault DocError.BadRev (revisions_of (option_map view member))) result }
+fn revisions_in(alloc: Global, member: Option<Part<'_>>) -> Result<Option<History>, DocError>
+    ensures { ReadsAs (or_fault DocError.BadRev (revisions_of member.entry)) result }
 {
-    let Some(member) = member else {
+    let Some(value) = member else {
         return Ok(None);
     };
-    match member {
-        Json::Object(members) => Ok(Some(path_in(alloc, members)?)),
+    match value.kind() {
+        Kind::Object(members) => Ok(Some(path_in(alloc, &members)?)),
         _ => Err(DocError::BadRev),
     }
 }
 
 // The path of the members `start` and `ids`.
-fn path_in(alloc: Global, mut members: BTreeMap<String, Json>) -> Result<History, DocError>
-    ensures { ReadsAs (or_fault DocError.BadRev (run_at
-        (get_member (codes "start") (members_view members.entries))
-        (get_member (codes "ids") (members_view members.entries)))) result }
+fn path_in(alloc: Global, members: &Object<'_>) -> Result<History, DocError>
+    ensures { ReadsAs (or_fault DocError.BadRev
+        (run_at (get_member (codes "start") members.now) (get_member (codes "ids") members.now))) result }
 {
-    let Some(start) = position(members.get("start")) else {
-        return Err(DocError::BadRev);
-    };
-    path_at(alloc, start, members.remove("ids"))
+    match position(members.get("start")) {
+        Some(start) => path_at(alloc, start, members.get("ids")),
+        None => Err(DocError::BadRev),
+    }
 }
 
 // The position that `start` gives: a whole number from 0 to 4,294,967,295.
-pub(crate) fn position(member: Option<&Json>) -> Option<u32>
+pub(crate) fn position(member: Option<Part<'_>>) -> Option<u32>
     ensures { MatchOption result
-        ((ids : Option Value) → run_at (option_map (λ v. view v.now) member.entry) ids ≡ None)
-        (λ n. option_map (λ v. view v.now) member.entry ≡ Some (whole (pos n))) }
+        ((ids : Option Value) → run_at member.entry ids ≡ None)
+        (λ n. member.entry ≡ Some (whole (pos n))) }
 {
-    match member {
-        Some(Json::Whole(start)) => u32::try_from(*start).ok(),
+    match member?.kind() {
+        Kind::Whole(start) => u32::try_from(start).ok(),
         _ => None,
     }
 }
 
 // The path whose newest revision is at position `start`.
-fn path_at(alloc: Global, start: u32, member: Option<Json>) -> Result<History, DocError>
-    ensures { ReadsAs
-        (or_fault DocError.BadRev (run_at (Some (whole (pos start))) (option_map view member)))
-        result }
+fn path_at(alloc: Global, start: u32, member: Option<Part<'_>>) -> Result<History, DocError>
+    ensures { ReadsAs (or_fault DocError.BadRev (run_at (Some (whole (pos start))) member.entry)) result }
 {
-    match member {
-        Some(Json::List(ids)) => {
-            let ids = path_ids(alloc, ids)?;
+    let Some(ids) = member else {
+        return Err(DocError::BadRev);
+    };
+    match ids.kind() {
+        Kind::List(ids) => {
+            let ids = path_ids(alloc, &ids)?;
             History::new(start, ids).ok_or(DocError::BadRev)
         }
         _ => Err(DocError::BadRev),
     }
 }
 
-// The ids of a path, each a text.
-fn path_ids(alloc: Global, items: Vec<Json>) -> Result<Vec<String>, DocError>
-    ensures { ReadsAs (or_fault DocError.BadRev (ids_of_path (items_view items.items)))
-        (result_map_both (λ ids. map string_bytes ids.items) (λ e. e) result) }
+// Copies the ids of a path, each a text.
+fn path_ids(alloc: Global, ids: &Array<'_>) -> Result<Vec<String>, DocError>
+    ensures { ReadsAs (or_fault DocError.BadRev (ids_of_path ids.now))
+        (result_map_both (λ texts. map string_bytes texts.items) (λ e. e) result) }
 {
-    let mut ids = Vec::with_capacity(alloc, items.len())?;
-    for item in items {
-        let Json::Text(id) = item else {
+    let count = ids.len();
+    let mut texts = Vec::with_capacity(alloc, count)?;
+    for index in 0..count {
+        let Some(id) = given_text(&ids.item(index)) else {
             return Err(DocError::BadRev);
         };
-        ids.push(id)?;
+        texts.push(String::from_str(alloc, id)?)?;
     }
-    Ok(ids)
+    Ok(texts)
+}
+
+// The text of a value, if it is one.
+fn given_text<'a>(value: &Part<'a>) -> Option<&'a str>
+    ensures { MatchOption result
+        ((rest : Items) → ids_of_path (item value.now rest) ≡ None)
+        (λ id. value.now ≡ text id.now) }
+{
+    match value.kind() {
+        Kind::Text(id) => Some(id),
+        _ => None,
+    }
 }

@@ -1,6 +1,5 @@
 ghost use Rattle.std.specs.Prelude.{◌≡◌, ◌+◌, ◌==◌, IfErr, IfOk, IfSome, OnErr, OnOk, None, Some, false, option_copied, string_bytes};
 ghost use Rattle.std.specs.Result.{result_map_both};
-ghost use Rattle.mg_value.specs.View.{view};
 ghost use Rattle.mg_revtree.specs.Changes.{position_below};
 ghost use Rattle.mg_revtree.specs.History.{Paths};
 ghost use Rattle.mg_revtree.specs.Tree.{StandsFor};
@@ -15,8 +14,8 @@ use crate::change::Change;
 use crate::digest::id_over;
 use crate::edit::Edit;
 use crate::error::{EditError, Refused};
-use mg_revtree::{History, Rev, RevTree};
-use mg_value::Json;
+use mg_packed::Packed;
+use mg_revtree::{History, Rev, RevId, RevTree};
 use std::alloc::Global;
 use std::marker::Model;
 
@@ -147,9 +146,9 @@ fn look_for(tree: &RevTree, path: &History) -> Result<Option<Rev>, EditError>
 }
 
 // Merges the path of a replica, and returns its newest revision.
-fn merge(tree: &mut RevTree, path: &History, deleted: bool, body: Json) -> Result<Rev, EditError>
+fn merge(tree: &mut RevTree, path: &History, deleted: bool, body: Packed) -> Result<Rev, EditError>
     ensures brings { (h : Paths) → StandsFor tree.old h
-        → Brings h deleted (view body) (replicated h path.now) result tree.new }
+        → Brings h deleted body (replicated h path.now) result tree.new }
     ensures unchanged { OnErr result (tree.new ≡ tree.old) }
 {
     let rev = path.newest()?;
@@ -214,12 +213,12 @@ fn extend(
     tree: &mut RevTree,
     named: Option<&Rev>,
     deleted: bool,
-    body: Json,
+    body: Packed,
     ahead: Option<String>,
 ) -> Result<Rev, EditError>
-    requires { IfSome ahead (λ id. string_bytes id ≡ digest_of deleted (option_copied named) (view body)) }
-    ensures brings { (h : Paths) → StandsFor tree.old h → Brings h deleted (view body)
-        (extended_by h deleted (view body) (option_copied named.entry)) result tree.new }
+    requires { IfSome ahead (λ id. string_bytes id ≡ digest_of deleted (option_copied named) body) }
+    ensures brings { (h : Paths) → StandsFor tree.old h → Brings h deleted body
+        (extended_by h deleted body (option_copied named.entry)) result tree.new }
     ensures unchanged { OnErr result (tree.new ≡ tree.old) }
 {
     match named {
@@ -248,18 +247,18 @@ fn extend_over(
     tree: &mut RevTree,
     base: Option<&Rev>,
     deleted: bool,
-    body: Json,
+    body: Packed,
     ahead: Option<String>,
 ) -> Result<Rev, EditError>
-    requires { IfSome ahead (λ id. string_bytes id ≡ digest_of deleted (option_copied base) (view body)) }
-    ensures brings { (h : Paths) → StandsFor tree.old h → Brings h deleted (view body)
-        (made_on h deleted (view body) (option_copied base.entry)) result tree.new }
+    requires { IfSome ahead (λ id. string_bytes id ≡ digest_of deleted (option_copied base) body) }
+    ensures brings { (h : Paths) → StandsFor tree.old h → Brings h deleted body
+        (made_on h deleted body (option_copied base.entry)) result tree.new }
     ensures unchanged { OnErr result (tree.new ≡ tree.old) }
 {
     let id = id_over(alloc, ahead, deleted, base, &body)?;
     let rev = Rev {
         pos: position_over(base),
-        id: id.clone()?,
+        id: RevId::copy_of(alloc, &id)?,
     };
     tree.extend(base, id, deleted, body)?;
     Ok(rev)

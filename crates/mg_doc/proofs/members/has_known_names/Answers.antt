@@ -1,12 +1,30 @@
-use Rattle.std.proofs.Common.{◌∙◌, string_bytes, rules, tests}
-use Rattle.std.specs.Map.Iter.{deref}
-use Rattle.std.specs.Map.{keys_of}
-use Rattle.std.proofs.lemmas.Iterator.Consumers.{YieldsList-from_rest}
-use Rattle.std.proofs.lemmas.Iterator.Search.{all_from_yields_List}
-use Rattle.mg_doc.proofs.Entries.{is_known_name, list_all-names}
+use Rattle.std.proofs.Common.{◌+◌, ◌<◌, ◌≤◌, ◌&&◌, length, sym, ap, ◌∙◌, arith}
+use Rattle.mg_value.specs.Value.{member_list}
+use Rattle.mg_packed.specs.Weight.{members_past}
+use Rattle.mg_packed.proofs.Walks.{members_done}
+use Rattle.mg_doc.specs.Document.{has_known_names}
+use Rattle.mg_doc.specs.Form.{is_known_name}
+use Rattle.mg_doc.proofs.Walks.{known_next}
 use Rattle.mg_doc.proofs.members.has_known_names.Goals as goal
+
+pub returns-then-not-is_known : goal.returns-then-not-is_known
+returns-then-not-is_known c =
+    let ms = c.args.members.now in
+    let i = c.loop-index.index in
+    let less : i < length (member_list ms) = omega (arith, c.len-index-end.ensures.count) in
+    sym (c.loop-index.invariant ∙ known_next ms i less
+    ∙ ap (λ b. b && has_known_names (members_past (i + 1) ms)) (ap is_known_name (sym c.name.ensures) ∙ sym c.is_known.ensures ∙ c.if-not-is_known.true))
+
+pub loop-index-preserved : goal.loop-index-preserved
+loop-index-preserved c =
+    let ms = c.args.members.now in
+    let i = c.loop-index.index in
+    let less : i < length (member_list ms) = omega (arith, c.len-index-end.ensures.count) in
+    c.loop-index.invariant ∙ known_next ms i less
+    ∙ ap (λ b. b && has_known_names (members_past (i + 1) ms)) (ap is_known_name (sym c.name.ensures) ∙ sym c.is_known.ensures ∙ c.if-not-is_known.false)
 
 pub returns : goal.returns
 returns c =
-    let es = c.args.members.now.entries in
-    all_from_yields_List {v = deref} (λ k. is_known_name (string_bytes k)) _ _ _ c.all.ensures.ran (YieldsList-from_rest (keys_of es) c.keys.ensures.rest) (λ x b q k. search (rules, tests)) ∙ list_all-names es
+    let ms = c.args.members.now in
+    let end : length (member_list ms) ≤ c.loop-index.index = omega (arith, c.len-index-end.ensures.count) in
+    sym (c.loop-index.invariant ∙ ap has_known_names (members_done ms c.loop-index.index end))

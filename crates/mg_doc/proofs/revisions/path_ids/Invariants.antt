@@ -1,10 +1,8 @@
 use Rattle.std.proofs.Common.{◌≡◌, ◌++◌, map, option_map, string_bytes}
-use Rattle.std.specs.Vec.Iter.{into_iter_items}
-use Rattle.mg_value.specs.View.{items_view}
+use Rattle.mg_value.proofs.Items.{items_past}
 use Rattle.mg_doc.specs.Document.{path_ids}
 use Rattle.mg_doc.proofs.revisions.path_ids.Given as goal
 
-abbrev pub invariant-loop-item : goal.invariant-loop-item
-invariant-loop-item l =
-    (goal.iterator-loop-item).can_next l.item-iterator × (goal.iterator-loop-item).is_finite l.item-iterator
-    × (path_ids (items_view l.fn.items.items) ≡ option_map (λ more. map string_bytes l.ids.items ++ more) (path_ids (items_view (into_iter_items l.item-iterator))))
+-- the ids of all are those that were copied and then those of what is left
+abbrev pub invariant-loop-index : goal.invariant-loop-index
+invariant-loop-index l = path_ids l.ids ≡ option_map (λ more. map string_bytes l.texts.items ++ more) (path_ids (items_past l.index l.ids))

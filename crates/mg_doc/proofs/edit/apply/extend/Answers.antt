@@ -1,6 +1,5 @@
 use Rattle.std.proofs.Common.{◌≡◌, Option, None, Result, Err, option_copied, sym, ap, subst}
 use Rattle.std.proofs.lemmas.Result.{err_from_is_err_and}
-use Rattle.mg_value.specs.View.{view}
 use Rattle.mg_revtree.specs.Revision.{Revision}
 use Rattle.mg_doc.specs.Applied.{refusal_in}
 use Rattle.mg_doc.specs.Brought.{Brings}
@@ -13,7 +12,7 @@ pub returns-in_err-base-in-None-clause-brings : goal.returns-in_err-base-in-None
 returns-in_err-base-in-None-clause-brings c = λ h stands.
     let x = c.in_err-base-in-None.field-0.0 in
     let t = c.args.tree.now in
-    let b = view c.args.body in
+    let b = c.args.body in
     let p = err_from_is_err_and c.from_residual.result c.from_residual.ensures.1 in
     let is : c.from_residual.result ≡ Err x = cc (p.1, p.2) in
     let named : option_copied c.args.named ≡ None = ap option_copied c.in-None.is in
@@ -23,13 +22,13 @@ returns-in_err-base-in-None-clause-brings c = λ h stands.
 
 pub returns-in-Some-clause-brings : goal.returns-in-Some-clause-brings
 returns-in-Some-clause-brings c = λ h stands.
-    let b = view c.args.body in
+    let b = c.args.body in
     let Q : Option Revision → Type 0 = λ n. Brings h c.args.deleted b (extended_by h c.args.deleted b n) c.extend_over.result c.extend_over.new.tree in
     subst Q (sym (ap option_copied c.in-Some.is)) (c.extend_over.ensures.brings h stands)
 
 pub returns-in_ok-base-in-None-clause-brings : goal.returns-in_ok-base-in-None-clause-brings
 returns-in_ok-base-in-None-clause-brings c = λ h stands.
-    let b = view c.args.body in
+    let b = c.args.body in
     let r = c.extend_over-in-None.result in
     let t = c.extend_over-in-None.new.tree in
     let M : Option Revision → Type 0 = λ n. Brings h c.args.deleted b (made_on h c.args.deleted b n) r t in

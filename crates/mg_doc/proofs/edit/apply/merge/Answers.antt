@@ -1,6 +1,5 @@
 use Rattle.std.proofs.Common.{◌≡◌, true, inl, inr, Err, Result, sym, subst}
 use Rattle.std.proofs.lemmas.Result.{err_from_is_err_and}
-use Rattle.mg_value.specs.View.{view}
 use Rattle.mg_revtree.specs.Revision.{Revision}
 use Rattle.mg_revtree.specs.History.{fits}
 use Rattle.mg_doc.specs.Brought.{Brings}
@@ -8,7 +7,7 @@ use Rattle.mg_doc.specs.Conversions.{error_of_merge}
 use Rattle.mg_doc.specs.Edit.{replicated}
 use Rattle.mg_doc.specs.declared.error.EditError.{EditError}
 use Rattle.mg_doc.proofs.Edits.{merged, not_merged}
-use Rattle.mg_doc.proofs.Entries.{two}
+use Rattle.mg_doc.proofs.Cases.{two}
 use Rattle.mg_doc.proofs.edit.apply.merge.Goals as goal
 
 pub returns-in_err-merge-clause-brings : goal.returns-in_err-merge-clause-brings
@@ -16,7 +15,7 @@ returns-in_err-merge-clause-brings c = λ h stands.
     let x = c.in_err-merge.field-0.0 in
     let p = err_from_is_err_and c.from_residual-in_err-merge.result c.from_residual-in_err-merge.ensures.1 in
     let is : c.from_residual-in_err-merge.result ≡ Err (error_of_merge x) = cc (p.1, p.2) in
-    let P : Result Revision EditError → Type 0 = λ r. Brings h c.args.deleted (view c.args.body) (replicated h c.args.path.now) r c.merge.new.self in
+    let P : Result Revision EditError → Type 0 = λ r. Brings h c.args.deleted c.args.body (replicated h c.args.path.now) r c.merge.new.self in
     subst P (sym is) (not_merged h c.args.path.now x (λ t. c.in_err-merge.ensures.fitting h stands t))
 
 pub returns-clause-brings : goal.returns-clause-brings
@@ -26,4 +25,4 @@ returns-clause-brings c = λ h stands.
       | inl t ↦ t
       | inr f ↦ absurd (let e = c.in_ok-merge.ensures.refused h stands f in cc)
     ] in
-    merged h c.args.deleted (view c.args.body) run c.in_ok-rev.rev c.merge.new.self c.in_ok-rev.ensures fit (c.in_ok-merge.ensures.accepted h stands)
+    merged h c.args.deleted c.args.body run c.in_ok-rev.rev c.merge.new.self c.in_ok-rev.ensures fit (c.in_ok-merge.ensures.accepted h stands)

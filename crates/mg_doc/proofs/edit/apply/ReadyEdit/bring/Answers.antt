@@ -1,5 +1,4 @@
 use Rattle.std.proofs.Common.{◌≡◌, ◌∙◌, IfSome, Option, Result, option_copied, string_bytes, sym, ap, subst}
-use Rattle.mg_value.specs.View.{view}
 use Rattle.mg_revtree.specs.Revision.{Revision}
 use Rattle.mg_doc.specs.Ahead.{named_in}
 use Rattle.mg_doc.specs.Applied.{Applied, IsReady}
@@ -40,5 +39,5 @@ returns-clause-applied c = λ h stands.
 pub extend-requires : goal.extend-requires
 extend-requires c =
     let e = c.edit.inside in
-    let P : Option Revision → Type 0 = λ n. IfSome e.ahead (λ id. string_bytes id ≡ digest_of e.deleted n (view e.body)) in
+    let P : Option Revision → Type 0 = λ n. IfSome e.ahead (λ id. string_bytes id ≡ digest_of e.deleted n e.body) in
     subst P (ap named_in c.in-New.is ∙ sym c.as_ref.ensures.value) c.edit.invariant
