@@ -5,7 +5,6 @@ mod Editing
 mod Indexes
 mod Numbers
 mod Reading
-mod Members
 mod Resharding
 mod Pages
 mod Ahead

@@ -2,14 +2,13 @@
 use Rattle.std.specs.Prelude.{Bool}
 use Rattle.std.specs.declared.alloc.Global.{Global}
 use Rattle.std.specs.declared.vec.Vec.{Vec}
-use Rattle.mg_value.specs.View.{items_view}
 use Rattle.mg_doc.specs.Document.{Edit}
 use Rattle.mg_engine.specs.Bulk.{Bulk, BulkEdits}
 use Rattle.mg_engine.specs.declared.bulk.read.Bulk as code
 
 -- the bulk that the code's `Bulk` stands for
 abbrev pub bulk_seen : code.Bulk → Bulk
-bulk_seen b = record { new_edits = b.new_edits; documents = items_view b.documents.items }
+bulk_seen b = record { new_edits = b.new_edits; documents = b.documents }
 
 -- the edits that were read, and whether they are new
 abbrev pub edits_seen : Bool → Vec Edit Global → BulkEdits

@@ -10,7 +10,7 @@ use Rattle.mg_engine.specs.declared.refusal.Refusal.TheVariants.{OutOfMemory}
 
 -- what a command asks
 abbrev pub asked : Command → Asked
-asked (Bulk body) = bulk (view body)
+asked (Bulk body) = bulk body
 asked (CreateIndex body) = create_index (view body)
 asked (DropIndex ddoc name) = drop_index (string_bytes ddoc) (string_bytes name)
 asked ListIndexes = list_indexes

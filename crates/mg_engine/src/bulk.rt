@@ -1,6 +1,5 @@
 //! Executes bulks of edits.
 ghost use Rattle.std.specs.Prelude.{◌≡◌, IfOk, Some, true, length, unwrap_or};
-ghost use Rattle.mg_value.specs.View.{view};
 ghost use Rattle.mg_engine.specs.Commands.{Asked, bulk, edits_effect, next, reply_of};
 ghost use Rattle.mg_engine.specs.Objects.{BringObjects};
 ghost use Rattle.mg_engine.specs.Ahead.{Determines};
@@ -18,29 +17,30 @@ use crate::reply::Reply;
 use crate::state::State;
 use apply::apply_edits;
 use mg_doc::Edit;
+use mg_packed::Packed;
 use mg_shard::Placement;
-use mg_value::{Json, NoMemory};
+use mg_value::NoMemory;
 use number::number_edits;
 pub(crate) use read::ReadBulk;
 use reply::entries_line;
 use std::alloc::Global;
 
 impl State {
-    /// Executes a bulk. Returns the reply, and the next state (`None` if the bulk is refused). Cost: its documents, which are copied.
+    /// Executes a bulk. Returns the reply, and the next state (`None` if the bulk is refused). Cost: its documents, read in place.
     pub(crate) fn bulk<P: Placement>(
         &self,
         alloc: Global,
         placement: &P,
-        body: &Json,
+        body: &Packed,
     ) -> Result<(Reply, Option<State>), NoMemory>
         ensures does { IfOk result (λ r. (w : World) → StateStandsFor (P.place placement.now) self.now w
-            → (said r.0 ≡ Some (reply_of w (bulk (view body.now))))
+            → (said r.0 ≡ Some (reply_of w (bulk body.now)))
             × StateStandsFor (P.place placement.now) (unwrap_or r.1 self.now)
-            (next w (bulk (view body.now)))) }
+            (next w (bulk body.now))) }
         ensures settled { IfOk result (λ r. IsSettled r.0 r.1) }
         ensures number { IfOk result (λ r. length (unwrap_or r.1 self.now).shards ≡ length self.now.shards) }
     {
-        let read = ReadBulk::of(alloc, body.copy(alloc)?)?;
+        let read = ReadBulk::of(alloc, body)?;
         self.apply(alloc, placement, read)
     }
 

@@ -2,14 +2,15 @@ ghost use Rattle.std.specs.Prelude.{◌≡◌, IfOk};
 ghost use Rattle.mg_engine.specs.Commands.{is_write};
 ghost use Rattle.mg_engine.specs.View.{asked};
 
+use mg_packed::Packed;
 use mg_value::{Json, NoMemory};
 use std::alloc::Global;
 
-/// One command to the engine. Each `Json` is the body of a request.
+/// One command to the engine. Each `Packed` or `Json` is the body of a request.
 #[derive(Debug, Drop)]
 pub enum Command {
     /// Applies a bulk of edits: `{"docs":[..],"new_edits":..}`.
-    Bulk(Json),
+    Bulk(Packed),
     /// Creates an index: `{"index":{"fields":[..]},"ddoc":..,"name":..}`.
     CreateIndex(Json),
     /// Drops an index, by its design document, with or without `_design/` in front, and its name.

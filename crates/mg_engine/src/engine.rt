@@ -96,8 +96,8 @@ impl<P: Placement + Drop> Engine<P> {
         reply
     }
 
-    /// Does what `step` does, but takes the command by value: the documents of a bulk are moved into their trees. Cost: as for `step`,
-    /// without a copy of the documents.
+    /// Does what `step` does, but takes the command by value: the body of a bulk is dropped once its documents are read. Cost: as for
+    /// `step`.
     pub fn execute<R: Threads + Sync>(
         &mut self,
         rt: &R,

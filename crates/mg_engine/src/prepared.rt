@@ -44,8 +44,8 @@ impl Model for Prepared {
 }
 
 impl Prepared {
-    /// Reads a bulk before it is executed: its documents are moved into edits. Other commands stay as they are. This needs no engine,
-    /// and therefore no lock on one.
+    /// Reads a bulk before it is executed: its documents are read into edits, and its body is dropped. Other commands stay as they are.
+    /// This needs no engine, and therefore no lock on one.
     ///
     /// Errors: `NoMemory` if an allocation fails. Cost: for a bulk that of `Edit::read` for each document, otherwise nothing.
     pub fn of(alloc: Global, command: Command) -> Result<Prepared, NoMemory>
@@ -63,7 +63,7 @@ impl Task {
         ensures { IfOk result (λ t. Does t (asked command)) }
     {
         match command {
-            Command::Bulk(body) => Ok(Task::Apply(ReadBulk::of(alloc, body)?)),
+            Command::Bulk(body) => Ok(Task::Apply(ReadBulk::of(alloc, &body)?)),
             other => Ok(Task::Execute(other)),
         }
     }

@@ -25,14 +25,6 @@ use Rattle.mg_http.proofs.Forms.{exchange, handling}
 use Rattle.mg_http.proofs.HeadLemmas.{head_long}
 use Rattle.mg_http.proofs.MessageLemmas.{HasHead-append, Begins-append}
 
--- if what is found has no value, nothing that is found has one
-pub never_both : {D V U : Type 0} (found : Option D) (value_of : D → Option V) → ((d : D) × (U × (found ≡ Some d)) × (value_of d ≡ None)) → (v : V)
-    → ¬ ((d : D) × (U × (found ≡ Some d)) × (value_of d ≡ Some v))
-never_both found value_of h v r =
-    let one : Some h.0 ≡ Some r.0 = sym h.1.1 ∙ r.1.1 in
-    let same : h.0 ≡ r.0 = cc in
-    let none : None ≡ Some v = sym h.2 ∙ ap value_of same ∙ r.2 in cc
-
 -- the n items from i on, and what follows them
 cut : (xs : List ℕ) (i n : ℕ) → drop i xs ≡ slice_range xs i (i + n) ++ drop (i + n) xs
 cut xs i n = let e : i + n - i ≡ n = omega arith in rw e (sym (take-append-drop n (drop i xs)) ∙ ap (λ (t : List ℕ). take n (drop i xs) ++ t) (drop-drop n i xs))

@@ -10,6 +10,7 @@ use crate::seat::Seat;
 use crate::snapshot::Snapshot;
 use left_right::Absorb;
 use mg_engine::{Command, Reply};
+use mg_packed::Packed;
 use mg_scan::Gate;
 use mg_shard::Placement;
 use mg_value::Json;
@@ -85,7 +86,7 @@ where
         requires most { workers ≤ 32 }
         ensures { Answered D.db self.old (bulk (view body.now)) (said result) self.new }
     {
-        match body.copy(self.alloc) {
+        match Packed::of(self.alloc, body) {
             Ok(body) => self.write(rt, Command::Bulk(body), workers),
             Err(_) => Reply::NoMemory,
         }

@@ -124,7 +124,7 @@ where
     /// all commits; if it is accepted, it is one more commit.
     ///
     /// If an allocation fails, the reply is `NoMemory`; a write is then not a commit, and leaves the seat as it was. Cost: that of the
-    /// engine's reply. The documents of a bulk are moved into the database, not copied.
+    /// engine's reply. The documents of a bulk are read from its body in place.
     pub fn answer<R: Wait + Threads + Sync>(
         &mut self,
         rt: &R,

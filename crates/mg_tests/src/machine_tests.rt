@@ -1,6 +1,6 @@
 //! Lists of events at seats: a fixed list, whose replies are written out, and random lists from a seed, whose replies must be those of
 //! one engine that runs the commands one after another.
-use crate::given::{check, json, string};
+use crate::given::{check, json, packed, string};
 use mg_engine::{Command, Engine, Reply};
 use mg_machine::interleave::{Event, are_at, replay};
 use mg_shard::Md5Placement;
@@ -23,12 +23,11 @@ const BODIES: [&str; 10] = [
 ];
 
 fn body_command<R: Abort>(rt: &R, alloc: Global, number: usize, text: &str) -> Command {
-    let body = json(rt, alloc, text);
     match number {
-        0..=4 => Command::Bulk(body),
-        5 | 6 => Command::CreateIndex(body),
-        7 | 8 => Command::Find(body),
-        _ => Command::Explain(body),
+        0..=4 => Command::Bulk(packed(rt, alloc, text)),
+        5 | 6 => Command::CreateIndex(json(rt, alloc, text)),
+        7 | 8 => Command::Find(json(rt, alloc, text)),
+        _ => Command::Explain(json(rt, alloc, text)),
     }
 }
 

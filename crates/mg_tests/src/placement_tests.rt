@@ -3,7 +3,7 @@
 ghost use Rattle.std.specs.Prelude.{◌≡◌};
 ghost use Rattle.mg_tests.specs.ByNumber.{number_of, number_place};
 
-use crate::given::{check, json};
+use crate::given::{check, json, packed};
 use mg_engine::{Command, Engine};
 use mg_query::{Page, Query, page};
 use mg_scan::NoGate;
@@ -167,12 +167,12 @@ const RESHARDING: &[Step] = &[
 ];
 
 fn command_of<R: Abort>(rt: &R, alloc: Global, step: &Step) -> Command {
-    let body = json(rt, alloc, step.1);
+    let text = step.1;
     match step.0 {
-        Ask::Bulk => Command::Bulk(body),
-        Ask::CreateIndex => Command::CreateIndex(body),
-        Ask::Find => Command::Find(body),
-        Ask::Reshard => Command::Reshard(body),
+        Ask::Bulk => Command::Bulk(packed(rt, alloc, text)),
+        Ask::CreateIndex => Command::CreateIndex(json(rt, alloc, text)),
+        Ask::Find => Command::Find(json(rt, alloc, text)),
+        Ask::Reshard => Command::Reshard(json(rt, alloc, text)),
     }
 }
 

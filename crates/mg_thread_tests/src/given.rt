@@ -1,4 +1,5 @@
 //! What the tests share: JSON values, texts, and a check. A test that fails with the message `memory` was refused memory by some call.
+use mg_packed::Packed;
 use mg_value::{Json, read};
 use std::alloc::Global;
 use std::process::Abort;
@@ -6,6 +7,11 @@ use std::process::Abort;
 /// Reads a text as JSON.
 pub(crate) fn json<R: Abort>(rt: &R, alloc: Global, text: &str) -> Json {
     read(alloc, text.as_bytes()).expect(rt, "memory")
+}
+
+/// Reads a text as JSON, into one block.
+pub(crate) fn packed<R: Abort>(rt: &R, alloc: Global, text: &str) -> Packed {
+    Packed::of(alloc, &json(rt, alloc, text)).expect(rt, "memory")
 }
 
 /// An owned copy of a text.

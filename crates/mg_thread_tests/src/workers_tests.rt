@@ -2,7 +2,7 @@
 ghost use Rattle.std.specs.Prelude.{◌<◌, ◌≤◌};
 
 use crate::engine_tests::DOCUMENTS;
-use crate::given::json;
+use crate::given::packed;
 use crate::scan_tests::{above_one, ids_of};
 use mg_collate::Direction;
 use mg_engine::{Command, Engine};
@@ -99,7 +99,7 @@ impl Gate for AtOnce {
 
 // An engine with four documents on four shards.
 fn four_shards<R: Threads + Sync + Abort>(rt: &R, alloc: Global) -> Engine<Md5Placement> {
-    let bulk = Command::Bulk(json(rt, alloc, DOCUMENTS));
+    let bulk = Command::Bulk(packed(rt, alloc, DOCUMENTS));
     let mut engine = Engine::new(alloc, "db", Md5Placement, 4).expect(rt, "memory");
     assert!(rt; engine.step(rt, alloc, &bulk, 1).status() == 201);
     engine

@@ -1,6 +1,6 @@
 //! Reads the body of a bulk. No state is needed for this.
-ghost use Rattle.std.specs.Prelude.{◌≡◌, codes, IfOk, option_map, true};
-ghost use Rattle.mg_value.specs.View.{view, items_view};
+ghost use Rattle.std.specs.Prelude.{◌≡◌, IfOk, option_map, Some, true};
+ghost use Rattle.mg_value.specs.Value.{list};
 ghost use Rattle.mg_doc.specs.Document.{is_object};
 ghost use Rattle.mg_engine.specs.Ahead.{Determines};
 ghost use Rattle.mg_engine.specs.Bulk.{are_objects, bulk_of, edits_of, edits_or_refusal, of_objects, shaped};
@@ -11,7 +11,8 @@ ghost use Rattle.mg_engine.specs.Faults.{ReadsAs};
 use crate::fault::Fault;
 use crate::refusal::Refusal;
 use mg_doc::Edit;
-use mg_value::{Json, NoMemory};
+use mg_packed::{Array, Kind, Packed, Part};
+use mg_value::NoMemory;
 use std::alloc::Global;
 
 /// What the body of a bulk says: its edits and whether they are new, or why it is refused.
@@ -23,21 +24,21 @@ pub(crate) enum ReadBulk {
 
 // The documents of a bulk, each an object, and whether their edits are new.
 #[derive(Drop)]
-struct Bulk {
+struct Bulk<'a> {
     new_edits: bool,
-    documents: Vec<Json>,
+    documents: Array<'a>,
 }
 
 impl ReadBulk {
     /// Reads the body of a bulk: first its shape, and then its documents in order, up to the first fault.
     ///
-    /// The documents are moved into the edits, not copied.
+    /// The documents are read in place. Only what `Edit::read` keeps of them is copied.
     ///
     /// Errors: `NoMemory` if an allocation fails. Cost: that of `Edit::read` for each document.
-    pub(crate) fn of(alloc: Global, body: Json) -> Result<ReadBulk, NoMemory>
-        ensures { IfOk result (λ read. Determines read (bulk (view body))) }
+    pub(crate) fn of(alloc: Global, body: &Packed) -> Result<ReadBulk, NoMemory>
+        ensures { IfOk result (λ read. Determines read (bulk body.now)) }
     {
-        let Some(bulk) = read_bulk(body) else {
+        let Some(bulk) = read_bulk(body.part()) else {
             return Ok(ReadBulk::Refused(Refusal::WrongShape));
         };
         let Bulk {
@@ -53,31 +54,34 @@ impl ReadBulk {
 }
 
 // Reads a body as a bulk, without its edits. `None` if the body has another shape, or a document is not an object.
-fn read_bulk(body: Json) -> Option<Bulk>
-    ensures { option_map bulk_seen result ≡ bulk_of (view body) }
+fn read_bulk(body: Part<'_>) -> Option<Bulk<'_>>
+    ensures { option_map bulk_seen result ≡ bulk_of body.entry }
 {
-    let mut body = body;
-    let docs = body.take("docs");
-    read_shape(docs, body.member("new_edits"))
+    let Some(docs) = body.member("docs") else {
+        return None;
+    };
+    match docs.kind() {
+        Kind::List(documents) => read_documents(documents, body.member("new_edits")),
+        _ => None,
+    }
 }
 
-// Reads the members `docs` and `new_edits`, which may be absent, as a bulk.
-fn read_shape(docs: Option<Json>, new_edits: Option<&Json>) -> Option<Bulk>
-    ensures { option_map bulk_seen result
-        ≡ shaped (option_map view docs) (option_map (λ j. view j.now) new_edits.entry) }
+// A bulk of these documents. The member `new_edits` may be absent. `None` if it is neither true nor false, or a document is not an object.
+fn read_documents<'a>(documents: Array<'a>, new_edits: Option<Part<'a>>) -> Option<Bulk<'a>>
+    ensures { option_map bulk_seen result ≡ shaped (Some (list documents.entry)) new_edits.entry }
 {
-    match (docs, new_edits) {
-        (Some(Json::List(documents)), None) => read_objects(true, documents),
-        (Some(Json::List(documents)), Some(Json::Flag(new_edits))) => {
-            read_objects(*new_edits, documents)
-        }
+    let Some(new_edits) = new_edits else {
+        return read_objects(true, documents);
+    };
+    match new_edits.kind() {
+        Kind::Flag(new_edits) => read_objects(new_edits, documents),
         _ => None,
     }
 }
 
 // A bulk of these documents. `None` if one of them is not an object.
-fn read_objects(new_edits: bool, documents: Vec<Json>) -> Option<Bulk>
-    ensures { option_map bulk_seen result ≡ of_objects new_edits (items_view documents.items) }
+fn read_objects(new_edits: bool, documents: Array<'_>) -> Option<Bulk<'_>>
+    ensures { option_map bulk_seen result ≡ of_objects new_edits documents.entry }
 {
     if are_objects(&documents) {
         Some(Bulk {
@@ -89,35 +93,36 @@ fn read_objects(new_edits: bool, documents: Vec<Json>) -> Option<Bulk>
     }
 }
 
-fn are_objects(documents: &[Json]) -> bool
-    ensures { result ≡ are_objects (items_view documents.now) }
+fn are_objects(documents: &Array<'_>) -> bool
+    ensures { result ≡ are_objects documents.now }
 {
-    for document in documents {
-        if !is_object(document) {
+    for index in 0..documents.len() {
+        if !is_object(&documents.item(index)) {
             return false;
         }
     }
     true
 }
 
-fn is_object(value: &Json) -> bool
-    ensures { result ≡ is_object (view value.now) }
+fn is_object(value: &Part<'_>) -> bool
+    ensures { result ≡ is_object value.now }
 {
-    match value {
-        Json::Object(_) => true,
+    match value.kind() {
+        Kind::Object(_) => true,
         _ => false,
     }
 }
 
 // Reads the edit of each document, in order. The error is the first fault.
-fn read_edits(alloc: Global, new_edits: bool, documents: Vec<Json>) -> Result<Vec<Edit>, Fault>
-    requires { are_objects (items_view documents.items) ≡ true }
+fn read_edits(alloc: Global, new_edits: bool, documents: Array<'_>) -> Result<Vec<Edit>, Fault>
+    requires { are_objects documents ≡ true }
     ensures { ReadsAs (edits_seen new_edits) result
-        (edits_or_refusal new_edits (edits_of new_edits (items_view documents.items))) }
+        (edits_or_refusal new_edits (edits_of new_edits documents.entry)) }
 {
-    let mut edits = Vec::with_capacity(alloc, documents.len())?;
-    for document in documents {
-        let edit = Edit::read(alloc, document, new_edits)?;
+    let count = documents.len();
+    let mut edits = Vec::with_capacity(alloc, count)?;
+    for index in 0..count {
+        let edit = Edit::read(alloc, documents.item(index), new_edits)?;
         edits.push(edit)?;
     }
     Ok(edits)

@@ -1,7 +1,8 @@
 //! Answers one message.
-ghost use Rattle.std.specs.Prelude.{◌≡◌, ◌↔◌, ◌⊎◌, ℕ, List, ◌++◌, true, false, IsTrue, IsErrOf, IfErr, is_ok, if◌then◌else◌, Option};
+ghost use Rattle.std.specs.Prelude.{◌≡◌, ◌↔◌, ◌⊎◌, ℕ, List, ◌++◌, true, false, IsTrue, IsErrOf, IfErr, IfOk, Err, is_ok, if◌then◌else◌, Option};
 ghost use Rattle.std.specs.Io.KnownBytes.{Appends};
-ghost use Rattle.mg_value.specs.View.{view};
+ghost use Rattle.mg_value.specs.Text.{Reads};
+ghost use Rattle.mg_value.specs.Value.{Value};
 ghost use Rattle.mg_engine.specs.Commands.{Answer};
 ghost use Rattle.mg_engine.specs.View.{asked};
 ghost use Rattle.mg_http.specs.Device.{inner_of, has_failed, WritesBytes};
@@ -15,22 +16,33 @@ use crate::sessions::device::{Device, IoFault};
 use crate::sessions::reply::{write_refusal, write_reply};
 use crate::sessions::service::Service;
 use mg_engine::{Command, Refusal, Reply};
-use mg_value::{Json, ReadBuffer, ReadError, read_in};
+use mg_packed::Packed;
+use mg_value::{ReadBuffer, ReadError, read_in};
 use std::alloc::Global;
 use std::io::Write;
 use std::sync::Wait;
 use std::thread::Threads;
 
-/// The command of an endpoint with this body.
-fn command_of(endpoint: Endpoint, value: Json) -> Command
-    ensures { asked result ≡ asked_by endpoint (view value) }
+/// Reads the body as JSON, as the command of the endpoint. The body of a bulk is read into one block.
+///
+/// Errors: those of `mg_value::read_in`.
+fn read_command(
+    alloc: Global,
+    endpoint: Endpoint,
+    body: &[u8],
+    buffer: &mut ReadBuffer,
+) -> Result<Command, ReadError>
+    ensures ok { IfOk result
+        (λ command. (value : Value) × Reads body.now value × (asked command ≡ asked_by endpoint value)) }
+    ensures not_json { result ≡ Err ReadError.NotJson → (value : Value) → ¬ (Reads body.now value) }
+    ensures not_whole { result ≡ Err ReadError.NotWhole → (value : Value) → ¬ (Reads body.now value) }
 {
     match endpoint {
-        Endpoint::BulkDocs => Command::Bulk(value),
-        Endpoint::Find => Command::Find(value),
-        Endpoint::Explain => Command::Explain(value),
-        Endpoint::CreateIndex => Command::CreateIndex(value),
-        Endpoint::Reshard => Command::Reshard(value),
+        Endpoint::BulkDocs => Ok(Command::Bulk(Packed::read_in(alloc, body, buffer)?)),
+        Endpoint::Find => Ok(Command::Find(read_in(alloc, body, buffer)?)),
+        Endpoint::Explain => Ok(Command::Explain(read_in(alloc, body, buffer)?)),
+        Endpoint::CreateIndex => Ok(Command::CreateIndex(read_in(alloc, body, buffer)?)),
+        Endpoint::Reshard => Ok(Command::Reshard(read_in(alloc, body, buffer)?)),
     }
 }
 
@@ -55,9 +67,9 @@ fn answer_body<H: Wait + Threads + Sync, S: Service, W: Write>(
         (reply_text omits_body reply) result }
     ensures failed { has_failed writer.new ≡ (if is_ok result then has_failed writer.old else true) }
 {
-    match read_in(alloc, body, buffer) {
-        Ok(value) => {
-            let reply = service.ask(rt, alloc, command_of(endpoint, value));
+    match read_command(alloc, endpoint, body, buffer) {
+        Ok(command) => {
+            let reply = service.ask(rt, alloc, command);
             write_reply(writer, output, omits_body, &reply)
         }
         Err(ReadError::NoMemory) => write_reply(writer, output, omits_body, &Reply::NoMemory),
