@@ -57,6 +57,7 @@ pub(crate) fn push_tree<'t, 'a>(
     }
 }
 
+#[inline(always)]
 fn push_null(out: &mut Vec<u8>) -> Result<(), GaveUp>
     ensures { OnOk result (out.new.items ≡ out.old.items ++ packed null) }
 {
@@ -64,6 +65,7 @@ fn push_null(out: &mut Vec<u8>) -> Result<(), GaveUp>
     Ok(())
 }
 
+#[inline(always)]
 fn push_flag(out: &mut Vec<u8>, flag: bool) -> Result<(), GaveUp>
     ensures { OnOk result (out.new.items ≡ out.old.items ++ packed (boolean flag)) }
 {
@@ -75,6 +77,7 @@ fn push_flag(out: &mut Vec<u8>, flag: bool) -> Result<(), GaveUp>
     Ok(())
 }
 
+#[inline(always)]
 fn push_number(out: &mut Vec<u8>, text: &str) -> Result<(), GaveUp>
     ensures { OnOk result ((z : ℤ) × (whole_number_of text.now ≡ Some z) × FitsSigned w64 z
         × (out.new.items ≡ out.old.items ++ packed (whole z))) }
@@ -86,6 +89,7 @@ fn push_number(out: &mut Vec<u8>, text: &str) -> Result<(), GaveUp>
 }
 
 // The number is a parameter so that proofs know its range.
+#[inline(always)]
 fn push_fitting(out: &mut Vec<u8>, number: i64) -> Result<(), GaveUp>
     ensures fits { FitsSigned w64 number }
     ensures pushed { OnOk result (out.new.items ≡ out.old.items ++ packed (whole number)) }
@@ -94,6 +98,7 @@ fn push_fitting(out: &mut Vec<u8>, number: i64) -> Result<(), GaveUp>
     Ok(())
 }
 
+#[inline(always)]
 fn push_string(out: &mut Vec<u8>, text: &str) -> Result<(), GaveUp>
     ensures utf8 { IsUtf8 text.now }
     ensures pushed { OnOk result (out.new.items ≡ out.old.items ++ packed (string text.now)) }
@@ -201,6 +206,7 @@ fn push_sorted<'t, 'a>(
 }
 
 #[cycle(push_tree)]
+#[inline(always)]
 fn push_member<'t, 'a>(
     alloc: Global,
     out: &mut Vec<u8>,
