@@ -3,7 +3,7 @@ use Rattle.std.proofs.Common.{◌≡◌, ℕ, ◌+◌, ◌<◌, ◌≤◌, List,
 use Rattle.std.proofs.Math.ListN.{drop_of_length-le}
 use Rattle.std.proofs.lemmas.List.{map-append}
 use Rattle.mg_engine.specs.Commands.{Asked, Answer, shards_after, shards_after_all}
-use Rattle.mg_engine.specs.Execution.{kept}
+use Rattle.mg_engine.specs.Execution.{answered_commands}
 use Rattle.mg_engine.specs.View.{asked, said}
 use Rattle.mg_engine.specs.declared.command.Command.{Command}
 use Rattle.mg_engine.specs.declared.reply.Reply.{Reply}
@@ -20,28 +20,28 @@ is_number_then count before after c None h k = ap count h
 is_number_then count before after c (Some a) h k = k
 
 first_of : (n : ℕ) (c : Asked) (r : Option Answer) (cs : List Asked) (rs : List (Option Answer))
-    → shards_after_all (number_then n c r) (kept cs rs) ≡ shards_after_all n (kept (c ∷ cs) (r ∷ rs))
+    → shards_after_all (number_then n c r) (answered_commands cs rs) ≡ shards_after_all n (answered_commands (c ∷ cs) (r ∷ rs))
 first_of n c None cs rs = refl
 first_of n c (Some a) cs rs = refl
 
 -- the loop's step: from the number after this command, the rest of the commands give the number that all commands give from the first
 pub number_after : (first now then : ℕ) (cs : List Command) (i : ℕ) (c : Command) (replies : List Reply) (r : Reply) (rs : List (Option Answer))
     → i < length cs → c ≡ get_or cs i c → then ≡ number_then now (asked c) (said r)
-    → ((rs : List (Option Answer)) → shards_after_all now (kept (map asked (drop i cs)) rs) ≡ shards_after_all first (kept (map asked cs) (map said replies ++ rs)))
-    → shards_after_all then (kept (map asked (drop (i + 1) cs)) rs) ≡ shards_after_all first (kept (map asked cs) (map said (replies ++ r ∷ []) ++ rs))
+    → ((rs : List (Option Answer)) → shards_after_all now (answered_commands (map asked (drop i cs)) rs) ≡ shards_after_all first (answered_commands (map asked cs) (map said replies ++ rs)))
+    → shards_after_all then (answered_commands (map asked (drop (i + 1) cs)) rs) ≡ shards_after_all first (answered_commands (map asked cs) (map said (replies ++ r ∷ []) ++ rs))
 number_after first now then cs i c replies r rs h e did on =
     let rest = map asked (drop (i + 1) cs) in
     rw (map-append, append_assoc)
-    (ap (λ n. shards_after_all n (kept rest rs)) did
+    (ap (λ n. shards_after_all n (answered_commands rest rs)) did
     ∙ first_of now (asked c) (said r) rest rs
-    ∙ ap (λ ds. shards_after_all now (kept (map asked ds) (said r ∷ rs))) (sym (drop_item cs i c h e))
+    ∙ ap (λ ds. shards_after_all now (answered_commands (map asked ds) (said r ∷ rs))) (sym (drop_item cs i c h e))
     ∙ on (said r ∷ rs))
 
 -- the loop's end: no command is left
 pub number_here : (first now : ℕ) (cs : List Command) (i : ℕ) (replies : List Reply) → length cs ≤ i
-    → ((rs : List (Option Answer)) → shards_after_all now (kept (map asked (drop i cs)) rs) ≡ shards_after_all first (kept (map asked cs) (map said replies ++ rs)))
-    → now ≡ shards_after_all first (kept (map asked cs) (map said replies))
+    → ((rs : List (Option Answer)) → shards_after_all now (answered_commands (map asked (drop i cs)) rs) ≡ shards_after_all first (answered_commands (map asked cs) (map said replies ++ rs)))
+    → now ≡ shards_after_all first (answered_commands (map asked cs) (map said replies))
 number_here first now cs i replies h on =
-    ap (λ ds. shards_after_all now (kept (map asked ds) [])) (sym (drop_of_length-le cs h))
+    ap (λ ds. shards_after_all now (answered_commands (map asked ds) [])) (sym (drop_of_length-le cs h))
     ∙ on []
-    ∙ ap (λ rs. shards_after_all first (kept (map asked cs) rs)) (append-nil (map said replies))
+    ∙ ap (λ rs. shards_after_all first (answered_commands (map asked cs) rs)) (append-nil (map said replies))

@@ -25,7 +25,7 @@ use Rattle.mg_revtree.specs.Revision.{Revision, revision_text}
 use Rattle.mg_revtree.proofs.Winners.{winner_is_best}
 use Rattle.mg_shard.specs.Edits.{after_edit, after_edits, history_put, id_in, outcome_in}
 use Rattle.mg_shard.specs.Histories.{Histories, history_at}
-use Rattle.mg_shard.proofs.StateView.{bytes_cmp}
+use Rattle.mg_shard.proofs.Shown.{bytes_cmp}
 use Rattle.mg_engine.specs.Bulk.{BulkEdits, edits_of, edits_or_refusal, numbered}
 use Rattle.mg_engine.specs.declared.refusal.Refusal.{Refusal}
 use Rattle.mg_engine.specs.Objects.{BringObjects, HasObjects, HaveObjects}

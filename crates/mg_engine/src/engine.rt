@@ -5,7 +5,7 @@ ghost use Rattle.mg_engine.specs.World.{World, empty_world};
 ghost use Rattle.mg_engine.specs.View.{asked, said};
 ghost use Rattle.mg_engine.specs.Stands.{Stands, shard_count};
 ghost use Rattle.mg_shard.specs.Shard.{shards_seen};
-ghost use Rattle.mg_engine.specs.Execution.{Answers, IsExecution, kept};
+ghost use Rattle.mg_engine.specs.Execution.{Answers, IsExecution, answered_commands};
 
 use crate::command::Command;
 use crate::context::Context;
@@ -272,7 +272,7 @@ impl<P: Placement + Drop> Engine<P> {
         ensures none_run { OnErr result (self.new ≡ self.old) }
         ensures shards { IfOk result (λ replies. shard_count self.new
             ≡ shards_after_all (shard_count self.old)
-            (kept (map asked commands.now) (map said replies.items))) }
+            (answered_commands (map asked commands.now) (map said replies.items))) }
         ensures placement { self.new.0 ≡ self.old.0 }
     {
         let mut replies = Vec::with_capacity(alloc, commands.len())?;

@@ -2,12 +2,12 @@
 ghost use Rattle.std.specs.Prelude.{◌≡◌, List, map, length, Some};
 ghost use Rattle.mg_engine.specs.Commands.{Answer, Asked};
 ghost use Rattle.mg_engine.specs.Laws.{ReshardsChangeNoReply, ReshardsChangeNoWorld};
-ghost use Rattle.mg_engine.specs.Execution.{kept, answers_of};
+ghost use Rattle.mg_engine.specs.Execution.{answered_commands, answers_of};
 
-/// If no command is refused memory, `kept` returns all commands and `answers_of` all answers.
+/// If no command is refused memory, `answered_commands` returns all commands and `answers_of` all answers.
 pub fn where_memory_suffices()
-    ensures kept { (cs : List Asked) (answers : List Answer) → length answers ≡ length cs
-        → kept cs (map Some answers) ≡ cs }
+    ensures commands { (cs : List Asked) (answers : List Answer) → length answers ≡ length cs
+        → answered_commands cs (map Some answers) ≡ cs }
     ensures answers { (answers : List Answer) → answers_of (map Some answers) ≡ answers }
 {}
 

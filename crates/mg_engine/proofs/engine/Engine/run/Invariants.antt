@@ -3,7 +3,7 @@ use Rattle.mg_engine.specs.World.{World}
 use Rattle.mg_engine.specs.Commands.{Answer, shards_after_all}
 use Rattle.mg_engine.specs.View.{asked, said}
 use Rattle.mg_engine.specs.Stands.{Stands, StateView, shard_count}
-use Rattle.mg_engine.specs.Execution.{IsExecution, kept}
+use Rattle.mg_engine.specs.Execution.{IsExecution, answered_commands}
 use Rattle.mg_engine.proofs.engine.Engine.run.Given as goal
 
 -- an execution of the rest, from a world that the engine stands for now, completes one of all; the same holds of the number of shards
@@ -14,8 +14,8 @@ invariant-loop-command g l =
       room : vec_capacity l.replies ≡ length l.commands;
       some : vec_len l.replies ≡ l.command-index;
       placement : l.self.0 ≡ l.fn.self.0;
-      numbers : (rs : List (Option Answer)) → shards_after_all (shard_count l.self) (kept (map asked (drop l.command-index l.commands)) rs)
-          ≡ shards_after_all (shard_count l.fn.self) (kept (map asked l.commands) (map said l.replies.items ++ rs));
+      numbers : (rs : List (Option Answer)) → shards_after_all (shard_count l.self) (answered_commands (map asked (drop l.command-index l.commands)) rs)
+          ≡ shards_after_all (shard_count l.fn.self) (answered_commands (map asked l.commands) (map said l.replies.items ++ rs));
       goes_on : (w : World) → Stands place l.fn.self w
           → (u : World) × Stands place l.self u
           × ((rs : List (Option Answer)) (after : g.row.P.Denot × StateView) → IsExecution u (map asked (drop l.command-index l.commands)) rs (Stands place after)
