@@ -37,8 +37,11 @@ impl<T: Drop> From<AllocFailed<T>> for GaveUp {
     }
 }
 
-// Adds the bytes of the value that the tree stands for. It gives up where the tree nests deeper than `depth`.
+// Adds the bytes of the value that the tree stands for. It gives up where the tree nests deeper than `depth`. Each level of nesting is
+// one call of `push_items` or `push_sorted`, whose frames are no larger than those that reading the tree took: so no deeper stack is
+// needed where memory is short.
 #[cycle(push_tree)]
+#[inline(always)]
 pub(crate) fn push_tree<'t, 'a>(
     alloc: Global,
     out: &mut Vec<u8>,
@@ -108,6 +111,7 @@ fn push_string(out: &mut Vec<u8>, text: &str) -> Result<(), GaveUp>
 }
 
 #[cycle(push_tree)]
+#[inline(always)]
 fn push_array<'t, 'a>(
     alloc: Global,
     out: &mut Vec<u8>,
@@ -126,6 +130,7 @@ fn push_array<'t, 'a>(
 
 // Adds the items, and fills in their offsets. These begin at `table` and end where the items begin.
 #[cycle(push_tree)]
+#[inline(never)]
 fn push_items<'t, 'a>(
     alloc: Global,
     out: &mut Vec<u8>,
@@ -147,6 +152,7 @@ fn push_items<'t, 'a>(
 }
 
 #[cycle(push_tree)]
+#[inline(always)]
 fn push_members<'t, 'a>(
     alloc: Global,
     out: &mut Vec<u8>,
@@ -165,6 +171,7 @@ fn push_members<'t, 'a>(
 }
 
 // The members in the order of their names. It gives up at a name that comes twice.
+#[inline(never)]
 fn sort<'t, 'a>(
     alloc: Global,
     members: &'t [(&'a str, Tree<'a>)],
@@ -183,6 +190,7 @@ fn sort<'t, 'a>(
 
 // Adds the members, and fills in their offsets. These begin at `table` and end where the members begin.
 #[cycle(push_tree)]
+#[inline(never)]
 fn push_sorted<'t, 'a>(
     alloc: Global,
     out: &mut Vec<u8>,
