@@ -28,7 +28,10 @@ fn without_front<R: Abort>(rt: &R, alloc: Global, object: &str, text: &str) -> b
     let Kind::List(items) = packed.part().kind() else {
         return false;
     };
-    let Kind::Object(members) = items.item(0).kind() else {
+    let Some(first) = items.get(0) else {
+        return false;
+    };
+    let Kind::Object(members) = first.kind() else {
         return false;
     };
     let left = members.without_front(alloc, b'_').expect(rt, "memory");
