@@ -92,7 +92,8 @@ fn push_offsets(
     requires counted { count ≡ length (entries_in bytes.now) }
     requires ordered { gap.before ≤ gap.after }
     requires within { gap.after ≤ length (entries_in bytes.now) }
-    ensures { OnOk result (out.new.items ≡ out.old.items ++ (offsets 0 (take gap.before (entries_in bytes.now))
+    ensures { OnOk result
+        (out.new.items ≡ out.old.items ++ (offsets 0 (take gap.before (entries_in bytes.now))
         ++ (word (begin_of (entries_in bytes.now) gap.before)
         ++ offsets (begin_of (entries_in bytes.now) gap.before + entry_len) (drop gap.after (entries_in bytes.now))))) }
 {

@@ -23,7 +23,8 @@ pub(crate) fn object_without(
     requires counted { count ≡ length (entries_in bytes.now) }
     requires ordered { gap.before ≤ gap.after }
     requires within { gap.after ≤ length (entries_in bytes.now) }
-    ensures { IfOk result (λ b. b.items ≡ 6 ∷ table (without_entries gap.before gap.after (entries_in bytes.now))) }
+    ensures { IfOk result
+        (λ b. b.items ≡ 6 ∷ table (without_entries gap.before gap.after (entries_in bytes.now))) }
 {
     let mut out = Vec::with_capacity(alloc, len_without(bytes, count, gap))?;
     push_tag(&mut out, OBJECT)?;
@@ -57,7 +58,8 @@ fn push_kept_offsets(
     requires counted { count ≡ length (entries_in bytes.now) }
     requires ordered { gap.before ≤ gap.after }
     requires within { gap.after ≤ length (entries_in bytes.now) }
-    ensures { OnOk result (out.new.items ≡ out.old.items ++ (offsets 0 (take gap.before (entries_in bytes.now))
+    ensures { OnOk result
+        (out.new.items ≡ out.old.items ++ (offsets 0 (take gap.before (entries_in bytes.now))
         ++ offsets (begin_of (entries_in bytes.now) gap.before) (drop gap.after (entries_in bytes.now)))) }
 {
     let begin = entry_begin(bytes, count, gap.before);

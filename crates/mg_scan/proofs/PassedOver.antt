@@ -303,7 +303,7 @@ passed_page shards s skip ahead beyond count row index a within n b c e le =
           ∙ ap (drop skip) (sym (first_rows s shards decided));
     }
 
--- the same of searches that are such
+-- `passed_page`, with the searches after the row and the counts as variables that equal them
 pub counted_page : (shards : List ShardView) (s : Search) (skip ahead beyond count : ℕ) (row : Bor RowValue) → IsIndex s.target → ahead ≡ all_ahead shards s → IsWithin s row.now → (n : ℕ) (t u : Search)
     → t ≡ beyond_row s row 0 → beyond ≡ all_ahead shards t → count ≡ ahead - beyond → n ≡ s.take - count → count ≤ skip → u ≡ beyond_row s row n → HasPageOf shards s skip u (skip - count)
 counted_page shards s skip ahead beyond count row index a within n t u is b c e le be =

@@ -15,7 +15,8 @@ pub(crate) trait LookUp {
 
     /// Looks up a revision: the id of its parent, `Some(None)` if it has no known parent, `None` if it is unknown. Takes no memory.
     fn look_up_parent(&self, pos: u32, id: &[u8]) -> Option<Option<&[u8]>>
-        ensures { option_map (λ p. parent_below pos (option_copied p)) result ≡ find (pos, id.now) (known_links self.now) };
+        ensures { option_map (λ p. parent_below pos (option_copied p)) result
+            ≡ find (pos, id.now) (known_links self.now) };
 }
 
 /// The place of a revision's node, or the place where it would go.
